@@ -1,0 +1,10 @@
+pub mod Format
+pub mod Item
+pub mod Kinds
+pub mod Fault
+pub mod Answers
+pub mod Run
+pub mod Reads
+pub mod Steps
+pub mod Spelling
+pub mod Laws

@@ -1,0 +1,80 @@
+// What a first byte can say.
+
+/// What a scalar is.
+#[derive(Clone, Copy, Debug, Drop, PartialEq, Eq)]
+pub enum Kind {
+    Nil,
+    Bool,
+    PositiveFixint,
+    NegativeFixint,
+    Unsigned,
+    Signed,
+    Float,
+    Str,
+    Bin,
+    Ext,
+}
+
+/// What holds other items.
+#[derive(Clone, Copy, Debug, Drop, PartialEq, Eq)]
+pub enum Container {
+    Array,
+    Map,
+}
+
+/// What follows a first byte.
+#[derive(Clone, Copy, Debug, Drop, PartialEq, Eq)]
+pub enum Shape {
+    /// A scalar with a content of `size` bytes.
+    Fixed {
+        kind: Kind,
+        size: usize,
+    },
+    /// A scalar with a length of `width` bytes, and `extra` bytes of content more than that length.
+    Sized {
+        kind: Kind,
+        width: usize,
+        extra: usize,
+    },
+    /// A container with so many entries.
+    Holds {
+        container: Container,
+        count: u32,
+    },
+    /// A container with a count of `width` bytes.
+    Counted {
+        container: Container,
+        width: usize,
+    },
+    /// Nothing: no item begins so.
+    Never,
+}
+
+/// A part of the bytes, from the index `start` up to `end`.
+#[derive(Clone, Copy, Debug, Drop, PartialEq, Eq)]
+pub struct Span {
+    pub start: usize,
+    pub end: usize,
+}
+
+/// What a container's header says: how many entries it has, and where the first item begins.
+#[derive(Clone, Copy, Debug, Drop, PartialEq, Eq)]
+pub struct Count {
+    pub count: u32,
+    pub next: usize,
+}
+
+/// The next step of a scan; `size` and what is bare are counts of bytes.
+#[derive(Clone, Copy, Debug, Drop, PartialEq, Eq)]
+pub enum Step {
+    /// A whole scalar.
+    Whole(usize),
+    /// The header of a container of so many items.
+    Opens { items: u64, size: usize },
+    /// Not all of a scalar or a header; with its items it takes at least so many bytes.
+    Lacks(usize),
+    /// A container where none may stand.
+    Deep,
+    /// No item.
+    Wrong,
+}

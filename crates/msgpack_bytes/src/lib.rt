@@ -1,0 +1,22 @@
+//! MessagePack items in bytes: where one ends, what its header says, and how one is written.
+#![tactic(auto)]
+
+mod answers;
+mod format;
+mod heads;
+mod laws;
+mod number;
+mod scanner;
+mod table;
+mod writer;
+
+pub use answers::{Head, MsgFault, Scan};
+pub use heads::head;
+pub use laws::{
+    long_only, open_for_zeros, parts, prefix_free, read_by_recursion, spelled_shortest,
+};
+pub use scanner::scan;
+pub use writer::{put_array, put_bin, put_bool, put_map, put_str, put_uint};
+
+#[cfg(test)]
+mod tests;

@@ -1,0 +1,313 @@
+// What no clause says: vectors from outside, printed text, and that the calls succeed.
+use super::*;
+use std::test::Fail;
+
+const NEED: Scan = Scan::Need;
+
+const RESERVED: Scan = Scan::Bad(MsgFault::Reserved);
+
+const TOO_DEEP: Scan = Scan::Bad(MsgFault::TooDeep);
+
+const TOO_LONG: Scan = Scan::Bad(MsgFault::TooLong);
+
+#[test]
+fn scans(rt: HostRuntime) {
+    let rows: [(&[u8], Scan); 25] = [
+        (b"", NEED),
+        (b"\xc0", Scan::End(1)),
+        (b"\xc1", RESERVED),
+        (b"\xc0\xc1", Scan::End(1)),
+        (b"\x91\xc1", RESERVED),
+        (b"\xa5a", NEED),
+        (b"\xa1a\xc1", Scan::End(2)),
+        (b"\x81\xa1k\xa1v", Scan::End(5)),
+        (b"\x82\xa1k\xa1v", NEED),
+        (b"\xc7\x01\x00\xc1", Scan::End(4)),
+        (b"\xd7\x00\x00\x00\x00\x01\x00\x00\x00\x02", Scan::End(10)),
+        (b"\xdd\x00\xff\xff\xfb", NEED),
+        (b"\xdd\x00\xff\xff\xfc", TOO_LONG),
+        (b"\xdd\x00\xff\xff\xfc\xc1", TOO_LONG),
+        (b"\xdd\x00\xff\xff\xfb\xc1", RESERVED),
+        (b"\xdd\x00\xff\xff\xfb\xcc", TOO_LONG),
+        (b"\xdd", NEED),
+        (b"\xdd\xff", TOO_LONG),
+        (b"\xdd\xff\xff\xff\xff", TOO_LONG),
+        (b"\xdf\x00\x7f\xff\xfd", NEED),
+        (b"\xdf\x00\x7f\xff\xfe", TOO_LONG),
+        (b"\xdf\xff\xff\xff\xff", TOO_LONG),
+        (b"\xdb\x00\xff\xff\xfb", NEED),
+        (b"\xdb\x00\xff\xff\xfc", TOO_LONG),
+        (b"\xc9\x00\xff\xff\xfb", TOO_LONG),
+    ];
+    for (bytes, want) in rows {
+        assert_eq!(rt; scan(bytes, 0), want, "of {bytes:?}");
+    }
+}
+
+#[test]
+fn scans_from_inside(rt: HostRuntime) {
+    let bytes = b"\xc1\x92\xc2\xc3\xc1";
+    assert_eq!(rt; scan(bytes, 1), Scan::End(4));
+    assert_eq!(rt; scan(bytes, 4), RESERVED);
+    assert_eq!(rt; scan(bytes, 5), NEED);
+}
+
+// So many arrays of one item, one in another, and then these bytes.
+fn nested(rt: &HostRuntime, depth: usize, rest: &[u8]) -> Result<Vec<u8>, Fail> {
+    let mut bytes = Vec::new(rt.alloc());
+    bytes.resize(depth, 0x91)?;
+    bytes.extend_from_slice(rest)?;
+    Ok(bytes)
+}
+
+#[test]
+fn scans_what_nests(rt: HostRuntime) -> Result<(), Fail> {
+    let rows: [(usize, &[u8], Scan); 10] = [
+        (63, b"\x90", Scan::End(64)),
+        (63, b"\x80", Scan::End(64)),
+        (64, b"\xc0", Scan::End(65)),
+        (64, b"\x90", TOO_DEEP),
+        (64, b"\x80", TOO_DEEP),
+        (64, b"\xdd", TOO_DEEP),
+        (64, b"\xc1", RESERVED),
+        (64, b"\xde\x00", TOO_DEEP),
+        (63, b"\xdd\x00\xff\xff\xbc\x90", TOO_DEEP),
+        (63, b"\xdd\x00\xff\xff\xbd\x90", TOO_LONG),
+    ];
+    for (depth, rest, want) in rows {
+        let bytes = nested(&rt, depth, rest)?;
+        assert_eq!(rt; scan(&bytes, 0), want, "of {rest:?} in {depth}");
+    }
+    Ok(())
+}
+
+// The longest str, and one that is a byte longer.
+#[test]
+fn scans_to_the_limit(rt: HostRuntime) -> Result<(), Fail> {
+    for (low, want) in [(0xfb, Scan::End(16_777_216)), (0xfc, TOO_LONG)] {
+        let mut bytes = vec![in rt.alloc(); 0xdb, 0, 0xff, 0xff, low]?;
+        bytes.resize(16_777_217, 0)?;
+        assert_eq!(rt; scan(&bytes, 0), want);
+    }
+    Ok(())
+}
+
+// The table of formats: for first bytes from one to another, where an item ends behind which zeros stand,
+// and by how much later for each next one.
+const FORMATS: [(u8, u8, usize, usize); 37] = [
+    (0x00, 0x7f, 1, 0),
+    (0x80, 0x8f, 1, 2),
+    (0x90, 0x9f, 1, 1),
+    (0xa0, 0xbf, 1, 1),
+    (0xc0, 0xc0, 1, 0),
+    (0xc2, 0xc2, 1, 0),
+    (0xc3, 0xc3, 1, 0),
+    (0xc4, 0xc4, 2, 0),
+    (0xc5, 0xc5, 3, 0),
+    (0xc6, 0xc6, 5, 0),
+    (0xc7, 0xc7, 3, 0),
+    (0xc8, 0xc8, 4, 0),
+    (0xc9, 0xc9, 6, 0),
+    (0xca, 0xca, 5, 0),
+    (0xcb, 0xcb, 9, 0),
+    (0xcc, 0xcc, 2, 0),
+    (0xcd, 0xcd, 3, 0),
+    (0xce, 0xce, 5, 0),
+    (0xcf, 0xcf, 9, 0),
+    (0xd0, 0xd0, 2, 0),
+    (0xd1, 0xd1, 3, 0),
+    (0xd2, 0xd2, 5, 0),
+    (0xd3, 0xd3, 9, 0),
+    (0xd4, 0xd4, 3, 0),
+    (0xd5, 0xd5, 4, 0),
+    (0xd6, 0xd6, 6, 0),
+    (0xd7, 0xd7, 10, 0),
+    (0xd8, 0xd8, 18, 0),
+    (0xd9, 0xd9, 2, 0),
+    (0xda, 0xda, 3, 0),
+    (0xdb, 0xdb, 5, 0),
+    (0xdc, 0xdc, 3, 0),
+    (0xdd, 0xdd, 5, 0),
+    (0xde, 0xde, 3, 0),
+    (0xdf, 0xdf, 5, 0),
+    (0xe0, 0xfe, 1, 0),
+    (0xff, 0xff, 1, 0),
+];
+
+#[test]
+fn scans_each_format(rt: HostRuntime) {
+    for (low, high, size, step) in FORMATS {
+        let mut want = size;
+        for first in low..=high {
+            let mut bytes = [0u8; 40];
+            bytes[0] = first;
+            assert_eq!(rt; scan(&bytes, 0), Scan::End(want), "of {first:x}");
+            want = want.saturating_add(step);
+        }
+    }
+}
+
+#[test]
+fn reads_heads(rt: HostRuntime) {
+    let rows: [(&[u8], Option<Head>); 37] = [
+        (b"", None),
+        (b"\xc0", Some(Head::Nil)),
+        (b"\xc1", None),
+        (b"\xc2", Some(Head::Bool(false))),
+        (b"\xc3", Some(Head::Bool(true))),
+        (b"\x00", Some(Head::Int(0))),
+        (b"\x7f", Some(Head::Int(127))),
+        (b"\xe0", Some(Head::Int(-32))),
+        (b"\xff", Some(Head::Int(-1))),
+        (b"\xcc\xff", Some(Head::Int(255))),
+        (b"\xcd\x00\x05", Some(Head::Int(5))),
+        (
+            b"\xcf\xff\xff\xff\xff\xff\xff\xff\xff",
+            Some(Head::Int(18_446_744_073_709_551_615)),
+        ),
+        (b"\xd0\x7f", Some(Head::Int(127))),
+        (b"\xd0\x80", Some(Head::Int(-128))),
+        (b"\xd1\x01\x00", Some(Head::Int(256))),
+        (
+            b"\xd3\x80\x00\x00\x00\x00\x00\x00\x00",
+            Some(Head::Int(-9_223_372_036_854_775_808)),
+        ),
+        (b"\xd3\x80\x00", None),
+        (b"\xca\x00\x00\x00\x00", Some(Head::Float)),
+        (b"\xca\x00\x00\x00", None),
+        (b"\xcb\x00\x00\x00\x00\x00\x00\x00\x00", Some(Head::Float)),
+        (b"\xa0", Some(Head::Str { start: 1, end: 1 })),
+        (b"\xa3abc", Some(Head::Str { start: 1, end: 4 })),
+        (b"\xa5a", None),
+        (b"\xd9\x00", Some(Head::Str { start: 2, end: 2 })),
+        (b"\xda\x00\x01ab", Some(Head::Str { start: 3, end: 4 })),
+        (b"\xda\x01", None),
+        (
+            b"\xdb\x00\x00\x00\x01a",
+            Some(Head::Str { start: 5, end: 6 }),
+        ),
+        (b"\xc4\x02ab", Some(Head::Bin { start: 2, end: 4 })),
+        (b"\xc4\x02a", None),
+        (
+            b"\xd4\x05a",
+            Some(Head::Ext {
+                kind: 5,
+                start: 2,
+                end: 3,
+            }),
+        ),
+        (b"\xd4\x05", None),
+        (
+            b"\xc7\x00\x05",
+            Some(Head::Ext {
+                kind: 5,
+                start: 3,
+                end: 3,
+            }),
+        ),
+        (b"\x92", Some(Head::Array { count: 2, next: 1 })),
+        (b"\xdc\x00\x01", Some(Head::Array { count: 1, next: 3 })),
+        (b"\xdd\x00\x00\x00", None),
+        (b"\x81", Some(Head::Map { count: 1, next: 1 })),
+        (
+            b"\xdf\xff\xff\xff\xff",
+            Some(Head::Map {
+                count: 4_294_967_295,
+                next: 5,
+            }),
+        ),
+    ];
+    for (bytes, want) in rows {
+        assert_eq!(rt; head(bytes, 0), want, "of {bytes:?}");
+    }
+    assert_eq!(rt; head(b"\xc1\xa1a", 1), Some(Head::Str { start: 2, end: 3 }));
+    assert_eq!(rt; head(b"\xc0", 2), None);
+}
+
+#[test]
+fn writes_integers(rt: HostRuntime) -> Result<(), Fail> {
+    let rows: [(u64, &[u8]); 10] = [
+        (0, b"\x00"),
+        (127, b"\x7f"),
+        (128, b"\xcc\x80"),
+        (255, b"\xcc\xff"),
+        (256, b"\xcd\x01\x00"),
+        (65_535, b"\xcd\xff\xff"),
+        (65_536, b"\xce\x00\x01\x00\x00"),
+        (4_294_967_295, b"\xce\xff\xff\xff\xff"),
+        (4_294_967_296, b"\xcf\x00\x00\x00\x01\x00\x00\x00\x00"),
+        (u64::MAX, b"\xcf\xff\xff\xff\xff\xff\xff\xff\xff"),
+    ];
+    for (value, want) in rows {
+        let mut out = Vec::new(rt.alloc());
+        put_uint(&mut out, value)?;
+        assert_eq!(rt; out.as_slice(), want, "of {value}");
+        assert_eq!(rt; head(&out, 0), Some(Head::Int(i128::from(value))));
+    }
+    Ok(())
+}
+
+#[test]
+fn writes_headers(rt: HostRuntime) -> Result<(), Fail> {
+    let rows: [(u32, &[u8], &[u8]); 6] = [
+        (0, b"\x90", b"\x80"),
+        (2, b"\x92", b"\x82"),
+        (15, b"\x9f", b"\x8f"),
+        (16, b"\xdc\x00\x10", b"\xde\x00\x10"),
+        (65_535, b"\xdc\xff\xff", b"\xde\xff\xff"),
+        (65_536, b"\xdd\x00\x01\x00\x00", b"\xdf\x00\x01\x00\x00"),
+    ];
+    for (count, array, map) in rows {
+        let mut out = Vec::new(rt.alloc());
+        put_array(&mut out, count)?;
+        assert_eq!(rt; out.as_slice(), array, "of {count}");
+        out.clear();
+        put_map(&mut out, count)?;
+        assert_eq!(rt; out.as_slice(), map, "of {count}");
+    }
+    Ok(())
+}
+
+#[test]
+fn writes_texts(rt: HostRuntime) -> Result<(), Fail> {
+    let mut out = Vec::new(rt.alloc());
+    put_str(&mut out, b"abc")?;
+    put_bin(&mut out, b"")?;
+    put_bool(&mut out, true)?;
+    put_bool(&mut out, false)?;
+    assert_eq!(rt; out.as_slice(), b"\xa3abc\xc4\x00\xc3\xc2".as_slice());
+    let rows: [(usize, &[u8], &[u8]); 5] = [
+        (31, b"\xbf", b"\xc4\x1f"),
+        (32, b"\xd9\x20", b"\xc4\x20"),
+        (255, b"\xd9\xff", b"\xc4\xff"),
+        (256, b"\xda\x01\x00", b"\xc5\x01\x00"),
+        (65_536, b"\xdb\x00\x01\x00\x00", b"\xc6\x00\x01\x00\x00"),
+    ];
+    for (size, as_str, as_bin) in rows {
+        let mut content = Vec::new(rt.alloc());
+        content.resize(size, b'x')?;
+        let mut out = Vec::new(rt.alloc());
+        put_str(&mut out, &content)?;
+        assert!(rt; out.starts_with(as_str), "of {size}");
+        assert_eq!(rt; scan(&out, 0), Scan::End(out.len()));
+        out.clear();
+        put_bin(&mut out, &content)?;
+        assert!(rt; out.starts_with(as_bin), "of {size}");
+        assert_eq!(rt; scan(&out, 0), Scan::End(out.len()));
+    }
+    Ok(())
+}
+
+#[test]
+fn prints_faults(rt: HostRuntime) -> Result<(), Fail> {
+    let rows = [
+        (MsgFault::Reserved, "M1"),
+        (MsgFault::TooDeep, "M2"),
+        (MsgFault::TooLong, "M3"),
+    ];
+    for (fault, want) in rows {
+        let text = format!(in rt.alloc(); "{fault}")?;
+        assert_eq!(rt; text.as_str(), want);
+    }
+    Ok(())
+}
