@@ -1,0 +1,30 @@
+//! Messages of the Fluentd Forward Protocol v1: its three modes, acknowledgements, and streams of them.
+#![tactic(auto)]
+
+mod acks;
+mod chunk_id;
+mod entries;
+mod entry;
+mod fault;
+mod feed;
+mod item;
+mod items;
+mod laws;
+mod message;
+mod option;
+mod packed;
+mod places;
+mod reading;
+
+pub use acks::{AckRead, put_ack, read_ack};
+pub use chunk_id::ChunkId;
+pub use fault::{FeedError, ModeFault};
+pub use feed::{Feed, Next};
+pub use items::Items;
+pub use laws::{means_one, never_both, reads_one_way};
+pub use message::{Entries, Message, Read};
+pub use packed::put_packed;
+pub use reading::read;
+
+#[cfg(test)]
+mod tests;

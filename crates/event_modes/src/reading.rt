@@ -1,0 +1,97 @@
+//! What bytes begin with.
+
+ghost use Rattle.std.specs.Prelude.{◌≡◌, ℕ, List, option_map, IfOk, MatchResult};
+ghost use Rattle.msgpack_bytes.specs.Item.{IsTextItem};
+ghost use Rattle.msgpack_bytes.specs.Kinds.{IsNil};
+ghost use Rattle.event_modes.specs.Message.{IsTag, IsMessage};
+ghost use Rattle.event_modes.specs.Faults.{ItemFault};
+ghost use Rattle.event_modes.specs.Places.{Finds};
+ghost use Rattle.event_modes.specs.Pairs.{bytes_of};
+ghost use Rattle.event_modes.specs.Reading.{Answer, meaning, answer_of, Answers, AnswersItem};
+
+use crate::entries::entries_of;
+use crate::fault::{FeedError, ModeFault};
+use crate::item::{is_nil, text_of};
+use crate::message::{Message, Read};
+use crate::option::ack_of;
+use crate::places::places_of;
+use msgpack_bytes::{Scan, scan};
+use std::alloc::{AllocError, Allocator};
+
+/// The most bytes of a tag.
+const LONGEST_TAG: usize = 1024;
+
+/// Reads the message or the heartbeat that the bytes begin with (Forward Protocol Specification v1, "Message Modes").
+///
+/// The answer is the only one that holds of the bytes. An `Err` comes only where there was no memory.
+pub fn read<A: Allocator + Copy>(alloc: A, bytes: &[u8]) -> Result<Read<A>, AllocError>
+    ensures right { IfOk result (λ found. Answers bytes.now (answer_of found)) }
+    ensures only { (other : Answer) → Answers bytes.now other → IfOk result (λ found. other ≡ answer_of found) }
+{
+    read_front(alloc, bytes)
+}
+
+fn read_front<A: Allocator + Copy>(alloc: A, bytes: &[u8]) -> Result<Read<A>, AllocError>
+    ensures { IfOk result (λ found. Answers bytes.now (answer_of found)) }
+{
+    match scan(bytes, 0) {
+        Scan::End(end) => read_item(alloc, bytes.split_at(end).0),
+        Scan::Need => Ok(Read::Need),
+        Scan::Bad(fault) => Ok(Read::Bad(ModeFault::Bytes(fault))),
+    }
+}
+
+fn read_item<A: Allocator + Copy>(alloc: A, item: &[u8]) -> Result<Read<A>, AllocError>
+    requires { IsTextItem item.now }
+    ensures { IfOk result (λ found. AnswersItem item.now (answer_of found)) }
+{
+    if is_nil(item) {
+        return Ok(Read::Heartbeat(item.len()));
+    }
+    match message_of(alloc, item) {
+        Ok(message) => Ok(Read::Message(message, item.len())),
+        Err(FeedError::Fault(fault)) => Ok(Read::Bad(fault)),
+        Err(FeedError::Memory) => Err(AllocError),
+    }
+}
+
+fn message_of<A: Allocator + Copy>(alloc: A, item: &[u8]) -> Result<Message<A>, FeedError>
+    requires item { IsTextItem item.now }
+    requires some { IsNil item.now → ⊥ }
+    ensures { Finds (λ found. IsMessage item.now (meaning found)) (ItemFault item.now) result }
+{
+    let Some(places) = places_of(item) else {
+        return Err(FeedError::Fault(ModeFault::NotAMessage));
+    };
+    let tag = tag_of(places.tag)?;
+    let entries = entries_of(alloc, places.carried)?;
+    let ack = ack_of(places.option)?;
+    Ok(Message {
+        tag: Vec::from_slice(alloc, tag)?,
+        entries,
+        ack: copy_of(alloc, ack)?,
+    })
+}
+
+fn tag_of(tag: &[u8]) -> Result<&[u8], ModeFault>
+    requires { IsTextItem tag.now }
+    ensures { MatchResult result (λ content. IsTag tag.now content.now)
+        (λ fault. (fault ≡ ModeFault.BadTag) × ((content : List ℕ) → IsTag tag.now content → ⊥)) }
+{
+    let Some(content) = text_of(tag) else {
+        return Err(ModeFault::BadTag);
+    };
+    if content.len() > LONGEST_TAG {
+        return Err(ModeFault::BadTag);
+    }
+    Ok(content)
+}
+
+fn copy_of<A: Allocator>(alloc: A, item: Option<&[u8]>) -> Result<Option<Vec<u8, A>>, AllocError>
+    ensures { IfOk result (λ copy. option_map (λ v. v.items) copy ≡ bytes_of item.entry) }
+{
+    match item {
+        Some(item) => Ok(Some(Vec::from_slice(alloc, item)?)),
+        None => Ok(None),
+    }
+}
