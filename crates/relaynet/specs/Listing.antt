@@ -1,0 +1,128 @@
+-- What is printed for the messages of a stream.
+use Rattle.std.specs.Prelude.{◌≡◌, ◌<◌, ℕ, zero, suc, ◌⊎◌, List, [], ◌∷◌, ◌++◌, codes, decimal, take, length, Option, Some, None}
+use Rattle.std.specs.List.{flat_map}
+use Rattle.std.specs.Io.KnownBytes.{Appends}
+use Rattle.hex.specs.Hex.{encode_lower}
+use Rattle.msgpack_bytes.specs.Item.{IsOpen}
+use Rattle.event_modes.specs.declared.fault.ModeFault.{ModeFault}
+use Rattle.event_modes.specs.Acknowledgement.{acknowledgement_of}
+use Rattle.event_modes.specs.Stream.{Arrival, Sent, Heartbeat, Splits}
+use Rattle.event_modes.specs.Faults.{StreamFault}
+use Rattle.event_modes.specs.Printed.{code_of}
+use Rattle.relaynet.specs.declared.status.Status.{Status}
+use Rattle.relaynet.specs.declared.status.Status.TheVariants.{Done, No, Usage}
+use Rattle.relaynet.specs.HexText.{digits_of, SpellsUpTo, IsBroken}
+
+-- a line: its text and the line feed that ends it
+abbrev pub line : List ℕ → List ℕ
+line text = text ++ 10 ∷ []
+
+-- a tag in hex, and a dash for the empty tag
+abbrev pub tag_text : List ℕ → List ℕ
+tag_text [] = codes "-"
+tag_text (byte ∷ bytes) = encode_lower (byte ∷ bytes)
+
+-- the first line of a message: its tag, and how many entries it has
+abbrev pub message_line : List ℕ → ℕ → List ℕ
+message_line tag count = line (codes "message " ++ tag_text tag ++ codes " " ++ decimal count)
+
+-- the line of an entry, as it is stored
+abbrev pub entry_line : List ℕ → List ℕ
+entry_line entry = line (codes "entry " ++ encode_lower entry)
+
+-- the line of the acknowledgement that the sender asks for, if it does
+abbrev pub answer_lines : Option (List ℕ) → List ℕ
+answer_lines None = []
+answer_lines (Some item) = line (codes "answer " ++ encode_lower (acknowledgement_of item))
+
+-- the lines of what came
+abbrev pub arrival_lines : Arrival → List ℕ
+arrival_lines (Sent parts) =
+    message_line parts.tag (length parts.entries) ++ flat_map entry_line parts.entries ++ answer_lines parts.ack
+arrival_lines Heartbeat = line (codes "heartbeat")
+
+-- the lines of all that came, in its order
+abbrev pub lines_of : List Arrival → List ℕ
+lines_of arrivals = flat_map arrival_lines arrivals
+
+-- how a listing ends
+pub data Ending : Type 0 where
+  Rest : (n : ℕ) → Ending  -- the text does, with n bytes that are no whole message
+  Fault : (fault : ModeFault) → Ending  -- with bytes that begin no message, whatever follows
+  BadHex : Ending  -- with something that is no byte in hex
+
+-- the last line, which a text without a rest has not
+abbrev pub ending_lines : Ending → List ℕ
+ending_lines (Rest zero) = []
+ending_lines (Rest (suc n)) = line (codes "rest " ++ decimal (suc n))
+ending_lines (Fault fault) = line (codes "fault " ++ code_of fault)
+ending_lines BadHex = line (codes "fault hex")
+
+-- the status that the program ends with
+abbrev pub status_of : Ending → Status
+status_of (Rest n) = Done
+status_of (Fault fault) = No
+status_of BadHex = Usage
+
+-- from a digit and bytes that were held back, reading on over these digits gives these arrivals,
+-- and holds back the new ones
+pub record ReadsOn (left held digits : List ℕ) (arrivals : List Arrival) (left' held' : List ℕ) : Type 0 where
+  pub bytes : List ℕ
+  pub read : SpellsUpTo (left ++ digits) bytes left'
+  pub splits : Splits (held ++ bytes) arrivals held'
+
+-- nothing, or the beginning of an item
+abbrev pub IsPending : List ℕ → Type 0
+IsPending held = (held ≡ []) ⊎ IsOpen held
+
+-- why the reading ends where these digits and these bytes are left
+abbrev pub EndsIn : Ending → List ℕ → List ℕ → Type 0
+EndsIn (Rest n) left held = (left ≡ []) × IsPending held × (n ≡ length held)
+EndsIn (Fault fault) left held = StreamFault held fault
+EndsIn BadHex left held = IsBroken left × IsPending held
+
+-- a hex text holds these arrivals, and then ends so
+pub record Holds (text : List ℕ) (arrivals : List Arrival) (ending : Ending) : Type 0 where
+  pub left : List ℕ
+  pub held : List ℕ
+  pub reads : ReadsOn [] [] (digits_of text) arrivals left held
+  pub ends : EndsIn ending left held
+
+-- the whole listing of a text
+pub record IsListing (text : List ℕ) (status : Status) (written : List ℕ) : Type 0 where
+  pub arrivals : List Arrival
+  pub ending : Ending
+  pub holds : Holds text arrivals ending
+  pub lines : written ≡ lines_of arrivals ++ ending_lines ending
+  pub is_status : status ≡ status_of ending
+
+-- the last line where memory, the reader or the writer failed; only a writer that has not seen all may have none
+abbrev pub IsLastLine : List ℕ → List Arrival → List ℕ → List ℕ → Type 0
+IsLastLine text arrivals last unseen = ((last ≡ []) × (0 < length unseen))
+    ⊎ ((last ≡ line (codes "fault memory"))
+    ⊎ ((last ≡ line (codes "fault read"))
+    ⊎ ((ending : Ending) × Holds text arrivals ending × (last ≡ ending_lines ending))))
+
+-- what is seen where memory, the reader or the writer failed: the lines of what came first,
+-- none left out or written twice, and the last line; a writer that failed has a beginning of that
+pub record IsCutShort (text written : List ℕ) : Type 0 where
+  pub arrivals : List Arrival
+  pub left : List ℕ
+  pub held : List ℕ
+  pub last : List ℕ
+  pub unseen : List ℕ
+  pub reads : ReadsOn [] [] (digits_of text) arrivals left held
+  pub is_last : IsLastLine text arrivals last unseen
+  pub lines : written ++ unseen ≡ lines_of arrivals ++ last
+
+-- all that is printed for a text
+abbrev pub IsOutput : List ℕ → Status → List ℕ → Type 0
+IsOutput text status written = IsListing text status written ⊎ ((status ≡ Usage) × IsCutShort text written)
+
+-- a writer got what is printed for a text, and nothing else
+abbrev pub Prints : Option (List ℕ) → Option (List ℕ) → List ℕ → Status → Type 0
+Prints old new text status = (written : List ℕ) × Appends old new written × IsOutput text status written
+
+-- what was in front is there still
+abbrev pub KeepsFront : List ℕ → List ℕ → Type 0
+KeepsFront old new = take (length old) new ≡ old
