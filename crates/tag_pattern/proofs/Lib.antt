@@ -1,0 +1,10 @@
+pub mod Cells
+pub mod RowSteps
+pub mod Sets
+pub mod PartSteps
+pub mod Splits
+pub mod CutSteps
+pub mod SlotCuts
+pub mod Sizes
+pub mod Expansions
+pub mod Readings

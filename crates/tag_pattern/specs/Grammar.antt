@@ -1,0 +1,100 @@
+-- The texts of patterns, and the plain patterns that a text stands for.
+-- That a group stands for each of its alternatives is Fluentd's ("Config File Syntax", "How Do Match Patterns Work?");
+-- where groups may stand, and the order of the plain patterns, are chosen here.
+use Rattle.std.specs.Prelude.{◌≡◌, ◌≢◌, ℕ, ◌<◌, ◌⊎◌, List, [], ◌∷◌, ◌++◌, length, map, if◌then◌else◌}
+use Rattle.std.specs.List.{AllByRecursion, flat_map, join_with_byte}
+use Rattle.std.specs.Str.{bytes_eq}
+use Rattle.tag_pattern.specs.Items.{Item}
+use Rattle.tag_pattern.specs.Parts.{dot}
+use Rattle.tag_pattern.specs.declared.item.PatternItem.TheVariants.{Literal, AnyPart, AnyParts}
+
+-- the codes of `*`, `,`, `{` and `}`
+abbrev pub star : ℕ
+star = 42
+
+-- the code of `,`
+abbrev pub comma : ℕ
+comma = 44
+
+-- the code of `{`
+abbrev pub open_brace : ℕ
+open_brace = 123
+
+-- the code of `}`
+abbrev pub close_brace : ℕ
+close_brace = 125
+
+-- a part's text has no dot, comma or brace
+abbrev pub IsPartText : List ℕ → Type 0
+IsPartText part = AllByRecursion (λ b. (b ≢ dot) × (b ≢ comma) × (b ≢ open_brace) × (b ≢ close_brace)) part
+
+-- What stands between the dots of a pattern: a part, or a group of alternatives, each of one or more parts.
+pub data Slot : Type 0 where
+  Part : List ℕ → Slot
+  Group : List (List (List ℕ)) → Slot
+
+-- an alternative of a group: one or more parts, and not the empty text
+abbrev pub IsAlternative : List (List ℕ) → Type 0
+IsAlternative parts = (parts ≢ []) × (parts ≢ [] ∷ []) × AllByRecursion IsPartText parts
+
+-- a part, or a group of one or more alternatives
+abbrev pub IsSlot : Slot → Type 0
+IsSlot (Part text) = IsPartText text
+IsSlot (Group alternatives) = (alternatives ≢ []) × AllByRecursion IsAlternative alternatives
+
+-- a part stands as it is; dots join an alternative's parts, commas the alternatives, and braces are round them
+abbrev pub slot_text : Slot → List ℕ
+slot_text (Part text) = text
+slot_text (Group alternatives) = open_brace ∷ join_with_byte comma (map (join_with_byte dot) alternatives) ++ close_brace ∷ []
+
+-- A pattern's text is that of a slot, or of a slot, a dot and the text of the slots behind it.
+abbrev pub Spells : List Slot → List ℕ → Type 0
+Spells [] text = ⊥
+Spells (slot ∷ []) text = IsSlot slot × (text ≡ slot_text slot)
+Spells (slot ∷ next ∷ slots) text = IsSlot slot × ((rest : List ℕ) × (text ≡ slot_text slot ++ dot ∷ rest) × Spells (next ∷ slots) rest)
+
+-- what may stand in a slot's place: a list of parts
+abbrev pub choices : Slot → List (List (List ℕ))
+choices (Part text) = (text ∷ []) ∷ []
+choices (Group alternatives) = alternatives
+
+-- The part lists for which the slots stand: each choice of the first slot, in order, before each list for the slots
+-- behind it, in order. So the leftmost group varies slowest.
+abbrev pub expansions : List Slot → List (List (List ℕ))
+expansions [] = [] ∷ []
+expansions (slot ∷ slots) = flat_map (λ front. map (λ back. front ++ back) (expansions slots)) (choices slot)
+
+-- the item that a part's text spells
+abbrev pub part_item : List ℕ → Item
+part_item text = if bytes_eq text (star ∷ []) then AnyPart else (if bytes_eq text (star ∷ star ∷ []) then AnyParts else Literal text)
+
+-- the plain patterns for which the slots stand
+abbrev pub plain_patterns : List Slot → List (List Item)
+plain_patterns slots = map (map part_item) (expansions slots)
+
+-- P holds of some element
+abbrev pub AnyByRecursion : {X : Type 0} → (X → Type 0) → List X → Type 0
+AnyByRecursion P [] = ⊥
+AnyByRecursion P (x ∷ xs) = P x ⊎ AnyByRecursion P xs
+
+-- a part with a `*` in it that is neither `*` nor `**`
+abbrev pub IsPartialWildcard : List ℕ → Type 0
+IsPartialWildcard part = AnyByRecursion (λ b. b ≡ star) part × (part ≢ star ∷ []) × (part ≢ star ∷ star ∷ [])
+
+-- such a part stands in some choice of some slot
+abbrev pub HasPartialWildcard : List Slot → Type 0
+HasPartialWildcard slots = AnyByRecursion (λ slot. AnyByRecursion (AnyByRecursion IsPartialWildcard) (choices slot)) slots
+
+-- more than 64 plain patterns, or one of more than 32 items
+abbrev pub AreTooMany : List Slot → Type 0
+AreTooMany slots = (64 < length (expansions slots)) ⊎ AnyByRecursion (λ parts. 32 < length parts) (expansions slots)
+
+-- The slots spell the text, no part of them has a partial wildcard, and they are not too many.
+pub record IsPattern (slots : List Slot) (text : List ℕ) : Type 0 where
+  pub spelled : Spells slots text
+  pub whole_wildcards : HasPartialWildcard slots → ⊥
+  pub few : AreTooMany slots → ⊥
+
+-- A text is spelled by one list of slots at most.
+abbrev pub SlotsAreUnique : Type 0
+SlotsAreUnique = (slots others : List Slot) (text : List ℕ) → Spells slots text → Spells others text → slots ≡ others

@@ -1,0 +1,7 @@
+pub mod Cuts
+pub mod Grammar
+pub mod Items
+pub mod Parts
+pub mod Patterns
+pub mod Rows
+pub mod Survey

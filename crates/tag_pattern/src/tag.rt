@@ -1,0 +1,80 @@
+// Tags: what an event is routed by.
+ghost use Rattle.std.specs.Prelude.{◌≡◌, ◌<◌, ◌≤◌, ◌↔◌, length, IfOk};
+
+use std::alloc::{AllocError, Allocator};
+use std::marker::Model;
+use thiserror::Error;
+
+/// The greatest length of a tag, in bytes.
+pub const MOST_TAG_BYTES: usize = 1_024;
+
+/// Why a byte text is no tag.
+#[derive(Clone, Copy, Debug, Drop, PartialEq, Eq, Error)]
+pub enum TagError {
+    /// It has more than 1,024 bytes.
+    #[error("P1")]
+    TagTooLong,
+    /// Memory ran out.
+    #[error("memory")]
+    Memory,
+}
+
+impl From<AllocError> for TagError {
+    ghost use Rattle.std.specs.Prelude.{◌≡◌};
+    ghost use Rattle.tag_pattern.specs.declared.tag.TagError.TheVariants.{Memory};
+
+    ghost from_gives = { λ _ e. e ≡ Memory };
+
+    fn from(_refused: AllocError) -> TagError {
+        TagError::Memory
+    }
+}
+
+/// A tag: at most 1,024 bytes of any kind. To contracts it is its bytes.
+#[derive(Drop)]
+pub struct Tag<A: Allocator> {
+    bytes: Vec<u8, A>,
+}
+
+impl<A: Allocator> Model for Tag<A> {
+    ghost use Rattle.std.specs.Prelude.{ℕ, ◌≤◌, List, length};
+
+    ghost Value = { List ℕ };
+
+    ghost view = { λ tag. tag.bytes.items };
+
+    ghost invariant = { λ tag. length tag.bytes.items ≤ 1024 };
+}
+
+impl<A: Allocator> Tag<A> {
+    /// The tag of these bytes. A text of more than 1,024 bytes is `TagTooLong`; the only other error is
+    /// `Memory`.
+    pub fn read(alloc: A, bytes: &[u8]) -> Result<Tag<A>, TagError>
+        ensures tag { IfOk result (λ tag. tag ≡ bytes.now) }
+        ensures too_long { (result ≡ Err TagError.TagTooLong) ↔ (1024 < length bytes.now) }
+    {
+        if bytes.len() > MOST_TAG_BYTES {
+            return Err(TagError::TagTooLong);
+        }
+        Ok(Tag {
+            bytes: Vec::from_slice(alloc, bytes)?,
+        })
+    }
+
+    /// The same tag, in memory of its own.
+    pub fn copied<B: Allocator>(&self, alloc: B) -> Result<Tag<B>, AllocError>
+        ensures { IfOk result (λ tag. tag ≡ self.now) }
+    {
+        Ok(Tag {
+            bytes: Vec::from_slice(alloc, &self.bytes)?,
+        })
+    }
+
+    /// The tag's bytes, at most 1,024.
+    pub fn as_bytes(&self) -> &[u8]
+        ensures bytes { result.now ≡ self.now }
+        ensures limit { length self.now ≤ 1024 }
+    {
+        &self.bytes
+    }
+}
