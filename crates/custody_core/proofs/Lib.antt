@@ -1,0 +1,17 @@
+pub mod Appended
+pub mod BufferSteps
+pub mod Headline
+pub mod Invariant
+pub mod Kept
+pub mod LinesRead
+pub mod Lists
+pub mod Made
+pub mod Members
+pub mod Only
+pub mod Shape
+pub mod Slots
+pub mod Sourced
+pub mod StepsMore
+pub mod Taken
+pub mod Views
+pub mod WorldSteps

@@ -1,0 +1,13 @@
+pub mod Chunks
+pub mod Custody
+pub mod Found
+pub mod Kept
+pub mod Network
+pub mod Premise
+pub mod Settings
+pub mod SingleFile
+pub mod StepLines
+pub mod Steps
+pub mod Store
+pub mod World
+pub mod WorldOf

@@ -1,0 +1,17 @@
+// A relay's configuration as values: what it listens on, and where its events go.
+#![tactic(auto)]
+
+mod buffer;
+mod defaults;
+mod output;
+mod relay;
+
+pub use buffer::{BufferKind, BufferSettings, FlushMode, OverflowAction, RetrySettings};
+pub use defaults::{
+    DEFAULT_ACK_RESPONSE_TIMEOUT, DEFAULT_BIND, DEFAULT_FILE_CHUNK_LIMIT, DEFAULT_FILE_TOTAL_LIMIT,
+    DEFAULT_FLUSH_INTERVAL, DEFAULT_FLUSH_THREADS, DEFAULT_MEMORY_CHUNK_LIMIT,
+    DEFAULT_MEMORY_TOTAL_LIMIT, DEFAULT_PORT, DEFAULT_REQUIRE_ACK_RESPONSE, DEFAULT_RETRY_BASE,
+    DEFAULT_RETRY_FOREVER, DEFAULT_RETRY_TIMEOUT, DEFAULT_RETRY_WAIT, MOST_FLUSH_THREADS,
+};
+pub use output::{BufferNo, FileSettings, ForwardSettings, Output, Server};
+pub use relay::{MatchRule, Relay, Scope, ScopeNo, Security, Source};
