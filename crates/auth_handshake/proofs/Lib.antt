@@ -1,0 +1,9 @@
+pub mod Differences
+pub mod Fronts
+pub mod Parts
+pub mod Walk
+pub mod Puts
+pub mod Judging
+pub mod Lengths
+pub mod Whole
+pub mod OneKey

@@ -1,0 +1,14 @@
+use Rattle.std.proofs.Common.{[], sym}
+use Rattle.std.proofs.lemmas.List.{append-nil}
+use Rattle.auth_handshake.proofs.Fronts.{no_rest}
+use Rattle.auth_handshake.proofs.item.text_of.Goals as goal
+
+pub returns-in_err-content-clause-only : goal.returns-in_err-content-clause-only
+returns-in_err-content-clause-only c content p = absurd (c.in_err-content.ensures.only c.args.item.now content [] p (sym (append-nil c.args.item.now)))
+
+pub returns-then-is_empty-clause-only : goal.returns-then-is_empty-clause-only
+returns-then-is_empty-clause-only c content p = (c.in_ok-content.ensures.only c.args.item.now content [] p (sym (append-nil c.args.item.now))).0
+
+pub returns-else-is_empty-clause-only : goal.returns-else-is_empty-clause-only
+returns-else-is_empty-clause-only c content p =
+    no_rest _ c.if-is_empty.ensures (c.in_ok-content.ensures.only c.args.item.now content [] p (sym (append-nil c.args.item.now))).1

@@ -1,0 +1,9 @@
+pub mod Digest
+pub mod Containers
+pub mod Options
+pub mod Messages
+pub mod Readings
+pub mod Written
+pub mod Fields
+pub mod Ends
+pub mod Laws
