@@ -1,0 +1,10 @@
+pub mod Cuts
+pub mod Quotes
+pub mod Elements
+pub mod Stacks
+pub mod Loop
+pub mod Contents
+pub mod Whole
+pub mod Spelled
+pub mod Written
+pub mod Lines

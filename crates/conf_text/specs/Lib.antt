@@ -1,0 +1,12 @@
+pub mod Text
+pub mod Quoted
+pub mod Special
+pub mod Trees
+pub mod Form
+pub mod Views
+pub mod Frames
+pub mod Grammar
+pub mod Answers
+pub mod Reading
+pub mod Laws
+pub mod Printed
