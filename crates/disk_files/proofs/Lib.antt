@@ -1,0 +1,7 @@
+pub mod Table
+pub mod Changed
+pub mod Listed
+pub mod Stops
+pub mod Moments
+pub mod Causes
+pub mod Outcomes

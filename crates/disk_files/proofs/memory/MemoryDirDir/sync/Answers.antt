@@ -1,0 +1,23 @@
+use Rattle.std.proofs.Common.{ap, refl, arith}
+use Rattle.disk_files.specs.Disk.{flushed}
+use Rattle.disk_files.proofs.Changed.{changes_from, sound_changed, now_changed, opened_same, rooms_from}
+use Rattle.disk_files.proofs.memory.MemoryDirDir.sync.Goals as goal
+
+pub returns-clause-honest : goal.returns-clause-honest
+returns-clause-honest g c = λ sound.
+    let change = changes_from c.args.self.now.files.items c.note.new.self.files.items c.flush_at.new.files.items c.args.file.0 flushed (ap (λ d. d.files.items) c.note.ensures) c.flush_at.ensures.changed in
+    sound_changed _ _ c.args.file.0 flushed change (λ f fits. omega arith) sound
+
+pub returns-clause-ok : goal.returns-clause-ok
+returns-clause-ok g c = λ sound name opened.
+    let change = changes_from c.args.self.now.files.items c.note.new.self.files.items c.flush_at.new.files.items c.args.file.0 flushed (ap (λ d. d.files.items) c.note.ensures) c.flush_at.ensures.changed in
+    now_changed _ _ c.args.file.0 flushed change c.args.self.now.past c.note.new.self.past sound name opened
+
+pub returns-clause-opened : goal.returns-clause-opened
+returns-clause-opened g c = λ other.
+    let change = changes_from c.args.self.now.files.items c.note.new.self.files.items c.flush_at.new.files.items c.args.file.0 flushed (ap (λ d. d.files.items) c.note.ensures) c.flush_at.ensures.changed in
+    opened_same _ _ c.args.file.0 flushed change (λ f. refl) other.0
+
+pub returns-clause-other_room : goal.returns-clause-other_room
+returns-clause-other_room g c = λ other.
+    rooms_from c.args.self.now.files.items c.note.new.self.files.items c.flush_at.new.files.items c.args.file.0 flushed (ap (λ d. d.files.items) c.note.ensures) c.flush_at.ensures.changed c.flush_at.ensures.room other.0

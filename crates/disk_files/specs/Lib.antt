@@ -1,0 +1,14 @@
+pub mod Disk
+pub mod Moments
+pub mod Faults
+pub mod Entry
+pub mod Table
+pub mod Past
+pub mod Earlier
+pub mod Readable
+pub mod Stop
+pub mod Stopped
+pub mod Memory
+pub mod Fuse
+pub mod Real
+pub mod Laws

@@ -1,0 +1,217 @@
+// A folder in memory.
+ghost use Rattle.std.specs.Prelude.{◌≡◌, ℕ, List, None, ◌+◌, ◌-◌, ◌≤◌, ◌++◌, [], ◌∷◌, length, take, drop, min, IfOk, vec_len};
+ghost use Rattle.disk_files.specs.Disk.{SameDisk, reads, StopLeaves, settled};
+ghost use Rattle.disk_files.specs.Moments.{now};
+ghost use Rattle.disk_files.specs.Stop.{left_of};
+ghost use Rattle.disk_files.specs.Stopped.{left_state};
+ghost use Rattle.disk_files.specs.Table.{disk_of, IsSound, names_there};
+ghost use Rattle.disk_files.specs.Faults.{Rises};
+
+use crate::memory_file::{
+    MemoryFile, cut_last, flush_at, grow_at, place_of, place_there, reserve_at, stop_each, sweep,
+    unlink_at,
+};
+use crate::past::Past;
+use crate::{Dir, DirError, FileName, FileNo, Keep};
+use std::alloc::{AllocError, Allocator};
+
+/// A folder in memory, which keeps what was written as a disk does, and can be stopped at any moment.
+#[derive(Drop)]
+pub struct MemoryDir<A: Allocator> {
+    alloc: A,
+    files: Vec<MemoryFile<A>, A>,
+    last: Option<usize>,
+    past: Past<A>,
+    faults: u64,
+}
+
+impl<A: Allocator + Copy> MemoryDir<A> {
+    ghost use Rattle.disk_files.specs.Memory.{IsHonest, disk, last_written};
+
+    /// An empty folder.
+    pub fn new(alloc: A) -> MemoryDir<A>
+        ensures honest { IsHonest result }
+        ensures empty { (name : List ℕ) → disk result name ≡ None }
+        ensures faults { ⟦<MemoryDir<A> as Dir>⟧.fault_count result ≡ 0 }
+    {
+        MemoryDir {
+            alloc,
+            files: Vec::new(alloc),
+            last: None,
+            past: Past::new(),
+            faults: 0,
+        }
+    }
+
+    /// Stops the folder as a loss of power would, keeps so much of what wasn't certainly on the disk, and starts it again.
+    /// What is left counts as synced, and no file is open.
+    pub fn stop(self, keep: Keep) -> MemoryDir<A>
+        ensures honest { IsHonest self → IsHonest result }
+        ensures left { IsHonest self
+            → SameDisk (disk result) (settled (left_of keep (last_written self) (disk self))) }
+        ensures outcome { IsHonest self → StopLeaves (disk self) (reads (disk result)) }
+        ensures settled { IsHonest self → SameDisk (disk result) (settled (reads (disk result))) }
+    {
+        let mut dir = self;
+        dir.lose(keep);
+        dir
+    }
+
+    // Loses what the stop doesn't keep.
+    fn lose(&mut self, keep: Keep)
+        ensures sound { IsSound self.old.files.items → IsSound self.new.files.items }
+        ensures left { IsSound self.old.files.items → SameDisk (disk_of self.new.files.items)
+            (settled (left_of keep (last_written self.old) (disk_of self.old.files.items))) }
+        ensures past { self.new.past ≡ [] }
+    {
+        match keep {
+            Keep::Least => self.restart(true),
+            Keep::Greatest => self.restart(false),
+            Keep::Last(n) => {
+                cut_last(&mut self.files, self.last, n);
+                self.restart(false);
+            }
+        }
+    }
+
+    // Leaves of each file all, or only what is certainly there, and begins anew.
+    fn restart(&mut self, least: bool)
+        ensures sound { IsSound self.old.files.items → IsSound self.new.files.items }
+        ensures left { IsSound self.old.files.items → (name : List ℕ)
+            → disk_of self.new.files.items name ≡ left_state least (disk_of self.old.files.items name) }
+        ensures past { self.new.past ≡ [] }
+    {
+        stop_each(&mut self.files, least);
+        sweep(&mut self.files);
+        self.last = None;
+        self.past = Past::new();
+    }
+
+    // Counts a refusal.
+    fn refuse(&mut self, error: DirError) -> DirError
+        ensures same { result ≡ error }
+        ensures files { self.new ≡ record self.old { faults = self.new.faults } }
+        ensures later { self.old.faults ≤ self.new.faults }
+        ensures counted { Rises self.old.faults self.new.faults }
+    {
+        self.faults = self.faults.saturating_add(1);
+        error
+    }
+
+    // Keeps the files as they are for the proofs, before a change.
+    fn note(&mut self)
+        ensures { self.new ≡ record self.old { past = self.old.files.items ∷ self.old.past } }
+    {
+        self.past = self.past.then(&self.files);
+    }
+}
+
+impl<A: Allocator + Copy> Dir for MemoryDir<A> {
+    ghost use Rattle.std.specs.Prelude.{slice_get};
+    ghost use Rattle.disk_files.specs.Table.{name_of, room_of};
+    ghost use Rattle.disk_files.specs.Memory.{IsHonest, history as history_now};
+
+    ghost is_honest = { λ d. IsHonest d };
+
+    ghost history = { λ d. history_now d };
+
+    ghost is_failing = { λ _. ⊥ };
+
+    ghost opened = { λ d file. name_of (slice_get d.files.items file.0) };
+
+    ghost bytes_left = { λ d file. room_of (slice_get d.files.items file.0) };
+
+    ghost fault_count = { λ d. d.faults };
+
+    ghost use Rattle.disk_files.specs.Readable.{reads_stay_of};
+
+    ghost reads_stay = { λ d sound. reads_stay_of d.files.items d.past sound };
+
+    fn create(&mut self, name: &[u8], room: usize) -> Result<FileNo, DirError> {
+        if place_of(&self.files, name).is_some() {
+            return Err(self.refuse(DirError::NameTaken));
+        }
+        let file = MemoryFile::new(self.alloc, name, room)?;
+        self.files.reserve(1)?;
+        self.note();
+        let at = self.files.len();
+        self.files.push_reserved(file);
+        Ok(FileNo(at))
+    }
+
+    fn open(&mut self, name: &[u8]) -> Result<FileNo, DirError> {
+        match place_there(&self.files, name) {
+            Some(at) => Ok(FileNo(at)),
+            None => Err(self.refuse(DirError::NoSuchFile)),
+        }
+    }
+
+    fn reserve(&mut self, file: FileNo, room: usize) -> Result<(), AllocError> {
+        reserve_at(&mut self.files, file.0, room)
+    }
+
+    fn list<B: Allocator + Copy>(&mut self, alloc: B) -> Result<Vec<FileName<B>, B>, DirError> {
+        Ok(names_of(alloc, &self.files)?)
+    }
+
+    fn append(&mut self, file: FileNo, bytes: &[u8]) -> Result<(), DirError> {
+        self.note();
+        grow_at(&mut self.files, file.0, bytes);
+        self.last = Some(file.0);
+        Ok(())
+    }
+
+    fn sync(&mut self, file: FileNo) -> Result<(), DirError> {
+        self.note();
+        flush_at(&mut self.files, file.0);
+        Ok(())
+    }
+
+    fn read_at(&mut self, file: FileNo, at: usize, into: &mut [u8]) -> Result<usize, DirError> {
+        Ok(copy_from(self.files[file.0].bytes(), at, into))
+    }
+
+    fn length(&mut self, file: FileNo) -> Result<usize, DirError> {
+        Ok(self.files[file.0].bytes().len())
+    }
+
+    fn remove(&mut self, file: FileNo) -> Result<(), DirError> {
+        self.note();
+        unlink_at(&mut self.files, file.0);
+        Ok(())
+    }
+
+    fn faults(&self) -> u64 {
+        self.faults
+    }
+}
+
+// The bytes from a place on, as far as there is room for them.
+fn copy_from(bytes: &[u8], at: usize, into: &mut [u8]) -> usize
+    ensures count { result ≡ min (length into.old) (length bytes.now - at) }
+    ensures bytes { into.new ≡ take result (drop at bytes.now) ++ drop result into.old }
+{
+    if bytes.len() <= at {
+        return 0;
+    }
+    let (_, rest) = bytes.split_at(at);
+    let n = rest.len().min(into.len());
+    into[..n].copy_from_slice(&rest[..n]);
+    n
+}
+
+// The names of the files that weren't removed.
+fn names_of<A: Allocator, B: Allocator + Copy>(
+    alloc: B,
+    files: &Vec<MemoryFile<A>, A>,
+) -> Result<Vec<FileName<B>, B>, AllocError>
+    ensures { IfOk result (λ names. names.items ≡ names_there files.now.items) }
+{
+    let mut names = Vec::new(alloc);
+    for file in files {
+        if file.is_there() {
+            names.push(FileName::from_slice(alloc, file.name())?)?;
+        }
+    }
+    Ok(names)
+}

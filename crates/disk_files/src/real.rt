@@ -1,0 +1,327 @@
+// A folder of the system.
+ghost use Rattle.std.specs.Prelude.{◌≡◌, ◌≢◌, ◌⊎◌, ℕ, ◌≤◌, ◌<◌, Some, None, IsSome, IfSome, IfOk, OnErr, length, slice_get};
+ghost use Rattle.disk_files.specs.declared.dir.FileNo.{FileNo};
+ghost use Rattle.disk_files.specs.Faults.{HasCause, Rises};
+ghost use Rattle.disk_files.specs.Real.{open_name};
+
+use crate::{Dir, DirError, FileName, FileNo};
+use std::alloc::{AllocError, Allocator};
+use std::fs::{OpenFile as _, OpenOptions};
+use std::io::{ErrorKind, Write};
+use std::os::unix::fs::FileExt;
+use std::rt::Files;
+use std::{fs, io};
+
+#[derive(Drop)]
+struct OpenFile<F, A: Allocator> {
+    name: FileName<A>,
+    path: String<A>,
+    file: F,
+    // The folder was synced since the file was made or opened, so that the file's own place in it is on the disk.
+    is_settled: bool,
+}
+
+/// A folder of the system. Nothing is proved of the bytes of its files: what a system call does can't be stated.
+#[derive(Drop)]
+pub struct RealDir<R: Files, A: Allocator> {
+    rt: R,
+    alloc: A,
+    path: String<A>,
+    files: Vec<Option<OpenFile<R::File, A>>, A>,
+    faults: u64,
+}
+
+impl<R, A> RealDir<R, A>
+where
+    R: Files + Alloc + Clone + Drop,
+    R::File: FileExt + Drop,
+    R::A: Clone,
+    A: Allocator + Copy,
+{
+    /// The folder of this path, which has to be there by the first call.
+    pub fn new(rt: R, alloc: A, path: &str) -> Result<RealDir<R, A>, AllocError>
+        ensures { IfOk result (λ d. ⟦<RealDir<R, A> as Dir>⟧.fault_count d ≡ 0) }
+    {
+        Ok(RealDir {
+            rt,
+            alloc,
+            path: String::from_str(alloc, path)?,
+            files: Vec::new(alloc),
+            faults: 0,
+        })
+    }
+
+    // Counts a refusal.
+    fn refuse(&mut self, error: DirError) -> DirError
+        ensures same { result ≡ error }
+        ensures files { self.new ≡ record self.old { faults = self.new.faults } }
+        ensures later { self.old.faults ≤ self.new.faults }
+        ensures counted { Rises self.old.faults self.new.faults }
+    {
+        self.faults = self.faults.saturating_add(1);
+        error
+    }
+
+    // The path of a file; none for a name that is no text, or has a slash.
+    fn path_of(&self, name: &[u8]) -> Result<Option<String<A>>, AllocError> {
+        let Ok(name) = str::from_utf8(name) else {
+            return Ok(None);
+        };
+        if name.contains('/') {
+            return Ok(None);
+        }
+        let mut path = String::from_str(self.alloc, self.path.as_str())?;
+        path.push('/')?;
+        path.push_str(name)?;
+        Ok(Some(path))
+    }
+
+    // Opens a file as told. An error of this kind is answered by `refusal`, any other by `Fault`.
+    fn open_as(
+        &mut self,
+        how: &OpenOptions,
+        name: &[u8],
+        kind: ErrorKind,
+        refusal: DirError,
+    ) -> Result<FileNo, DirError>
+        ensures opened { IfOk result (λ file. open_name (slice_get self.new.files.items file.0) ≡ Some name.now) }
+        ensures others { (other : FileNo) → IsSome (open_name (slice_get self.old.files.items other.0))
+            → open_name (slice_get self.new.files.items other.0) ≡ open_name (slice_get self.old.files.items other.0) }
+        ensures cause { HasCause self.old.faults self.new.faults result }
+        ensures only { OnErr result ((result ≡ Err DirError.Memory)
+            ⊎ ((result ≡ Err DirError.Fault) ⊎ (result ≡ Err refusal))) }
+    {
+        let Some(path) = self.path_of(name)? else {
+            return Err(self.refuse(DirError::Fault));
+        };
+        let name = FileName::from_slice(self.alloc, name)?;
+        self.files.reserve(1)?;
+        match how.open(&self.rt, path.as_str()) {
+            Ok(file) => {
+                let at = self.files.len();
+                self.files.push_reserved(Some(OpenFile {
+                    name,
+                    path,
+                    file,
+                    is_settled: false,
+                }));
+                Ok(FileNo(at))
+            }
+            Err(error) if error.kind() == kind => Err(self.refuse(refusal)),
+            Err(_) => Err(self.refuse(DirError::Fault)),
+        }
+    }
+
+    // Syncs the folder itself, which holds the names of its files.
+    fn sync_folder(&mut self) -> Result<(), DirError>
+        ensures files { self.new ≡ record self.old { faults = self.new.faults } }
+        ensures cause { HasCause self.old.faults self.new.faults result }
+        ensures only { OnErr result (result ≡ Err DirError.Fault) }
+    {
+        let synced = match fs::open(&self.rt, self.path.as_str()) {
+            Ok(folder) => folder.sync_all().is_ok(),
+            Err(_) => false,
+        };
+        if synced {
+            Ok(())
+        } else {
+            Err(self.refuse(DirError::Fault))
+        }
+    }
+}
+
+// The place of the open file of this name.
+fn place_of<F, A: Allocator>(files: &Vec<Option<OpenFile<F, A>>, A>, name: &[u8]) -> Option<usize>
+    ensures { IfSome result (λ at. open_name (slice_get files.now.items at) ≡ Some name.now) }
+{
+    for (at, place) in files.iter().enumerate() {
+        if let Some(open) = place
+            && open.name.as_bytes() == name
+        {
+            return Some(at);
+        }
+    }
+    None
+}
+
+// The open file at a place.
+fn open_at<F, A: Allocator>(files: &Vec<Option<OpenFile<F, A>>, A>, at: usize) -> &OpenFile<F, A>
+    requires { IsSome (open_name (slice_get files.now.items at)) }
+{
+    match &files[at] {
+        Some(open) => open,
+        None => unreachable!(),
+    }
+}
+
+// Writes to the end of the open file at a place.
+fn write_at<F: Write, A: Allocator>(
+    files: &mut Vec<Option<OpenFile<F, A>>, A>,
+    at: usize,
+    bytes: &[u8],
+) -> io::Result<()>
+    requires { IsSome (open_name (slice_get files.old.items at)) }
+    ensures { (j : ℕ) → open_name (slice_get files.new.items j) ≡ open_name (slice_get files.old.items j) }
+{
+    match &mut files[at] {
+        Some(open) => open.file.write_all(bytes),
+        None => unreachable!(),
+    }
+}
+
+// Notes that the folder was synced since the file at a place was made or opened.
+fn settle_at<F, A: Allocator>(files: &mut Vec<Option<OpenFile<F, A>>, A>, at: usize)
+    requires { IsSome (open_name (slice_get files.old.items at)) }
+    ensures { (j : ℕ) → open_name (slice_get files.new.items j) ≡ open_name (slice_get files.old.items j) }
+{
+    match &mut files[at] {
+        Some(open) => open.is_settled = true,
+        None => unreachable!(),
+    }
+}
+
+// Closes the file at a place.
+fn close_at<F: Drop, A: Allocator>(files: &mut Vec<Option<OpenFile<F, A>>, A>, at: usize)
+    requires { IsSome (open_name (slice_get files.old.items at)) }
+    ensures closed { open_name (slice_get files.new.items at) ≡ None }
+    ensures others { (j : ℕ) → j ≢ at → open_name (slice_get files.new.items j) ≡ open_name (slice_get files.old.items j) }
+{
+    files[at] = None;
+}
+
+impl<R, A> Dir for RealDir<R, A>
+where
+    R: Files + Alloc + Clone + Drop,
+    R::File: FileExt + Drop,
+    R::A: Clone,
+    A: Allocator + Copy,
+{
+    ghost use Rattle.std.specs.Prelude.{◌-◌, ◌^◌, slice_get};
+    ghost use Rattle.disk_files.specs.Real.{open_name, unknown};
+
+    ghost is_honest = { λ _. ⊥ };
+
+    ghost history = { λ _. unknown };
+
+    ghost is_failing = { λ _. ⊥ };
+
+    ghost opened = { λ d file. open_name (slice_get d.files.items file.0) };
+
+    ghost bytes_left = { λ _ _. 2 ^ 64 - 1 };
+
+    ghost fault_count = { λ d. d.faults };
+
+    ghost reads_stay = { λ _ honest. absurd honest };
+
+    fn create(&mut self, name: &[u8], _room: usize) -> Result<FileNo, DirError> {
+        let mut how = OpenOptions::new();
+        how.read(true).append(true).create_new(true);
+        self.open_as(&how, name, ErrorKind::AlreadyExists, DirError::NameTaken)
+    }
+
+    fn open(&mut self, name: &[u8]) -> Result<FileNo, DirError> {
+        if let Some(at) = place_of(&self.files, name) {
+            return Ok(FileNo(at));
+        }
+        let mut how = OpenOptions::new();
+        how.read(true).append(true);
+        self.open_as(&how, name, ErrorKind::NotFound, DirError::NoSuchFile)
+    }
+
+    fn reserve(&mut self, _file: FileNo, _room: usize) -> Result<(), AllocError> {
+        Ok(())
+    }
+
+    fn list<B: Allocator + Copy>(&mut self, alloc: B) -> Result<Vec<FileName<B>, B>, DirError> {
+        match names_in(alloc, &self.rt, self.path.as_str()) {
+            Ok(names) => Ok(names),
+            Err(error) if error.kind() == ErrorKind::OutOfMemory => Err(DirError::Memory),
+            Err(_) => Err(self.refuse(DirError::Fault)),
+        }
+    }
+
+    fn append(&mut self, file: FileNo, bytes: &[u8]) -> Result<(), DirError> {
+        match write_at(&mut self.files, file.0, bytes) {
+            Ok(()) => Ok(()),
+            Err(_) => Err(self.refuse(DirError::Fault)),
+        }
+    }
+
+    fn sync(&mut self, file: FileNo) -> Result<(), DirError> {
+        let open = open_at(&self.files, file.0);
+        let is_settled = open.is_settled;
+        if open.file.sync_all().is_err() {
+            return Err(self.refuse(DirError::Fault));
+        }
+        if !is_settled {
+            self.sync_folder()?;
+            settle_at(&mut self.files, file.0);
+        }
+        Ok(())
+    }
+
+    fn read_at(&mut self, file: FileNo, at: usize, into: &mut [u8]) -> Result<usize, DirError> {
+        match read_all(&open_at(&self.files, file.0).file, at, into) {
+            Ok(n) => Ok(n),
+            Err(_) => Err(self.refuse(DirError::Fault)),
+        }
+    }
+
+    fn length(&mut self, file: FileNo) -> Result<usize, DirError> {
+        match open_at(&self.files, file.0).file.metadata() {
+            Ok(metadata) => Ok(metadata.len() as usize),
+            Err(_) => Err(self.refuse(DirError::Fault)),
+        }
+    }
+
+    fn remove(&mut self, file: FileNo) -> Result<(), DirError> {
+        let path = open_at(&self.files, file.0).path.as_str();
+        if fs::remove_file(&self.rt, path).is_err() {
+            return Err(self.refuse(DirError::Fault));
+        }
+        close_at(&mut self.files, file.0);
+        Ok(())
+    }
+
+    fn faults(&self) -> u64 {
+        self.faults
+    }
+}
+
+// The names in the folder of this path. A name that is no text is passed over: no call can name it.
+fn names_in<B: Allocator + Copy, R: Files + Alloc + Clone + Drop>(
+    alloc: B,
+    rt: &R,
+    path: &str,
+) -> io::Result<Vec<FileName<B>, B>>
+where
+    R::A: Clone,
+{
+    let mut names = Vec::new(alloc);
+    for entry in fs::read_dir(rt, path)? {
+        match entry {
+            Ok(entry) => {
+                names.push(FileName::from_slice(alloc, entry.file_name().as_bytes())?)?;
+            }
+            Err(error) if error.kind() == ErrorKind::InvalidFilename => {}
+            Err(error) => return Err(error),
+        }
+    }
+    Ok(names)
+}
+
+// Reads from a place on, until the file or the room ends.
+fn read_all<F: FileExt>(file: &F, at: usize, into: &mut [u8]) -> io::Result<usize>
+    ensures { IfOk result (λ n. n ≤ length into.old) }
+{
+    let mut count = 0;
+    for _ in 0..u64::MAX {
+        match file.read_at(&mut into[count..], (at as u64).wrapping_add(count as u64)) {
+            Ok(0) => return Ok(count),
+            Ok(n) => count += n,
+            Err(error) if error.kind() == ErrorKind::Interrupted => {}
+            Err(error) => return Err(error),
+        }
+    }
+    Err(io::Error::from(ErrorKind::TimedOut))
+}
