@@ -1,7 +1,5 @@
 pub mod Differences
-pub mod Fronts
 pub mod Parts
-pub mod Walk
 pub mod Puts
 pub mod Judging
 pub mod Lengths

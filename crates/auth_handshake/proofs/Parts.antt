@@ -1,12 +1,12 @@
 -- Arrays of scalars, as the messages of a handshake are.
-use Rattle.std.proofs.Common.{ℕ, ◌≡◌, ◌+◌, ◌≤◌, List, [], ◌∷◌, ◌++◌, length, refl, ap, sym, ◌∙◌, arith, inl, inr, Bool, true, false, subst, Option, Some, None, IfSome}
+use Rattle.std.proofs.Common.{ℕ, ◌≡◌, ◌+◌, ◌≤◌, List, [], ◌∷◌, ◌++◌, length, refl, ap, sym, ◌∙◌, arith, inl, inr, Bool, true, false, subst, Option, Some, None, IfSome, MatchOption}
 use Rattle.std.specs.List.{AllByRecursion, concat}
 use Rattle.std.proofs.lemmas.List.{append-nil, length-append}
 use Rattle.msgpack_bytes.specs.declared.format.Kind.TheVariants as kind
 use Rattle.msgpack_bytes.specs.Format.{shape_of}
 use Rattle.msgpack_bytes.specs.Item.{IsScalar, Item, longest, IsTextItem}
 use Rattle.msgpack_bytes.specs.Kinds.{IsText, IsBool, IsArrayHeader}
-use Rattle.auth_handshake.specs.Containers.{IsArray}
+use Rattle.msgpack_bytes.specs.Containers.{IsArrayOf}
 use Rattle.auth_handshake.specs.Messages.{Asked, Told}
 
 pub text_scalar : (bytes content : List ℕ) → IsText bytes content → IsScalar bytes
@@ -32,7 +32,7 @@ scalar_items (x ∷ items) n p short = (
 
 -- an item that is an array's header and scalars is an array of these
 pub scalars_array : (item header : List ℕ) (items : List (List ℕ)) → IsTextItem item → IsArrayHeader (length items) header
-    → item ≡ header ++ concat items → AllByRecursion IsScalar items → IsArray items item
+    → item ≡ header ++ concat items → AllByRecursion IsScalar items → IsArrayOf IsTextItem items item
 scalars_array item header items p h e s =
     record { header = header; counted = h; each = scalar_items items (length header) s (let l = ap length e in let short = p.short in omega (arith, length-append header (concat items))); whole = e }
 
@@ -52,7 +52,7 @@ same_told a b v r h d =
 
 -- an item that is the header of an array of two, a text and another item is an array of these
 pub text_and_item : (item header name content options : List ℕ) → IsTextItem item → IsArrayHeader 2 header → IsText name content → IsTextItem options
-    → item ≡ header ++ (name ++ options) → IsArray (name ∷ options ∷ []) item
+    → item ≡ header ++ (name ++ options) → IsArrayOf IsTextItem (name ∷ options ∷ []) item
 text_and_item item header name content options p h t o e = record {
   header = header;
   counted = h;
@@ -67,3 +67,7 @@ text_and_item item header name content options p h t o e = record {
 pub if_some : {X : Type 0} (P Q : X → Type 0) (r : Option X) → ((x : X) → P x → Q x) → IfSome r P → IfSome r Q
 if_some P Q None f h = tt
 if_some P Q (Some x) f h = f x h
+
+pub match_some : {X : Type 0} (N : Type 0) (P Q : X → Type 0) (r : Option X) → ((x : X) → P x → Q x) → MatchOption r N P → IfSome r Q
+match_some N P Q None f h = tt
+match_some N P Q (Some x) f h = f x h

@@ -10,7 +10,7 @@ use Rattle.msgpack_bytes.specs.Format.{shape_of}
 use Rattle.msgpack_bytes.specs.Item.{Sizes, IsScalarHeader, Row, IsScalar, Item, longest, IsTextItem}
 use Rattle.msgpack_bytes.specs.Kinds.{IsText, IsArrayHeader}
 use Rattle.msgpack_bytes.specs.Spelling.{str_of, bin_of, bool_of, array_header_of, map_header_of}
-use Rattle.auth_handshake.specs.Containers.{Pair, pair_bytes, IsArray}
+use Rattle.msgpack_bytes.specs.Containers.{Pair, pair_bytes, IsArrayOf}
 use Rattle.auth_handshake.specs.Messages.{IsPong}
 use Rattle.auth_handshake.specs.Written.{array_of, map_of, named, helo_options, helo_bytes}
 use Rattle.auth_handshake.specs.Laws.{IsHost, IsHeloRead, IsPingRead, IsPongRead, IsRefusalRead}
@@ -37,7 +37,7 @@ array_item items header h p short = record {
   short = short;
 }
 
-array_is : (items : List (List ℕ)) → IsArrayHeader (length items) (array_header_of (length items)) → AllByRecursion IsScalar items → length (array_of items) ≤ longest → IsArray items (array_of items)
+array_is : (items : List (List ℕ)) → IsArrayHeader (length items) (array_header_of (length items)) → AllByRecursion IsScalar items → length (array_of items) ≤ longest → IsArrayOf IsTextItem items (array_of items)
 array_is items h p short = scalars_array (array_of items) (array_header_of (length items)) items (array_item items (array_header_of (length items)) h p short) h refl p
 
 array_is_item : (items : List (List ℕ)) → IsArrayHeader (length items) (array_header_of (length items)) → AllByRecursion IsScalar items → length (array_of items) ≤ longest → IsTextItem (array_of items)

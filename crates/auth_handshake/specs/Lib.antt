@@ -1,6 +1,4 @@
 pub mod Digest
-pub mod Containers
-pub mod Options
 pub mod Messages
 pub mod Readings
 pub mod Written

@@ -3,8 +3,8 @@
 use Rattle.std.specs.Prelude.{ℕ, List, [], ◌∷◌, Bool, codes}
 use Rattle.msgpack_bytes.specs.Item.{IsTextItem}
 use Rattle.msgpack_bytes.specs.Kinds.{IsText, IsBool}
-use Rattle.auth_handshake.specs.Containers.{Pair, IsArray, IsMap}
-use Rattle.auth_handshake.specs.Options.{IsLastValue}
+use Rattle.msgpack_bytes.specs.Containers.{Pair, IsArrayOf, IsMapOf}
+use Rattle.msgpack_bytes.specs.Names.{IsLastValue}
 
 -- a str or a bin of any content
 abbrev pub IsAnyText : List ℕ → Type 0
@@ -15,10 +15,10 @@ pub record IsHelo (bytes nonce : List ℕ) : Type 0 where
   pub item : IsTextItem bytes
   pub name : List ℕ
   pub options : List ℕ
-  pub array : IsArray (name ∷ options ∷ []) bytes
+  pub array : IsArrayOf IsTextItem (name ∷ options ∷ []) bytes
   pub named : IsText name (codes "HELO")
   pub pairs : List Pair
-  pub map : IsMap pairs options
+  pub map : IsMapOf IsTextItem pairs options
   pub value : List ℕ
   pub last : IsLastValue (codes "nonce") pairs value
   pub text : IsText value nonce
@@ -40,7 +40,7 @@ pub record IsPing (bytes : List ℕ) (says : Asked) : Type 0 where
   pub digest : List ℕ
   pub user : List ℕ
   pub password : List ℕ
-  pub array : IsArray (name ∷ host ∷ salt ∷ digest ∷ user ∷ password ∷ []) bytes
+  pub array : IsArrayOf IsTextItem (name ∷ host ∷ salt ∷ digest ∷ user ∷ password ∷ []) bytes
   pub named : IsText name (codes "PING")
   pub is_host : IsText host says.host
   pub is_salt : IsText salt says.salt
@@ -64,7 +64,7 @@ pub record IsPong (bytes : List ℕ) (says : Told) : Type 0 where
   pub reason : List ℕ
   pub host : List ℕ
   pub digest : List ℕ
-  pub array : IsArray (name ∷ result ∷ reason ∷ host ∷ digest ∷ []) bytes
+  pub array : IsArrayOf IsTextItem (name ∷ result ∷ reason ∷ host ∷ digest ∷ []) bytes
   pub named : IsText name (codes "PONG")
   pub is_result : IsBool says.accepted result
   pub is_reason : IsText reason says.reason

@@ -2,7 +2,7 @@
 use Rattle.std.specs.Prelude.{ℕ, List, [], ◌∷◌, ◌++◌, length, codes, true, false}
 use Rattle.std.specs.List.{concat, flat_map}
 use Rattle.msgpack_bytes.specs.Spelling.{array_header_of, map_header_of, str_of, bin_of, bool_of}
-use Rattle.auth_handshake.specs.Containers.{Pair, pair_bytes}
+use Rattle.msgpack_bytes.specs.Containers.{Pair, pair_bytes}
 
 -- an array of these items
 abbrev pub array_of : List (List ℕ) → List ℕ

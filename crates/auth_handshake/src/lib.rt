@@ -6,9 +6,7 @@
 mod answers;
 mod client;
 mod digest;
-mod item;
 mod laws;
-mod map;
 mod read;
 mod server;
 #[cfg(test)]

@@ -4,8 +4,7 @@ ghost use Rattle.std.specs.Prelude.{◌≡◌, ℕ, List, IfSome, IsSomeAnd};
 ghost use Rattle.auth_handshake.specs.Messages.{Asked, Told, IsHelo, IsPing, IsPong};
 ghost use Rattle.auth_handshake.specs.Readings.{asked, told};
 
-use crate::item::{after_text, array_of, is_item, next_bool, next_text, text_of};
-use crate::map::last_value;
+use msgpack_bytes::{after_text, array_of, is_item, last_value, next_bool, next_text, text_of};
 
 // What a PING says: the client's host name, its salt, and its digest.
 #[derive(Clone, Copy)]

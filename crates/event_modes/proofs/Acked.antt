@@ -1,7 +1,7 @@
 -- What is written as an acknowledgement is one, and where its content lies.
 use Rattle.std.proofs.Common.{ℕ, ◌≡◌, ◌+◌, ◌-◌, ◌≤◌, List, [], ◌∷◌, ◌++◌, length, take, drop, refl, ap, sym, subst, ◌∙◌, arith, append_assoc, inl, inr}
 use Rattle.std.specs.Prelude.{codes, slice_range}
-use Rattle.std.specs.List.{AllByRecursion, concat, flat_map}
+use Rattle.std.specs.List.{concat, flat_map}
 use Rattle.std.proofs.lemmas.List.{append-nil, length-append, length-drop, length-take-le, take_all, take-append-drop, take-append-le, drop-append-le}
 use Rattle.msgpack_bytes.specs.declared.format.Kind.TheVariants as kind
 use Rattle.msgpack_bytes.specs.declared.format.Container.TheVariants as container
@@ -9,8 +9,9 @@ use Rattle.msgpack_bytes.specs.Format.{shape_of}
 use Rattle.msgpack_bytes.specs.Item.{IsScalarHeader, IsContainerHeader, Spells, IsTextItem}
 use Rattle.msgpack_bytes.specs.Kinds.{IsText}
 use Rattle.msgpack_bytes.proofs.Slices.{slice_middle}
-use Rattle.event_modes.specs.Containers.{IsPart, Pair, pair_items, pair_bytes, IsMap}
-use Rattle.event_modes.specs.Options.{Lacks, IsLastValue, longest_chunk}
+use Rattle.msgpack_bytes.specs.Containers.{IsPart, Pair, pair_items, pair_bytes, IsMap}
+use Rattle.msgpack_bytes.specs.Names.{Lacks, IsLastValue}
+use Rattle.event_modes.specs.Options.{longest_chunk}
 use Rattle.event_modes.specs.Pairs.{pair_of}
 use Rattle.msgpack_bytes.specs.declared.answers.MsgFault.{MsgFault}
 use Rattle.msgpack_bytes.specs.Item.{IsOpen}
@@ -26,7 +27,7 @@ use Rattle.event_modes.specs.Acks.{IsAckAt, AckFault, AnswersAck}
 use Rattle.event_modes.specs.Acknowledgement.{IsAcknowledgement, acknowledgement_of}
 use Rattle.event_modes.proofs.Parting.{same_front, text_item, scalar_is_part, container_is_item}
 use Rattle.event_modes.proofs.Begins.{map_one, text_one}
-use Rattle.event_modes.proofs.Counted.{pair_concat, pair_texts}
+use Rattle.event_modes.proofs.Counted.{pair_concat}
 use Rattle.event_modes.proofs.Last.{last_one, same_last, lacks_last}
 
 ack_key : List ℕ
@@ -128,14 +129,6 @@ spanned item content behind p =
       fits = omega arith;
       span = slice_middle item p.front content p.back 0 (length item - behind - length content) (length item - behind) p.whole (omega arith) (omega arith);
     }
-
--- the value is an item
-pub value_text : (item name value : List ℕ) (pairs : List Pair) → IsTextItem item → IsMap pairs item → IsLastValue name pairs value → IsTextItem value
-value_text item name value pairs t m l = among l.before (subst (λ (ps : List Pair). AllByRecursion IsTextItem (pair_items ps)) l.whole (pair_texts pairs item t m))
-  where
-    among : (before : List Pair) → AllByRecursion IsTextItem (pair_items (before ++ pair_of l.key value ∷ l.after)) → IsTextItem value
-    among [] p = p.1.0
-    among (q ∷ before) p = among before p.1.1
 
 -- another acknowledgement of the item has the same last value
 pub same_value : (item content value : List ℕ) (pairs : List Pair) → IsMap pairs item → IsLastValue (codes "ack") pairs value → (a : IsAcknowledgement item content) → IsText value content

@@ -12,7 +12,7 @@ use Rattle.msgpack_bytes.specs.Format.{big_endian, shape_of}
 use Rattle.msgpack_bytes.specs.Item.{Sizes, Counts, IsScalarHeader, IsContainerHeader, Spells}
 use Rattle.msgpack_bytes.specs.Kinds.{IsNil, IsStr, IsBin, IsText, IsInteger, Positive, Negative, Unsigned, Signed}
 use Rattle.msgpack_bytes.proofs.Sound.{positive_shape, negative_shape}
-use Rattle.event_modes.specs.Containers.{Pair, IsPair, pair_bytes, IsArray, IsMap}
+use Rattle.msgpack_bytes.specs.Containers.{Pair, IsPair, pair_bytes, IsArray, IsMap}
 use Rattle.event_modes.proofs.Parting.{same_front}
 use Rattle.event_modes.proofs.Parting.{same_behind, same_items, part_item, parts_items}
 

@@ -7,7 +7,7 @@ use Rattle.msgpack_bytes.specs.declared.format.Container.TheVariants as containe
 use Rattle.msgpack_bytes.specs.Format.{shape_of}
 use Rattle.msgpack_bytes.specs.Item.{IsContainer, IsContainerHeader, Item, longest, IsTextItem}
 use Rattle.event_modes.specs.declared.fault.ModeFault.{ModeFault}
-use Rattle.event_modes.specs.Containers.{IsPart, IsArray}
+use Rattle.msgpack_bytes.specs.Containers.{IsPart, IsArray}
 use Rattle.event_modes.specs.Entry.{IsTime, IsRecord, stored_entry, IsEntry}
 use Rattle.event_modes.specs.Rows.{IsStored}
 use Rattle.event_modes.specs.Message.{Forward, Packed, Carries}

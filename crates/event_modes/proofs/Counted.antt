@@ -9,7 +9,7 @@ use Rattle.msgpack_bytes.specs.Answers.{IsHead}
 use Rattle.msgpack_bytes.specs.declared.answers.Head.TheVariants as head
 use Rattle.event_modes.proofs.Heads.{is_array, is_map}
 use Rattle.event_modes.specs.Rows.{behind_item, items_of, AreItems}
-use Rattle.event_modes.specs.Containers.{IsPart, Pair, IsPair, pair_items, pair_bytes, IsArray, IsMap}
+use Rattle.msgpack_bytes.specs.Containers.{IsPart, Pair, IsPair, pair_items, pair_bytes, IsArray, IsMap}
 use Rattle.event_modes.proofs.Parting.{IsItem, run_item, same_front}
 use Rattle.event_modes.proofs.Parting.{same_behind, text_item, texts_items, parts_texts}
 

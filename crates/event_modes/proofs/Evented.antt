@@ -2,7 +2,7 @@
 use Rattle.std.proofs.Common.{ℕ, List, [], ◌∷◌}
 use Rattle.event_modes.specs.declared.fault.ModeFault.{ModeFault}
 use Rattle.event_modes.specs.declared.fault.ModeFault.TheVariants.{BadEntry}
-use Rattle.event_modes.specs.Containers.{IsArray}
+use Rattle.msgpack_bytes.specs.Containers.{IsArray}
 use Rattle.event_modes.specs.Faults.{EventFault, EntryFault}
 
 -- a fault of an event is one of its entry

@@ -7,7 +7,7 @@ use Rattle.msgpack_bytes.specs.declared.format.Container.TheVariants as containe
 use Rattle.std.specs.List.{AllByRecursion, concat}
 use Rattle.std.proofs.lemmas.List.{length-append}
 use Rattle.event_modes.proofs.Collected.{some_header}
-use Rattle.event_modes.specs.Containers.{IsArray}
+use Rattle.msgpack_bytes.specs.Containers.{IsArray}
 use Rattle.event_modes.specs.Message.{Carrier, Single, Forward, Packed, Frame, IsLaidOut, IsFrame}
 use Rattle.event_modes.specs.Places.{IsBulk, IsNoBulk, CanCarry}
 use Rattle.event_modes.proofs.Begins.{array_one}

@@ -12,10 +12,10 @@ use Rattle.msgpack_bytes.specs.declared.format.Container.{Container}
 use Rattle.msgpack_bytes.specs.declared.format.Container.TheVariants as container
 use Rattle.msgpack_bytes.specs.Format.{items_in, shape_of}
 use Rattle.msgpack_bytes.specs.Item.{Sizes, IsContainerHeader, IsScalar, Spells, Row, Item, IsTextItem}
-use Rattle.msgpack_bytes.specs.Kinds.{IsBool, IsText, IsArrayHeader, IsMapHeader, IsInteger, Positive, Negative, Unsigned, Signed}
+use Rattle.msgpack_bytes.specs.Kinds.{IsBool, IsArrayHeader, IsMapHeader, IsInteger, Positive, Negative, Unsigned, Signed}
 use Rattle.msgpack_bytes.specs.Answers.{IsHead}
 use Rattle.msgpack_bytes.proofs.Sound.{positive_shape, negative_shape}
-use Rattle.event_modes.specs.Containers.{IsPart, Pair, IsPair, pair_bytes, IsArray, IsMap}
+use Rattle.msgpack_bytes.specs.Containers.{IsPart, Pair, IsPair, pair_bytes, IsArray, IsMap}
 use Rattle.event_modes.proofs.Parting.{same_front, item_cases, scalar_is_item, text_item}
 use Rattle.event_modes.proofs.Begins.{family_of, family_in, BeginsAs, begins_one, begins_front, spells_begins, header_begins, one_header, array_begins, map_begins, nil_begins, int_begins}
 
@@ -117,18 +117,6 @@ scalar_all item front back t s e =
 pub spells_all : (k : Kind) (item front back content : List ℕ) → IsTextItem item → Spells k front content → item ≡ front ++ back → Spells k item content
 spells_all k item front back content t s e =
     subst (λ (z : List ℕ). Spells k z content) (scalar_all item front back t (record { kind = k; content = content; spelled = s }) e) s
-
-pub is_str : (item : List ℕ) (s e : ℕ) → IsTextItem item → IsHead item 0 (Some (head.Str s e)) → IsText item (slice_range item s e)
-is_str item s e t p = inl (spells_all kind.Str item (slice_range item 0 e) (drop e item) (slice_range item s e) t p.3 (span_front item e))
-
-pub is_bin : (item : List ℕ) (s e : ℕ) → IsTextItem item → IsHead item 0 (Some (head.Bin s e)) → IsText item (slice_range item s e)
-is_bin item s e t p = inr (spells_all kind.Bin item (slice_range item 0 e) (drop e item) (slice_range item s e) t p.3 (span_front item e))
-
-pub no_text : (item : List ℕ) (h : Head) → IsHead item 0 (Some h) → ((s e : ℕ) → h ≡ head.Str s e → ⊥) → ((s e : ℕ) → h ≡ head.Bin s e → ⊥) → (content : List ℕ) → IsText item content → ⊥
-no_text item (head.Str s e) p no_str no_bin c x = no_str s e refl
-no_text item (head.Bin s e) p no_str no_bin c x = no_bin s e refl
-no_text item other p no_str no_bin c (inl s) = let e = one_family item other 4 p (spells_begins kind.Str item c s) in absurd (omega arith)
-no_text item other p no_str no_bin c (inr s) = let e = one_family item other 5 p (spells_begins kind.Bin item c s) in absurd (omega arith)
 
 -- ---- arrays
 

@@ -2,8 +2,9 @@
 use Rattle.std.proofs.Common.{ℕ, ◌≡◌, List, [], ◌∷◌, ◌++◌, refl, ap, sym, subst, ◌∙◌, inl, inr, Option, Some, None}
 use Rattle.std.specs.Prelude.{codes}
 use Rattle.msgpack_bytes.specs.Kinds.{IsNil}
-use Rattle.event_modes.specs.Containers.{Pair}
-use Rattle.event_modes.specs.Options.{IsNamed, Lacks, IsLastValue, AsksFor, IsOption}
+use Rattle.msgpack_bytes.specs.Containers.{Pair}
+use Rattle.msgpack_bytes.specs.Names.{IsNamed, Lacks, IsLastValue}
+use Rattle.event_modes.specs.Options.{AsksFor, IsOption}
 use Rattle.event_modes.proofs.Begins.{map_one, no_map_nil}
 
 abbrev pub pair_of : List ℕ → List ℕ → Pair

@@ -5,7 +5,7 @@ use Rattle.std.specs.Option.{option_to_list}
 use Rattle.std.specs.List.{AllZip}
 use Rattle.msgpack_bytes.specs.Item.{IsTextItem}
 use Rattle.msgpack_bytes.specs.Kinds.{IsText}
-use Rattle.event_modes.specs.Containers.{IsArray}
+use Rattle.msgpack_bytes.specs.Containers.{IsArray}
 use Rattle.event_modes.specs.Entry.{IsEntry}
 use Rattle.event_modes.specs.Options.{IsOption}
 use Rattle.event_modes.specs.Message.{Parts, Carrier, Single, Forward, Packed, Frame, IsLaidOut, IsFrame, Carries, IsMessage}

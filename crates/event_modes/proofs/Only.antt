@@ -12,7 +12,7 @@ use Rattle.msgpack_bytes.specs.Answers.{Begins}
 use Rattle.msgpack_bytes.proofs.Scanned.{one_answer}
 use Rattle.event_modes.specs.declared.fault.ModeFault.{ModeFault}
 use Rattle.event_modes.specs.declared.fault.ModeFault.TheVariants.{NotAMessage, BadTag, BadTime, BadRecord, BadEntry, TornPacked, Compressed, BadOption, Bytes}
-use Rattle.event_modes.specs.Containers.{Pair, IsArray}
+use Rattle.msgpack_bytes.specs.Containers.{Pair, IsArray}
 use Rattle.event_modes.specs.Entry.{IsTime, IsRecord, IsEntry}
 use Rattle.event_modes.specs.Options.{IsFit, IsOption}
 use Rattle.event_modes.specs.Message.{Parts, Carrier, Single, Forward, Packed, Frame, IsTag, Carries, IsMessage}

@@ -7,7 +7,7 @@ use Rattle.msgpack_bytes.specs.Format.{shape_of}
 use Rattle.msgpack_bytes.specs.Item.{IsScalarHeader, IsContainerHeader, IsScalar, IsContainer, Row, Item, deepest, longest, IsTextItem}
 use Rattle.msgpack_bytes.specs.Run.{run}
 use Rattle.msgpack_bytes.proofs.Items.{item_read}
-use Rattle.event_modes.specs.Containers.{IsPart}
+use Rattle.msgpack_bytes.specs.Containers.{IsPart}
 
 -- an item of any length
 pub record IsItem (bytes : List ℕ) : Type 0 where

@@ -8,8 +8,9 @@ use Rattle.event_modes.specs.Lasts.{IsLast}
 use Rattle.msgpack_bytes.specs.Item.{IsTextItem}
 use Rattle.msgpack_bytes.specs.Kinds.{IsText}
 use Rattle.event_modes.specs.declared.fault.ModeFault.{ModeFault}
-use Rattle.event_modes.specs.Containers.{Pair, pair_items}
-use Rattle.event_modes.specs.Options.{IsNamed, Lacks, IsLastValue, IsFit}
+use Rattle.msgpack_bytes.specs.Containers.{Pair, pair_items}
+use Rattle.msgpack_bytes.specs.Names.{IsNamed, Lacks, IsLastValue}
+use Rattle.event_modes.specs.Options.{IsFit}
 use Rattle.event_modes.specs.Pairs.{ArePairs, pair_of}
 use Rattle.event_modes.specs.Faults.{FirstBad, PairFault}
 use Rattle.event_modes.proofs.Stored.{all_push}

@@ -9,10 +9,11 @@ use Rattle.msgpack_bytes.specs.Item.{IsScalar, IsContainer, Item, longest, IsTex
 use Rattle.msgpack_bytes.specs.Kinds.{IsStr, IsBin, IsText, IsArrayHeader, IsMapHeader}
 use Rattle.msgpack_bytes.specs.Spelling.{uint_of, str_header_of, str_of, bin_of, array_header_of, map_header_of}
 use Rattle.msgpack_bytes.proofs.Shortest.{str_spelled, bin_spelled, array_spelled, map_spelled, uint_spelled}
-use Rattle.event_modes.specs.Containers.{IsPart}
+use Rattle.msgpack_bytes.specs.Containers.{IsPart}
 use Rattle.event_modes.specs.Entry.{IsEntry}
 use Rattle.event_modes.specs.Rows.{IsStored}
-use Rattle.event_modes.specs.Options.{IsNamed, IsFit, IsOption, longest_chunk}
+use Rattle.msgpack_bytes.specs.Names.{IsNamed}
+use Rattle.event_modes.specs.Options.{IsFit, IsOption, longest_chunk}
 use Rattle.event_modes.specs.Pairs.{pair_of}
 use Rattle.event_modes.specs.Message.{Packed, IsMessage, longest_tag}
 use Rattle.event_modes.specs.Packed.{option_of, packed_message, said}

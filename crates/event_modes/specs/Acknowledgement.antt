@@ -2,8 +2,8 @@
 use Rattle.std.specs.Prelude.{ℕ, List, ◌∷◌, codes}
 use Rattle.msgpack_bytes.specs.Item.{IsTextItem}
 use Rattle.msgpack_bytes.specs.Kinds.{IsText}
-use Rattle.event_modes.specs.Containers.{Pair, IsMap}
-use Rattle.event_modes.specs.Options.{IsLastValue}
+use Rattle.msgpack_bytes.specs.Containers.{Pair, IsMap}
+use Rattle.msgpack_bytes.specs.Names.{IsLastValue}
 
 -- the item acknowledges the chunk with this content, however the two spell it: a map whose last "ack" is a str or bin
 pub record IsAcknowledgement (bytes content : List ℕ) : Type 0 where

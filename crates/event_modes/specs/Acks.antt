@@ -7,7 +7,7 @@ use Rattle.event_modes.specs.declared.acks.AckRead.{AckRead}
 use Rattle.event_modes.specs.declared.acks.AckRead.TheVariants as ack
 use Rattle.event_modes.specs.declared.fault.ModeFault.{ModeFault}
 use Rattle.event_modes.specs.declared.fault.ModeFault.TheVariants.{NotAMessage, Bytes}
-use Rattle.event_modes.specs.Containers.{pair_items}
+use Rattle.msgpack_bytes.specs.Containers.{pair_items}
 use Rattle.event_modes.specs.Acknowledgement.{IsAcknowledgement}
 
 -- the first `next` bytes acknowledge a chunk, whose content is start..end of the value that counts

@@ -1,7 +1,7 @@
 -- Events (Forward Protocol Specification v1, "Entry" and "EventTime Ext Format").
 use Rattle.std.specs.Prelude.{ℕ, ℤ, ◌≡◌, ◌⊎◌, List, [], ◌∷◌, ◌++◌, length}
 use Rattle.msgpack_bytes.specs.Kinds.{IsInteger}
-use Rattle.event_modes.specs.Containers.{Pair, IsArray, IsMap}
+use Rattle.msgpack_bytes.specs.Containers.{Pair, IsArray, IsMap}
 
 -- "EventTime Ext Format": an ext of type 0 with eight bytes, seconds and then nanoseconds,
 -- spelled as fixext 8 or as ext 8: the two spellings that the protocol names

@@ -7,9 +7,10 @@ use Rattle.msgpack_bytes.specs.Kinds.{IsNil}
 use Rattle.msgpack_bytes.specs.Fault.{IsFaulty}
 use Rattle.event_modes.specs.declared.fault.ModeFault.{ModeFault}
 use Rattle.event_modes.specs.declared.fault.ModeFault.TheVariants.{NotAMessage, BadTag, BadTime, BadRecord, BadEntry, TornPacked, Compressed, BadOption, Bytes}
-use Rattle.event_modes.specs.Containers.{Pair, IsArray, IsMap}
+use Rattle.msgpack_bytes.specs.Containers.{Pair, IsArray, IsMap}
 use Rattle.event_modes.specs.Entry.{IsTime, IsRecord, IsEntry}
-use Rattle.event_modes.specs.Options.{IsNamed, IsChunk, IsUncompressed, IsFit}
+use Rattle.msgpack_bytes.specs.Names.{IsNamed}
+use Rattle.event_modes.specs.Options.{IsChunk, IsUncompressed, IsFit}
 use Rattle.event_modes.specs.Message.{Carrier, Single, Forward, Packed, Frame, IsFrame, IsTag, Carries}
 
 -- one is bad, and all before it are good

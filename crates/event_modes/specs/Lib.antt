@@ -1,4 +1,3 @@
-pub mod Containers
 pub mod Entry
 pub mod Options
 pub mod Message

@@ -4,7 +4,7 @@ use Rattle.std.specs.Option.{option_to_list}
 use Rattle.std.specs.List.{AllByRecursion, AllZip, concat}
 use Rattle.msgpack_bytes.specs.Item.{IsTextItem}
 use Rattle.msgpack_bytes.specs.Kinds.{IsText}
-use Rattle.event_modes.specs.Containers.{IsArray}
+use Rattle.msgpack_bytes.specs.Containers.{IsArray}
 use Rattle.event_modes.specs.Entry.{IsTime, IsRecord, stored_entry, IsEntry}
 use Rattle.event_modes.specs.Options.{IsOption}
 

@@ -1,25 +1,9 @@
 -- The option of a message (Forward Protocol Specification v1, "Option").
-use Rattle.std.specs.Prelude.{ℕ, ◌≡◌, ◌≤◌, ◌⊎◌, List, ◌∷◌, ◌++◌, length, Option, Some, None, codes}
+use Rattle.std.specs.Prelude.{ℕ, ◌≡◌, ◌≤◌, ◌⊎◌, List, length, Option, Some, None, codes}
 use Rattle.std.specs.List.{AllByRecursion}
 use Rattle.msgpack_bytes.specs.Kinds.{IsNil, IsText}
-use Rattle.event_modes.specs.Containers.{Pair, IsMap}
-
--- the key is this name, as a str or a bin; a key of another kind is no name
-abbrev pub IsNamed : List ℕ → Pair → Type 0
-IsNamed name pair = IsText pair.key name
-
--- no key is this name
-abbrev pub Lacks : List ℕ → List Pair → Type 0
-Lacks name pairs = AllByRecursion (λ pair. IsNamed name pair → ⊥) pairs
-
--- the value of the last key of this name
-pub record IsLastValue (name : List ℕ) (pairs : List Pair) (value : List ℕ) : Type 0 where
-  pub before : List Pair
-  pub key : List ℕ
-  pub after : List Pair
-  pub named : IsText key name
-  pub last : Lacks name after
-  pub whole : pairs ≡ before ++ record { key = key; value = value } ∷ after
+use Rattle.msgpack_bytes.specs.Containers.{Pair, IsMap}
+use Rattle.msgpack_bytes.specs.Names.{IsNamed, Lacks, IsLastValue}
 
 -- the most bytes of a chunk's item, its header among them
 abbrev pub longest_chunk : ℕ

@@ -3,7 +3,7 @@ use Rattle.std.specs.Prelude.{ℕ, ◌≡◌, List, Option, option_map}
 use Rattle.std.specs.List.{AllByRecursion}
 use Rattle.std.specs.Borrow.{Bor}
 use Rattle.msgpack_bytes.specs.Item.{IsTextItem}
-use Rattle.event_modes.specs.Containers.{Pair, pair_items}
+use Rattle.msgpack_bytes.specs.Containers.{Pair, pair_items}
 
 -- keys and values by turns
 pub record ArePairs (items : List (List ℕ)) : Type 0 where

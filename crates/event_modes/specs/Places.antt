@@ -10,7 +10,7 @@ use Rattle.event_modes.specs.declared.places.Elements.TheVariants.{Two, Three, F
 use Rattle.event_modes.specs.declared.places.Carried.{Carried}
 use Rattle.event_modes.specs.declared.places.Carried.TheVariants as carried
 use Rattle.event_modes.specs.declared.places.Places.{Places}
-use Rattle.event_modes.specs.Containers.{IsPart, IsArray}
+use Rattle.msgpack_bytes.specs.Containers.{IsPart, IsArray}
 use Rattle.event_modes.specs.Message.{Carrier, Single, Forward, Packed, Frame}
 
 -- the elements, in order

@@ -9,9 +9,9 @@ ghost use Rattle.event_modes.specs.Acknowledgement.{IsAcknowledgement, acknowled
 ghost use Rattle.event_modes.specs.Acks.{IsAckAt, AnswersAck};
 
 use crate::fault::ModeFault;
-use crate::item::{map_of, text_of};
+use crate::item::map_of;
 use crate::option::last_value;
-use msgpack_bytes::{Scan, scan};
+use msgpack_bytes::{Scan, scan, text_of};
 use std::alloc::{AllocError, Allocator};
 
 /// A map of one, and the str "ack".

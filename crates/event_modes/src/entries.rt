@@ -2,7 +2,7 @@
 
 ghost use Rattle.std.specs.Prelude.{◌≡◌, ◌++◌, ◌⊎◌, ℕ, List, MatchResult, IsTrue, ◌↔◌};
 ghost use Rattle.msgpack_bytes.specs.Item.{IsTextItem};
-ghost use Rattle.event_modes.specs.Containers.{IsArray};
+ghost use Rattle.msgpack_bytes.specs.Containers.{IsArray};
 ghost use Rattle.event_modes.specs.Message.{Carrier, Single, Forward, Packed, Carries};
 ghost use Rattle.event_modes.specs.Faults.{CarriedFault, PackedEnd};
 ghost use Rattle.event_modes.specs.Rows.{IsStored, SomeEntries};

@@ -2,7 +2,7 @@
 
 ghost use Rattle.std.specs.Prelude.{◌≡◌, ℕ, List, [], ◌∷◌, MatchResult, MatchOption, IfOk};
 ghost use Rattle.msgpack_bytes.specs.Item.{IsTextItem};
-ghost use Rattle.event_modes.specs.Containers.{IsArray};
+ghost use Rattle.msgpack_bytes.specs.Containers.{IsArray};
 ghost use Rattle.event_modes.specs.Entry.{IsTime, IsRecord, IsEntry, stored_entry};
 ghost use Rattle.event_modes.specs.Faults.{EventFault, EntryFault};
 

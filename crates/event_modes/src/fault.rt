@@ -1,7 +1,7 @@
 //! Why bytes are no message.
 
 ghost use Rattle.std.specs.Prelude.{◌≡◌, Some};
-ghost use Rattle.event_modes.specs.Printed.{code_of};
+ghost use Rattle.event_modes.specs.Printed.{code_of, error_text};
 ghost use Rattle.event_modes.specs.declared.fault.FeedError.TheVariants.{Memory, Fault};
 
 use msgpack_bytes::MsgFault;
@@ -55,7 +55,7 @@ impl fmt::Display for ModeFault {
 
 impl Error for ModeFault {}
 
-/// Why a feed gives nothing.
+/// Why a feed gives nothing. Prints as its fault's code, or `memory`.
 #[derive(Clone, Copy, Debug, PartialEq, Eq)]
 pub enum FeedError {
     /// There was no memory, and nothing changed.
@@ -65,9 +65,11 @@ pub enum FeedError {
 }
 
 impl fmt::Display for FeedError {
+    ghost output = { λ error. Some (error_text error) };
+
     fn fmt<W: fmt::Write>(&self, f: &mut fmt::Formatter<W>) -> fmt::Result {
         match self {
-            FeedError::Memory => write!(f, "out of memory"),
+            FeedError::Memory => write!(f, "memory"),
             FeedError::Fault(fault) => write!(f, "{fault}"),
         }
     }

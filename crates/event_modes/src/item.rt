@@ -2,8 +2,8 @@
 
 ghost use Rattle.std.specs.Prelude.{◌≡◌, ◌↔◌, ℕ, ℤ, List, MatchOption, IsTrue};
 ghost use Rattle.msgpack_bytes.specs.Item.{IsTextItem};
-ghost use Rattle.msgpack_bytes.specs.Kinds.{IsNil, IsText, IsInteger};
-ghost use Rattle.event_modes.specs.Containers.{Pair, pair_items, IsArray, IsMap};
+ghost use Rattle.msgpack_bytes.specs.Kinds.{IsNil, IsInteger};
+ghost use Rattle.msgpack_bytes.specs.Containers.{Pair, pair_items, IsArray, IsMap};
 ghost use Rattle.event_modes.specs.Pairs.{ArePairs};
 ghost use Rattle.event_modes.specs.Entry.{IsTime, IsEventTime, IsRecord};
 
@@ -30,29 +30,6 @@ pub fn map_of(item: &[u8]) -> Option<Items<'_>>
     match head(item, 0)? {
         Head::Map { count, next } => Some(Items::new(item.split_at(next).1, 2 * count as usize)),
         _ => None,
-    }
-}
-
-/// The content of a str or a bin.
-pub fn text_of(item: &[u8]) -> Option<&[u8]>
-    requires { IsTextItem item.now }
-    ensures { MatchOption result ((content : List ℕ) → IsText item.now content → ⊥) (λ content. IsText item.now content.now) }
-{
-    match head(item, 0)? {
-        Head::Str { start, end } => Some(&item[start..end]),
-        Head::Bin { start, end } => Some(&item[start..end]),
-        _ => None,
-    }
-}
-
-/// Whether the item is a str or a bin with this content.
-pub fn is_text(item: &[u8], content: &[u8]) -> bool
-    requires { IsTextItem item.now }
-    ensures { IsTrue result ↔ IsText item.now content.now }
-{
-    match text_of(item) {
-        Some(found) => found == content,
-        None => false,
     }
 }
 

@@ -4,15 +4,17 @@ ghost use Rattle.std.specs.Prelude.{◌≡◌, ℕ, List, IsTrue, ◌↔◌, Mat
 ghost use Rattle.std.specs.List.{AllByRecursion};
 ghost use Rattle.msgpack_bytes.specs.Item.{IsTextItem};
 ghost use Rattle.msgpack_bytes.specs.Kinds.{IsText};
-ghost use Rattle.event_modes.specs.Containers.{Pair, pair_items};
-ghost use Rattle.event_modes.specs.Options.{Lacks, IsChunk, IsUncompressed, IsFit, IsOption};
+ghost use Rattle.msgpack_bytes.specs.Containers.{Pair, pair_items};
+ghost use Rattle.msgpack_bytes.specs.Names.{Lacks};
+ghost use Rattle.event_modes.specs.Options.{IsChunk, IsUncompressed, IsFit, IsOption};
 ghost use Rattle.event_modes.specs.Pairs.{ArePairs, pair_of, bytes_of};
 ghost use Rattle.event_modes.specs.Lasts.{IsLast};
 ghost use Rattle.event_modes.specs.Faults.{PairFault, OptionFault, FirstBad};
 
 use crate::fault::ModeFault;
-use crate::item::{is_nil, is_text, map_of, text_of};
+use crate::item::{is_nil, map_of};
 use crate::items::Items;
+use msgpack_bytes::{is_text, text_of};
 
 /// The most bytes of a chunk's item.
 const LONGEST_CHUNK: usize = 1024;

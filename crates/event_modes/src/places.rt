@@ -2,11 +2,12 @@
 
 ghost use Rattle.std.specs.Prelude.{◌≡◌, ◌<◌, ◌⊎◌, ℕ, List, [], ◌∷◌, length, MatchOption};
 ghost use Rattle.msgpack_bytes.specs.Item.{IsTextItem};
-ghost use Rattle.event_modes.specs.Containers.{IsArray};
+ghost use Rattle.msgpack_bytes.specs.Containers.{IsArray};
 ghost use Rattle.event_modes.specs.Message.{Frame, IsFrame};
 ghost use Rattle.event_modes.specs.Places.{elements_list, carrier_of, frame_of, IsBulk, IsNoBulk};
 
-use crate::item::{array_of, text_of};
+use crate::item::array_of;
+use msgpack_bytes::text_of;
 
 /// What carries the events of a message.
 #[derive(Clone, Copy)]

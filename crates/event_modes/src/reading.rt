@@ -11,11 +11,11 @@ ghost use Rattle.event_modes.specs.Reading.{Answer, meaning, answer_of, Answers,
 
 use crate::entries::entries_of;
 use crate::fault::{FeedError, ModeFault};
-use crate::item::{is_nil, text_of};
+use crate::item::is_nil;
 use crate::message::{Message, Read};
 use crate::option::ack_of;
 use crate::places::places_of;
-use msgpack_bytes::{Scan, scan};
+use msgpack_bytes::{Scan, scan, text_of};
 use std::alloc::{AllocError, Allocator};
 
 /// The most bytes of a tag.

@@ -17,3 +17,5 @@ pub mod Lawful
 pub mod Rows
 pub mod Values
 pub mod Shortest
+pub mod Cuts
+pub mod Walk

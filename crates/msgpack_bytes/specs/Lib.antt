@@ -1,6 +1,8 @@
 pub mod Format
 pub mod Item
 pub mod Kinds
+pub mod Containers
+pub mod Names
 pub mod Fault
 pub mod Answers
 pub mod Run

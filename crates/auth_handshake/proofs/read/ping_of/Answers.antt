@@ -1,5 +1,5 @@
 use Rattle.std.proofs.Common.{[], ◌∷◌, ◌++◌, ◌∙◌, ap}
-use Rattle.auth_handshake.proofs.Fronts.{no_rest, is_rest}
+use Rattle.msgpack_bytes.proofs.Cuts.{no_rest, is_rest}
 use Rattle.auth_handshake.proofs.Parts.{text_scalar, scalars_array, same_asked}
 use Rattle.auth_handshake.proofs.read.ping_of.Goals as goal
 

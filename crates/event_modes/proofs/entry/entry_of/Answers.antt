@@ -2,7 +2,7 @@ use Rattle.std.proofs.Common.{◌≡◌, ℕ, List, [], ◌∷◌, Result, Ok, E
 use Rattle.std.specs.Prelude.{MatchResult, IfOk}
 use Rattle.event_modes.specs.declared.fault.ModeFault.{ModeFault}
 use Rattle.event_modes.specs.declared.entry.Event.{Event}
-use Rattle.event_modes.specs.Containers.{IsArray}
+use Rattle.msgpack_bytes.specs.Containers.{IsArray}
 use Rattle.event_modes.specs.Entry.{IsTime, IsRecord, IsEntry, stored_entry}
 use Rattle.event_modes.specs.Faults.{EventFault, EntryFault}
 use Rattle.event_modes.proofs.Evented.{entry_fault}

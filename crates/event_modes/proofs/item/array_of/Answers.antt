@@ -1,6 +1,6 @@
 use Rattle.std.proofs.Common.{ℕ, List, refl, sym, subst}
 use Rattle.msgpack_bytes.specs.declared.answers.Head.TheVariants as head
-use Rattle.event_modes.specs.Containers.{IsArray}
+use Rattle.msgpack_bytes.specs.Containers.{IsArray}
 use Rattle.event_modes.proofs.Heads.{headed, no_array}
 use Rattle.event_modes.proofs.Counted.{array_found}
 use Rattle.event_modes.proofs.item.array_of.Goals as goal

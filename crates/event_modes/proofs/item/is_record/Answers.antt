@@ -1,6 +1,6 @@
 use Rattle.std.proofs.Common.{refl, ℕ, List, Option, Some, None, IsTrue, ◌↔◌, MatchOption, subst, sym, Bool}
 use Rattle.std.specs.Option.{is_some}
-use Rattle.event_modes.specs.Containers.{Pair, IsMap}
+use Rattle.msgpack_bytes.specs.Containers.{Pair, IsMap}
 use Rattle.event_modes.specs.Entry.{IsRecord}
 use Rattle.event_modes.proofs.item.is_record.Goals as goal
 

@@ -1,6 +1,6 @@
 use Rattle.std.proofs.Common.{◌≡◌, ℕ, List, ◌∙◌, ap, refl, sym, subst, inl, inr, Option, Some, None, Bor}
 use Rattle.std.specs.List.{AllByRecursion}
-use Rattle.event_modes.specs.Containers.{Pair, pair_items, IsMap}
+use Rattle.msgpack_bytes.specs.Containers.{Pair, pair_items, IsMap}
 use Rattle.event_modes.specs.Options.{IsFit, AsksFor, IsOption}
 use Rattle.event_modes.specs.Pairs.{bytes_of}
 use Rattle.event_modes.proofs.Begins.{map_one}

@@ -1,12 +1,9 @@
 use Rattle.std.proofs.Common.{ℕ, List, ◌∷◌, ◌∙◌, ap, refl}
-use Rattle.event_modes.proofs.Walked.{no_odd, two_texts, sought_start, sought_here, sought_on, sought_end}
+use Rattle.event_modes.proofs.Walked.{no_odd, sought_start, sought_here, sought_on, sought_end}
 use Rattle.event_modes.proofs.option.last_value.Goals as goal
 
 pub loop-key-init : goal.loop-key-init
 loop-key-init c = sought_start c.args.name.now c.args.items c.requires
-
-pub is_text-requires : goal.is_text-requires
-is_text-requires c = (two_texts c.args.items c.loop-key.items c.in-Some.key.now c.in-Some-next.value.now c.next-in-Some.new.self c.next.new.self c.loop-key.invariant.walk c.in-Some.ensures.steps c.in-Some-next.ensures.steps).0
 
 pub loop-key-preserved-then-is_text : goal.loop-key-preserved-then-is_text
 loop-key-preserved-then-is_text c =

@@ -1,6 +1,6 @@
 use Rattle.std.proofs.Common.{[], ◌∷◌, subst}
 use Rattle.event_modes.specs.declared.places.Elements.{Elements}
-use Rattle.event_modes.specs.Containers.{IsArray}
+use Rattle.msgpack_bytes.specs.Containers.{IsArray}
 use Rattle.event_modes.specs.Places.{elements_list, carrier_of}
 use Rattle.event_modes.proofs.Framed.{second_text, no_two, no_four}
 use Rattle.event_modes.proofs.places.places_of.Goals as goal
