@@ -1,0 +1,4 @@
+pub mod Numbers
+pub mod Amounts
+pub mod Words
+pub mod Laws
