@@ -1,0 +1,35 @@
+-- A message on its way to the buffers that have to store it.
+use Rattle.std.specs.Prelude.{ℕ, ◌≡◌, List, All, Any}
+use Rattle.event_modes.specs.Message.{Parts}
+use Rattle.ack_receipt.specs.declared.receipt.Leaf.{Leaf}
+use Rattle.ack_receipt.specs.declared.receipt.Part.{Part}
+
+-- an append that is stored: of which delivery, in which buffer, in which chunk, and its line in the buffer's book
+pub record Appended : Type 0 where
+  pub delivery : ℕ
+  pub leaf : Leaf
+  pub serial : ℕ
+  pub line : ℕ
+
+-- a delivery that is neither acknowledged nor abandoned
+pub record OpenDelivery : Type 0 where
+  pub number : ℕ
+  pub message : Parts
+  pub leaves : List Leaf
+  pub receipts : List Appended
+
+-- the append stored this delivery in this buffer
+abbrev pub IsReceiptOf : ℕ → Leaf → Appended → Type 0
+IsReceiptOf number leaf receipt = (receipt.delivery ≡ number) × (receipt.leaf ≡ leaf)
+
+-- one of the appends stored this delivery in this buffer
+pub record IsReceived (number : ℕ) (receipts : List Appended) (leaf : Leaf) : Type 0 where
+  pub one : Any (IsReceiptOf number leaf) receipts
+
+-- the delivery holds a receipt of each of its leaves
+abbrev pub HasEachReceipt : OpenDelivery → Type 0
+HasEachReceipt d = All (IsReceived d.number d.receipts) d.leaves
+
+-- what a receipt leaves behind
+abbrev pub part_of : Appended → Part
+part_of a = record { relay = a.leaf.relay; buffer = a.leaf.buffer; serial = a.serial; line = a.line }

@@ -1,0 +1,185 @@
+//! A message on its way to the buffers that have to store it.
+
+ghost use Rattle.std.specs.Prelude.{◌≡◌, ◌≤◌, ◌+◌, ◌++◌, ◌↔◌, [], Some, None, map, IsTrue, IsOk, IfOk, IfErr, OnOk, OnErr, All, vec_len, vec_capacity};
+ghost use Rattle.event_modes.specs.Reading.{meaning};
+ghost use Rattle.ack_receipt.specs.Deliveries.{HasEachReceipt, IsReceived, part_of};
+ghost use Rattle.ack_receipt.specs.Reservations.{asked_of, answer_of};
+
+use crate::fault::AckFault;
+use crate::number::DeliveryNo;
+use crate::receipt::{Leaf, Part, Receipt};
+use crate::reserved::Reserved;
+use event_modes::Message;
+use std::alloc::{AllocError, AllocFailed, Allocator};
+use std::marker::Model;
+
+/// An open delivery, which waits for a receipt of each of its leaves. It can be neither copied nor dropped:
+/// it ends by `acknowledge` or `abandon`. Contracts see an `OpenDelivery`.
+pub struct Delivery<A: Allocator> {
+    number: DeliveryNo,
+    message: Message<A>,
+    leaves: Vec<Leaf, A>,
+    receipts: Vec<Receipt, A>,
+    // Empty, with room for each receipt's part.
+    parts: Vec<Part, A>,
+}
+
+impl<A: Allocator> Model for Delivery<A> {
+    ghost use Rattle.std.specs.Prelude.{◌≡◌, ◌≤◌, [], vec_len, vec_capacity};
+    ghost use Rattle.event_modes.specs.Reading.{meaning};
+    ghost use Rattle.ack_receipt.specs.Deliveries.{OpenDelivery};
+
+    ghost Value = { OpenDelivery };
+
+    ghost view = { λ d. record { number = d.number; message = meaning d.message; leaves = d.leaves.items; receipts = d.receipts.items } };
+
+    // Each leaf's receipt and part have room.
+    ghost invariant = { λ d. (vec_len d.receipts ≤ vec_len d.leaves) × (vec_len d.leaves ≤ vec_capacity d.receipts)
+        × (vec_len d.leaves ≤ vec_capacity d.parts) × (d.parts.items ≡ []) };
+}
+
+/// What is left of a delivery: its number, and a part of each receipt that it held. It is plain data.
+#[derive(Drop)]
+pub struct Stub<A: Allocator> {
+    pub delivery: u64,
+    pub parts: Vec<Part, A>,
+}
+
+/// What a delivery would have been, had there been memory.
+#[derive(Drop)]
+pub struct Unbegun<A: Allocator> {
+    pub number: DeliveryNo,
+    pub message: Message<A>,
+    pub leaves: Vec<Leaf, A>,
+}
+
+impl<A: Allocator + Copy> Delivery<A> {
+    /// Opens the delivery of a message to these leaves, with room for a receipt and a part of each.
+    ///
+    /// The error is want of memory, and hands everything back.
+    pub fn begin(
+        alloc: A,
+        number: DeliveryNo,
+        message: Message<A>,
+        leaves: Vec<Leaf, A>,
+    ) -> Result<Delivery<A>, AllocFailed<Unbegun<A>>>
+        ensures opens { IfOk result (λ d. d ≡ record { number = number; message = meaning message; leaves = leaves.items; receipts = [] }) }
+        ensures back { IfErr result (λ failed. failed.value ≡ record { number = number; message = message; leaves = leaves }) }
+    {
+        let Ok((receipts, parts)) = room_for(alloc, leaves.len()) else {
+            let value = Unbegun {
+                number,
+                message,
+                leaves,
+            };
+            return Err(AllocFailed { value });
+        };
+        Ok(Delivery {
+            number,
+            message,
+            leaves,
+            receipts,
+            parts,
+        })
+    }
+}
+
+impl<A: Allocator> Delivery<A> {
+    /// Answers the message, where each leaf has given a receipt, into the empty room that was made for it.
+    /// It takes no memory.
+    ///
+    /// `AckFault::Missing` comes exactly where a leaf's receipt is missing; it hands the delivery back,
+    /// and leaves it and the room as they were.
+    pub fn acknowledge(self, reserved: &mut Reserved<A>) -> Result<Stub<A>, (AckFault, Delivery<A>)>
+        requires empty { reserved.old.filled ≡ None }
+        requires made { reserved.old.asked ≡ asked_of self.message }
+        ensures when { IsOk result ↔ HasEachReceipt self }
+        ensures stub { IfOk result (λ stub. (stub.delivery ≡ self.number) × (stub.parts.items ≡ map part_of self.receipts)) }
+        ensures answer { OnOk result (reserved.new ≡ record reserved.old { filled = Some (answer_of self) }) }
+        ensures missing { IfErr result (λ refused. (refused.0 ≡ AckFault.Missing) × (refused.1 ≡ self)) }
+        ensures kept { OnErr result (reserved.new ≡ reserved.old) }
+    {
+        if !self.has_each_receipt() {
+            return Err((AckFault::Missing, self));
+        }
+        let (stub, leaves) = self.end();
+        reserved.fill(leaves);
+        Ok(stub)
+    }
+
+    /// Ends the delivery without an answer. It takes no memory.
+    pub fn abandon(self) -> Stub<A>
+        ensures number { result.delivery ≡ self.number }
+        ensures parts { result.parts.items ≡ map part_of self.receipts }
+    {
+        let (stub, _) = self.end();
+        stub
+    }
+
+    fn has_each_receipt(&self) -> bool
+        ensures { IsTrue result ↔ HasEachReceipt self.now }
+    {
+        have_receipts(&self.leaves, self.number.get(), &self.receipts)
+    }
+
+    // What is left, and the leaves.
+    fn end(self) -> (Stub<A>, Vec<Leaf, A>)
+        ensures number { result.0.delivery ≡ self.number }
+        ensures parts { result.0.parts.items ≡ map part_of self.receipts }
+        ensures leaves { result.1.items ≡ self.leaves }
+    {
+        let Delivery {
+            number,
+            message: _,
+            leaves,
+            receipts,
+            parts,
+        } = self;
+        let stub = Stub {
+            delivery: number.get(),
+            parts: spend(receipts, parts),
+        };
+        (stub, leaves)
+    }
+}
+
+// Empty lists with room for so many receipts and their parts.
+fn room_for<A: Allocator + Copy>(
+    alloc: A,
+    count: usize,
+) -> Result<(Vec<Receipt, A>, Vec<Part, A>), AllocError>
+    ensures { IfOk result (λ lists. (lists.0.items ≡ []) × (lists.1.items ≡ []) × (count ≤ vec_capacity lists.0) × (count ≤ vec_capacity lists.1)) }
+{
+    let parts = Vec::with_capacity(alloc, count)?;
+    // What may hold receipts can't be dropped, so it comes last.
+    let receipts = Vec::with_capacity(alloc, count)?;
+    Ok((receipts, parts))
+}
+
+// Whether each of the leaves has one.
+fn have_receipts(leaves: &[Leaf], number: u64, receipts: &[Receipt]) -> bool
+    ensures { IsTrue result ↔ All (IsReceived number receipts.now) leaves.now }
+{
+    leaves
+        .iter()
+        .all(|leaf| has_receipt(receipts, number, *leaf))
+}
+
+fn has_receipt(receipts: &[Receipt], number: u64, leaf: Leaf) -> bool
+    ensures { IsTrue result ↔ IsReceived number receipts.now leaf }
+{
+    receipts.iter().any(|receipt| receipt.is_of(number, leaf))
+}
+
+// Adds the parts of the receipts.
+fn spend<A: Allocator>(receipts: Vec<Receipt, A>, mut parts: Vec<Part, A>) -> Vec<Part, A>
+    requires { vec_len parts + vec_len receipts ≤ vec_capacity parts }
+    ensures { result.items ≡ parts.items ++ map part_of receipts.items }
+{
+    let mut rest = receipts.into_iter();
+    while let Some(receipt) = rest.next() {
+        parts.push_reserved(receipt.into_part());
+    }
+    rest.destroy_empty();
+    parts
+}
