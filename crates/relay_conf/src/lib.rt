@@ -3,8 +3,19 @@
 
 mod buffer;
 mod defaults;
+mod element;
+mod examine;
+mod fault;
+mod form;
+mod labels;
 mod output;
+mod outputs;
+mod patterns;
+mod reading;
 mod relay;
+mod section;
+mod settings;
+mod values;
 
 pub use buffer::{BufferKind, BufferSettings, FlushMode, OverflowAction, RetrySettings};
 pub use defaults::{
@@ -13,5 +24,9 @@ pub use defaults::{
     DEFAULT_MEMORY_TOTAL_LIMIT, DEFAULT_PORT, DEFAULT_REQUIRE_ACK_RESPONSE, DEFAULT_RETRY_BASE,
     DEFAULT_RETRY_FOREVER, DEFAULT_RETRY_TIMEOUT, DEFAULT_RETRY_WAIT, MOST_FLUSH_THREADS,
 };
+pub use fault::{RelayError, RelayFault, RelayFaultKind};
 pub use output::{BufferNo, FileSettings, ForwardSettings, Output, Server};
 pub use relay::{MatchRule, Relay, Scope, ScopeNo, Security, Source};
+
+#[cfg(test)]
+mod tests;

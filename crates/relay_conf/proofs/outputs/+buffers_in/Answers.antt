@@ -1,0 +1,11 @@
+use Rattle.std.proofs.Common.{◌∙◌, sym, arith}
+use Rattle.std.proofs.lemmas.List.{drop_all}
+use Rattle.relay_conf.proofs.Labelling.{buffers_are}
+use Rattle.relay_conf.proofs.outputs.+buffers_in.Goals as goal
+
+pub returns : goal.returns
+returns g t c =
+    let whole = rw (← c.deref-child-items.ensures.value, ← c.own_buffers-count.ensures) at (buffers_are c.args.element.now (sym c.is_named.ensures ∙ c.if-is_named.false)) in
+    let none = drop_all c.loop-child.child-index c.deref-child-items.result.now c.loop-child-test.false in
+    let so_far = rw none at c.loop-child.invariant in
+    rw whole (omega (arith, so_far))

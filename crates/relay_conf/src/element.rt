@@ -1,0 +1,64 @@
+// The parts of an element.
+ghost use Rattle.std.specs.Prelude.{◌≡◌, map, Bool, ◌==◌, length};
+ghost use Rattle.std.specs.List.{list_any};
+ghost use Rattle.std.specs.Option.{option_copied};
+ghost use Rattle.conf_text.specs.Views.{setting, tree_of};
+ghost use Rattle.relay_conf.specs.Elements.{heading_of, settings_of, children_of, value_of, is_named};
+
+use conf_text::{Element, Pair};
+use std::alloc::Allocator;
+
+/// Its name.
+pub(crate) fn name_of<A: Allocator>(element: &Element<A>) -> &str
+    ensures { result.now ≡ (heading_of (tree_of element.now)).name }
+{
+    element.name.as_str()
+}
+
+/// What stands behind its name.
+pub(crate) fn argument_of<A: Allocator>(element: &Element<A>) -> &str
+    ensures { result.now ≡ (heading_of (tree_of element.now)).argument }
+{
+    element.argument.as_str()
+}
+
+/// The line of its opening.
+pub(crate) fn line_of<A: Allocator>(element: &Element<A>) -> usize
+    ensures { result ≡ (heading_of (tree_of element.now)).line }
+{
+    element.line
+}
+
+/// Its parameters.
+pub(crate) fn pairs_of<A: Allocator>(element: &Element<A>) -> &[Pair<A>]
+    ensures { map setting result.now ≡ settings_of (tree_of element.now) }
+{
+    element.pairs.as_slice()
+}
+
+/// The elements in it.
+pub(crate) fn children_of<A: Allocator>(element: &Element<A>) -> &[Element<A>]
+    ensures { map tree_of result.now ≡ children_of (tree_of element.now) }
+{
+    element.children.as_slice()
+}
+
+/// Whether it has this name.
+pub(crate) fn is_named<A: Allocator>(element: &Element<A>, name: &str) -> bool
+    ensures { result ≡ is_named name.now (tree_of element.now) }
+{
+    name_of(element) == name
+}
+
+/// The value in the last line of this name, if there is one.
+pub(crate) fn last_value<'a, A: Allocator>(pairs: &'a [Pair<A>], name: &str) -> Option<&'a str>
+    ensures { option_copied result ≡ value_of name.now (map setting pairs.now) }
+{
+    let mut found = None;
+    for pair in pairs {
+        if pair.name.as_str() == name {
+            found = Some(pair.value.as_str());
+        }
+    }
+    found
+}

@@ -1,0 +1,150 @@
+// The values of parameters: those of their last lines, or the defaults.
+ghost use Rattle.std.specs.Prelude.{◌≡◌, map, IfOk, string_bytes, unwrap_or, option_and_then};
+ghost use Rattle.std.specs.Option.{option_map};
+ghost use Rattle.conf_text.specs.Views.{setting, tree_of};
+ghost use Rattle.conf_values.specs.Numbers.{number_of, port_of};
+ghost use Rattle.conf_values.specs.Amounts.{size_of, seconds_of};
+ghost use Rattle.conf_values.specs.Words.{boolean_of};
+ghost use Rattle.relay_conf.specs.Elements.{value_of};
+ghost use Rattle.relay_conf.specs.Values.{threads_of, flush_mode_of, overflow_of};
+ghost use Rattle.relay_conf.specs.Meaning.{read_or, last_child};
+
+use crate::buffer::{FlushMode, OverflowAction};
+use crate::element::{is_named, last_value};
+use crate::form::{flush_mode, overflow, threads};
+use conf_text::{Element, Pair};
+use conf_values::{boolean, port, seconds, size, whole_number};
+use std::alloc::{AllocError, Allocator};
+
+/// A text.
+pub(crate) fn text_or<A: Allocator + Copy>(
+    alloc: A,
+    pairs: &[Pair<A>],
+    name: &str,
+    default: &str,
+) -> Result<String<A>, AllocError>
+    ensures { IfOk result (λ text. string_bytes text ≡ unwrap_or (value_of name.now (map setting pairs.now)) default.now) }
+{
+    match last_value(pairs, name) {
+        None => String::from_str(alloc, default),
+        Some(value) => String::from_str(alloc, value),
+    }
+}
+
+/// A whole number, if there is one.
+pub(crate) fn number<A: Allocator>(pairs: &[Pair<A>], name: &str) -> Option<u64>
+    ensures { result ≡ option_and_then number_of (value_of name.now (map setting pairs.now)) }
+{
+    match last_value(pairs, name) {
+        None => None,
+        Some(value) => whole_number(value.as_bytes()),
+    }
+}
+
+/// A time in seconds, if there is one.
+pub(crate) fn time<A: Allocator>(pairs: &[Pair<A>], name: &str) -> Option<u64>
+    ensures { result ≡ option_and_then seconds_of (value_of name.now (map setting pairs.now)) }
+{
+    match last_value(pairs, name) {
+        None => None,
+        Some(value) => seconds(value.as_bytes()),
+    }
+}
+
+/// A whole number.
+pub(crate) fn number_or<A: Allocator>(pairs: &[Pair<A>], name: &str, default: u64) -> u64
+    ensures { result ≡ read_or number_of default (value_of name.now (map setting pairs.now)) }
+{
+    number(pairs, name).unwrap_or(default)
+}
+
+/// A time in seconds.
+pub(crate) fn time_or<A: Allocator>(pairs: &[Pair<A>], name: &str, default: u64) -> u64
+    ensures { result ≡ read_or seconds_of default (value_of name.now (map setting pairs.now)) }
+{
+    time(pairs, name).unwrap_or(default)
+}
+
+/// A size in bytes.
+pub(crate) fn size_or<A: Allocator>(pairs: &[Pair<A>], name: &str, default: u64) -> u64
+    ensures { result ≡ read_or size_of default (value_of name.now (map setting pairs.now)) }
+{
+    match last_value(pairs, name) {
+        None => default,
+        Some(value) => size(value.as_bytes()).unwrap_or(default),
+    }
+}
+
+/// A boolean.
+pub(crate) fn flag_or<A: Allocator>(pairs: &[Pair<A>], name: &str, default: bool) -> bool
+    ensures { result ≡ read_or boolean_of default (value_of name.now (map setting pairs.now)) }
+{
+    match last_value(pairs, name) {
+        None => default,
+        Some(value) => boolean(value.as_bytes()).unwrap_or(default),
+    }
+}
+
+/// A port.
+pub(crate) fn port_or<A: Allocator>(pairs: &[Pair<A>], name: &str, default: u16) -> u16
+    ensures { result ≡ read_or port_of default (value_of name.now (map setting pairs.now)) }
+{
+    match last_value(pairs, name) {
+        None => default,
+        Some(value) => port(value.as_bytes()).unwrap_or(default),
+    }
+}
+
+/// A number of threads.
+pub(crate) fn threads_or<A: Allocator>(pairs: &[Pair<A>], name: &str, default: usize) -> usize
+    ensures { result ≡ read_or threads_of default (value_of name.now (map setting pairs.now)) }
+{
+    match last_value(pairs, name) {
+        None => default,
+        Some(value) => threads(value.as_bytes()).unwrap_or(default),
+    }
+}
+
+/// When a staged chunk is queued.
+pub(crate) fn flush_mode_or<A: Allocator>(
+    pairs: &[Pair<A>],
+    name: &str,
+    default: FlushMode,
+) -> FlushMode
+    ensures { result ≡ read_or flush_mode_of default (value_of name.now (map setting pairs.now)) }
+{
+    match last_value(pairs, name) {
+        None => default,
+        Some(value) => flush_mode(value).unwrap_or(default),
+    }
+}
+
+/// What follows where a buffer is full.
+pub(crate) fn overflow_or<A: Allocator>(
+    pairs: &[Pair<A>],
+    name: &str,
+    default: OverflowAction,
+) -> OverflowAction
+    ensures { result ≡ read_or overflow_of default (value_of name.now (map setting pairs.now)) }
+{
+    match last_value(pairs, name) {
+        None => default,
+        Some(value) => overflow(value).unwrap_or(default),
+    }
+}
+
+/// The last of the elements of this name, if there is one.
+pub(crate) fn last_child<'a, A: Allocator>(
+    children: &'a [Element<A>],
+    name: &str,
+) -> Option<&'a Element<A>>
+    ensures { option_map (λ e. tree_of e.now) result ≡ last_child name.now (map tree_of children.now) }
+{
+    let mut found = None;
+    for child in children {
+        if is_named(child, name) {
+            found = Some(child);
+        }
+    }
+    found
+}

@@ -1,0 +1,10 @@
+pub mod Chains
+pub mod Covers
+pub mod Firsts
+pub mod Members
+pub mod Numbers
+pub mod Reached
+pub mod Search
+pub mod Takers
+pub mod WalkLaws
+pub mod Weights
