@@ -9,8 +9,8 @@ use Rattle.relay_conf.specs.declared.output.Output.TheVariants as output
 use Rattle.custody_core.specs.declared.chunk.Stage.{Stage}
 use Rattle.custody_core.specs.declared.chunk.Stage.TheVariants.{Staged, Queued, Claimed}
 use Rattle.custody_core.specs.declared.net.Net.{Net}
-use Rattle.custody_core.specs.declared.step.ChunkName.{ChunkName}
-use Rattle.custody_core.specs.declared.step.Step.TheVariants as step
+use Rattle.step_lines.specs.declared.step.ChunkName.{ChunkName}
+use Rattle.step_lines.specs.declared.step.Step.TheVariants as step
 use Rattle.custody_core.specs.Network.{place_of, output_at}
 use Rattle.custody_core.specs.Settings.{is_memory, is_refusing, keeps_chunks}
 use Rattle.custody_core.specs.World.{Event, Chunk, BufferState, World, with_buffer, with_chunk}

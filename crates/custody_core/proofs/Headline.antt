@@ -2,8 +2,8 @@
 use Rattle.std.proofs.Common.{◌≡◌, true, List, [], ◌∷◌, refl, arith}
 use Rattle.std.proofs.lemmas.List.Elements.{All-contains_itself}
 use Rattle.custody_core.specs.declared.net.Net.{Net}
-use Rattle.custody_core.specs.declared.step.Step.{Step}
-use Rattle.custody_core.specs.declared.step.Step.TheVariants as step
+use Rattle.step_lines.specs.declared.step.Step.{Step}
+use Rattle.step_lines.specs.declared.step.Step.TheVariants as step
 use Rattle.custody_core.specs.World.{World, opening}
 use Rattle.custody_core.specs.Steps.{Allowed, effect, Steps}
 use Rattle.custody_core.specs.SingleFile.{is_single_file_net}

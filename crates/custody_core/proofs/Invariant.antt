@@ -6,7 +6,7 @@ use Rattle.std.specs.Option.{option_and_then}
 use Rattle.custody_core.specs.declared.chunk.Stage.{Stage}
 use Rattle.custody_core.specs.declared.net.Client.{Client}
 use Rattle.custody_core.specs.declared.net.Net.{Net}
-use Rattle.custody_core.specs.declared.step.ChunkName.{ChunkName}
+use Rattle.step_lines.specs.declared.step.ChunkName.{ChunkName}
 use Rattle.custody_core.specs.Network.{Entrance, place_of, address_of_client, HaveTag}
 use Rattle.custody_core.specs.World.{Event, Chunk, BufferState, Sender, from_client, from_chunk, Message, Delivery, World, with_buffer}
 use Rattle.custody_core.specs.Steps.{OfChunk, events_of, newly_acknowledged}

@@ -3,7 +3,6 @@ pub mod BufferSteps
 pub mod Headline
 pub mod Invariant
 pub mod Kept
-pub mod LinesRead
 pub mod Lists
 pub mod Made
 pub mod Members

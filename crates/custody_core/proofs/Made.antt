@@ -7,9 +7,9 @@ use Rattle.std.proofs.lemmas.List.Elements.{All-contains_itself}
 use Rattle.relay_conf.specs.declared.output.Server.{Server}
 use Rattle.custody_core.specs.declared.chunk.Stage.TheVariants.{Queued, Claimed}
 use Rattle.custody_core.specs.declared.net.Net.{Net}
-use Rattle.custody_core.specs.declared.step.ChunkName.{ChunkName}
-use Rattle.custody_core.specs.declared.step.Step.{Step}
-use Rattle.custody_core.specs.declared.step.Step.TheVariants as step
+use Rattle.step_lines.specs.declared.step.ChunkName.{ChunkName}
+use Rattle.step_lines.specs.declared.step.Step.{Step}
+use Rattle.step_lines.specs.declared.step.Step.TheVariants as step
 use Rattle.custody_core.specs.Network.{place_of, entrance, address_of_client, address_of_server}
 use Rattle.custody_core.specs.World.{Event, Chunk, BufferState, Message, Delivery, Sender, World, opening, from_client, from_chunk, with_buffer, with_chunk}
 use Rattle.custody_core.specs.Steps.{events_of, started_again, is_in_memory, without_oldest, Allowed, effect, Steps, CanAppend, with_named, with_stored, with_delivery, forwarded_to, chunk_named, appended_to}

@@ -22,9 +22,3 @@ pub shown_contains : {X Y : Type 0} (show : X → Y) (xs : List X) (y : Y) → C
 shown_contains show [] y c = absurd (omega arith)
 shown_contains show (x ∷ xs) y (zero, h, e) = (zero, x, omega arith, refl, e)
 shown_contains show (x ∷ xs) y (suc k, h, e) = let m = shown_contains show xs y (k, omega arith, e) in (suc m.0, m.1, omega arith, m.3, m.4)
-
--- a list of one element
-pub one_item : {X : Type 0} (xs : List X) (d : X) → length xs ≡ 1 → xs ≡ get_or xs 0 d ∷ []
-one_item [] d h = absurd (omega arith)
-one_item (x ∷ []) d h = refl
-one_item (x ∷ y ∷ xs) d h = absurd (omega arith)

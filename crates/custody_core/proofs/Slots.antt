@@ -8,7 +8,8 @@ use Rattle.std.proofs.lemmas.List.Elements.{All-set, All-append, All-cons, All-n
 use Rattle.std.specs.List.{AllByRecursion}
 use Rattle.custody_core.specs.World.{Event, Chunk}
 use Rattle.custody_core.specs.Steps.{events_of, unclaimed, restarted}
-use Rattle.custody_core.specs.Store.{Row, event_of, stored_events, texts_of, answered_row, first_answers, chunk_at, changed, ended_opening, restarted_contents}
+use Rattle.custody_core.specs.Store.{Row, event_of, stored_events, answered_row, first_answers, chunk_at, changed, ended_opening, restarted_contents}
+use Rattle.step_lines.specs.Texts.{texts_of}
 use Rattle.custody_core.specs.Chunks.{stage_at, kept_at, is_since, slot_from, chunk_from, restaged, evident, first_of, IsStageOfTime, IsSlotOfTime}
 use Rattle.custody_core.specs.Kept.{opened_from, row_from, contents_from, IsOfTime}
 use Rattle.custody_core.specs.declared.chunk.Stage.{Stage}

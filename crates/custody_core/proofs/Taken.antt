@@ -3,7 +3,7 @@ use Rattle.std.proofs.Common.{◌≡◌, ℕ, zero, suc, ◌+◌, ◌<◌, ◌==
 use Rattle.std.specs.Option.{option_map_or}
 use Rattle.custody_core.specs.declared.chunk.Stage.{Stage}
 use Rattle.custody_core.specs.declared.net.Net.{Net}
-use Rattle.custody_core.specs.declared.step.ChunkName.{ChunkName}
+use Rattle.step_lines.specs.declared.step.ChunkName.{ChunkName}
 use Rattle.custody_core.specs.declared.world.Found.{Found}
 use Rattle.custody_core.specs.Found.{IsFound}
 use Rattle.std.proofs.lemmas.List.{map-append, map-set, length-map, length_push}
@@ -12,12 +12,13 @@ use Rattle.std.proofs.lemmas.Bool.{lt-ltb, le-ltb, eq-eqb, eqb-true, and_parts, 
 use Rattle.std.proofs.lemmas.Option.{slice_get-map, slice_get_within, get_or_from_slice_get}
 use Rattle.std.specs.declared.vec.Vec.{Vec}
 use Rattle.custody_core.specs.declared.net.Client.{Client}
-use Rattle.custody_core.specs.declared.step.Step.TheVariants as step
+use Rattle.step_lines.specs.declared.step.Step.TheVariants as step
 use Rattle.custody_core.specs.declared.store.Opened.{Opened}
 use Rattle.custody_core.specs.declared.chunk.Look.{Look}
 use Rattle.custody_core.specs.Network.{place_of, output_at, entrance, HaveTag, HasLeaf}
 use Rattle.custody_core.specs.Steps.{OfChunk, OfDelivery, CanBegin, CanAppend, CanAcknowledge, CanTake, chunk_named, with_named, with_stored, effect, ended, events_of, appended_to, newly_acknowledged, restarted, started_again, is_in_memory, output_named, Stores}
-use Rattle.custody_core.specs.Store.{Row, Contents, chunk_at, changed, longer, new_chunk, taken_in, world_from, look_of, message_of, delivery_of, texts_of, buffer_of, answered_row, first_answers, appended_opening, ended_opening, restarted_contents}
+use Rattle.custody_core.specs.Store.{Row, Contents, chunk_at, changed, longer, new_chunk, taken_in, world_from, look_of, message_of, delivery_of, buffer_of, answered_row, first_answers, appended_opening, ended_opening, restarted_contents}
+use Rattle.step_lines.specs.Texts.{texts_of}
 use Rattle.custody_core.specs.Settings.{is_memory, is_refusing, keeps_chunks}
 use Rattle.custody_core.specs.SingleFile.{IsKeptFile, first_rule}
 use Rattle.custody_core.specs.World.{Event, Chunk, from_client, Message, Delivery, empty_buffer}

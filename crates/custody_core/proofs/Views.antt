@@ -4,7 +4,7 @@ use Rattle.std.specs.Option.{option_and_then, option_map_or}
 use Rattle.std.proofs.lemmas.List.{length-set}
 use Rattle.std.proofs.lemmas.Bool.{eq-eqb, ne_eqb, cases_eq}
 use Rattle.custody_core.specs.declared.net.Net.{Net}
-use Rattle.custody_core.specs.declared.step.ChunkName.{ChunkName}
+use Rattle.step_lines.specs.declared.step.ChunkName.{ChunkName}
 use Rattle.custody_core.specs.Network.{place_of}
 use Rattle.custody_core.specs.Steps.{events_of, with_named, with_stored}
 use Rattle.custody_core.specs.Store.{Contents, chunk_at, changed, buffer_of, world_from, empty_contents}

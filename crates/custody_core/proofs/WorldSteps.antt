@@ -9,7 +9,7 @@ use Rattle.tag_pattern.specs.Parts.{parts_of}
 use Rattle.tag_pattern.proofs.Sets.{subset}
 use Rattle.custody_core.specs.declared.net.Net.{Net}
 use Rattle.custody_core.specs.declared.net.Client.{Client}
-use Rattle.custody_core.specs.declared.step.Step.TheVariants as step
+use Rattle.step_lines.specs.declared.step.Step.TheVariants as step
 use Rattle.custody_core.specs.Network.{Entrance, entrance, HaveTag, HasLeaf}
 use Rattle.custody_core.specs.World.{Event, BufferState, Message, Delivery, World, with_buffer}
 use Rattle.custody_core.specs.Steps.{Allowed, effect, CanBegin, CanAppend, CanAcknowledge, OfDelivery, ended, events_of, appended_to, started_again, is_in_memory}

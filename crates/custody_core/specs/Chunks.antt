@@ -3,7 +3,7 @@ use Rattle.std.specs.Prelude.{ℕ, ◌≤◌, ◌==◌, Bool, false, cond, List,
 use Rattle.std.specs.Option.{option_map_or}
 use Rattle.custody_core.specs.World.{Event, Chunk}
 use Rattle.custody_core.specs.Steps.{events_of}
-use Rattle.custody_core.specs.Store.{texts_of}
+use Rattle.step_lines.specs.Texts.{texts_of}
 use Rattle.custody_core.specs.declared.chunk.Stage.{Stage}
 use Rattle.custody_core.specs.declared.chunk.Stage.TheVariants.{Staged, Queued, Claimed}
 use Rattle.custody_core.specs.declared.chunk.Kept.{Kept}

@@ -4,7 +4,7 @@ use Rattle.custody_core.specs.Network.{place_of}
 use Rattle.custody_core.specs.Store.{Contents, chunk_at, look_of}
 use Rattle.custody_core.specs.World.{Chunk}
 use Rattle.custody_core.specs.declared.net.Net.{Net}
-use Rattle.custody_core.specs.declared.step.ChunkName.{ChunkName}
+use Rattle.step_lines.specs.declared.step.ChunkName.{ChunkName}
 use Rattle.custody_core.specs.declared.world.Found.{Found}
 
 -- The name is that of this chunk of the one buffer.

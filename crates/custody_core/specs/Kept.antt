@@ -1,7 +1,8 @@
 -- How a store keeps what it has: what a restart ends tells how many restarts there had been.
 use Rattle.std.specs.Prelude.{ℕ, ◌≤◌, ◌==◌, ◌&&◌, List, map, Option, All}
 use Rattle.custody_core.specs.Chunks.{slot_from, IsSlotOfTime}
-use Rattle.custody_core.specs.Store.{Row, Contents, texts_of, stored_events}
+use Rattle.custody_core.specs.Store.{Row, Contents, stored_events}
+use Rattle.step_lines.specs.Texts.{texts_of}
 use Rattle.custody_core.specs.declared.chunk.Chunk.{Chunk as KeptChunk}
 use Rattle.custody_core.specs.declared.event.Event.{Event as Stored}
 use Rattle.custody_core.specs.declared.store.Sent.{Sent}

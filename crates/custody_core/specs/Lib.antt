@@ -6,7 +6,6 @@ pub mod Network
 pub mod Premise
 pub mod Settings
 pub mod SingleFile
-pub mod StepLines
 pub mod Steps
 pub mod Store
 pub mod World

@@ -8,11 +8,11 @@ use Rattle.relay_conf.specs.declared.output.Server.{Server}
 use Rattle.custody_core.specs.declared.chunk.Stage.{Stage}
 use Rattle.custody_core.specs.declared.chunk.Stage.TheVariants.{Staged, Queued, Claimed}
 use Rattle.custody_core.specs.declared.net.Net.{Net}
-use Rattle.custody_core.specs.declared.step.ChunkName.{ChunkName}
-use Rattle.custody_core.specs.declared.step.Step.{Step}
-use Rattle.custody_core.specs.declared.step.Step.TheVariants as step
-use Rattle.custody_core.specs.declared.step.StepFault.{StepFault}
-use Rattle.custody_core.specs.declared.step.StepFault.TheVariants as fault
+use Rattle.step_lines.specs.declared.step.ChunkName.{ChunkName}
+use Rattle.step_lines.specs.declared.step.Step.{Step}
+use Rattle.step_lines.specs.declared.step.Step.TheVariants as step
+use Rattle.custody_core.specs.declared.fault.StepFault.{StepFault}
+use Rattle.custody_core.specs.declared.fault.StepFault.TheVariants as fault
 use Rattle.custody_core.specs.Network.{place_of, entrance, address_of_client, address_of_server, settings_of, servers_of, output_at, HaveTag, HasLeaf, HasLoop}
 use Rattle.custody_core.specs.Settings.{is_memory}
 use Rattle.custody_core.specs.World.{Event, Chunk, BufferState, Sender, from_client, from_chunk, Message, Delivery, World, opening, with_buffer, with_chunk}

@@ -1,7 +1,6 @@
 -- What a store keeps, as lists, and the world that it stands for.
 use Rattle.std.specs.Prelude.{ℕ, ◌==◌, ◌&&◌, Bool, true, false, cond, List, [], ◌∷◌, ◌++◌, map, length, Option, Some, option_map, slice_get, slice_set, nat_lt}
 use Rattle.std.specs.Option.{option_and_then, option_map_or}
-use Rattle.std.specs.declared.vec.Vec.{Vec}
 use Rattle.custody_core.specs.Network.{address_of_client}
 use Rattle.custody_core.specs.World.{Event, Chunk, BufferState, from_client, Message, Delivery, World, empty_buffer}
 use Rattle.custody_core.specs.Steps.{events_of, restarted}
@@ -10,10 +9,6 @@ use Rattle.custody_core.specs.declared.chunk.Look.{Look}
 use Rattle.custody_core.specs.declared.event.Event.{Event as Stored}
 use Rattle.custody_core.specs.declared.net.Net.{Net}
 use Rattle.custody_core.specs.declared.store.Opened.{Opened}
-
--- the bytes of each text
-abbrev pub texts_of : {A : Type 0} → List (Vec ℕ A) → List (List ℕ)
-texts_of texts = map (λ text. text.items) texts
 
 -- an event without where it lies in memory
 abbrev pub event_of : {A : Type 0} → Stored A → Event

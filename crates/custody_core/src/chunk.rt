@@ -2,7 +2,8 @@
 ghost use Rattle.std.specs.Prelude.{map, ◌≡◌, ◌≤◌, ℕ, length, option_map, None, IfOk, OnOk, OnErr, IsTrue, ◌↔◌, IsSomeAnd};
 ghost use Rattle.std.specs.Option.{ForSome, option_and_then};
 ghost use Rattle.custody_core.specs.Custody.{IsInChunk};
-ghost use Rattle.custody_core.specs.Store.{chunk_at, stored_events, texts_of, longer};
+ghost use Rattle.custody_core.specs.Store.{chunk_at, stored_events, longer};
+ghost use Rattle.step_lines.specs.Texts.{texts_of};
 ghost use Rattle.custody_core.specs.Chunks.{stage_at as restored, kept_at as to_keep, restaged, evident, is_since, first_of, slot_from, IsSlotOfTime};
 
 use crate::event::{Event, copy_events, has_text};

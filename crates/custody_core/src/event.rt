@@ -1,6 +1,7 @@
 // Entries and events, and copies of them.
 ghost use Rattle.std.specs.Prelude.{◌≡◌, ◌↔◌, IfOk, IsTrue, Contains};
-ghost use Rattle.custody_core.specs.Store.{texts_of, event_of, stored_events};
+ghost use Rattle.custody_core.specs.Store.{event_of, stored_events};
+ghost use Rattle.step_lines.specs.Texts.{texts_of};
 ghost use Rattle.custody_core.specs.Steps.{events_of};
 
 use std::alloc::{AllocError, Allocator};

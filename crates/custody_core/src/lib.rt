@@ -3,22 +3,21 @@
 
 mod chunk;
 mod event;
-mod lines;
+mod fault;
 mod net;
 mod runs;
 mod single_file;
-mod step;
 mod store;
 mod tags;
 mod world;
 
 pub use chunk::Stage;
 pub use event::Event;
-pub use lines::StepsError;
+pub use fault::StepFault;
 pub use net::{Client, Net, Node};
 pub use runs::run;
 pub use single_file::is_single_file_net;
-pub use step::{ChunkName, Step, StepFault};
+pub use step_lines::{ChunkName, Step, StepsError};
 pub use world::World;
 
 #[cfg(test)]

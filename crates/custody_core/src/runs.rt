@@ -6,10 +6,11 @@ ghost use Rattle.custody_core.specs.Steps.{Steps, IsRefusedAt};
 ghost use Rattle.custody_core.specs.World.{opening};
 ghost use Rattle.custody_core.specs.WorldOf.{world_of, net_of};
 
+use crate::fault::StepFault;
 use crate::net::Net;
-use crate::step::{Step, StepFault};
 use crate::world::World;
 use std::alloc::Allocator;
+use step_lines::Step;
 
 /// Takes the steps one after another, from the network before the first step. An `Err` has the number of the
 /// first step that is refused, counted from 1, and why.

@@ -4,7 +4,8 @@ ghost use Rattle.std.specs.Option.{ForSome, option_map_or};
 ghost use Rattle.custody_core.specs.Custody.{Holds};
 ghost use Rattle.custody_core.specs.Kept.{row_from};
 ghost use Rattle.custody_core.specs.Steps.{events_of, CanTake};
-ghost use Rattle.custody_core.specs.Store.{buffer_of, chunk_at, changed, look_of, texts_of, empty_contents, stored_events, restarted_contents, answered_row, first_answers, new_chunk, taken_in, ended_opening, appended_opening};
+ghost use Rattle.custody_core.specs.Store.{buffer_of, chunk_at, changed, look_of, empty_contents, stored_events, restarted_contents, answered_row, first_answers, new_chunk, taken_in, ended_opening, appended_opening};
+ghost use Rattle.step_lines.specs.Texts.{texts_of};
 ghost use Rattle.custody_core.specs.Store.{Row};
 ghost use Rattle.custody_core.specs.declared.store.Opened.{Opened};
 

@@ -263,54 +263,6 @@ fn steps_are_read(rt: HostRuntime) -> Result<(), Fail> {
     Ok(())
 }
 
-// Texts that are no steps, with the line that is refused.
-#[test]
-fn bad_lines_are_refused(rt: HostRuntime) -> Result<(), Fail> {
-    let rows: [(&[u8], usize); 16] = [
-        (b"jump", 1),
-        (b"begin 0\njump\n", 2),
-        (b"begin", 1),
-        (b"begin 0 0", 1),
-        (b"begin -1", 1),
-        (b"begin +1", 1),
-        (b"begin 18446744073709551616", 1),
-        (b"send 0 a e", 1),
-        (b"send 0 a xy", 1),
-        (b"send 0", 1),
-        (b"claim 2/0", 1),
-        (b"claim 2/0/0/0", 1),
-        (b"claim 2//0", 1),
-        (b"append 0 0", 1),
-        (b"\n# caf\xe9\n", 2),
-        (b"forward 1/0/0 0", 1),
-    ];
-    for (text, line) in rows {
-        match Step::read_all(rt.alloc(), text) {
-            Ok(_) => return Err("not refused".into()),
-            Err(fault) => assert_eq!(rt; fault, StepsError::BadLine(line)),
-        }
-    }
-    let greatest = Step::read_all(rt.alloc(), b"begin 18446744073709551615")?;
-    assert_eq!(rt; greatest.len(), 1);
-    Ok(())
-}
-
-// A tag of 1,024 bytes is read, one of 1,025 is not.
-#[test]
-fn tags_have_a_limit(rt: HostRuntime) -> Result<(), Fail> {
-    let mut line = Vec::from_slice(rt.alloc(), b"send 0 ")?;
-    for _ in 0..1024 {
-        line.push(b'a')?;
-    }
-    assert_eq!(rt; Step::read_all(rt.alloc(), line.as_slice())?.len(), 1);
-    line.push(b'a')?;
-    match Step::read_all(rt.alloc(), line.as_slice()) {
-        Ok(_) => return Err("not refused".into()),
-        Err(fault) => assert_eq!(rt; fault, StepsError::BadLine(1)),
-    }
-    Ok(())
-}
-
 // What a fault prints.
 #[test]
 fn faults_print_their_codes(rt: HostRuntime) -> Result<(), Fail> {

@@ -4,11 +4,12 @@ ghost use Rattle.custody_core.specs.Store.{Row};
 
 use crate::chunk::{Look, Stage};
 use crate::event::Event;
+use crate::fault::StepFault;
 use crate::net::Net;
-use crate::step::{ChunkName, Step, StepFault};
 use crate::store::{Opened, Sent, Store};
 use crate::tags::have_tag;
 use std::alloc::Allocator;
+use step_lines::{ChunkName, Step};
 use tag_pattern::Tag;
 
 /// A network at one time: what its buffers and sinks hold, and all that was ever sent.
@@ -32,7 +33,8 @@ impl<'n, A: Allocator + Copy> World<'n, A> {
     ghost use Rattle.custody_core.specs.Network.{place_of, HasLeaf};
     ghost use Rattle.custody_core.specs.Steps.{Answer, Answers, Names, Allowed, OfChunk, IsRefused, chunk_named, effect, with_named};
     ghost use Rattle.custody_core.specs.Steps.{CanAppend, CanAcknowledge, output_named, sink_named};
-    ghost use Rattle.custody_core.specs.Store.{delivery_of, texts_of, stored_events};
+    ghost use Rattle.custody_core.specs.Store.{delivery_of, stored_events};
+    ghost use Rattle.step_lines.specs.Texts.{texts_of};
     ghost use Rattle.custody_core.specs.SingleFile.{IsKeptFile};
     ghost use Rattle.custody_core.specs.World.{opening};
     ghost use Rattle.custody_core.specs.WorldOf.{world_of, net_of, contents_of};

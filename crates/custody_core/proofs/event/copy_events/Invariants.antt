@@ -1,5 +1,6 @@
 use Rattle.std.proofs.Common.{◌≡◌, take}
-use Rattle.custody_core.specs.Store.{texts_of, stored_events}
+use Rattle.custody_core.specs.Store.{stored_events}
+use Rattle.step_lines.specs.Texts.{texts_of}
 use Rattle.custody_core.specs.Steps.{events_of}
 use Rattle.custody_core.proofs.event.copy_events.Given as goal
 

@@ -1,5 +1,5 @@
 use Rattle.std.proofs.Common.{◌≡◌, take}
-use Rattle.custody_core.specs.Store.{texts_of}
+use Rattle.step_lines.specs.Texts.{texts_of}
 use Rattle.custody_core.proofs.event.copy_texts.Given as goal
 
 abbrev pub invariant-loop-text : goal.invariant-loop-text

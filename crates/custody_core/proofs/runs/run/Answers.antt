@@ -6,7 +6,8 @@ use Rattle.custody_core.specs.World.{opening}
 use Rattle.custody_core.specs.WorldOf.{world_of}
 use Rattle.custody_core.proofs.Headline.{kept}
 use Rattle.custody_core.proofs.Made.{sourced}
-use Rattle.custody_core.proofs.StepsMore.{steps_more, split_at, take_next}
+use Rattle.custody_core.proofs.StepsMore.{steps_more}
+use Rattle.step_lines.proofs.Places.{split_at, take_next}
 use Rattle.custody_core.proofs.runs.run.Goals as goal
 
 pub returns-in-Err-clause-refused : goal.returns-in-Err-clause-refused

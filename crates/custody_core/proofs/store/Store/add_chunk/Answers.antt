@@ -1,5 +1,6 @@
 use Rattle.std.proofs.Common.{length, ap, ◌∙◌}
-use Rattle.custody_core.specs.Store.{texts_of, new_chunk}
+use Rattle.custody_core.specs.Store.{new_chunk}
+use Rattle.step_lines.specs.Texts.{texts_of}
 use Rattle.custody_core.specs.Kept.{row_from}
 use Rattle.custody_core.proofs.Slots.{of_time-added, contents_from-added, row_is}
 use Rattle.custody_core.proofs.store.Store.add_chunk.Goals as goal

@@ -1,7 +1,8 @@
 use Rattle.std.proofs.Common.{◌≡◌, length, ap, sym, ◌∙◌}
 use Rattle.std.proofs.lemmas.List.{get_or_read, length-map}
 use Rattle.custody_core.specs.Kept.{row_from}
-use Rattle.custody_core.specs.Store.{texts_of, answered_row}
+use Rattle.custody_core.specs.Store.{answered_row}
+use Rattle.step_lines.specs.Texts.{texts_of}
 use Rattle.custody_core.specs.Steps.{events_of}
 use Rattle.custody_core.proofs.Slots.{contents_from-answered, contents_from-repeated}
 use Rattle.custody_core.proofs.store.Store.answer.Goals as goal

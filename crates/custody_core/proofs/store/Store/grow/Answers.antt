@@ -2,7 +2,8 @@ use Rattle.std.proofs.Common.{ℕ, List, length, ap, ◌∙◌}
 use Rattle.std.specs.Option.{option_and_then}
 use Rattle.std.proofs.lemmas.Result.{err_from_is_err_and}
 use Rattle.custody_core.specs.Chunks.{slot_from}
-use Rattle.custody_core.specs.Store.{Row, texts_of, longer}
+use Rattle.custody_core.specs.Store.{Row, longer}
+use Rattle.step_lines.specs.Texts.{texts_of}
 use Rattle.custody_core.proofs.Slots.{of_time-set, contents_from-set, contents_from-same, row_is}
 use Rattle.custody_core.proofs.store.Store.grow.Goals as goal
 

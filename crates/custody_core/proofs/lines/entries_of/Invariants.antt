@@ -1,8 +1,0 @@
-use Rattle.std.proofs.Common.{map, take}
-use Rattle.std.specs.List.{AllZip}
-use Rattle.custody_core.specs.Store.{texts_of}
-use Rattle.custody_core.specs.StepLines.{Spells}
-use Rattle.custody_core.proofs.lines.entries_of.Given as goal
-
-abbrev pub invariant-loop-word : goal.invariant-loop-word
-invariant-loop-word g l = AllZip Spells (map (λ word. word.now) (take l.word-index l.words)) (texts_of l.entries.items)

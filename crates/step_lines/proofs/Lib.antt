@@ -1,0 +1,4 @@
+pub mod LinesRead
+pub mod NoSteps
+pub mod OneReading
+pub mod Places

@@ -1,0 +1,15 @@
+use Rattle.std.proofs.Common.{◌≡◌, [], length, arith}
+use Rattle.step_lines.proofs.Places.{one_item, two_items}
+use Rattle.step_lines.proofs.lines.other_step.Goals as goal
+
+pub returns-in-len1-clause-step : goal.returns-in-len1-clause-step
+returns-in-len1-clause-step g c =
+    let fields = c.args.fields.now in
+    let one : length fields ≡ 1 = omega arith in
+    rw (one_item fields (record { ref_ptr = (0, 0); now = [] }) one) c.short_step.ensures.step
+
+pub returns-in-len2-clause-step : goal.returns-in-len2-clause-step
+returns-in-len2-clause-step g c =
+    let fields = c.args.fields.now in
+    let two : length fields ≡ 2 = omega arith in
+    rw (two_items fields (record { ref_ptr = (0, 0); now = [] }) two) c.middle_step.ensures.step

@@ -1,0 +1,12 @@
+use Rattle.std.proofs.Common.{◌==◌, ◌∙◌, ap, not, length, List, ℕ, rules, tests}
+use Rattle.std.specs.Slice.Iter.{split_rest, split_done, split_callee}
+use Rattle.std.proofs.lemmas.Iterator.Consumers.{map_from_collect, YieldsList-from_filter}
+use Rattle.std.proofs.lemmas.Iterator.Splits.{YieldsList-from_slice_split}
+use Rattle.step_lines.specs.StepLines.{is_blank}
+use Rattle.step_lines.proofs.lines.words.Goals as goal
+
+pub returns : goal.returns
+returns g c = map_from_collect _ c.collect.ensures.ran
+    (YieldsList-from_filter _ (λ (word : List ℕ). not (length word == 0))
+    (YieldsList-from_slice_split _ is_blank c.args.line.now (ap split_rest c.filter.ensures.source ∙ c.split.ensures.rest) (ap split_done c.filter.ensures.source ∙ c.split.ensures.done) (ap split_callee c.filter.ensures.source ∙ c.split.ensures.closure) (λ x b q k. search (rules, tests)))
+    c.filter.ensures.closure (λ x b q k. search (rules, tests)))

@@ -1,0 +1,13 @@
+// Steps of a network of relays, and how they are read from a text.
+#![tactic(auto)]
+
+mod laws;
+mod lines;
+mod step;
+
+pub use laws::each_line_says_one_thing;
+pub use lines::StepsError;
+pub use step::{ChunkName, Step};
+
+#[cfg(test)]
+mod tests;
