@@ -1,0 +1,4 @@
+pub mod ChunksAt
+pub mod Members
+pub mod PlaceLists
+pub mod Slots

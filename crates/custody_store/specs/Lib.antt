@@ -1,0 +1,6 @@
+pub mod Buffers
+pub mod Contents
+pub mod Copies
+pub mod Marks
+pub mod PlaceLists
+pub mod Places

@@ -1,0 +1,15 @@
+// A buffer with the sink of its output, as a value: its chunks, and what restarts leave of them.
+#![tactic(auto)]
+
+mod buffer;
+mod chunk;
+mod event;
+mod places;
+
+pub use buffer::Buffer;
+pub use chunk::{Copied, Look, Stage};
+pub use event::{Event, copy_events, copy_texts};
+pub use places::Places;
+
+#[cfg(test)]
+mod tests;

@@ -1,0 +1,7 @@
+//! What the names come to.
+ghost use Rattle.numbered_files.specs.Names.{NamesDiffer};
+
+/// No two numbers of 32 bits have one name.
+pub fn names_differ()
+    ensures { NamesDiffer }
+{}
