@@ -1,0 +1,5 @@
+pub mod Serials
+pub mod Named
+pub mod Tables
+pub mod Slots
+pub mod Steps

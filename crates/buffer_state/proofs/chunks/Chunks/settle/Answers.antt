@@ -1,0 +1,31 @@
+use Rattle.std.proofs.Common.{◌≡◌, ◌≢◌, ◌≤◌, ◌<◌, ◌+◌, ◌^◌, ◌++◌, ◌∷◌, [], ◌⊎◌, ℕ, Bool, true, false, cond, List, length, Option, Some, None, option_map, refl, sym, ap, subst, ◌∙◌, arith, rules, inl, inr}
+use Rattle.std.specs.Prelude.{IsSomeAnd, filter, nat_le}
+use Rattle.std.specs.Option.{option_map_or}
+use Rattle.std.specs.List.{last_or}
+use Rattle.std.specs.Map.{set_value, remove_entry}
+use Rattle.std.specs.BTreeMap.{is_at}
+use Rattle.std.specs.Ordering.{nat_cmp}
+use Rattle.buffer_state.specs.declared.chunk.Stage.TheVariants.{Staged, Queued, Claimed}
+use Rattle.buffer_state.specs.State.{State, Chunk, chunk_at, size, size_at, is_queued, is_staged, staged_of, newest_staged}
+use Rattle.buffer_state.specs.Steps.{greatest_size, appended, queued_last, claimed, claimed_from, removed, settled, oldest, first_of, place_within}
+use Rattle.buffer_state.specs.Slots.{Slot, slot_at, slot_size, chunks_in, fresh, joined, grown, put, changed_at}
+use Rattle.buffer_state.specs.Views.{passes_at, state_of, is_waiting, is_claimed, claims, IsEndOf, IsSound, IsTogether}
+use Rattle.buffer_state.proofs.Steps.{sound_settled, settled_view}
+use Rattle.buffer_state.proofs.chunks.Chunks.settle.Goals as goal
+
+pub invariant_of-self-2 : goal.invariant_of-self-2
+invariant_of-self-2 g c =
+    let items : c.refill.new.queue.items ≡ filter (passes_at is_queued c.self.inside.table) c.self.inside.waiting.keys = c.refill.ensures.items ∙ ap (λ (xs : List ℕ). xs ++ filter (passes_at is_queued c.self.inside.table) c.self.inside.waiting.keys) c.clear.ensures.items in
+    let l1 = c.len.ensures.len in
+    let l2 = c.len-2.ensures.len in
+    let room = c.in_ok-reserve.ensures.ok in
+    let gone = c.clear.ensures.len in
+    let cap = c.clear.ensures.capacity in
+    let len = c.refill.ensures.len in
+    let cap2 = c.refill.ensures.capacity in
+    sound_settled c.self.inside.table c.self.inside.waiting c.self.inside.queue c.refill.new.queue c.self.inside.next c.self.invariant items (omega (arith, len, gone)) (omega (arith, l1, l2, room, gone, cap, cap2))
+
+pub returns-clause-ok : goal.returns-clause-ok
+returns-clause-ok g c =
+    let items : c.refill.new.queue.items ≡ filter (passes_at is_queued c.self.inside.table) c.self.inside.waiting.keys = c.refill.ensures.items ∙ ap (λ (xs : List ℕ). xs ++ filter (passes_at is_queued c.self.inside.table) c.self.inside.waiting.keys) c.clear.ensures.items in
+    settled_view c.self.inside.table c.self.inside.waiting c.self.inside.queue c.self.inside.next c.refill.new.queue.items c.self.invariant items ∙ ap settled c.self.view_is

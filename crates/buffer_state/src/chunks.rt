@@ -1,0 +1,313 @@
+//! The chunks of a buffer, and its steps on them.
+
+ghost use Rattle.std.specs.Prelude.{◌≡◌, ◌≤◌, ◌<◌, ◌+◌, ◌⊎◌, [], ◌∷◌, ◌++◌, true, length, filter, IfSome, IfNone, IfOk, OnOk, OnErr, option_map};
+ghost use Rattle.std.specs.VecDeque.{deque_len, deque_capacity};
+ghost use Rattle.buffer_state.specs.State.{empty, chunk_at, size, size_at, is_queued, IsAt, IsStagedOf};
+ghost use Rattle.buffer_state.specs.Steps.{CanAppend, planned, appended, queued_last, claimed, removed, settled, oldest, first_of, greatest_size, place_within};
+ghost use Rattle.buffer_state.specs.Views.{passes_at, IsTogether, IsEndOf};
+ghost use Rattle.buffer_state.specs.declared.chunk.Stage.TheVariants.{Staged, Claimed};
+
+use crate::chunk::{Chunk, Stage};
+use crate::limits::{AppendFault, Limits};
+use crate::table::Table;
+use event_modes::Entries;
+use std::alloc::{AllocError, Allocator};
+use std::collections::{BTreeSet, VecDeque};
+use std::marker::Model;
+
+/// The live chunks of a buffer, the serial that comes next, and the queue.
+/// No step looks at all chunks.
+#[derive(Drop)]
+pub struct Chunks<A: Allocator> {
+    alloc: A,
+    table: Table<A>,
+    // the serials of queued and claimed chunks
+    waiting: BTreeSet<u64, A>,
+    // the queued serials in their order, among serials of chunks that are gone
+    queue: VecDeque<u64, A>,
+    next: u64,
+}
+
+impl<A: Allocator> Model for Chunks<A> {
+    ghost use Rattle.buffer_state.specs.State.{State};
+
+    ghost Value = { State };
+
+    ghost use Rattle.buffer_state.specs.Views.{state_of, IsSound};
+
+    ghost view = { λ c. state_of c.table c.queue.items c.next };
+
+    ghost invariant = { λ c. IsSound c.table c.waiting c.queue c.next };
+}
+
+impl<A: Allocator + Copy> Chunks<A> {
+    /// No chunks, and 0 as the next serial.
+    pub fn new(alloc: A) -> Self
+        ensures { result ≡ empty }
+    {
+        Chunks {
+            alloc,
+            table: Table::new(alloc),
+            waiting: BTreeSet::new(alloc),
+            queue: VecDeque::new(alloc),
+            next: 0,
+        }
+    }
+
+    /// The serial of the next new chunk.
+    pub fn next(&self) -> u64
+        ensures { result ≡ self.now.next }
+    {
+        self.next
+    }
+
+    /// The live chunk of this serial. The entries of one that isn't staged lie together.
+    pub fn chunk(&self, serial: u64) -> Option<&Chunk<A>>
+        ensures value { option_map (λ chunk. chunk.now.chunk) result ≡ chunk_at self.now serial }
+        ensures small { IfSome result (λ chunk. size chunk.now.chunk.entries ≤ greatest_size) }
+        ensures together { IfSome result (λ chunk. IsTogether chunk.now) }
+    {
+        self.table.get(serial)
+    }
+
+    /// The stage of the live chunk of this serial.
+    pub fn stage(&self, serial: u64) -> Option<Stage>
+        ensures { result ≡ option_map (λ chunk. chunk.stage) (chunk_at self.now serial) }
+    {
+        match self.table.get(serial) {
+            Some(chunk) => Some(chunk.stage()),
+            None => None,
+        }
+    }
+
+    /// The serial at which entries of this tag are to be appended, or why they are refused.
+    pub fn plan<B: Allocator>(
+        &self,
+        limits: &Limits,
+        tag: &[u8],
+        entries: &Entries<B>,
+    ) -> Result<u64, AppendFault>
+        ensures place { result ≡ planned limits.now self.now tag.now entries.now }
+        ensures can { IfOk result (λ serial. CanAppend self.now serial tag.now entries.now) }
+    {
+        let size = entries.as_bytes().len() as u64;
+        let limit = limits.chunk.min(16_775_168);
+        if size > limit {
+            return Err(AppendFault::TooLarge);
+        }
+        if self.table.total() + size as u128 > limits.total as u128 {
+            return Err(AppendFault::Full);
+        }
+        let place = self.place(limit, tag, size);
+        if place == self.next && self.next == u64::MAX {
+            return Err(AppendFault::LastSerial);
+        }
+        Ok(place)
+    }
+
+    /// Appends entries at this serial.
+    ///
+    /// The error is want of memory, and changes nothing.
+    pub fn append<B: Allocator>(
+        &mut self,
+        serial: u64,
+        tag: &[u8],
+        entries: &Entries<B>,
+    ) -> Result<(), AllocError>
+        requires { CanAppend self.old serial tag.now entries.now }
+        ensures ok { OnOk result (self.new ≡ appended serial tag.now entries.now self.old) }
+        ensures err { OnErr result (self.new ≡ self.old) }
+    {
+        if serial < self.next {
+            return self.grow(serial, tag, entries);
+        }
+        self.table.add(serial, tag, entries)?;
+        self.next = serial + 1;
+        Ok(())
+    }
+
+    /// Queues the staged chunk of this serial.
+    ///
+    /// The error is want of memory, and changes nothing.
+    pub fn queue(&mut self, serial: u64) -> Result<(), AllocError>
+        requires { IsAt Staged self.old serial }
+        ensures ok { OnOk result (self.new ≡ queued_last serial self.old) }
+        ensures err { OnErr result (self.new ≡ self.old) }
+    {
+        self.queue.reserve(self.waiting.len() + 1)?;
+        self.table.join(serial)?;
+        let _ = self.waiting.insert(serial)?;
+        self.table.put(serial, Stage::Queued);
+        self.queue.push_back_reserved(serial);
+        Ok(())
+    }
+
+    /// Claims the first of the queue, and gives its serial.
+    pub fn claim(&mut self) -> Option<u64>
+        ensures first { result ≡ first_of self.old.queue }
+        ensures state { self.new ≡ claimed self.old }
+    {
+        let serial = pop_queued(&self.table, &mut self.queue)?;
+        self.table.put(serial, Stage::Claimed);
+        Some(serial)
+    }
+
+    /// Puts the claimed chunk of this serial to the end of the queue. It takes no memory.
+    pub fn give_back(&mut self, serial: u64)
+        requires { IsAt Claimed self.old serial }
+        ensures { self.new ≡ queued_last serial self.old }
+    {
+        self.table.put(serial, Stage::Queued);
+        self.queue.push_back_reserved(serial);
+    }
+
+    /// Lets the chunk of this serial go.
+    pub fn remove(&mut self, serial: u64)
+        ensures { self.new ≡ removed serial self.old }
+    {
+        self.table.remove(serial);
+        let _ = self.waiting.remove(&serial);
+        trim(&self.table, &mut self.queue);
+    }
+
+    /// The queued chunk of least serial. It looks at the claimed chunks below it, and at no others.
+    pub fn oldest(&self) -> Option<u64>
+        ensures { result ≡ oldest self.now }
+    {
+        first_queued(&self.table, &self.waiting)
+    }
+
+    /// Passes serials over.
+    pub fn set_next(&mut self, next: u64)
+        requires { self.old.next ≤ next }
+        ensures { self.new ≡ record self.old { next = next } }
+    {
+        self.next = next;
+    }
+
+    /// Lets the queue go by rising serial.
+    ///
+    /// The error is want of memory, and changes nothing.
+    pub fn settle(&mut self) -> Result<(), AllocError>
+        ensures ok { OnOk result (self.new ≡ settled self.old) }
+        ensures err { OnErr result (self.new ≡ self.old) }
+    {
+        self.queue.reserve(self.waiting.len() + self.waiting.len())?;
+        self.queue.clear();
+        refill(&self.table, &self.waiting, &mut self.queue);
+        Ok(())
+    }
+
+    // Where so many bytes go: to the newest staged chunk of the tag if they fit, else to a new one.
+    fn place(&self, limit: u64, tag: &[u8], size: u64) -> u64
+        requires limit { limit ≤ greatest_size }
+        requires small { size ≤ greatest_size }
+        ensures place { result ≡ place_within limit self.now tag.now size }
+        ensures here { (IsStagedOf self.now result tag.now × (size_at self.now result + size ≤ greatest_size)) ⊎ (result ≡ self.now.next) }
+    {
+        let Some(serial) = self.table.newest(tag) else {
+            return self.next;
+        };
+        if self.size_at(serial) as u64 + size <= limit {
+            serial
+        } else {
+            self.next
+        }
+    }
+
+    // How many bytes of entries the chunk of this serial has; 0 where there is none.
+    fn size_at(&self, serial: u64) -> usize
+        ensures size { result ≡ size_at self.now serial }
+        ensures small { result ≤ greatest_size }
+    {
+        match self.table.get(serial) {
+            Some(chunk) => chunk.size(),
+            None => 0,
+        }
+    }
+
+    // Appends entries to a chunk that is there.
+    fn grow<B: Allocator>(
+        &mut self,
+        serial: u64,
+        tag: &[u8],
+        entries: &Entries<B>,
+    ) -> Result<(), AllocError>
+        requires can { CanAppend self.old serial tag.now entries.now }
+        requires there { serial < self.old.next }
+        ensures ok { OnOk result (self.new ≡ appended serial tag.now entries.now self.old) }
+        ensures err { OnErr result (self.new ≡ self.old) }
+    {
+        let mut piece = Entries::new(self.alloc);
+        piece.append(entries)?;
+        self.table.join(serial)?;
+        self.table.grow(serial, piece);
+        Ok(())
+    }
+}
+
+fn is_queued<A: Allocator + Copy>(table: &Table<A>, serial: u64) -> bool
+    ensures { result ≡ passes_at is_queued table.now serial }
+{
+    match table.get(serial) {
+        Some(chunk) => chunk.is_queued(),
+        None => false,
+    }
+}
+
+// Takes the first queued serial out, and those of chunks that are gone before it.
+fn pop_queued<A: Allocator + Copy>(table: &Table<A>, queue: &mut VecDeque<u64, A>) -> Option<u64>
+    ensures none { IfNone result ((queue.new.items ≡ []) × (filter (passes_at is_queued table.now) queue.old.items ≡ []) × (deque_len queue.new ≤ deque_len queue.old)) }
+    ensures first { IfSome result (λ serial. (passes_at is_queued table.now serial ≡ true) × IsEndOf (serial ∷ queue.new.items) queue.old.items
+        × (filter (passes_at is_queued table.now) queue.old.items ≡ filter (passes_at is_queued table.now) (serial ∷ queue.new.items)) × (deque_len queue.new + 1 ≤ deque_len queue.old)) }
+    ensures capacity { deque_capacity queue.new ≡ deque_capacity queue.old }
+{
+    while let Some(serial) = queue.pop_front() {
+        if is_queued(table, serial) {
+            return Some(serial);
+        }
+    }
+    None
+}
+
+// Takes serials of chunks that are gone from the front.
+fn trim<A: Allocator + Copy>(table: &Table<A>, queue: &mut VecDeque<u64, A>)
+    ensures end { IsEndOf queue.new.items queue.old.items }
+    ensures same { filter (passes_at is_queued table.now) queue.new.items ≡ filter (passes_at is_queued table.now) queue.old.items }
+    ensures len { deque_len queue.new ≤ deque_len queue.old }
+    ensures capacity { deque_capacity queue.new ≡ deque_capacity queue.old }
+{
+    if let Some(serial) = pop_queued(table, queue) {
+        queue.push_front_reserved(serial);
+    }
+}
+
+// The first of the waiting serials that is queued.
+fn first_queued<A: Allocator + Copy>(table: &Table<A>, waiting: &BTreeSet<u64, A>) -> Option<u64>
+    ensures { result ≡ first_of (filter (passes_at is_queued table.now) waiting.now.keys) }
+{
+    for serial in waiting {
+        if is_queued(table, *serial) {
+            return Some(*serial);
+        }
+    }
+    None
+}
+
+// Adds the waiting serials that are queued.
+fn refill<A: Allocator + Copy>(
+    table: &Table<A>,
+    waiting: &BTreeSet<u64, A>,
+    queue: &mut VecDeque<u64, A>,
+)
+    requires room { deque_len queue.old + length waiting.now.keys ≤ deque_capacity queue.old }
+    ensures items { queue.new.items ≡ queue.old.items ++ filter (passes_at is_queued table.now) waiting.now.keys }
+    ensures len { deque_len queue.new ≤ deque_len queue.old + length waiting.now.keys }
+    ensures capacity { deque_capacity queue.new ≡ deque_capacity queue.old }
+{
+    for serial in waiting {
+        if is_queued(table, *serial) {
+            queue.push_back_reserved(*serial);
+        }
+    }
+}

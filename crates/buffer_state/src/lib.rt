@@ -1,0 +1,15 @@
+// What a buffer holds in memory, and its steps: append, enqueue, claim, give back, purge, drop the oldest.
+#![tactic(auto)]
+
+mod chunk;
+mod chunks;
+mod limits;
+mod table;
+mod tags;
+
+pub use chunk::{Chunk, Stage};
+pub use chunks::Chunks;
+pub use limits::{AppendFault, Limits};
+
+#[cfg(test)]
+mod tests;

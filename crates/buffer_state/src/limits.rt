@@ -1,0 +1,20 @@
+//! How much a buffer takes, and why a step is refused.
+
+/// How many bytes of entries a chunk takes, and all chunks of a buffer together.
+/// Whatever is set, a chunk takes at most 16,775,168 bytes.
+#[derive(Clone, Copy, Debug, PartialEq, Eq)]
+pub struct Limits {
+    pub chunk: u64,
+    pub total: u64,
+}
+
+/// Why a buffer doesn't take entries: the first of these that applies.
+#[derive(Clone, Copy, Debug, PartialEq, Eq)]
+pub enum AppendFault {
+    /// The entries alone are more than a chunk takes.
+    TooLarge,
+    /// With the entries that are there they are more than the buffer takes.
+    Full,
+    /// A new chunk would be needed, and the serials have run out.
+    LastSerial,
+}

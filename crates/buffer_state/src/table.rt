@@ -1,0 +1,158 @@
+//! Live chunks by their serials.
+
+ghost use Rattle.std.specs.Prelude.{◌≡◌, false, ◌+◌, ◌≤◌, ◌<◌, ◌^◌, ◌++◌, [], ◌∷◌, IfSome, IsSome, IsSomeAnd, OnOk, OnErr, None, option_map};
+ghost use Rattle.std.specs.List.{last_or, AllByRecursion};
+ghost use Rattle.std.specs.Map.{keys_of, remove_entry};
+ghost use Rattle.std.specs.Ordering.{nat_cmp};
+ghost use Rattle.std.specs.BTreeMap.{is_at};
+ghost use Rattle.buffer_state.specs.State.{size, is_staged};
+ghost use Rattle.buffer_state.specs.Steps.{greatest_size};
+ghost use Rattle.buffer_state.specs.Slots.{Slot, slot_at, changed_at, joined, grown, put, fresh, slots_size, staged_in, AreBelow};
+
+use crate::chunk::{Chunk, Stage};
+use crate::tags::TagIndex;
+use event_modes::Entries;
+use std::alloc::{AllocError, Allocator};
+use std::collections::BTreeMap;
+use std::marker::Model;
+
+/// Live chunks by their serials, with how many bytes all have, and which are staged.
+#[derive(Drop)]
+pub(crate) struct Table<A: Allocator> {
+    alloc: A,
+    chunks: BTreeMap<u64, Chunk<A>, A>,
+    tags: TagIndex<A>,
+    total: u128,
+}
+
+impl<A: Allocator> Model for Table<A> {
+    ghost use Rattle.std.specs.Prelude.{ℕ, List};
+    ghost use Rattle.buffer_state.specs.Slots.{Slot};
+
+    ghost Value = { List (ℕ × Slot) };
+
+    ghost use Rattle.buffer_state.specs.Tables.{IsTable};
+
+    ghost view = { λ t. t.chunks.entries };
+
+    ghost invariant = { λ t. IsTable t.chunks.entries t.tags t.total };
+}
+
+impl<A: Allocator + Copy> Table<A> {
+    /// No chunks.
+    pub fn new(alloc: A) -> Self
+        ensures { result ≡ [] }
+    {
+        Table {
+            alloc,
+            chunks: BTreeMap::new(alloc),
+            tags: TagIndex::new(alloc),
+            total: 0,
+        }
+    }
+
+    /// The chunk of this serial.
+    pub fn get(&self, serial: u64) -> Option<&Chunk<A>>
+        ensures value { option_map (λ chunk. chunk.now) result ≡ slot_at self.now serial }
+        ensures small { IfSome result (λ chunk. size chunk.now.chunk.entries ≤ greatest_size) }
+    {
+        self.chunks.get(&serial)
+    }
+
+    /// How many bytes of entries all have together.
+    pub fn total(&self) -> u128
+        ensures sum { result ≡ slots_size self.now }
+        ensures small { result < 2 ^ 88 }
+    {
+        self.total
+    }
+
+    /// The greatest serial of a staged chunk of this tag.
+    pub fn newest(&self, tag: &[u8]) -> Option<u64>
+        ensures { result ≡ last_or None (staged_in self.now tag.now) }
+    {
+        self.tags.newest(tag)
+    }
+
+    /// A new chunk, whose serial is above all others. An `Err` changes nothing.
+    pub fn add<B: Allocator>(
+        &mut self,
+        serial: u64,
+        tag: &[u8],
+        entries: &Entries<B>,
+    ) -> Result<(), AllocError>
+        requires last { AreBelow serial (keys_of self.old) }
+        requires small { size entries.now ≤ greatest_size }
+        ensures ok { OnOk result (self.new ≡ self.old ++ (serial, fresh tag.now entries.now) ∷ []) }
+        ensures err { OnErr result (self.new ≡ self.old) }
+    {
+        let key = Vec::from_slice(self.alloc, tag)?;
+        let mut held = Entries::new(self.alloc);
+        held.append(entries)?;
+        let chunk = Chunk::new(self.alloc, key, held);
+        let _ = self.chunks.insert(serial, chunk)?;
+        if self.tags.add(self.alloc, tag, serial).is_err() {
+            let _ = self.chunks.remove(&serial);
+            return Err(AllocError);
+        }
+        // the sum stays small, since a map has fewer than 2^63 entries
+        let _count = self.chunks.len();
+        self.total += entries.as_bytes().len() as u128;
+        Ok(())
+    }
+
+    /// Lets the chunk of this serial go.
+    pub fn remove(&mut self, serial: u64)
+        ensures { self.new ≡ remove_entry (is_at (nat_cmp serial)) self.old }
+    {
+        let Some(chunk) = self.chunks.remove(&serial) else {
+            return;
+        };
+        self.total -= chunk.size() as u128;
+        if chunk.is_staged() {
+            self.tags.remove(chunk.tag(), serial);
+        }
+    }
+
+    /// Puts the entries of a chunk together. An `Err` changes nothing.
+    pub fn join(&mut self, serial: u64) -> Result<(), AllocError>
+        ensures ok { OnOk result (self.new ≡ changed_at serial joined self.old) }
+        ensures err { OnErr result (self.new ≡ self.old) }
+    {
+        let Some(chunk) = self.chunks.get_mut(&serial) else {
+            return Ok(());
+        };
+        chunk.join(self.alloc)?;
+        Ok(())
+    }
+
+    /// Adds entries to a chunk, apart from the others.
+    pub fn grow(&mut self, serial: u64, piece: Entries<A>)
+        requires ready { IsSomeAnd (slot_at self.old serial) (λ slot. (slot.apart ≡ 0) × (size slot.chunk.entries + size piece ≤ greatest_size)) }
+        ensures { self.new ≡ changed_at serial (grown piece) self.old }
+    {
+        let added = piece.as_bytes().len();
+        let Some(chunk) = self.chunks.get_mut(&serial) else {
+            return;
+        };
+        chunk.grow(piece);
+        self.total += added as u128;
+    }
+
+    /// Puts a chunk into another stage than staged.
+    pub fn put(&mut self, serial: u64, stage: Stage)
+        requires ready { IsSomeAnd (slot_at self.old serial) (λ slot. slot.apart ≡ 0) }
+        requires stage { is_staged stage ≡ false }
+        ensures { self.new ≡ changed_at serial (put stage) self.old }
+    {
+        let Some(chunk) = self.chunks.get_mut(&serial) else {
+            return;
+        };
+        if !chunk.is_staged() {
+            chunk.put(stage);
+            return;
+        }
+        self.tags.remove(chunk.tag(), serial);
+        chunk.put(stage);
+    }
+}

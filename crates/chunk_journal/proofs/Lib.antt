@@ -1,0 +1,9 @@
+pub mod Numbers
+pub mod Frames
+pub mod Appends
+pub mod Unique
+pub mod Cuts
+pub mod Standing
+pub mod Coming
+pub mod Telling
+pub mod Answered

@@ -1,0 +1,10 @@
+pub mod Records
+pub mod Journal
+pub mod Meaning
+pub mod Laws
+pub mod Printed
+pub mod Spelled
+pub mod Fields
+pub mod Reading
+pub mod Replaying
+pub mod Drafts

@@ -1,0 +1,59 @@
+-- The records of a journal, and how each is spelled.
+use Rattle.std.specs.Prelude.{ℕ, ◌<◌, ◌≤◌, ◌^◌, List, ◌∷◌, ◌++◌, length}
+use Rattle.std.specs.List.{AllByRecursion, concat}
+use Rattle.std.specs.Int.{w16, w32, w64, to_be_bytes}
+use Rattle.event_modes.specs.Message.{longest_tag}
+use Rattle.event_modes.specs.Rows.{IsStored}
+
+-- a record, without where it lies in memory
+pub data Record : Type 0 where
+  Seal : (next : ℕ) → Record
+  Append : (serial : ℕ) (tag : List ℕ) (entries : List (List ℕ)) → Record
+  Queue : (serial : ℕ) → Record
+  Purge : (serial : ℕ) → Record
+
+-- the most bytes that may stand behind a record's length
+abbrev pub longest_body : ℕ
+longest_body = 16777216
+
+-- a kind and one number of eight bytes
+abbrev pub numbered : ℕ → ℕ → List ℕ
+numbered kind number = kind ∷ to_be_bytes w64 number
+
+-- an Append's fields: the serial, the tag behind its length, and the entries behind their count
+abbrev pub append_fields : ℕ → List ℕ → List (List ℕ) → List ℕ
+append_fields serial tag entries =
+    to_be_bytes w64 serial ++ (to_be_bytes w16 (length tag) ++ (tag ++ (to_be_bytes w32 (length entries) ++ concat entries)))
+
+-- what stands behind the length: the kind, and then the fields; each number has its highest byte first
+abbrev pub body_of : Record → List ℕ
+body_of (Seal next) = numbered 1 next
+body_of (Append serial tag entries) = 2 ∷ append_fields serial tag entries
+body_of (Queue serial) = numbered 3 serial
+body_of (Purge serial) = numbered 4 serial
+
+-- a length of four bytes, and as many bytes
+abbrev pub framed : List ℕ → List ℕ
+framed body = to_be_bytes w32 (length body) ++ body
+
+-- the one spelling of a record
+abbrev pub record_bytes : Record → List ℕ
+record_bytes item = framed (body_of item)
+
+-- an Append's fields: a serial of 64 bits, a tag that is not too long, and stored entries
+pub record IsAppend (serial : ℕ) (tag : List ℕ) (entries : List (List ℕ)) : Type 0 where
+  pub serial_fits : serial < 2 ^ 64
+  pub tag_fits : length tag ≤ longest_tag
+  pub stored : AllByRecursion IsStored entries
+
+-- each field is what it should be
+abbrev pub HasFields : Record → Type 0
+HasFields (Seal next) = next < 2 ^ 64
+HasFields (Append serial tag entries) = IsAppend serial tag entries
+HasFields (Queue serial) = serial < 2 ^ 64
+HasFields (Purge serial) = serial < 2 ^ 64
+
+-- what can stand in a journal
+pub record IsRecord (item : Record) : Type 0 where
+  pub fields : HasFields item
+  pub short : length (body_of item) ≤ longest_body

@@ -1,0 +1,44 @@
+//! What holds of every journal.
+
+ghost use Rattle.chunk_journal.specs.Laws.{BeginsOneWay, ReadsOneWay, CutsWhole, NeverUnreads, EndsWithin, CutsBefore, CutsBehind, AnswersOneWay, MeansItsChunks};
+
+use msgpack_bytes::prefix_free;
+
+/// No record's bytes are a proper beginning of another's, and what was written is read back, whatever follows it.
+pub fn begins_one_way()
+    ensures { BeginsOneWay }
+{
+    prefix_free();
+}
+
+/// There is one way to read bytes as a journal.
+pub fn reads_one_way()
+    ensures { ReadsOneWay }
+{
+    prefix_free();
+}
+
+/// A beginning of a journal is the journal of the records that end within it: of a longer one no fewer, of all of it all.
+pub fn cuts_whole()
+    ensures cuts { CutsWhole }
+    ensures never_unreads { NeverUnreads }
+    ensures all { EndsWithin }
+{}
+
+/// Some of the first records of a generation are before its Seal, or are the generation with some of its steps.
+pub fn cuts_generation()
+    ensures before { CutsBefore }
+    ensures behind { CutsBehind }
+{}
+
+/// A journal has one answer.
+pub fn answers_one_way()
+    ensures { AnswersOneWay }
+{
+    prefix_free();
+}
+
+/// A generation that only begins means the chunks that it tells.
+pub fn means_its_chunks()
+    ensures { MeansItsChunks }
+{}

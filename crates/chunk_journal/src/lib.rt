@@ -1,0 +1,21 @@
+//! The journal of a buffer: its records, spelled exactly, and what a journal means.
+#![tactic(auto)]
+
+mod fault;
+mod fields;
+mod laws;
+mod reading;
+mod record;
+mod replaying;
+mod writing;
+
+pub use fault::ReplayError;
+pub use laws::{
+    answers_one_way, begins_one_way, cuts_generation, cuts_whole, means_its_chunks, reads_one_way,
+};
+pub use record::Record;
+pub use replaying::{Replayed, replay};
+pub use writing::put_record;
+
+#[cfg(test)]
+mod tests;

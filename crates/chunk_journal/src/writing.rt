@@ -1,0 +1,78 @@
+//! Records as they are written.
+
+ghost use Rattle.std.specs.Prelude.{◌≡◌, ◌≤◌, ◌<◌, ◌+◌, ◌++◌, ℕ, List, length, OnOk, OnErr, vec_len, vec_capacity};
+ghost use Rattle.event_modes.specs.Message.{longest_tag};
+ghost use Rattle.chunk_journal.specs.Records.{Append, numbered, framed, body_of, record_bytes, longest_body, IsRecord};
+ghost use Rattle.chunk_journal.specs.Spelled.{record_of, HasShortTag};
+
+use crate::record::Record;
+use event_modes::Entries;
+use std::alloc::{AllocError, Allocator};
+
+/// Appends a record: a length of four bytes, the kind, and the fields, each number with its highest byte first.
+/// Asks for a tag of at most 1,024 bytes and for at most 16,777,216 bytes behind the length.
+///
+/// The error is want of memory, comes only where `out` had no room, and leaves `out` as it was.
+pub fn put_record<A: Allocator, B: Allocator>(
+    out: &mut Vec<u8, A>,
+    item: &Record<'_, B>,
+) -> Result<(), AllocError>
+    requires tag { HasShortTag (record_of item.now) }
+    requires short { length (body_of (record_of item.now)) ≤ longest_body }
+    ensures ok { OnOk result (out.new.items ≡ out.old.items ++ record_bytes (record_of item.now)) }
+    ensures err { OnErr result (out.new.items ≡ out.old.items) }
+    ensures full { OnErr result (vec_capacity out.old
+        < vec_len out.old + length (record_bytes (record_of item.now))) }
+    ensures kept { vec_capacity out.old ≤ vec_capacity out.new }
+    // What is written is read again.
+    ensures means { IsRecord (record_of item.now) }
+{
+    match item {
+        Record::Seal { next } => put_numbered(out, 1, *next),
+        Record::Append {
+            serial,
+            tag,
+            entries,
+        } => put_append(out, *serial, tag, entries),
+        Record::Queue { serial } => put_numbered(out, 3, *serial),
+        Record::Purge { serial } => put_numbered(out, 4, *serial),
+    }
+}
+
+fn put_numbered<A: Allocator>(out: &mut Vec<u8, A>, kind: u8, number: u64) -> Result<(), AllocError>
+    ensures ok { OnOk result (out.new.items ≡ out.old.items ++ framed (numbered kind number)) }
+    ensures err { OnErr result (out.new.items ≡ out.old.items) }
+    ensures full { OnErr result (vec_capacity out.old < vec_len out.old + length (framed (numbered kind number))) }
+    ensures kept { vec_capacity out.old ≤ vec_capacity out.new }
+{
+    let [a, b, c, d, e, f, g, h] = number.to_be_bytes();
+    out.extend_from_slice(&[0, 0, 0, 9, kind, a, b, c, d, e, f, g, h])
+}
+
+fn put_append<A: Allocator, B: Allocator>(
+    out: &mut Vec<u8, A>,
+    serial: u64,
+    tag: &[u8],
+    entries: &Entries<B>,
+) -> Result<(), AllocError>
+    requires tag { length tag.now ≤ longest_tag }
+    requires short { length (body_of (Append serial tag.now entries.now)) ≤ longest_body }
+    ensures ok { OnOk result (out.new.items ≡ out.old.items ++ record_bytes (Append serial tag.now entries.now)) }
+    ensures err { OnErr result (out.new.items ≡ out.old.items) }
+    ensures full { OnErr result (vec_capacity out.old
+        < vec_len out.old + length (record_bytes (Append serial tag.now entries.now))) }
+    ensures kept { vec_capacity out.old ≤ vec_capacity out.new }
+    ensures means { IsRecord (Append serial tag.now entries.now) }
+{
+    let stored = entries.as_bytes();
+    let length = 15 + tag.len() + stored.len();
+    out.reserve(4 + length)?;
+    out.extend_from_slice(&(length as u32).to_be_bytes())?;
+    out.push_reserved(2);
+    out.extend_from_slice(&serial.to_be_bytes())?;
+    out.extend_from_slice(&(tag.len() as u16).to_be_bytes())?;
+    out.extend_from_slice(tag)?;
+    out.extend_from_slice(&(entries.count() as u32).to_be_bytes())?;
+    out.extend_from_slice(stored)?;
+    Ok(())
+}

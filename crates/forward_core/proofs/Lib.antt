@@ -1,0 +1,4 @@
+pub mod Streaming
+pub mod Stepping
+pub mod Replying
+pub mod Shaking

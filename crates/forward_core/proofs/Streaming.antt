@@ -1,0 +1,136 @@
+-- Reading the messages of a stream, one arrival after another.
+use Rattle.std.proofs.Common.{ℕ, ◌≡◌, ◌+◌, ◌-◌, ◌<◌, ◌≤◌, List, [], ◌∷◌, ◌++◌, length, take, drop, map, refl, ap, sym, ◌∙◌, subst, arith, append_assoc, Option, Some, None}
+use Rattle.std.proofs.lemmas.List.{take-append-drop, drop-drop, length-drop, length-take-le, map-append, append-nil}
+use Rattle.msgpack_bytes.specs.Item.{IsOpen}
+use Rattle.event_modes.specs.declared.fault.ModeFault.{ModeFault}
+use Rattle.event_modes.specs.Message.{Parts}
+use Rattle.event_modes.specs.Stream.{Arrival, Sent, Heartbeat, IsArrival, Splits}
+use Rattle.event_modes.specs.Faults.{StreamFault}
+use Rattle.event_modes.specs.Reading.{Means, Beats, Answers}
+use Rattle.event_modes.proofs.Parting.{some_item, text_item}
+use Rattle.event_modes.proofs.One.{arrival_text}
+use Rattle.ack_receipt.specs.Reservations.{Asked, asked_of}
+use Rattle.forward_core.specs.declared.fault.SessionFault.TheVariants.{BadStream}
+use Rattle.forward_core.specs.Demands.{Wanted, Delivers, Closes}
+use Rattle.forward_core.specs.Streams.{messages_in, EndsSo, IsStreamOf}
+use Rattle.forward_core.specs.Server.{Opened, Over, Outcome, phase_by, close_by, ReadsOn}
+
+-- the first `len` bytes were read as messages that ask for this and are wanted to be delivered
+pub record Reading (bytes : List ℕ) (len : ℕ) (asked : List Asked) (wants : List Wanted) : Type 0 where
+  pub at_most : len ≤ length bytes
+  pub arrivals : List Arrival
+  pub splits : Splits bytes arrivals (drop len bytes)
+  pub asks : asked ≡ map asked_of (messages_in arrivals)
+  pub delivers : wants ≡ map Delivers (messages_in arrivals)
+
+pub reading_none : (bytes : List ℕ) (asked : List Asked) (wants : List Wanted) → asked ≡ [] → wants ≡ [] → Reading bytes 0 asked wants
+reading_none bytes asked wants a w = record { at_most = omega arith; arrivals = []; splits = refl; asks = a; delivers = w }
+
+-- one more arrival behind the others
+pub splits_more : (bytes : List ℕ) (arrivals : List Arrival) (rest front back : List ℕ) (arrival : Arrival)
+    → Splits bytes arrivals rest → IsArrival front arrival → rest ≡ front ++ back → Splits bytes (arrivals ++ arrival ∷ []) back
+splits_more bytes [] rest front back arrival s p e = (front, back, p, refl, s ∙ e)
+splits_more bytes (a ∷ arrivals) rest front back arrival s p e =
+    (s.0, s.1, s.2, splits_more s.1 arrivals rest front back arrival s.3 p e, s.4)
+
+pub messages_more : (arrivals : List Arrival) (parts : Parts) → messages_in (arrivals ++ Sent parts ∷ []) ≡ messages_in arrivals ++ parts ∷ []
+messages_more [] parts = refl
+messages_more (Sent p ∷ arrivals) parts = ap (λ (z : List Parts). p ∷ z) (messages_more arrivals parts)
+messages_more (Heartbeat ∷ arrivals) parts = messages_more arrivals parts
+
+pub messages_beat : (arrivals : List Arrival) → messages_in (arrivals ++ Heartbeat ∷ []) ≡ messages_in arrivals
+messages_beat [] = refl
+messages_beat (Sent p ∷ arrivals) = ap (λ (z : List Parts). p ∷ z) (messages_beat arrivals)
+messages_beat (Heartbeat ∷ arrivals) = messages_beat arrivals
+
+pub some_bytes : (front : List ℕ) (a : Arrival) → IsArrival front a → 0 < length front
+some_bytes [] a p = absurd (some_item (text_item [] (arrival_text [] a p)))
+some_bytes (x ∷ front) a p = omega arith
+
+-- where the arrival that was read lies in the bytes
+record Behind (bytes : List ℕ) (len n : ℕ) (arrival : Arrival) : Type 0 where
+  pub front : List ℕ
+  pub is : IsArrival front arrival
+  pub whole : drop len bytes ≡ front ++ drop (len + n) bytes
+  pub some : 0 < n
+  pub fits : len + n ≤ length bytes
+
+behind : (bytes : List ℕ) (len n : ℕ) (arrival : Arrival) → len ≤ length bytes → n ≤ length (drop len bytes) → IsArrival (take n (drop len bytes)) arrival → Behind bytes len n arrival
+behind bytes len n arrival l f p =
+    let t = take n (drop len bytes) in
+    let k : length t ≡ n = length-take-le n (drop len bytes) f in
+    record {
+      front = t;
+      is = p;
+      whole = sym (take-append-drop n (drop len bytes)) ∙ ap (λ (z : List ℕ). t ++ z) (drop-drop n len bytes);
+      some = subst (λ (z : ℕ). 0 < z) k (some_bytes t arrival p);
+      fits = omega (arith, f, l, length-drop len bytes)
+    }
+
+-- a message was read behind the others
+pub reading_message : (bytes : List ℕ) (len n : ℕ) (parts : Parts) (asked new_asked : List Asked) (wants new_wants : List Wanted)
+    → Reading bytes len asked wants → Answers (drop len bytes) (Means parts n)
+    → new_asked ≡ asked ++ asked_of parts ∷ [] → new_wants ≡ wants ++ Delivers parts ∷ []
+    → Reading bytes (len + n) new_asked new_wants × (0 < n)
+reading_message bytes len n parts asked new_asked wants new_wants r p a w =
+    let b = behind bytes len n (Sent parts) r.at_most p.0 p.1 in
+    (record {
+      at_most = b.fits;
+      arrivals = r.arrivals ++ Sent parts ∷ [];
+      splits = splits_more bytes r.arrivals (drop len bytes) b.front (drop (len + n) bytes) (Sent parts) r.splits b.is b.whole;
+      asks = a ∙ ap (λ (z : List Asked). z ++ asked_of parts ∷ []) r.asks ∙ sym (map-append asked_of (messages_in r.arrivals) (parts ∷ []))
+          ∙ ap (map asked_of) (sym (messages_more r.arrivals parts));
+      delivers = w ∙ ap (λ (z : List Wanted). z ++ Delivers parts ∷ []) r.delivers ∙ sym (map-append Delivers (messages_in r.arrivals) (parts ∷ []))
+          ∙ ap (map Delivers) (sym (messages_more r.arrivals parts))
+    }, b.some)
+
+-- the first byte is a nil
+nil_first : (bytes : List ℕ) (n : ℕ) → Answers bytes (Beats n) → (n ≤ length bytes) × IsArrival (take n bytes) Heartbeat
+nil_first bytes n p = subst (λ (z : List ℕ). (n ≤ length z) × IsArrival (take n z) Heartbeat) (sym p.1.1)
+    (subst (λ (k : ℕ). (k ≤ length (0xc0 ∷ p.1.0)) × IsArrival (take k (0xc0 ∷ p.1.0)) Heartbeat) (sym p.0) (omega arith, refl))
+
+-- a heartbeat was read behind the others
+pub reading_beat : (bytes : List ℕ) (len n : ℕ) (asked : List Asked) (wants : List Wanted)
+    → Reading bytes len asked wants → Answers (drop len bytes) (Beats n) → Reading bytes (len + n) asked wants × (0 < n)
+reading_beat bytes len n asked wants r p =
+    let f = nil_first (drop len bytes) n p in
+    let b = behind bytes len n Heartbeat r.at_most f.0 f.1 in
+    (record {
+      at_most = b.fits;
+      arrivals = r.arrivals ++ Heartbeat ∷ [];
+      splits = splits_more bytes r.arrivals (drop len bytes) b.front (drop (len + n) bytes) Heartbeat r.splits b.is b.whole;
+      asks = r.asks ∙ ap (map asked_of) (sym (messages_beat r.arrivals));
+      delivers = r.delivers ∙ ap (map Delivers) (sym (messages_beat r.arrivals))
+    }, b.some)
+
+-- what was read, where no more is whole
+pub reads_open : (sends bytes : List ℕ) (len : ℕ) (asked : List Asked) (wants : List Wanted)
+    → Reading bytes len asked wants → IsOpen (drop len bytes)
+    → ReadsOn sends bytes (record { phase = Opened; rest = drop len bytes; sends = sends; asked = asked; wants = wants })
+reads_open sends bytes len asked wants r o = record {
+  messages = messages_in r.arrivals;
+  rest = drop len bytes;
+  fault = None;
+  stream = record { arrivals = r.arrivals; splits = r.splits; are = refl; ends = o };
+  is = ap (λ (a : List Asked). record { phase = Opened; rest = drop len bytes; sends = sends; asked = a; wants = wants }) r.asks
+      ∙ ap (λ (w : List Wanted). record { phase = Opened; rest = drop len bytes; sends = sends; asked = map asked_of (messages_in r.arrivals); wants = w })
+          (r.delivers ∙ sym (append-nil (map Delivers (messages_in r.arrivals))))
+}
+
+-- what was read, where a fault stands
+pub reads_fault : (sends bytes : List ℕ) (len : ℕ) (asked : List Asked) (wants new_wants : List Wanted) (fault : ModeFault)
+    → Reading bytes len asked wants → StreamFault (drop len bytes) fault → new_wants ≡ wants ++ Closes (BadStream fault) ∷ []
+    → ReadsOn sends bytes (record { phase = Over; rest = drop len bytes; sends = sends; asked = asked; wants = new_wants })
+reads_fault sends bytes len asked wants new_wants fault r p w = record {
+  messages = messages_in r.arrivals;
+  rest = drop len bytes;
+  fault = Some fault;
+  stream = record { arrivals = r.arrivals; splits = r.splits; are = refl; ends = p };
+  is = ap (λ (a : List Asked). record { phase = Over; rest = drop len bytes; sends = sends; asked = a; wants = new_wants }) r.asks
+      ∙ ap (λ (w : List Wanted). record { phase = Over; rest = drop len bytes; sends = sends; asked = map asked_of (messages_in r.arrivals); wants = w })
+          (w ∙ ap (λ (z : List Wanted). z ++ Closes (BadStream fault) ∷ []) r.delivers)
+}
+
+-- the bytes that are left grow fewer
+pub less_left : (bytes : List ℕ) (old len n : ℕ) → len ≡ old → 0 < n → len + n ≤ length bytes → length bytes - (len + n) < length bytes - old
+less_left bytes old len n e s f = omega arith

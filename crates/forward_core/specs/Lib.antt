@@ -1,0 +1,6 @@
+pub mod Printed
+pub mod Demands
+pub mod Streams
+pub mod Handshakes
+pub mod Server
+pub mod Client

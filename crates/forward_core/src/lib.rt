@@ -1,0 +1,25 @@
+//! Both ends of a connection of the Forward Protocol (v1) as values: bytes go in, and bytes and demands come out.
+#![tactic(auto)]
+
+mod client;
+mod demand;
+mod fault;
+mod first;
+mod greeting;
+mod meeting;
+mod messages;
+mod outbox;
+mod replies;
+mod security;
+mod server;
+mod taken;
+
+pub use client::ClientSession;
+pub use demand::{AskedFor, Demand};
+pub use fault::{SessionError, SessionFault};
+pub use replies::Heard;
+pub use security::Security;
+pub use server::{ServerSession, Unanswered};
+
+#[cfg(test)]
+mod tests;

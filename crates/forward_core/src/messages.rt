@@ -1,0 +1,38 @@
+//! The messages of an open session.
+
+ghost use Rattle.std.specs.Prelude.{◌≤◌, length, IfOk};
+ghost use Rattle.forward_core.specs.Server.{ServerPhase, ReadsOn, outcome_of};
+
+use crate::fault::SessionFault;
+use crate::taken::{Stage, Taken};
+use event_modes::{Read, read};
+use std::alloc::{AllocError, Allocator};
+
+/// Reads the messages in the bytes, heartbeats left out, up to where none is whole or a fault stands.
+/// `sends` is what the handshake sends.
+pub fn take_messages<A: Allocator + Copy>(
+    alloc: A,
+    sends: Vec<u8, A>,
+    bytes: &[u8],
+) -> Result<Taken<A>, AllocError>
+    // Where the session stood before doesn't matter.
+    ensures reads { IfOk result (λ taken. (before : ServerPhase)
+        → ReadsOn sends.items bytes.now (outcome_of before bytes.now taken)) }
+    ensures len { IfOk result (λ taken. taken.len ≤ length bytes.now) }
+{
+    let mut taken = Taken::new(alloc, Stage::Open, sends);
+    'items: loop {
+        match read(alloc, bytes.split_at(taken.len).1)? {
+            Read::Message(message, n) => {
+                taken.deliver(alloc, message)?;
+                taken.len += n;
+            }
+            Read::Heartbeat(n) => taken.len += n,
+            Read::Need => return Ok(taken),
+            Read::Bad(fault) => {
+                taken.close(SessionFault::BadStream(fault))?;
+                return Ok(taken);
+            }
+        }
+    }
+}

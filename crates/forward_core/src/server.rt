@@ -1,0 +1,260 @@
+//! The end that listens.
+
+ghost use Rattle.std.specs.Prelude.{◌≡◌, ◌≤◌, ◌↔◌, ◌⊎◌, ◌++◌, ◌∷◌, [], length, drop, map, Some, IsSome, IfOk, IfErr, OnOk, OnErr, IsErrOf, Contains};
+ghost use Rattle.ack_receipt.specs.Reservations.{Answer};
+ghost use Rattle.forward_core.specs.Demands.{asked_for, wanted};
+ghost use Rattle.forward_core.specs.Handshakes.{IsHosted};
+ghost use Rattle.forward_core.specs.Server.{Outcome, Over, ServerReads, after, fresh, opening, outcome_of, phase_at, phase_of};
+
+use crate::demand::{AskedFor, Demand};
+use crate::fault::{SessionError, SessionFault};
+use crate::greeting::take_ping;
+use crate::messages::take_messages;
+use crate::outbox::{Outbox, drop_front};
+use crate::security::Security;
+use crate::taken::{Stage, Taken};
+use ack_receipt::Reserved;
+use auth_handshake::Server;
+use std::alloc::{AllocError, Allocator};
+use std::marker::Model;
+
+/// Where a session stands.
+#[derive(Drop)]
+enum Phase<A: Allocator> {
+    /// The HELO is out, and a PING has to come first.
+    Awaiting(Server<A>),
+    /// Messages may come.
+    Open,
+    /// A fault was met.
+    Closed,
+}
+
+impl<A: Allocator> Phase<A> {
+    fn move_to(&mut self, stage: Stage)
+        ensures { phase_of self.new ≡ phase_at (phase_of self.old) stage }
+    {
+        match stage {
+            Stage::Same => {}
+            Stage::Open => *self = Phase::Open,
+            Stage::Closed => *self = Phase::Closed,
+        }
+    }
+}
+
+/// The server's end of one connection. Contracts see where it stands, the bytes that it holds unread, those that are
+/// to be sent, what each message asked for that it demanded to be delivered, and the answers that it took.
+///
+/// It holds what came and is not whole yet: at most one item, and one piece while it is fed. What the messages asked for
+/// and their answers are kept as long as the session.
+#[derive(Drop)]
+pub struct ServerSession<A: Allocator> {
+    phase: Phase<A>,
+    held: Vec<u8, A>,
+    outgoing: Outbox<A>,
+    asked: Vec<AskedFor<A>, A>,
+    taken: Vec<Reserved<A>, A>,
+}
+
+impl<A: Allocator> Model for ServerSession<A> {
+    ghost use Rattle.std.specs.Prelude.{map};
+    ghost use Rattle.forward_core.specs.Demands.{asked_for};
+    ghost use Rattle.forward_core.specs.Server.{ServerState, phase_of};
+
+    ghost Value = { ServerState };
+
+    ghost view = { λ s. record {
+        phase = phase_of s.phase; held = s.held.items; outgoing = s.outgoing;
+        asked = map asked_for s.asked.items; taken = s.taken.items
+    } };
+}
+
+impl<A: Allocator + Copy> ServerSession<A> {
+    /// A session of a connection that was opened. With security the HELO is outgoing, and a PING has to come
+    /// before the first message; the nonce is to be new for each connection.
+    ///
+    /// The error is want of memory.
+    pub fn open(
+        alloc: A,
+        security: Option<Security<'_>>,
+        nonce: [u8; 16],
+    ) -> Result<ServerSession<A>, AllocError>
+        requires { IsHosted security }
+        ensures { IfOk result (λ session. session ≡ opening security.entry nonce) }
+    {
+        match security {
+            Some(security) => ServerSession::secured(alloc, security, nonce),
+            None => Ok(ServerSession::begin(
+                alloc,
+                Phase::Open,
+                Outbox::new(alloc),
+            )),
+        }
+    }
+
+    fn secured(
+        alloc: A,
+        security: Security<'_>,
+        nonce: [u8; 16],
+    ) -> Result<ServerSession<A>, AllocError>
+        requires { IsHosted (Some security) }
+        ensures { IfOk result (λ session. session ≡ opening (Some security.entry) nonce) }
+    {
+        let server = Server::new(alloc, security.self_hostname, security.shared_key, nonce)?;
+        let mut helo = Vec::new(alloc);
+        server.hello(&mut helo)?;
+        let mut outgoing = Outbox::new(alloc);
+        outgoing.append(&helo)?;
+        Ok(ServerSession::begin(
+            alloc,
+            Phase::Awaiting(server),
+            outgoing,
+        ))
+    }
+
+    fn begin(alloc: A, phase: Phase<A>, outgoing: Outbox<A>) -> ServerSession<A>
+        ensures { result ≡ fresh (phase_of phase) outgoing }
+    {
+        ServerSession {
+            phase,
+            held: Vec::new(alloc),
+            outgoing,
+            asked: Vec::new(alloc),
+            taken: Vec::new(alloc),
+        }
+    }
+
+    /// Takes a piece of what the client sent, and says what is to be done for it, in order.
+    ///
+    /// Each message that is whole now is to be delivered; heartbeats are passed over. Where the client's PING isn't one
+    /// or doesn't show the key (`Handshake`), and where what comes is no message (`BadStream`), the connection is to be
+    /// closed, and nothing is read any more.
+    ///
+    /// A session that met a fault refuses with `Closed`. The only other error is want of memory.
+    /// Each error leaves the session as it was.
+    pub fn feed(&mut self, piece: &[u8]) -> Result<Vec<Demand<A>, A>, SessionError>
+        // What was held unread and the piece are read together: what they come to is what the session is then.
+        ensures reads { IfOk result (λ demands. (out : Outcome)
+            × ServerReads self.old.phase (self.old.held ++ piece.now) out
+            × (self.new ≡ after self.old out) × (map wanted demands.items ≡ out.wants)) }
+        ensures closed { IsErrOf result (SessionError.Fault SessionFault.Closed) ↔ (self.old.phase ≡ Over) }
+        ensures only { IfErr result (λ e. (e ≡ SessionError.Fault SessionFault.Closed) ⊎ (e ≡ SessionError.Memory)) }
+        ensures err { OnErr result (self.new ≡ self.old) }
+    {
+        if let Phase::Closed = &self.phase {
+            return Err(SessionError::Fault(SessionFault::Closed));
+        }
+        let before = self.held.len();
+        self.held.extend_from_slice(piece)?;
+        match self.take_all() {
+            Ok(demands) => Ok(demands),
+            Err(_) => {
+                self.held.truncate(before);
+                Err(SessionError::Memory)
+            }
+        }
+    }
+
+    // Takes what is held and whole. The error is want of memory, and changes nothing.
+    fn take_all(&mut self) -> Result<Vec<Demand<A>, A>, AllocError>
+        requires { self.old.phase ≡ Over → ⊥ }
+        ensures reads { IfOk result (λ demands. (out : Outcome)
+            × ServerReads self.old.phase self.old.held out
+            × (self.new ≡ after self.old out) × (map wanted demands.items ≡ out.wants)) }
+        ensures err { OnErr result (self.new ≡ self.old) }
+    {
+        let mut taken = self.read_all()?;
+        self.asked.reserve(taken.asked.len())?;
+        self.outgoing.append(&taken.sends)?;
+        // The room is there.
+        let _ = self.asked.append(&mut taken.asked);
+        drop_front(&mut self.held, taken.len);
+        self.phase.move_to(taken.stage);
+        Ok(taken.demands)
+    }
+
+    // What the bytes that are held come to.
+    fn read_all(&self) -> Result<Taken<A>, AllocError>
+        requires { self.now.phase ≡ Over → ⊥ }
+        ensures reads { IfOk result (λ taken.
+            ServerReads self.now.phase self.now.held (outcome_of self.now.phase self.now.held taken)) }
+        ensures len { IfOk result (λ taken. taken.len ≤ length self.now.held) }
+    {
+        let alloc = *self.held.allocator();
+        match &self.phase {
+            Phase::Awaiting(server) => take_ping(alloc, server, &self.held),
+            _ => take_messages(alloc, Vec::new(alloc), &self.held),
+        }
+    }
+
+    /// Takes the answer to a message that was demanded to be delivered: its bytes are outgoing from now on.
+    ///
+    /// The error is want of memory. It changes nothing, and hands the answer back.
+    pub fn answer(&mut self, reserved: Reserved<A>) -> Result<(), Unanswered<A>>
+        requires filled { IsSome reserved.filled }
+        requires made { Contains self.old.asked reserved.asked }
+        ensures ok { OnOk result ((answer : Answer) × (reserved.filled ≡ Some answer)
+            × (self.new ≡ record self.old { outgoing = self.old.outgoing ++ answer.bytes; taken = self.old.taken ++ reserved ∷ [] })) }
+        ensures back { IfErr result (λ e. e.reserved ≡ reserved) }
+        ensures err { OnErr result (self.new ≡ self.old) }
+    {
+        if self.taken.reserve(1).is_err() {
+            return Err(Unanswered { reserved });
+        }
+        if put_answer(&mut self.outgoing, &reserved).is_err() {
+            return Err(Unanswered { reserved });
+        }
+        self.taken.push_reserved(reserved);
+        Ok(())
+    }
+
+    /// What is to be sent.
+    pub fn outgoing(&self) -> &[u8]
+        ensures { result.now ≡ self.now.outgoing }
+    {
+        self.outgoing.as_slice()
+    }
+
+    /// The first n bytes of what is outgoing were sent.
+    pub fn sent(&mut self, n: usize)
+        requires { n ≤ length self.old.outgoing }
+        ensures { self.new ≡ record self.old { outgoing = drop n self.old.outgoing } }
+    {
+        self.outgoing.sent(n);
+    }
+
+    /// What each message asked for that was demanded to be delivered, in order.
+    pub fn asked(&self) -> &[AskedFor<A>]
+        ensures { map asked_for result.now ≡ self.now.asked }
+    {
+        &self.asked
+    }
+
+    /// The answers that were taken, in order.
+    pub fn taken(&self) -> &[Reserved<A>]
+        ensures { result.now ≡ self.now.taken }
+    {
+        &self.taken
+    }
+}
+
+/// An answer for which there was no memory.
+#[derive(Drop)]
+pub struct Unanswered<A: Allocator> {
+    pub reserved: Reserved<A>,
+}
+
+// The answer is to be sent. The error is want of memory, and changes nothing.
+fn put_answer<A: Allocator>(
+    outgoing: &mut Outbox<A>,
+    reserved: &Reserved<A>,
+) -> Result<(), AllocError>
+    requires { IsSome reserved.now.filled }
+    ensures ok { OnOk result ((answer : Answer) × (reserved.now.filled ≡ Some answer)
+        × (outgoing.new ≡ outgoing.old ++ answer.bytes)) }
+    ensures err { OnErr result (outgoing.new ≡ outgoing.old) }
+{
+    match reserved.answer() {
+        Some(bytes) => outgoing.append(bytes),
+        None => Ok(()),
+    }
+}

@@ -1,0 +1,238 @@
+//! Worked connections, and what no clause says.
+
+use super::*;
+use auth_handshake::HandshakeFault;
+use event_modes::{ChunkId, Entries, Message, ModeFault};
+use msgpack_bytes::MsgFault;
+use std::alloc::Global;
+use std::test::Fail;
+
+const ZEROS: [u8; 16] = [0; 16];
+
+// Message mode, one entry, with a chunk.
+const MESSAGE: &[u8] = b"\x94\xa1\x61\x01\x80\x81\xa5chunk\xa2c1";
+
+// Forward mode without entries, with the same chunk.
+const EMPTY: &[u8] = b"\x93\xa1\x61\x90\x81\xa5chunk\xa2c1";
+
+// The tag `a`, one entry, and the chunk's name.
+const PACKED: &[u8] =
+    b"\x93\xa1\x61\xc4\x03\x92\x01\x80\x82\xa4size\x01\xa5chunk\xb8AAAAAgAAAAEAAAAAAAAAAw==";
+
+const ID: ChunkId = ChunkId {
+    relay: 2,
+    buffer: 1,
+    serial: 3,
+};
+
+fn server_side() -> Security<'static> {
+    Security {
+        self_hostname: b"s",
+        shared_key: b"c",
+    }
+}
+
+fn client_side() -> Security<'static> {
+    Security {
+        self_hostname: b"b",
+        shared_key: b"c",
+    }
+}
+
+// The message of the only demand.
+fn delivered(demands: Vec<Demand<Global>, Global>) -> Result<Message<Global>, Fail> {
+    let mut demands = demands;
+    let Some(Demand::Deliver(message)) = demands.pop() else {
+        return Err(Fail::from("a message is to be delivered"));
+    };
+    if !demands.is_empty() {
+        return Err(Fail::from("nothing else is wanted"));
+    }
+    Ok(message)
+}
+
+// The fault of the only demand.
+fn closing(demands: &[Demand<Global>]) -> Option<SessionFault> {
+    match demands {
+        [Demand::Close(fault)] => Some(*fault),
+        _ => None,
+    }
+}
+
+// Feeds a client in two pieces, of which the first has at most so many bytes.
+fn feed_twice(client: &mut ClientSession<Global>, bytes: &[u8], at: usize) -> Result<(), Fail> {
+    let (front, back) = bytes.split_at(at.min(bytes.len()));
+    for piece in [front, back] {
+        match client.feed(piece)? {
+            Heard::Wait => {}
+            Heard::Seen(evidence) => {
+                evidence.waste();
+                return Err("nothing was sent yet")?;
+            }
+            Heard::Fault(_) => return Err("the client refuses")?,
+        }
+    }
+    Ok(())
+}
+
+#[test]
+fn hands_are_shaken_wherever_an_item_is_cut(rt: HostRuntime) -> Result<(), Fail> {
+    for at in 0..160 {
+        let mut server = ServerSession::open(rt.alloc(), Some(server_side()), ZEROS)?;
+        let mut client = ClientSession::open(rt.alloc(), Some(client_side()), ZEROS)?;
+        feed_twice(&mut client, server.outgoing(), at)?;
+        let helo = server.outgoing().len();
+        server.sent(helo);
+        let ping = client.outgoing();
+        assert_eq!(rt; ping.len(), 158);
+        let (front, back) = ping.split_at(at.min(ping.len()));
+        assert!(rt; server.feed(front)?.is_empty());
+        assert!(rt; server.feed(back)?.is_empty());
+        assert_eq!(rt; server.outgoing().len(), 140);
+        feed_twice(&mut client, server.outgoing(), at)?;
+        assert!(rt; client.ready());
+    }
+    Ok(())
+}
+
+#[test]
+fn a_message_is_delivered_wherever_it_is_cut(rt: HostRuntime) -> Result<(), Fail> {
+    for at in 0..MESSAGE.len() {
+        let (front, back) = MESSAGE.split_at(at);
+        let mut session = ServerSession::open(rt.alloc(), None, ZEROS)?;
+        assert!(rt; session.feed(front)?.is_empty());
+        let message = delivered(session.feed(back)?)?;
+        assert_eq!(rt; message.entries.as_bytes(), b"\x92\x01\x80".as_slice());
+        assert_eq!(rt; session.asked().len(), 1);
+        assert_eq!(rt; session.taken().len(), 0);
+    }
+    Ok(())
+}
+
+#[test]
+fn a_message_without_entries_is_delivered(rt: HostRuntime) -> Result<(), Fail> {
+    let mut session = ServerSession::open(rt.alloc(), None, ZEROS)?;
+    let message = delivered(session.feed(EMPTY)?)?;
+    assert_eq!(rt; message.entries.count(), 0);
+    let Some(asked) = session.asked().first() else {
+        panic!(rt; "one message came");
+    };
+    assert_eq!(rt; asked.tag.as_slice(), b"a".as_slice());
+    assert_eq!(rt; asked.count, 0);
+    Ok(())
+}
+
+#[test]
+fn bad_bytes_close_a_server(rt: HostRuntime) -> Result<(), Fail> {
+    let mut session = ServerSession::open(rt.alloc(), None, ZEROS)?;
+    let demands = session.feed(b"\xc1")?;
+    let fault = ModeFault::Bytes(MsgFault::Reserved);
+    assert_eq!(rt; closing(&demands), Some(SessionFault::BadStream(fault)));
+    let again = session.feed(MESSAGE);
+    assert!(rt; matches!(&again, Err(SessionError::Fault(SessionFault::Closed))));
+    assert_eq!(rt; session.outgoing().len(), 0);
+    Ok(())
+}
+
+#[test]
+fn a_wrong_key_is_refused_by_both(rt: HostRuntime) -> Result<(), Fail> {
+    let wrong = Security {
+        self_hostname: b"b",
+        shared_key: b"d",
+    };
+    let mut server = ServerSession::open(rt.alloc(), Some(server_side()), ZEROS)?;
+    let mut client = ClientSession::open(rt.alloc(), Some(wrong), ZEROS)?;
+    let helo = server.outgoing().len();
+    assert_eq!(rt; helo, 48);
+    match client.feed(server.outgoing())? {
+        Heard::Wait => {}
+        _ => panic!(rt; "a PONG has to come"),
+    }
+    server.sent(helo);
+    let demands = server.feed(client.outgoing())?;
+    assert_eq!(rt; closing(&demands), Some(SessionFault::Handshake(HandshakeFault::WrongDigest)));
+    assert!(rt; server.outgoing().starts_with(b"\x95\xa4PONG\xc2"));
+    match client.feed(server.outgoing())? {
+        Heard::Fault(fault) => {
+            assert_eq!(rt; fault, SessionFault::Handshake(HandshakeFault::RefusedByServer));
+        }
+        _ => panic!(rt; "the client was refused"),
+    }
+    Ok(())
+}
+
+#[test]
+fn other_bytes_are_no_ping(rt: HostRuntime) -> Result<(), Fail> {
+    let bytes: [&[u8]; 3] = [MESSAGE, b"\xc1", b"\xc0"];
+    for other in bytes {
+        let mut session = ServerSession::open(rt.alloc(), Some(server_side()), ZEROS)?;
+        let demands = session.feed(other)?;
+        assert_eq!(rt; closing(&demands), Some(SessionFault::Handshake(HandshakeFault::NotPing)));
+    }
+    Ok(())
+}
+
+fn entries(alloc: Global) -> Result<Entries<Global>, Fail> {
+    Ok(Entries::read(alloc, b"\x92\x01\x80", 1)?.ok_or("no entry")?)
+}
+
+#[test]
+fn an_acknowledgement_is_seen_however_it_is_cut(rt: HostRuntime) -> Result<(), Fail> {
+    // A heartbeat and another chunk's acknowledgement come first.
+    let reply = b"\xc0\x81\xa3ack\xa2c1\x81\xa3ack\xb8AAAAAgAAAAEAAAAAAAAAAw==".as_slice();
+    for at in 0..reply.len() {
+        let (front, back) = reply.split_at(at);
+        let mut session = ClientSession::open(rt.alloc(), None, ZEROS)?;
+        assert!(rt; session.ready());
+        session.send(b"a", &entries(rt.alloc())?, ID, true)?;
+        assert!(rt; !session.ready());
+        assert_eq!(rt; session.outgoing(), PACKED);
+        match session.feed(front)? {
+            Heard::Wait => {}
+            _ => panic!(rt; "the rest has to come"),
+        }
+        match session.feed(back)? {
+            Heard::Seen(evidence) => evidence.waste(),
+            _ => panic!(rt; "it was acknowledged"),
+        }
+    }
+    Ok(())
+}
+
+#[test]
+fn bad_bytes_close_a_client(rt: HostRuntime) -> Result<(), Fail> {
+    let mut session = ClientSession::open(rt.alloc(), None, ZEROS)?;
+    session.send(b"a", &entries(rt.alloc())?, ID, true)?;
+    match session.feed(b"\xc1")? {
+        Heard::Fault(fault) => assert_eq!(rt; fault, SessionFault::BadAck),
+        _ => panic!(rt; "that is no acknowledgement"),
+    }
+    match session.feed(b"")? {
+        Heard::Fault(fault) => assert_eq!(rt; fault, SessionFault::Closed),
+        _ => panic!(rt; "it is over"),
+    }
+    Ok(())
+}
+
+#[test]
+fn what_was_not_asked_for_is_not_seen(rt: HostRuntime) -> Result<(), Fail> {
+    let mut session = ClientSession::open(rt.alloc(), None, ZEROS)?;
+    session.send(b"a", &entries(rt.alloc())?, ID, false)?;
+    match session.feed(b"\x81\xa3ack\xb8AAAAAgAAAAEAAAAAAAAAAw==")? {
+        Heard::Wait => {}
+        _ => panic!(rt; "no acknowledgement is awaited"),
+    }
+    Ok(())
+}
+
+#[test]
+fn faults_are_printed_by_their_codes(rt: HostRuntime) -> Result<(), Fail> {
+    let torn = SessionFault::BadStream(ModeFault::Bytes(MsgFault::Reserved));
+    let ping = SessionFault::Handshake(HandshakeFault::WrongDigest);
+    assert_eq!(rt; format!(in rt.alloc(); "{torn}")?.as_str(), "Q1 V9 M1");
+    assert_eq!(rt; format!(in rt.alloc(); "{ping}")?.as_str(), "Q2 H2");
+    assert_eq!(rt; format!(in rt.alloc(); "{}", SessionFault::BadAck)?.as_str(), "Q3");
+    assert_eq!(rt; format!(in rt.alloc(); "{}", SessionError::Fault(SessionFault::Closed))?.as_str(), "Q4");
+    assert_eq!(rt; format!(in rt.alloc(); "{}", SessionError::Memory)?.as_str(), "memory");
+    Ok(())
+}
