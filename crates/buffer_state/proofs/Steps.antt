@@ -614,10 +614,12 @@ newest_there slots tag s rising newest = elim (last_in (staged_in slots tag) Non
   where
     test : Slot → Bool
     test slot = is_staged slot.chunk.stage && bytes_eq tag slot.chunk.tag
+
     staged : (stage : Stage) (b : Bool) → is_staged stage && b ≡ true → (stage ≡ Staged) × (b ≡ true)
     staged Staged b e = (refl, e)
     staged Queued b e = absurd (true≢false (sym e))
     staged Claimed b e = absurd (true≢false (sym e))
+
     by : (o : Option Slot) → slot_at slots s ≡ o → option_map_or test o false ≡ true → (v : Slot) × (slot_at slots s ≡ Some v) × (v.chunk.stage ≡ Staged) × (v.chunk.tag ≡ tag)
     by None at e = absurd (true≢false (sym e))
     by (Some v) at e = (let h = staged v.chunk.stage (bytes_eq tag v.chunk.tag) e in (v, at, h.0, sym (same_tag tag v.chunk.tag h.1)))

@@ -53,7 +53,7 @@ pub front_at : (bytes : List ℕ) (n end : ℕ) → n ≤ length bytes → end �
 front_at bytes n end w e p = record {
   whole = sym (take-append-drop end (drop n bytes)) ∙ ap (λ (z : List ℕ). take end (drop n bytes) ++ z) (drop-drop end n bytes);
   some = subst (λ (k : ℕ). 0 < k) (length-take-le end (drop n bytes) e) (some_bytes (take end (drop n bytes)) p);
-  within = omega (arith, e, w, length-drop n bytes)
+  within = omega (arith, e, w, length-drop n bytes);
 }
 
 -- one more item was passed over
@@ -67,21 +67,21 @@ passing_more chunk bytes n end p f q =
       items = p.items ++ item ∷ [];
       passed = all_more (IsPassed chunk) p.items item p.passed q;
       whole = p.whole ∙ ap (λ (z : List ℕ). concat p.items ++ z) f.whole ∙ sym (append_assoc (concat p.items) item rest)
-          ∙ ap (λ (z : List ℕ). z ++ rest) (sym (concat_more p.items item))
+          ∙ ap (λ (z : List ℕ). z ++ rest) (sym (concat_more p.items item));
     }
 
 -- what is heard where nothing whole is left
 pub heard_wait : (chunk : Option ChunkId) (bytes : List ℕ) (n : ℕ) → Passing chunk bytes n → IsOpen (drop n bytes) → IsHeard chunk bytes n Waits
 heard_wait chunk bytes n p o = record {
   within = p.within;
-  hears = λ old h. record { items = p.items; rest = drop n bytes; passed = p.passed; whole = h ∙ p.whole; next = (o, refl) }
+  hears = λ old h. record { items = p.items; rest = drop n bytes; passed = p.passed; whole = h ∙ p.whole; next = (o, refl) };
 }
 
 -- what is heard where no reply stands
 pub heard_bad : (chunk : Option ChunkId) (bytes : List ℕ) (n : ℕ) → Passing chunk bytes n → IsNoReply (drop n bytes) → IsHeard chunk bytes n (Fails BadAck)
 heard_bad chunk bytes n p o = record {
   within = p.within;
-  hears = λ old h. record { items = p.items; rest = drop n bytes; passed = p.passed; whole = h ∙ p.whole; next = (refl, o, refl) }
+  hears = λ old h. record { items = p.items; rest = drop n bytes; passed = p.passed; whole = h ∙ p.whole; next = (refl, o, refl) };
 }
 
 -- what is heard where the acknowledgement stands that is awaited
@@ -89,8 +89,13 @@ pub heard_seen : (chunk : Option ChunkId) (bytes : List ℕ) (n end : ℕ) (show
     → chunk ≡ Some id → shown ≡ Acknowledged id → IsAcknowledgement (take end (drop n bytes)) (chunk_text id) → IsHeard chunk bytes (n + end) (Sees shown)
 heard_seen chunk bytes n end shown id p f k s a = record {
   within = f.within;
-  hears = λ old h. record { items = p.items; rest = drop n bytes; passed = p.passed; whole = h ∙ p.whole;
-      next = (id, take end (drop n bytes), drop (n + end) bytes, k, s, a, f.whole, refl) }
+  hears = λ old h. record {
+    items = p.items;
+    rest = drop n bytes;
+    passed = p.passed;
+    whole = h ∙ p.whole;
+    next = (id, take end (drop n bytes), drop (n + end) bytes, k, s, a, f.whole, refl);
+  };
 }
 
 -- the bytes that are left grow fewer

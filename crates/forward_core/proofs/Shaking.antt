@@ -58,15 +58,21 @@ pub helo_taken : (client inside new_client : ClientEnd) (old new : ClientState) 
     → ReadsPong new_client (record { phase = AwaitsPong new_client; held = rest; outgoing = sends }) says new → ReadsHelo client old says new
 helo_taken client inside new_client old new bytes outgoing sends rest n says i b o m r p =
     let at : MeetsHelo client old.outgoing old.held (Taken n) new_client sends =
-        subst (λ (z : ClientEnd). MeetsHelo z old.outgoing old.held (Taken n) new_client sends) i
-        (subst (λ (z : List ℕ). MeetsHelo inside z old.held (Taken n) new_client sends) o
-        (subst (λ (z : List ℕ). MeetsHelo inside outgoing z (Taken n) new_client sends) b m)) in
+    subst (λ (z : ClientEnd). MeetsHelo z old.outgoing old.held (Taken n) new_client sends) i
+    (subst (λ (z : List ℕ). MeetsHelo inside z old.held (Taken n) new_client sends) o
+    (subst (λ (z : List ℕ). MeetsHelo inside outgoing z (Taken n) new_client sends) b m)) in
     let w = at.1 in
     let state : record { phase = AwaitsPong new_client; held = rest; outgoing = sends } ≡ greeted client w.0 (drop n old.held) old =
-        rw (r, w.3, w.4, b) refl in
-    inr (inl (take n old.held, drop n old.held, w.0, w.1, w.2,
-        subst (λ (z : ClientEnd). ReadsPong z (greeted client w.0 (drop n old.held) old) says new) w.3
-        (subst (λ (z : ClientState). ReadsPong new_client z says new) state p)))
+    rw (r, w.3, w.4, b) refl in
+    inr (inl (
+      take n old.held,
+      drop n old.held,
+      w.0,
+      w.1,
+      w.2,
+      subst (λ (z : ClientEnd). ReadsPong z (greeted client w.0 (drop n old.held) old) says new) w.3
+          (subst (λ (z : ClientState). ReadsPong new_client z says new) state p),
+    ))
 
 -- a HELO that is refused
 pub helo_refused : (client inside new_client : ClientEnd) (old : ClientState) (bytes outgoing sends held : List ℕ) (fault : HandshakeFault)

@@ -27,7 +27,7 @@ lets_in server bytes item more sends sent end len phase asked wants s i m p r =
       shown = s;
       passed = subst (λ (z : List ℕ). IsAnswer server z Passed sends) i (subst (λ (z : List ℕ). IsAnswer server item Passed z) (sym p.2) p.1);
       reads = subst (λ (z : List ℕ). ReadsOn sends z (outcome phase (drop (len + end) bytes) sent asked wants)) m
-          (subst (λ (z : List ℕ). ReadsOn sends more (outcome phase z sent asked wants)) rest r)
+          (subst (λ (z : List ℕ). ReadsOn sends more (outcome phase z sent asked wants)) rest r);
     }))
 
 -- what a Vec holds to which another was appended

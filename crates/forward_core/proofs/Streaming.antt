@@ -64,7 +64,7 @@ behind bytes len n arrival l f p =
       is = p;
       whole = sym (take-append-drop n (drop len bytes)) ∙ ap (λ (z : List ℕ). t ++ z) (drop-drop n len bytes);
       some = subst (λ (z : ℕ). 0 < z) k (some_bytes t arrival p);
-      fits = omega (arith, f, l, length-drop len bytes)
+      fits = omega (arith, f, l, length-drop len bytes);
     }
 
 -- a message was read behind the others
@@ -73,16 +73,18 @@ pub reading_message : (bytes : List ℕ) (len n : ℕ) (parts : Parts) (asked ne
     → new_asked ≡ asked ++ asked_of parts ∷ [] → new_wants ≡ wants ++ Delivers parts ∷ []
     → Reading bytes (len + n) new_asked new_wants × (0 < n)
 reading_message bytes len n parts asked new_asked wants new_wants r p a w =
-    let b = behind bytes len n (Sent parts) r.at_most p.0 p.1 in
-    (record {
-      at_most = b.fits;
-      arrivals = r.arrivals ++ Sent parts ∷ [];
-      splits = splits_more bytes r.arrivals (drop len bytes) b.front (drop (len + n) bytes) (Sent parts) r.splits b.is b.whole;
-      asks = a ∙ ap (λ (z : List Asked). z ++ asked_of parts ∷ []) r.asks ∙ sym (map-append asked_of (messages_in r.arrivals) (parts ∷ []))
-          ∙ ap (map asked_of) (sym (messages_more r.arrivals parts));
-      delivers = w ∙ ap (λ (z : List Wanted). z ++ Delivers parts ∷ []) r.delivers ∙ sym (map-append Delivers (messages_in r.arrivals) (parts ∷ []))
-          ∙ ap (map Delivers) (sym (messages_more r.arrivals parts))
-    }, b.some)
+    let b = behind bytes len n (Sent parts) r.at_most p.0 p.1 in (
+      record {
+        at_most = b.fits;
+        arrivals = r.arrivals ++ Sent parts ∷ [];
+        splits = splits_more bytes r.arrivals (drop len bytes) b.front (drop (len + n) bytes) (Sent parts) r.splits b.is b.whole;
+        asks = a ∙ ap (λ (z : List Asked). z ++ asked_of parts ∷ []) r.asks ∙ sym (map-append asked_of (messages_in r.arrivals) (parts ∷ []))
+            ∙ ap (map asked_of) (sym (messages_more r.arrivals parts));
+        delivers = w ∙ ap (λ (z : List Wanted). z ++ Delivers parts ∷ []) r.delivers ∙ sym (map-append Delivers (messages_in r.arrivals) (parts ∷ []))
+            ∙ ap (map Delivers) (sym (messages_more r.arrivals parts));
+      },
+      b.some,
+    )
 
 -- the first byte is a nil
 nil_first : (bytes : List ℕ) (n : ℕ) → Answers bytes (Beats n) → (n ≤ length bytes) × IsArrival (take n bytes) Heartbeat
@@ -94,14 +96,16 @@ pub reading_beat : (bytes : List ℕ) (len n : ℕ) (asked : List Asked) (wants 
     → Reading bytes len asked wants → Answers (drop len bytes) (Beats n) → Reading bytes (len + n) asked wants × (0 < n)
 reading_beat bytes len n asked wants r p =
     let f = nil_first (drop len bytes) n p in
-    let b = behind bytes len n Heartbeat r.at_most f.0 f.1 in
-    (record {
-      at_most = b.fits;
-      arrivals = r.arrivals ++ Heartbeat ∷ [];
-      splits = splits_more bytes r.arrivals (drop len bytes) b.front (drop (len + n) bytes) Heartbeat r.splits b.is b.whole;
-      asks = r.asks ∙ ap (map asked_of) (sym (messages_beat r.arrivals));
-      delivers = r.delivers ∙ ap (map Delivers) (sym (messages_beat r.arrivals))
-    }, b.some)
+    let b = behind bytes len n Heartbeat r.at_most f.0 f.1 in (
+      record {
+        at_most = b.fits;
+        arrivals = r.arrivals ++ Heartbeat ∷ [];
+        splits = splits_more bytes r.arrivals (drop len bytes) b.front (drop (len + n) bytes) Heartbeat r.splits b.is b.whole;
+        asks = r.asks ∙ ap (map asked_of) (sym (messages_beat r.arrivals));
+        delivers = r.delivers ∙ ap (map Delivers) (sym (messages_beat r.arrivals));
+      },
+      b.some,
+    )
 
 -- what was read, where no more is whole
 pub reads_open : (sends bytes : List ℕ) (len : ℕ) (asked : List Asked) (wants : List Wanted)
@@ -114,7 +118,7 @@ reads_open sends bytes len asked wants r o = record {
   stream = record { arrivals = r.arrivals; splits = r.splits; are = refl; ends = o };
   is = ap (λ (a : List Asked). record { phase = Opened; rest = drop len bytes; sends = sends; asked = a; wants = wants }) r.asks
       ∙ ap (λ (w : List Wanted). record { phase = Opened; rest = drop len bytes; sends = sends; asked = map asked_of (messages_in r.arrivals); wants = w })
-          (r.delivers ∙ sym (append-nil (map Delivers (messages_in r.arrivals))))
+      (r.delivers ∙ sym (append-nil (map Delivers (messages_in r.arrivals))));
 }
 
 -- what was read, where a fault stands
@@ -128,7 +132,7 @@ reads_fault sends bytes len asked wants new_wants fault r p w = record {
   stream = record { arrivals = r.arrivals; splits = r.splits; are = refl; ends = p };
   is = ap (λ (a : List Asked). record { phase = Over; rest = drop len bytes; sends = sends; asked = a; wants = new_wants }) r.asks
       ∙ ap (λ (w : List Wanted). record { phase = Over; rest = drop len bytes; sends = sends; asked = map asked_of (messages_in r.arrivals); wants = w })
-          (w ∙ ap (λ (z : List Wanted). z ++ Closes (BadStream fault) ∷ []) r.delivers)
+      (w ∙ ap (λ (z : List Wanted). z ++ Closes (BadStream fault) ∷ []) r.delivers);
 }
 
 -- the bytes that are left grow fewer

@@ -48,7 +48,9 @@ abbrev pub opening : Option Security → (salt : List ℕ) → ClientState
 opening None salt = record { phase = Ready; held = []; outgoing = [] }
 opening (Some security) salt = record {
   phase = AwaitsHelo (record { host = security.self_hostname.now; key = security.shared_key.now; salt = salt; nonce = None });
-  held = []; outgoing = [] }
+  held = [];
+  outgoing = [];
+}
 
 -- what a session says: this evidence, or that more has to come, or that it is over
 pub data Said : Type 0 where
@@ -109,22 +111,25 @@ IsFailing fault old says new = (says ≡ Fails (Handshake fault)) × (new ≡ re
 abbrev pub ReadsPong : ClientEnd → ClientState → Said → ClientState → Type 0
 ReadsPong client old says new = IsWaiting old says new
     ⊎ (((item : List ℕ) × (more : List ℕ) × IsShown old.held item more × IsVerdict client item (Ok tt)
-        × Listens None (record old { phase = Ready; held = more }) says new)
+    × Listens None (record old { phase = Ready; held = more }) says new)
     ⊎ ((item : List ℕ) × (more : List ℕ) × (fault : HandshakeFault) × IsShown old.held item more × IsVerdict client item (Err fault)
-        × IsFailing fault old says new))
+    × IsFailing fault old says new))
 
 -- a session that took a HELO with this nonce: the PING is to be sent
 abbrev pub greeted : ClientEnd → List ℕ → List ℕ → ClientState → ClientState
-greeted client nonce more old = record { phase = AwaitsPong (record client { nonce = Some nonce }); held = more;
-    outgoing = old.outgoing ++ ping_bytes client.host client.salt (client_digest client nonce) }
+greeted client nonce more old = record {
+  phase = AwaitsPong (record client { nonce = Some nonce });
+  held = more;
+  outgoing = old.outgoing ++ ping_bytes client.host client.salt (client_digest client nonce);
+}
 
 -- the first item is a HELO, to which the PING is sent, and what is behind it is read as a PONG; or it is refused
 abbrev pub ReadsHelo : ClientEnd → ClientState → Said → ClientState → Type 0
 ReadsHelo client old says new = IsWaiting old says new
     ⊎ (((item : List ℕ) × (more : List ℕ) × (nonce : List ℕ) × IsShown old.held item more × IsHelo item nonce
-        × ReadsPong (record client { nonce = Some nonce }) (greeted client nonce more old) says new)
+    × ReadsPong (record client { nonce = Some nonce }) (greeted client nonce more old) says new)
     ⊎ ((item : List ℕ) × (more : List ℕ) × IsShown old.held item more × ((nonce : List ℕ) → IsHelo item nonce → ⊥)
-        × IsFailing NotHelo old says new))
+    × IsFailing NotHelo old says new))
 
 -- what a session makes of all that it holds unread
 abbrev pub ReadsAll : ClientPhase → ClientState → Said → ClientState → Type 0

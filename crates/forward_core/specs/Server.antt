@@ -51,8 +51,13 @@ pub record ReadsOn (sends bytes : List ℕ) (out : Outcome) : Type 0 where
   pub rest : List ℕ
   pub fault : Option ModeFault
   pub stream : IsStreamOf bytes messages rest fault
-  pub is : out ≡ record { phase = phase_by fault; rest = rest; sends = sends; asked = map asked_of messages;
-      wants = map Delivers messages ++ close_by fault }
+  pub is : out ≡ record {
+    phase = phase_by fault;
+    rest = rest;
+    sends = sends;
+    asked = map asked_of messages;
+    wants = map Delivers messages ++ close_by fault;
+  }
 
 -- too little has come of the first item
 pub record Waits (server : ServerEnd) (bytes : List ℕ) (out : Outcome) : Type 0 where
@@ -99,8 +104,13 @@ pub record ServerState : Type 0 where
 
 -- a session after what came of the bytes that it held
 abbrev pub after : ServerState → Outcome → ServerState
-after session out = record { phase = out.phase; held = out.rest; outgoing = session.outgoing ++ out.sends;
-    asked = session.asked ++ out.asked; taken = session.taken }
+after session out = record {
+  phase = out.phase;
+  held = out.rest;
+  outgoing = session.outgoing ++ out.sends;
+  asked = session.asked ++ out.asked;
+  taken = session.taken;
+}
 
 -- a session with nothing but what is to be sent
 abbrev pub fresh : ServerPhase → List ℕ → ServerState
@@ -126,5 +136,10 @@ phase_at before stage.Closed = Over
 
 -- what the code found, without where it lies in memory
 abbrev pub outcome_of : {A : Type 0} → ServerPhase → List ℕ → Taken A → Outcome
-outcome_of before bytes taken = record { phase = phase_at before taken.stage; rest = drop taken.len bytes; sends = taken.sends.items;
-    asked = map asked_for taken.asked.items; wants = map wanted taken.demands.items }
+outcome_of before bytes taken = record {
+  phase = phase_at before taken.stage;
+  rest = drop taken.len bytes;
+  sends = taken.sends.items;
+  asked = map asked_for taken.asked.items;
+  wants = map wanted taken.demands.items;
+}

@@ -122,8 +122,10 @@ impl<A: Allocator + Copy> ClientSession<A> {
         requires ready { self.old.phase ≡ Ready }
         requires tag { length tag.now ≤ longest_tag }
         requires entries { length (concat entries.now) < 2 ^ 32 }
-        ensures ok { OnOk result (self.new ≡ record self.old { phase = HasSent (named ask id);
-            outgoing = self.old.outgoing ++ packed_message tag.now entries.now (option_map chunk_text (named ask id)) }) }
+        ensures ok { OnOk result (self.new ≡ record self.old {
+          phase = HasSent (named ask id);
+          outgoing = self.old.outgoing ++ packed_message tag.now entries.now (option_map chunk_text (named ask id));
+        }) }
         ensures err { OnErr result (self.new ≡ self.old) }
     {
         let chunk = if ask { Some(id) } else { None };

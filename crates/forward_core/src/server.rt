@@ -63,8 +63,11 @@ impl<A: Allocator> Model for ServerSession<A> {
     ghost Value = { ServerState };
 
     ghost view = { λ s. record {
-        phase = phase_of s.phase; held = s.held.items; outgoing = s.outgoing;
-        asked = map asked_for s.asked.items; taken = s.taken.items
+      phase = phase_of s.phase;
+      held = s.held.items;
+      outgoing = s.outgoing;
+      asked = map asked_for s.asked.items;
+      taken = s.taken.items;
     } };
 }
 
@@ -83,11 +86,7 @@ impl<A: Allocator + Copy> ServerSession<A> {
     {
         match security {
             Some(security) => ServerSession::secured(alloc, security, nonce),
-            None => Ok(ServerSession::begin(
-                alloc,
-                Phase::Open,
-                Outbox::new(alloc),
-            )),
+            None => Ok(ServerSession::begin(alloc, Phase::Open, Outbox::new(alloc))),
         }
     }
 
@@ -104,11 +103,7 @@ impl<A: Allocator + Copy> ServerSession<A> {
         server.hello(&mut helo)?;
         let mut outgoing = Outbox::new(alloc);
         outgoing.append(&helo)?;
-        Ok(ServerSession::begin(
-            alloc,
-            Phase::Awaiting(server),
-            outgoing,
-        ))
+        Ok(ServerSession::begin(alloc, Phase::Awaiting(server), outgoing))
     }
 
     fn begin(alloc: A, phase: Phase<A>, outgoing: Outbox<A>) -> ServerSession<A>

@@ -150,11 +150,17 @@ fn a_wrong_key_is_refused_by_both(rt: HostRuntime) -> Result<(), Fail> {
     }
     server.sent(helo);
     let demands = server.feed(client.outgoing())?;
-    assert_eq!(rt; closing(&demands), Some(SessionFault::Handshake(HandshakeFault::WrongDigest)));
+    assert_eq!(rt;
+        closing(&demands),
+        Some(SessionFault::Handshake(HandshakeFault::WrongDigest))
+    );
     assert!(rt; server.outgoing().starts_with(b"\x95\xa4PONG\xc2"));
     match client.feed(server.outgoing())? {
         Heard::Fault(fault) => {
-            assert_eq!(rt; fault, SessionFault::Handshake(HandshakeFault::RefusedByServer));
+            assert_eq!(rt;
+                fault,
+                SessionFault::Handshake(HandshakeFault::RefusedByServer)
+            );
         }
         _ => panic!(rt; "the client was refused"),
     }
@@ -167,7 +173,10 @@ fn other_bytes_are_no_ping(rt: HostRuntime) -> Result<(), Fail> {
     for other in bytes {
         let mut session = ServerSession::open(rt.alloc(), Some(server_side()), ZEROS)?;
         let demands = session.feed(other)?;
-        assert_eq!(rt; closing(&demands), Some(SessionFault::Handshake(HandshakeFault::NotPing)));
+        assert_eq!(rt;
+            closing(&demands),
+            Some(SessionFault::Handshake(HandshakeFault::NotPing))
+        );
     }
     Ok(())
 }
@@ -231,8 +240,17 @@ fn faults_are_printed_by_their_codes(rt: HostRuntime) -> Result<(), Fail> {
     let ping = SessionFault::Handshake(HandshakeFault::WrongDigest);
     assert_eq!(rt; format!(in rt.alloc(); "{torn}")?.as_str(), "Q1 V9 M1");
     assert_eq!(rt; format!(in rt.alloc(); "{ping}")?.as_str(), "Q2 H2");
-    assert_eq!(rt; format!(in rt.alloc(); "{}", SessionFault::BadAck)?.as_str(), "Q3");
-    assert_eq!(rt; format!(in rt.alloc(); "{}", SessionError::Fault(SessionFault::Closed))?.as_str(), "Q4");
-    assert_eq!(rt; format!(in rt.alloc(); "{}", SessionError::Memory)?.as_str(), "memory");
+    assert_eq!(rt;
+        format!(in rt.alloc(); "{}", SessionFault::BadAck)?.as_str(),
+        "Q3"
+    );
+    assert_eq!(rt;
+        format!(in rt.alloc(); "{}", SessionError::Fault(SessionFault::Closed))?.as_str(),
+        "Q4"
+    );
+    assert_eq!(rt;
+        format!(in rt.alloc(); "{}", SessionError::Memory)?.as_str(),
+        "memory"
+    );
     Ok(())
 }

@@ -5,6 +5,14 @@ use Rattle.forward_core.proofs.meeting.take_helo.Goals as goal
 
 pub returns-in-Err-Fault-clause-meets : goal.returns-in-Err-Fault-clause-meets
 returns-in-Err-Fault-clause-meets g c =
-    let n = no_helo c.helo.result c.in-Err-Fault.fault ((nonce : List ℕ) → IsHelo c.split_at.result.0.now nonce → ⊥) (c.in-Err-Fault.is ∙ ap Err c.in-Err-Fault.field-0-is) c.helo.ensures.only c.helo.ensures.not_helo in
-    (n.0, (take c.in-Some.end c.args.bytes.now, drop c.in-Some.end c.args.bytes.now, c.in-Some.ensures.1,
-    subst (λ (z : List ℕ). (nonce : List ℕ) → IsHelo z nonce → ⊥) c.split_at.ensures.front n.1), c.in-Err-Fault.ensures.client, c.in-Err-Fault.ensures.err)
+    let n = no_helo c.helo.result c.in-Err-Fault.fault ((nonce : List ℕ) → IsHelo c.split_at.result.0.now nonce → ⊥) (c.in-Err-Fault.is ∙ ap Err c.in-Err-Fault.field-0-is) c.helo.ensures.only c.helo.ensures.not_helo in (
+      n.0,
+      (
+        take c.in-Some.end c.args.bytes.now,
+        drop c.in-Some.end c.args.bytes.now,
+        c.in-Some.ensures.1,
+        subst (λ (z : List ℕ). (nonce : List ℕ) → IsHelo z nonce → ⊥) c.split_at.ensures.front n.1,
+      ),
+      c.in-Err-Fault.ensures.client,
+      c.in-Err-Fault.ensures.err,
+    )

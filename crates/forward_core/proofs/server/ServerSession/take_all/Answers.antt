@@ -11,12 +11,15 @@ returns-clause-reads g c =
     let old = c.args.self.now in
     let view = c.self.view_is in
     let out = outcome_of old.phase old.held taken in
-    let all = appended c.append-2.result c.append-2.new.self.items c.reserve.new.self.items taken.asked.items (c.append-2.ensures.succeeds (omega (arith, c.in_ok-reserve.ensures.ok, c.len.ensures))) c.append-2.ensures.items in
-    (out, c.in_ok-taken.ensures.reads,
-    state_after old _ _ _ _ _ out
-        (c.move_to.ensures ∙ ap (λ (s : ServerState). phase_at s.phase taken.stage) view)
-        (c.drop_front.ensures ∙ ap (λ (s : ServerState). drop taken.len s.held) view)
-        (c.in_ok-append.ensures.ok ∙ ap (λ (z : List ℕ). c.self.inside.outgoing ++ z) c.deref.ensures.value ∙ ap (λ (s : ServerState). s.outgoing ++ taken.sends.items) view)
-        (ap (map asked_for) (all ∙ ap (λ (z : List _). z ++ taken.asked.items) c.in_ok-reserve.ensures.items)
-            ∙ map-append asked_for c.self.inside.asked.items taken.asked.items ∙ ap (λ (s : ServerState). s.asked ++ map asked_for taken.asked.items) view)
-        (ap (λ (s : ServerState). s.taken) view), refl)
+    let all = appended c.append-2.result c.append-2.new.self.items c.reserve.new.self.items taken.asked.items (c.append-2.ensures.succeeds (omega (arith, c.in_ok-reserve.ensures.ok, c.len.ensures))) c.append-2.ensures.items in (
+      out,
+      c.in_ok-taken.ensures.reads,
+      state_after old _ _ _ _ _ out
+          (c.move_to.ensures ∙ ap (λ (s : ServerState). phase_at s.phase taken.stage) view)
+          (c.drop_front.ensures ∙ ap (λ (s : ServerState). drop taken.len s.held) view)
+          (c.in_ok-append.ensures.ok ∙ ap (λ (z : List ℕ). c.self.inside.outgoing ++ z) c.deref.ensures.value ∙ ap (λ (s : ServerState). s.outgoing ++ taken.sends.items) view)
+          (ap (map asked_for) (all ∙ ap (λ (z : List _). z ++ taken.asked.items) c.in_ok-reserve.ensures.items)
+          ∙ map-append asked_for c.self.inside.asked.items taken.asked.items ∙ ap (λ (s : ServerState). s.asked ++ map asked_for taken.asked.items) view)
+          (ap (λ (s : ServerState). s.taken) view),
+      refl,
+    )
