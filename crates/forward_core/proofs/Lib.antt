@@ -1,4 +1,5 @@
 pub mod Streaming
 pub mod Stepping
+pub mod Asking
 pub mod Replying
 pub mod Shaking

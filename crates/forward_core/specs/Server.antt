@@ -1,5 +1,5 @@
 -- The end of a connection that listens (Forward Protocol Specification v1, "Connection Phases").
-use Rattle.std.specs.Prelude.{ℕ, ◌≡◌, ◌⊎◌, List, [], ◌∷◌, ◌++◌, length, map, drop, Option, Some, None}
+use Rattle.std.specs.Prelude.{ℕ, ◌≡◌, ◌⊎◌, List, [], ◌∷◌, ◌++◌, length, map, drop, Option, Some, None, Contains}
 use Rattle.msgpack_bytes.specs.Item.{IsOpen}
 use Rattle.ack_receipt.specs.Reservations.{Asked, asked_of, Reservation}
 use Rattle.auth_handshake.specs.declared.answers.HandshakeFault.{HandshakeFault}
@@ -127,6 +127,11 @@ abbrev pub phase_of : {A : Type 0} → Phase A → ServerPhase
 phase_of (phase.Awaiting server) = Awaiting server
 phase_of phase.Open = Opened
 phase_of phase.Closed = Over
+
+-- a message that is to be delivered stands among those that asked
+abbrev pub IsAskedIn : List Asked → Wanted → Type 0
+IsAskedIn asked (Delivers parts) = Contains asked (asked_of parts)
+IsAskedIn asked (Closes fault) = Unit {0}
 
 -- where a session stands after a step of its code
 abbrev pub phase_at : ServerPhase → Stage → ServerPhase

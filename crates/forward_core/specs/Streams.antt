@@ -12,7 +12,7 @@ messages_in [] = []
 messages_in (Sent parts ∷ more) = parts ∷ messages_in more
 messages_in (Heartbeat ∷ more) = messages_in more
 
--- where messages end so far: with no bytes or with the beginning of an item, or else with this fault
+-- where the messages end: with no bytes or the beginning of an item, or else with this fault
 abbrev pub EndsSo : List ℕ → Option ModeFault → Type 0
 EndsSo rest None = IsOpen rest
 EndsSo rest (Some fault) = StreamFault rest fault

@@ -1,10 +1,10 @@
 //! The end that listens.
 
-ghost use Rattle.std.specs.Prelude.{◌≡◌, ◌≤◌, ◌↔◌, ◌⊎◌, ◌++◌, ◌∷◌, [], length, drop, map, Some, IsSome, IfOk, IfErr, OnOk, OnErr, IsErrOf, Contains};
+ghost use Rattle.std.specs.Prelude.{◌≡◌, ◌≤◌, ◌↔◌, ◌⊎◌, ◌++◌, ◌∷◌, [], length, drop, map, Some, IsSome, IfOk, IfErr, OnOk, OnErr, IsErrOf, All, Contains};
 ghost use Rattle.ack_receipt.specs.Reservations.{Answer};
 ghost use Rattle.forward_core.specs.Demands.{asked_for, wanted};
 ghost use Rattle.forward_core.specs.Handshakes.{IsHosted};
-ghost use Rattle.forward_core.specs.Server.{Outcome, Over, ServerReads, after, fresh, opening, outcome_of, phase_at, phase_of};
+ghost use Rattle.forward_core.specs.Server.{IsAskedIn, Outcome, Over, ServerReads, after, fresh, opening, outcome_of, phase_at, phase_of};
 
 use crate::demand::{AskedFor, Demand};
 use crate::fault::{SessionError, SessionFault};
@@ -131,6 +131,8 @@ impl<A: Allocator + Copy> ServerSession<A> {
         ensures reads { IfOk result (λ demands. (out : Outcome)
             × ServerReads self.old.phase (self.old.held ++ piece.now) out
             × (self.new ≡ after self.old out) × (map wanted demands.items ≡ out.wants)) }
+        // So each message can be answered.
+        ensures asked { IfOk result (λ demands. All (λ demand. IsAskedIn self.new.asked (wanted demand)) demands.items) }
         ensures closed { IsErrOf result (SessionError.Fault SessionFault.Closed) ↔ (self.old.phase ≡ Over) }
         ensures only { IfErr result (λ e. (e ≡ SessionError.Fault SessionFault.Closed) ⊎ (e ≡ SessionError.Memory)) }
         ensures err { OnErr result (self.new ≡ self.old) }
@@ -155,6 +157,7 @@ impl<A: Allocator + Copy> ServerSession<A> {
         ensures reads { IfOk result (λ demands. (out : Outcome)
             × ServerReads self.old.phase self.old.held out
             × (self.new ≡ after self.old out) × (map wanted demands.items ≡ out.wants)) }
+        ensures asked { IfOk result (λ demands. All (λ demand. IsAskedIn self.new.asked (wanted demand)) demands.items) }
         ensures err { OnErr result (self.new ≡ self.old) }
     {
         let mut taken = self.read_all()?;

@@ -1,6 +1,11 @@
 //! Worked connections, and what no clause says.
 
+ghost use Rattle.std.specs.Prelude.{◌≡◌, length, IfOk, IsSome};
+ghost use Rattle.ack_receipt.specs.Reservations.{asked_of};
+ghost use Rattle.event_modes.specs.Reading.{meaning};
+
 use super::*;
+use ack_receipt::{Delivery, Numbers, Reserved};
 use auth_handshake::HandshakeFault;
 use event_modes::{ChunkId, Entries, Message, ModeFault};
 use msgpack_bytes::MsgFault;
@@ -15,6 +20,8 @@ const MESSAGE: &[u8] = b"\x94\xa1\x61\x01\x80\x81\xa5chunk\xa2c1";
 // Forward mode without entries, with the same chunk.
 const EMPTY: &[u8] = b"\x93\xa1\x61\x90\x81\xa5chunk\xa2c1";
 
+const ANSWER: &[u8] = b"\x81\xa3ack\xa2c1";
+
 // The tag `a`, one entry, and the chunk's name.
 const PACKED: &[u8] =
     b"\x93\xa1\x61\xc4\x03\x92\x01\x80\x82\xa4size\x01\xa5chunk\xb8AAAAAgAAAAEAAAAAAAAAAw==";
@@ -25,17 +32,21 @@ const ID: ChunkId = ChunkId {
     serial: 3,
 };
 
-fn server_side() -> Security<'static> {
+fn server_side() -> Security<'static>
+    ensures { length result.self_hostname.now ≡ 1 }
+{
     Security {
         self_hostname: b"s",
         shared_key: b"c",
     }
 }
 
-fn client_side() -> Security<'static> {
+fn client_side(key: &'static [u8]) -> Security<'static>
+    ensures { length result.self_hostname.now ≡ 1 }
+{
     Security {
         self_hostname: b"b",
-        shared_key: b"c",
+        shared_key: key,
     }
 }
 
@@ -79,7 +90,7 @@ fn feed_twice(client: &mut ClientSession<Global>, bytes: &[u8], at: usize) -> Re
 fn hands_are_shaken_wherever_an_item_is_cut(rt: HostRuntime) -> Result<(), Fail> {
     for at in 0..160 {
         let mut server = ServerSession::open(rt.alloc(), Some(server_side()), ZEROS)?;
-        let mut client = ClientSession::open(rt.alloc(), Some(client_side()), ZEROS)?;
+        let mut client = ClientSession::open(rt.alloc(), Some(client_side(b"c")), ZEROS)?;
         feed_twice(&mut client, server.outgoing(), at)?;
         let helo = server.outgoing().len();
         server.sent(helo);
@@ -109,16 +120,49 @@ fn a_message_is_delivered_wherever_it_is_cut(rt: HostRuntime) -> Result<(), Fail
     Ok(())
 }
 
-#[test]
-fn a_message_without_entries_is_delivered(rt: HostRuntime) -> Result<(), Fail> {
-    let mut session = ServerSession::open(rt.alloc(), None, ZEROS)?;
-    let message = delivered(session.feed(EMPTY)?)?;
-    assert_eq!(rt; message.entries.count(), 0);
-    let Some(asked) = session.asked().first() else {
-        panic!(rt; "one message came");
+// The answer to a message that goes to no buffer.
+fn answer_to(alloc: Global, message: Message<Global>) -> Result<Reserved<Global>, Fail>
+    ensures filled { IfOk result (λ reserved. IsSome reserved.filled) }
+    ensures made { IfOk result (λ reserved. reserved.asked ≡ asked_of (meaning message)) }
+{
+    let mut reserved = Reserved::for_message(alloc, &message)?;
+    let number = Numbers::new().draw().ok_or("no number")?;
+    let Ok(delivery) = Delivery::begin(alloc, number, message, Vec::new(alloc)) else {
+        return Err("no memory")?;
     };
-    assert_eq!(rt; asked.tag.as_slice(), b"a".as_slice());
-    assert_eq!(rt; asked.count, 0);
+    match delivery.acknowledge(&mut reserved) {
+        Ok(_) => Ok(reserved),
+        Err((_, delivery)) => {
+            delivery.abandon();
+            Err("a receipt is missing")?
+        }
+    }
+}
+
+// Feeds a piece with one message, and answers it.
+fn answer_first(
+    alloc: Global,
+    session: &mut ServerSession<Global>,
+    piece: &[u8],
+) -> Result<(), Fail> {
+    let mut demands = session.feed(piece)?;
+    let Some(Demand::Deliver(message)) = demands.pop() else {
+        return Err("a message is to be delivered")?;
+    };
+    let reserved = answer_to(alloc, message)?;
+    match session.answer(reserved) {
+        Ok(()) => Ok(()),
+        Err(_) => Err("no memory")?,
+    }
+}
+
+#[test]
+fn a_message_without_entries_is_answered(rt: HostRuntime) -> Result<(), Fail> {
+    let mut session = ServerSession::open(rt.alloc(), None, ZEROS)?;
+    answer_first(rt.alloc(), &mut session, EMPTY)?;
+    assert_eq!(rt; session.outgoing(), ANSWER);
+    assert_eq!(rt; session.asked().len(), 1);
+    assert_eq!(rt; session.taken().len(), 1);
     Ok(())
 }
 
@@ -136,12 +180,8 @@ fn bad_bytes_close_a_server(rt: HostRuntime) -> Result<(), Fail> {
 
 #[test]
 fn a_wrong_key_is_refused_by_both(rt: HostRuntime) -> Result<(), Fail> {
-    let wrong = Security {
-        self_hostname: b"b",
-        shared_key: b"d",
-    };
     let mut server = ServerSession::open(rt.alloc(), Some(server_side()), ZEROS)?;
-    let mut client = ClientSession::open(rt.alloc(), Some(wrong), ZEROS)?;
+    let mut client = ClientSession::open(rt.alloc(), Some(client_side(b"d")), ZEROS)?;
     let helo = server.outgoing().len();
     assert_eq!(rt; helo, 48);
     match client.feed(server.outgoing())? {
@@ -181,8 +221,16 @@ fn other_bytes_are_no_ping(rt: HostRuntime) -> Result<(), Fail> {
     Ok(())
 }
 
-fn entries(alloc: Global) -> Result<Entries<Global>, Fail> {
-    Ok(Entries::read(alloc, b"\x92\x01\x80", 1)?.ok_or("no entry")?)
+// Sends the message with one entry.
+fn send_one(alloc: Global, session: &mut ClientSession<Global>, ask: bool) -> Result<(), Fail> {
+    let Some(entries) = Entries::read(alloc, b"\x92\x01\x80", 1)? else {
+        return Err("no entry")?;
+    };
+    if !session.ready() || entries.as_bytes().len() > 3 {
+        return Err("it isn't ready")?;
+    }
+    session.send(b"a", &entries, ID, ask)?;
+    Ok(())
 }
 
 #[test]
@@ -193,7 +241,7 @@ fn an_acknowledgement_is_seen_however_it_is_cut(rt: HostRuntime) -> Result<(), F
         let (front, back) = reply.split_at(at);
         let mut session = ClientSession::open(rt.alloc(), None, ZEROS)?;
         assert!(rt; session.ready());
-        session.send(b"a", &entries(rt.alloc())?, ID, true)?;
+        send_one(rt.alloc(), &mut session, true)?;
         assert!(rt; !session.ready());
         assert_eq!(rt; session.outgoing(), PACKED);
         match session.feed(front)? {
@@ -211,7 +259,7 @@ fn an_acknowledgement_is_seen_however_it_is_cut(rt: HostRuntime) -> Result<(), F
 #[test]
 fn bad_bytes_close_a_client(rt: HostRuntime) -> Result<(), Fail> {
     let mut session = ClientSession::open(rt.alloc(), None, ZEROS)?;
-    session.send(b"a", &entries(rt.alloc())?, ID, true)?;
+    send_one(rt.alloc(), &mut session, true)?;
     match session.feed(b"\xc1")? {
         Heard::Fault(fault) => assert_eq!(rt; fault, SessionFault::BadAck),
         _ => panic!(rt; "that is no acknowledgement"),
@@ -226,7 +274,7 @@ fn bad_bytes_close_a_client(rt: HostRuntime) -> Result<(), Fail> {
 #[test]
 fn what_was_not_asked_for_is_not_seen(rt: HostRuntime) -> Result<(), Fail> {
     let mut session = ClientSession::open(rt.alloc(), None, ZEROS)?;
-    session.send(b"a", &entries(rt.alloc())?, ID, false)?;
+    send_one(rt.alloc(), &mut session, false)?;
     match session.feed(b"\x81\xa3ack\xb8AAAAAgAAAAEAAAAAAAAAAw==")? {
         Heard::Wait => {}
         _ => panic!(rt; "no acknowledgement is awaited"),
