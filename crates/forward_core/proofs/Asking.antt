@@ -1,12 +1,12 @@
 -- Each message that is to be delivered is among those that asked.
-use Rattle.std.proofs.Common.{ℕ, ◌≡◌, ◌⊎◌, inl, inr, List, [], ◌∷◌, ◌++◌, map, refl, sym, subst, arith, append_assoc, Option, Some, None}
+use Rattle.std.proofs.Common.{ℕ, inl, inr, List, [], ◌∷◌, ◌++◌, map, refl, sym, subst, arith, append_assoc, Option, Some, None}
 use Rattle.std.specs.List.{All, AllByRecursion}
 use Rattle.std.proofs.lemmas.List.Elements.{All-from_recursion, Contains-append_right}
 use Rattle.event_modes.specs.declared.fault.ModeFault.{ModeFault}
 use Rattle.event_modes.specs.Message.{Parts}
 use Rattle.ack_receipt.specs.Reservations.{Asked, asked_of}
 use Rattle.forward_core.specs.declared.demand.Demand.{Demand}
-use Rattle.forward_core.specs.Demands.{Wanted, Delivers, wanted}
+use Rattle.forward_core.specs.Demands.{Delivers, wanted}
 use Rattle.forward_core.specs.Server.{ServerPhase, Awaiting, Opened, Over, Outcome, ReadsOn, ServerReads, IsAskedIn, close_by}
 
 asks_each : (before : List Asked) (messages : List Parts) (fault : Option ModeFault)

@@ -1,12 +1,10 @@
 -- Listening to the replies of a server, one item after another.
-use Rattle.std.proofs.Common.{ℕ, ◌≡◌, ◌+◌, ◌-◌, ◌<◌, ◌≤◌, ◌⊎◌, List, [], ◌∷◌, ◌++◌, length, take, drop, refl, ap, sym, ◌∙◌, subst, inl, inr, arith, append_assoc, Option, Some, None}
+use Rattle.std.proofs.Common.{ℕ, ◌≡◌, ◌+◌, ◌-◌, ◌<◌, ◌≤◌, List, [], ◌∷◌, ◌++◌, length, take, drop, refl, ap, sym, ◌∙◌, subst, inr, arith, append_assoc, Option, Some}
 use Rattle.std.specs.List.{AllByRecursion, concat}
 use Rattle.std.proofs.lemmas.List.{take-append-drop, drop-drop, length-drop, length-take-le, append-nil}
-use Rattle.msgpack_bytes.specs.declared.answers.MsgFault.{MsgFault}
 use Rattle.msgpack_bytes.specs.declared.answers.Scan.TheVariants.{End}
 use Rattle.msgpack_bytes.specs.Answers.{IsScanned}
 use Rattle.msgpack_bytes.specs.Item.{IsTextItem, IsOpen}
-use Rattle.msgpack_bytes.specs.Fault.{IsFaulty}
 use Rattle.event_modes.specs.declared.chunk_id.ChunkId.{ChunkId}
 use Rattle.event_modes.specs.ChunkIds.{chunk_text}
 use Rattle.event_modes.specs.Acknowledgement.{IsAcknowledgement}
@@ -19,7 +17,7 @@ use Rattle.std.specs.Prelude.{slice_range}
 use Rattle.ack_receipt.specs.declared.evidence.Shown.{Shown}
 use Rattle.ack_receipt.specs.declared.evidence.Shown.TheVariants.{Acknowledged}
 use Rattle.forward_core.specs.declared.fault.SessionFault.TheVariants.{BadAck}
-use Rattle.forward_core.specs.Client.{ClientState, Ended, Sees, Waits, Fails, IsPassed, IsOther, IsNoReply, Listens, IsHeard}
+use Rattle.forward_core.specs.Client.{Sees, Waits, Fails, IsPassed, IsOther, IsNoReply, IsHeard}
 
 -- the first n bytes are items that were passed over
 pub record Passing (chunk : Option ChunkId) (bytes : List ℕ) (n : ℕ) : Type 0 where

@@ -1,11 +1,10 @@
 -- A client's handshake, and what it hears then.
-use Rattle.std.proofs.Common.{ℕ, ◌≡◌, ◌≤◌, ◌⊎◌, ◌↔◌, List, [], ◌++◌, length, take, drop, refl, ap, sym, ◌∙◌, subst, inl, inr, Option, Some, Bool, true, false, Result, Err, IfErr, IsErrOf}
+use Rattle.std.proofs.Common.{ℕ, ◌≡◌, ◌⊎◌, ◌↔◌, List, take, drop, refl, ap, sym, ◌∙◌, subst, inl, inr, Option, Bool, true, false, Result, Err, IfErr, IsErrOf}
 use Rattle.std.proofs.lemmas.Result.{IfErr-at_err}
 use Rattle.auth_handshake.specs.declared.answers.HandshakeFault.{HandshakeFault}
 use Rattle.auth_handshake.specs.declared.answers.HandshakeFault.TheVariants.{NotHelo}
 use Rattle.auth_handshake.specs.declared.answers.HeloError.{HeloError}
 use Rattle.auth_handshake.specs.declared.answers.HeloError.TheVariants.{Memory, Fault}
-use Rattle.auth_handshake.specs.Messages.{IsHelo}
 use Rattle.auth_handshake.specs.Ends.{ClientEnd}
 use Rattle.event_modes.specs.declared.chunk_id.ChunkId.{ChunkId}
 use Rattle.forward_core.specs.declared.fault.SessionFault.TheVariants.{Handshake}

@@ -1,6 +1,6 @@
 -- A step of a server's session.
-use Rattle.std.proofs.Common.{ℕ, ◌≡◌, ◌+◌, List, [], ◌++◌, take, drop, map, refl, ap, sym, ◌∙◌, subst, inl, inr, arith, Result, Ok, Err, IsOk, is_ok, if◌then◌else◌, add_comm}
-use Rattle.std.proofs.lemmas.List.{drop-drop, map-append}
+use Rattle.std.proofs.Common.{ℕ, ◌≡◌, ◌+◌, List, ◌++◌, take, drop, ap, sym, ◌∙◌, subst, inl, inr, Result, Ok, Err, IsOk, is_ok, if◌then◌else◌, add_comm}
+use Rattle.std.proofs.lemmas.List.{drop-drop}
 use Rattle.auth_handshake.specs.declared.answers.Ping.TheVariants.{Passed}
 use Rattle.auth_handshake.specs.Ends.{ServerEnd, IsAnswer}
 use Rattle.ack_receipt.specs.Reservations.{Asked, Reservation}

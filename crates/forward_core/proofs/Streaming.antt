@@ -1,5 +1,5 @@
 -- Reading the messages of a stream, one arrival after another.
-use Rattle.std.proofs.Common.{ℕ, ◌≡◌, ◌+◌, ◌-◌, ◌<◌, ◌≤◌, List, [], ◌∷◌, ◌++◌, length, take, drop, map, refl, ap, sym, ◌∙◌, subst, arith, append_assoc, Option, Some, None}
+use Rattle.std.proofs.Common.{ℕ, ◌≡◌, ◌+◌, ◌-◌, ◌<◌, ◌≤◌, List, [], ◌∷◌, ◌++◌, length, take, drop, map, refl, ap, sym, ◌∙◌, subst, arith, Some, None}
 use Rattle.std.proofs.lemmas.List.{take-append-drop, drop-drop, length-drop, length-take-le, map-append, append-nil}
 use Rattle.msgpack_bytes.specs.Item.{IsOpen}
 use Rattle.event_modes.specs.declared.fault.ModeFault.{ModeFault}
@@ -12,8 +12,8 @@ use Rattle.event_modes.proofs.One.{arrival_text}
 use Rattle.ack_receipt.specs.Reservations.{Asked, asked_of}
 use Rattle.forward_core.specs.declared.fault.SessionFault.TheVariants.{BadStream}
 use Rattle.forward_core.specs.Demands.{Wanted, Delivers, Closes}
-use Rattle.forward_core.specs.Streams.{messages_in, EndsSo, IsStreamOf}
-use Rattle.forward_core.specs.Server.{Opened, Over, Outcome, phase_by, close_by, ReadsOn}
+use Rattle.forward_core.specs.Streams.{messages_in}
+use Rattle.forward_core.specs.Server.{Opened, Over, ReadsOn}
 
 -- the first `len` bytes were read as messages that ask for this and are wanted to be delivered
 pub record Reading (bytes : List ℕ) (len : ℕ) (asked : List Asked) (wants : List Wanted) : Type 0 where

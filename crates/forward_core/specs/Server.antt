@@ -1,5 +1,5 @@
 -- The end of a connection that listens (Forward Protocol Specification v1, "Connection Phases").
-use Rattle.std.specs.Prelude.{ℕ, ◌≡◌, ◌⊎◌, List, [], ◌∷◌, ◌++◌, length, map, drop, Option, Some, None, Contains}
+use Rattle.std.specs.Prelude.{ℕ, ◌≡◌, ◌⊎◌, List, [], ◌∷◌, ◌++◌, map, drop, Option, Some, None, Contains}
 use Rattle.msgpack_bytes.specs.Item.{IsOpen}
 use Rattle.ack_receipt.specs.Reservations.{Asked, asked_of, Reservation}
 use Rattle.auth_handshake.specs.declared.answers.HandshakeFault.{HandshakeFault}

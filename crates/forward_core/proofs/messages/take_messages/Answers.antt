@@ -1,8 +1,7 @@
-use Rattle.std.proofs.Common.{ℕ, ◌≡◌, ◌+◌, List, drop, subst, refl}
+use Rattle.std.proofs.Common.{ℕ, ◌≡◌, List, subst}
 use Rattle.event_modes.specs.declared.message.Read.{Read}
-use Rattle.event_modes.specs.declared.message.Read.TheVariants as read
 use Rattle.event_modes.specs.Reading.{meaning, answer_of, Answers}
-use Rattle.forward_core.proofs.Streaming.{Reading, reading_message, reading_beat, reads_open, reads_fault, less_left}
+use Rattle.forward_core.proofs.Streaming.{reading_message, reading_beat, reads_open, reads_fault, less_left}
 use Rattle.forward_core.proofs.messages.take_messages.Goals as goal
 
 -- what was read of the bytes that are left

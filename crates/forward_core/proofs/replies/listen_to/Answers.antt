@@ -1,5 +1,3 @@
-use Rattle.std.proofs.Common.{ℕ, List, subst}
-use Rattle.forward_core.specs.Client.{IsPassed, IsOther}
 use Rattle.forward_core.proofs.Replying.{front_scanned, passing_more, heard_bad, other_item}
 use Rattle.forward_core.proofs.replies.listen_to.Goals as goal
 

@@ -1,4 +1,4 @@
-use Rattle.std.proofs.Common.{ap, sym, ◌∙◌}
+use Rattle.std.proofs.Common.{ap, ◌∙◌}
 use Rattle.forward_core.specs.Client.{ClientState}
 use Rattle.forward_core.proofs.Shaking.{pong_client, pong_refused}
 use Rattle.forward_core.proofs.client.ClientSession.hear_pong.Goals as goal
