@@ -6,22 +6,23 @@ use Rattle.event_modes.specs.declared.fault.ModeFault.{ModeFault}
 use Rattle.event_modes.specs.Message.{Parts}
 use Rattle.ack_receipt.specs.Reservations.{Asked, asked_of}
 use Rattle.forward_core.specs.declared.demand.Demand.{Demand}
-use Rattle.forward_core.specs.Demands.{Delivers, wanted}
+use Rattle.forward_core.specs.Demands.{Delivers, asked_in, wanted}
 use Rattle.forward_core.specs.Server.{ServerPhase, Awaiting, Opened, Over, Outcome, ReadsOn, ServerReads, IsAskedIn, close_by}
 
 asks_each : (before : List Asked) (messages : List Parts) (fault : Option ModeFault)
-    → AllByRecursion (IsAskedIn (before ++ map asked_of messages)) (map Delivers messages ++ close_by fault)
+    → AllByRecursion (IsAskedIn (before ++ asked_in (map Delivers messages ++ close_by fault))) (map Delivers messages ++ close_by fault)
 asks_each before [] None = tt
 asks_each before [] (Some f) = (tt, tt)
-asks_each before (m ∷ messages) fault = (
-  Contains-append_right before (asked_of m ∷ map asked_of messages) (asked_of m) (0, omega arith, refl),
-  subst (λ (z : List Asked). AllByRecursion (IsAskedIn z) (map Delivers messages ++ close_by fault))
-      (append_assoc before (asked_of m ∷ []) (map asked_of messages)) (asks_each (before ++ asked_of m ∷ []) messages fault),
-)
+asks_each before (m ∷ messages) fault =
+    let others = map Delivers messages ++ close_by fault in (
+      Contains-append_right before (asked_of m ∷ asked_in others) (asked_of m) (0, omega arith, refl),
+      subst (λ (z : List Asked). AllByRecursion (IsAskedIn z) others)
+          (append_assoc before (asked_of m ∷ []) (asked_in others)) (asks_each (before ++ asked_of m ∷ []) messages fault),
+    )
 
 -- what comes of bytes asks for each message that is to be delivered
 abbrev pub AsksEach : List Asked → Outcome → Type 0
-AsksEach before out = AllByRecursion (IsAskedIn (before ++ out.asked)) out.wants
+AsksEach before out = AllByRecursion (IsAskedIn (before ++ asked_in out.wants)) out.wants
 
 asks_on : (before : List Asked) (sends bytes : List ℕ) (out : Outcome) → ReadsOn sends bytes out → AsksEach before out
 asks_on before sends bytes out r = subst (AsksEach before) (sym r.is) (asks_each before r.messages r.fault)

@@ -4,21 +4,21 @@ use Rattle.std.proofs.lemmas.List.{drop-drop}
 use Rattle.auth_handshake.specs.declared.answers.Ping.TheVariants.{Passed}
 use Rattle.auth_handshake.specs.Ends.{ServerEnd, IsAnswer}
 use Rattle.ack_receipt.specs.Reservations.{Asked, Reservation}
-use Rattle.forward_core.specs.Demands.{Wanted}
+use Rattle.forward_core.specs.Demands.{Wanted, asked_in}
 use Rattle.forward_core.specs.Handshakes.{IsShown}
 use Rattle.forward_core.specs.Server.{ServerPhase, Outcome, ServerState, ReadsOn, Greets, after}
 
 -- what bytes behind the first item come to
-abbrev pub outcome : ServerPhase → List ℕ → List ℕ → List Asked → List Wanted → Outcome
-outcome phase rest sends asked wants = record { phase = phase; rest = rest; sends = sends; asked = asked; wants = wants }
+abbrev pub outcome : ServerPhase → List ℕ → List ℕ → List Wanted → Outcome
+outcome phase rest sends wants = record { phase = phase; rest = rest; sends = sends; wants = wants }
 
 -- a PING that passed was answered, and what is behind it was read
-pub lets_in : (server : ServerEnd) (bytes item more sends sent : List ℕ) (end len : ℕ) (phase : ServerPhase) (asked : List Asked) (wants : List Wanted)
+pub lets_in : (server : ServerEnd) (bytes item more sends sent : List ℕ) (end len : ℕ) (phase : ServerPhase) (wants : List Wanted)
     → IsShown bytes (take end bytes) (drop end bytes) → item ≡ take end bytes → more ≡ drop end bytes
     → ((pong : List ℕ) × IsAnswer server item Passed pong × (sends ≡ pong))
-    → ReadsOn sends more (outcome phase (drop len more) sent asked wants)
-    → Greets server bytes (outcome phase (drop (len + end) bytes) sent asked wants)
-lets_in server bytes item more sends sent end len phase asked wants s i m p r =
+    → ReadsOn sends more (outcome phase (drop len more) sent wants)
+    → Greets server bytes (outcome phase (drop (len + end) bytes) sent wants)
+lets_in server bytes item more sends sent end len phase wants s i m p r =
     let rest : drop len more ≡ drop (len + end) bytes = ap (drop len) m ∙ drop-drop len end bytes ∙ ap (λ (k : ℕ). drop k bytes) (add_comm end len) in
     inr (inl (record {
       item = take end bytes;
@@ -26,17 +26,12 @@ lets_in server bytes item more sends sent end len phase asked wants s i m p r =
       pong = sends;
       shown = s;
       passed = subst (λ (z : List ℕ). IsAnswer server z Passed sends) i (subst (λ (z : List ℕ). IsAnswer server item Passed z) (sym p.2) p.1);
-      reads = subst (λ (z : List ℕ). ReadsOn sends z (outcome phase (drop (len + end) bytes) sent asked wants)) m
-          (subst (λ (z : List ℕ). ReadsOn sends more (outcome phase z sent asked wants)) rest r);
+      reads = subst (λ (z : List ℕ). ReadsOn sends z (outcome phase (drop (len + end) bytes) sent wants)) m
+          (subst (λ (z : List ℕ). ReadsOn sends more (outcome phase z sent wants)) rest r);
     }))
-
--- what a Vec holds to which another was appended
-pub appended : {T E X : Type 0} (r : Result T E) (new a b : List X) → IsOk r → new ≡ (if is_ok r then a ++ b else a) → new ≡ a ++ b
-appended (Ok x) new a b o e = e
-appended (Err x) new a b o e = cc
 
 -- the session after what was read, part by part
 pub state_after : (old : ServerState) (phase : ServerPhase) (held outgoing : List ℕ) (asked : List Asked) (taken : List Reservation) (out : Outcome)
-    → phase ≡ out.phase → held ≡ out.rest → outgoing ≡ old.outgoing ++ out.sends → asked ≡ old.asked ++ out.asked → taken ≡ old.taken
+    → phase ≡ out.phase → held ≡ out.rest → outgoing ≡ old.outgoing ++ out.sends → asked ≡ old.asked ++ asked_in out.wants → taken ≡ old.taken
     → record { phase = phase; held = held; outgoing = outgoing; asked = asked; taken = taken } ≡ after old out
 state_after old phase held outgoing asked taken out p h o a t = rw (p, h, o, a, t)

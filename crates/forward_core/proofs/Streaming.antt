@@ -15,16 +15,15 @@ use Rattle.forward_core.specs.Demands.{Wanted, Delivers, Closes}
 use Rattle.forward_core.specs.Streams.{messages_in}
 use Rattle.forward_core.specs.Server.{Opened, Over, ReadsOn}
 
--- the first `len` bytes were read as messages that ask for this and are wanted to be delivered
-pub record Reading (bytes : List ℕ) (len : ℕ) (asked : List Asked) (wants : List Wanted) : Type 0 where
+-- the first `len` bytes were read as messages that are wanted to be delivered
+pub record Reading (bytes : List ℕ) (len : ℕ) (wants : List Wanted) : Type 0 where
   pub at_most : len ≤ length bytes
   pub arrivals : List Arrival
   pub splits : Splits bytes arrivals (drop len bytes)
-  pub asks : asked ≡ map asked_of (messages_in arrivals)
   pub delivers : wants ≡ map Delivers (messages_in arrivals)
 
-pub reading_none : (bytes : List ℕ) (asked : List Asked) (wants : List Wanted) → asked ≡ [] → wants ≡ [] → Reading bytes 0 asked wants
-reading_none bytes asked wants a w = record { at_most = omega arith; arrivals = []; splits = refl; asks = a; delivers = w }
+pub reading_none : (bytes : List ℕ) (wants : List Wanted) → wants ≡ [] → Reading bytes 0 wants
+reading_none bytes wants w = record { at_most = omega arith; arrivals = []; splits = refl; delivers = w }
 
 -- one more arrival behind the others
 pub splits_more : (bytes : List ℕ) (arrivals : List Arrival) (rest front back : List ℕ) (arrival : Arrival)
@@ -68,18 +67,16 @@ behind bytes len n arrival l f p =
     }
 
 -- a message was read behind the others
-pub reading_message : (bytes : List ℕ) (len n : ℕ) (parts : Parts) (asked new_asked : List Asked) (wants new_wants : List Wanted)
-    → Reading bytes len asked wants → Answers (drop len bytes) (Means parts n)
-    → new_asked ≡ asked ++ asked_of parts ∷ [] → new_wants ≡ wants ++ Delivers parts ∷ []
-    → Reading bytes (len + n) new_asked new_wants × (0 < n)
-reading_message bytes len n parts asked new_asked wants new_wants r p a w =
+pub reading_message : (bytes : List ℕ) (len n : ℕ) (parts : Parts) (wants new_wants : List Wanted)
+    → Reading bytes len wants → Answers (drop len bytes) (Means parts n)
+    → new_wants ≡ wants ++ Delivers parts ∷ []
+    → Reading bytes (len + n) new_wants × (0 < n)
+reading_message bytes len n parts wants new_wants r p w =
     let b = behind bytes len n (Sent parts) r.at_most p.0 p.1 in (
       record {
         at_most = b.fits;
         arrivals = r.arrivals ++ Sent parts ∷ [];
         splits = splits_more bytes r.arrivals (drop len bytes) b.front (drop (len + n) bytes) (Sent parts) r.splits b.is b.whole;
-        asks = a ∙ ap (λ (z : List Asked). z ++ asked_of parts ∷ []) r.asks ∙ sym (map-append asked_of (messages_in r.arrivals) (parts ∷ []))
-            ∙ ap (map asked_of) (sym (messages_more r.arrivals parts));
         delivers = w ∙ ap (λ (z : List Wanted). z ++ Delivers parts ∷ []) r.delivers ∙ sym (map-append Delivers (messages_in r.arrivals) (parts ∷ []))
             ∙ ap (map Delivers) (sym (messages_more r.arrivals parts));
       },
@@ -92,46 +89,43 @@ nil_first bytes n p = subst (λ (z : List ℕ). (n ≤ length z) × IsArrival (t
     (subst (λ (k : ℕ). (k ≤ length (0xc0 ∷ p.1.0)) × IsArrival (take k (0xc0 ∷ p.1.0)) Heartbeat) (sym p.0) (omega arith, refl))
 
 -- a heartbeat was read behind the others
-pub reading_beat : (bytes : List ℕ) (len n : ℕ) (asked : List Asked) (wants : List Wanted)
-    → Reading bytes len asked wants → Answers (drop len bytes) (Beats n) → Reading bytes (len + n) asked wants × (0 < n)
-reading_beat bytes len n asked wants r p =
+pub reading_beat : (bytes : List ℕ) (len n : ℕ) (wants : List Wanted)
+    → Reading bytes len wants → Answers (drop len bytes) (Beats n) → Reading bytes (len + n) wants × (0 < n)
+reading_beat bytes len n wants r p =
     let f = nil_first (drop len bytes) n p in
     let b = behind bytes len n Heartbeat r.at_most f.0 f.1 in (
       record {
         at_most = b.fits;
         arrivals = r.arrivals ++ Heartbeat ∷ [];
         splits = splits_more bytes r.arrivals (drop len bytes) b.front (drop (len + n) bytes) Heartbeat r.splits b.is b.whole;
-        asks = r.asks ∙ ap (map asked_of) (sym (messages_beat r.arrivals));
         delivers = r.delivers ∙ ap (map Delivers) (sym (messages_beat r.arrivals));
       },
       b.some,
     )
 
 -- what was read, where no more is whole
-pub reads_open : (sends bytes : List ℕ) (len : ℕ) (asked : List Asked) (wants : List Wanted)
-    → Reading bytes len asked wants → IsOpen (drop len bytes)
-    → ReadsOn sends bytes (record { phase = Opened; rest = drop len bytes; sends = sends; asked = asked; wants = wants })
-reads_open sends bytes len asked wants r o = record {
+pub reads_open : (sends bytes : List ℕ) (len : ℕ) (wants : List Wanted)
+    → Reading bytes len wants → IsOpen (drop len bytes)
+    → ReadsOn sends bytes (record { phase = Opened; rest = drop len bytes; sends = sends; wants = wants })
+reads_open sends bytes len wants r o = record {
   messages = messages_in r.arrivals;
   rest = drop len bytes;
   fault = None;
   stream = record { arrivals = r.arrivals; splits = r.splits; are = refl; ends = o };
-  is = ap (λ (a : List Asked). record { phase = Opened; rest = drop len bytes; sends = sends; asked = a; wants = wants }) r.asks
-      ∙ ap (λ (w : List Wanted). record { phase = Opened; rest = drop len bytes; sends = sends; asked = map asked_of (messages_in r.arrivals); wants = w })
+  is = ap (λ (w : List Wanted). record { phase = Opened; rest = drop len bytes; sends = sends; wants = w })
       (r.delivers ∙ sym (append-nil (map Delivers (messages_in r.arrivals))));
 }
 
 -- what was read, where a fault stands
-pub reads_fault : (sends bytes : List ℕ) (len : ℕ) (asked : List Asked) (wants new_wants : List Wanted) (fault : ModeFault)
-    → Reading bytes len asked wants → StreamFault (drop len bytes) fault → new_wants ≡ wants ++ Closes (BadStream fault) ∷ []
-    → ReadsOn sends bytes (record { phase = Over; rest = drop len bytes; sends = sends; asked = asked; wants = new_wants })
-reads_fault sends bytes len asked wants new_wants fault r p w = record {
+pub reads_fault : (sends bytes : List ℕ) (len : ℕ) (wants new_wants : List Wanted) (fault : ModeFault)
+    → Reading bytes len wants → StreamFault (drop len bytes) fault → new_wants ≡ wants ++ Closes (BadStream fault) ∷ []
+    → ReadsOn sends bytes (record { phase = Over; rest = drop len bytes; sends = sends; wants = new_wants })
+reads_fault sends bytes len wants new_wants fault r p w = record {
   messages = messages_in r.arrivals;
   rest = drop len bytes;
   fault = Some fault;
   stream = record { arrivals = r.arrivals; splits = r.splits; are = refl; ends = p };
-  is = ap (λ (a : List Asked). record { phase = Over; rest = drop len bytes; sends = sends; asked = a; wants = new_wants }) r.asks
-      ∙ ap (λ (w : List Wanted). record { phase = Over; rest = drop len bytes; sends = sends; asked = map asked_of (messages_in r.arrivals); wants = w })
+  is = ap (λ (w : List Wanted). record { phase = Over; rest = drop len bytes; sends = sends; wants = w })
       (w ∙ ap (λ (z : List Wanted). z ++ Closes (BadStream fault) ∷ []) r.delivers);
 }
 

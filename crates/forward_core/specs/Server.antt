@@ -15,7 +15,7 @@ use Rattle.forward_core.specs.declared.taken.Taken.{Taken}
 use Rattle.forward_core.specs.declared.security.Security.{Security}
 use Rattle.forward_core.specs.declared.server.Phase.{Phase}
 use Rattle.forward_core.specs.declared.server.Phase.TheVariants as phase
-use Rattle.forward_core.specs.Demands.{Wanted, Delivers, Closes, wanted, asked_for}
+use Rattle.forward_core.specs.Demands.{Wanted, Delivers, Closes, wanted, asked_in}
 use Rattle.forward_core.specs.Handshakes.{IsShown}
 use Rattle.forward_core.specs.Streams.{IsStreamOf}
 
@@ -26,12 +26,11 @@ pub data ServerPhase : Type 0 where
   Over : ServerPhase
 
 -- what bytes come to: where the session stands then, what of them is left unread,
--- what is sent, what the messages in them ask for, and what is wanted of the one who runs the session
+-- what is sent, and what is wanted of the one who runs the session
 pub record Outcome : Type 0 where
   pub phase : ServerPhase
   pub rest : List ℕ
   pub sends : List ℕ
-  pub asked : List Asked
   pub wants : List Wanted
 
 -- a fault of the stream ends the session
@@ -55,14 +54,13 @@ pub record ReadsOn (sends bytes : List ℕ) (out : Outcome) : Type 0 where
     phase = phase_by fault;
     rest = rest;
     sends = sends;
-    asked = map asked_of messages;
     wants = map Delivers messages ++ close_by fault;
   }
 
 -- too little has come of the first item
 pub record Waits (server : ServerEnd) (bytes : List ℕ) (out : Outcome) : Type 0 where
   pub begun : IsOpen bytes
-  pub is : out ≡ record { phase = Awaiting server; rest = bytes; sends = []; asked = []; wants = [] }
+  pub is : out ≡ record { phase = Awaiting server; rest = bytes; sends = []; wants = [] }
 
 -- the first item is a PING that shows the key: the PONG is sent, and what is behind the PING is read as messages
 pub record LetsIn (server : ServerEnd) (bytes : List ℕ) (out : Outcome) : Type 0 where
@@ -81,7 +79,7 @@ pub record ShutsOut (server : ServerEnd) (bytes : List ℕ) (out : Outcome) : Ty
   pub fault : HandshakeFault
   pub shown : IsShown bytes item more
   pub refused : IsAnswer server item (Refused fault) pong
-  pub is : out ≡ record { phase = Over; rest = bytes; sends = pong; asked = []; wants = Closes (Handshake fault) ∷ [] }
+  pub is : out ≡ record { phase = Over; rest = bytes; sends = pong; wants = Closes (Handshake fault) ∷ [] }
 
 -- what the bytes come to while a PING has to come first
 abbrev pub Greets : ServerEnd → List ℕ → Outcome → Type 0
@@ -108,7 +106,7 @@ after session out = record {
   phase = out.phase;
   held = out.rest;
   outgoing = session.outgoing ++ out.sends;
-  asked = session.asked ++ out.asked;
+  asked = session.asked ++ asked_in out.wants;
   taken = session.taken;
 }
 
@@ -145,6 +143,5 @@ outcome_of before bytes taken = record {
   phase = phase_at before taken.stage;
   rest = drop taken.len bytes;
   sends = taken.sends.items;
-  asked = map asked_for taken.asked.items;
   wants = map wanted taken.demands.items;
 }

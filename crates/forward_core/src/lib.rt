@@ -9,14 +9,16 @@ mod greeting;
 mod meeting;
 mod messages;
 mod outbox;
+mod past;
 mod replies;
 mod security;
 mod server;
 mod taken;
 
 pub use client::ClientSession;
-pub use demand::{AskedFor, Demand};
+pub use demand::Demand;
 pub use fault::{SessionError, SessionFault};
+pub use past::{AskedSoFar, TakenSoFar};
 pub use replies::Heard;
 pub use security::Security;
 pub use server::{ServerSession, Unanswered};

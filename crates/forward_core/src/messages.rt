@@ -24,7 +24,7 @@ pub fn take_messages<A: Allocator + Copy>(
     'items: loop {
         match read(alloc, bytes.split_at(taken.len).1)? {
             Read::Message(message, n) => {
-                taken.deliver(alloc, message)?;
+                taken.deliver(message)?;
                 taken.len += n;
             }
             Read::Heartbeat(n) => taken.len += n,

@@ -2,15 +2,16 @@
 
 ghost use Rattle.std.specs.Prelude.{◌≡◌, ◌≤◌, ◌↔◌, ◌⊎◌, ◌++◌, ◌∷◌, [], length, drop, map, Some, IsSome, IfOk, IfErr, OnOk, OnErr, IsErrOf, All, Contains};
 ghost use Rattle.ack_receipt.specs.Reservations.{Answer};
-ghost use Rattle.forward_core.specs.Demands.{asked_for, wanted};
+ghost use Rattle.forward_core.specs.Demands.{wanted};
 ghost use Rattle.forward_core.specs.Handshakes.{IsHosted};
 ghost use Rattle.forward_core.specs.Server.{IsAskedIn, Outcome, Over, ServerReads, after, fresh, opening, outcome_of, phase_at, phase_of};
 
-use crate::demand::{AskedFor, Demand};
+use crate::demand::Demand;
 use crate::fault::{SessionError, SessionFault};
 use crate::greeting::take_ping;
 use crate::messages::take_messages;
 use crate::outbox::{Outbox, drop_front};
+use crate::past::{AskedSoFar, TakenSoFar};
 use crate::security::Security;
 use crate::taken::{Stage, Taken};
 use ack_receipt::Reserved;
@@ -45,19 +46,17 @@ impl<A: Allocator> Phase<A> {
 /// to be sent, what each message asked for that it demanded to be delivered, and the answers that it took.
 ///
 /// It holds what came and is not whole yet: at most one item, and one piece while it is fed. What the messages asked for
-/// and their answers are kept as long as the session.
+/// and their answers are there for contracts alone, and take no memory.
 #[derive(Drop)]
 pub struct ServerSession<A: Allocator> {
     phase: Phase<A>,
     held: Vec<u8, A>,
     outgoing: Outbox<A>,
-    asked: Vec<AskedFor<A>, A>,
-    taken: Vec<Reserved<A>, A>,
+    asked: AskedSoFar<A>,
+    taken: TakenSoFar<A>,
 }
 
 impl<A: Allocator> Model for ServerSession<A> {
-    ghost use Rattle.std.specs.Prelude.{map};
-    ghost use Rattle.forward_core.specs.Demands.{asked_for};
     ghost use Rattle.forward_core.specs.Server.{ServerState, phase_of};
 
     ghost Value = { ServerState };
@@ -66,8 +65,8 @@ impl<A: Allocator> Model for ServerSession<A> {
       phase = phase_of s.phase;
       held = s.held.items;
       outgoing = s.outgoing;
-      asked = map asked_for s.asked.items;
-      taken = s.taken.items;
+      asked = s.asked.all;
+      taken = s.taken.all;
     } };
 }
 
@@ -113,8 +112,8 @@ impl<A: Allocator + Copy> ServerSession<A> {
             phase,
             held: Vec::new(alloc),
             outgoing,
-            asked: Vec::new(alloc),
-            taken: Vec::new(alloc),
+            asked: AskedSoFar::new(),
+            taken: TakenSoFar::new(),
         }
     }
 
@@ -160,11 +159,9 @@ impl<A: Allocator + Copy> ServerSession<A> {
         ensures asked { IfOk result (λ demands. All (λ demand. IsAskedIn self.new.asked (wanted demand)) demands.items) }
         ensures err { OnErr result (self.new ≡ self.old) }
     {
-        let mut taken = self.read_all()?;
-        self.asked.reserve(taken.asked.len())?;
+        let taken = self.read_all()?;
         self.outgoing.append(&taken.sends)?;
-        // The room is there.
-        let _ = self.asked.append(&mut taken.asked);
+        self.asked = self.asked.then(&taken.demands);
         drop_front(&mut self.held, taken.len);
         self.phase.move_to(taken.stage);
         Ok(taken.demands)
@@ -195,13 +192,10 @@ impl<A: Allocator + Copy> ServerSession<A> {
         ensures back { IfErr result (λ e. e.reserved ≡ reserved) }
         ensures err { OnErr result (self.new ≡ self.old) }
     {
-        if self.taken.reserve(1).is_err() {
-            return Err(Unanswered { reserved });
-        }
         if put_answer(&mut self.outgoing, &reserved).is_err() {
             return Err(Unanswered { reserved });
         }
-        self.taken.push_reserved(reserved);
+        self.taken = self.taken.then(&reserved);
         Ok(())
     }
 
@@ -220,16 +214,16 @@ impl<A: Allocator + Copy> ServerSession<A> {
         self.outgoing.sent(n);
     }
 
-    /// What each message asked for that was demanded to be delivered, in order.
-    pub fn asked(&self) -> &[AskedFor<A>]
-        ensures { map asked_for result.now ≡ self.now.asked }
+    /// What each message asked for that was demanded to be delivered, in order: for contracts alone.
+    pub fn asked(&self) -> &AskedSoFar<A>
+        ensures { result.now.all ≡ self.now.asked }
     {
         &self.asked
     }
 
-    /// The answers that were taken, in order.
-    pub fn taken(&self) -> &[Reserved<A>]
-        ensures { result.now ≡ self.now.taken }
+    /// The answers that were taken, in order: for contracts alone.
+    pub fn taken(&self) -> &TakenSoFar<A>
+        ensures { result.now.all ≡ self.now.taken }
     {
         &self.taken
     }

@@ -2,11 +2,10 @@
 
 ghost use Rattle.std.specs.Prelude.{◌≡◌, ◌++◌, ◌∷◌, [], map, OnOk};
 ghost use Rattle.event_modes.specs.Reading.{meaning};
-ghost use Rattle.ack_receipt.specs.Reservations.{asked_of};
 ghost use Rattle.forward_core.specs.declared.taken.Stage.TheVariants.{Closed};
-ghost use Rattle.forward_core.specs.Demands.{Closes, Delivers, asked_for, wanted};
+ghost use Rattle.forward_core.specs.Demands.{Closes, Delivers, wanted};
 
-use crate::demand::{AskedFor, Demand};
+use crate::demand::Demand;
 use crate::fault::SessionFault;
 use event_modes::Message;
 use std::alloc::{AllocError, Allocator};
@@ -30,7 +29,6 @@ pub struct Taken<A: Allocator> {
     pub len: usize,
     /// What is to be sent.
     pub sends: Vec<u8, A>,
-    pub asked: Vec<AskedFor<A>, A>,
     pub demands: Vec<Demand<A>, A>,
 }
 
@@ -40,29 +38,24 @@ impl<A: Allocator + Copy> Taken<A> {
         ensures stage { result.stage ≡ stage }
         ensures len { result.len ≡ 0 }
         ensures sends { result.sends ≡ sends }
-        ensures asked { result.asked.items ≡ [] }
         ensures demands { result.demands.items ≡ [] }
     {
         Taken {
             stage,
             len: 0,
             sends,
-            asked: Vec::new(alloc),
             demands: Vec::new(alloc),
         }
     }
 
     /// The message is to be delivered. An error may leave a part of this behind.
-    pub fn deliver(&mut self, alloc: A, message: Message<A>) -> Result<(), AllocError>
-        ensures asked { OnOk result (map asked_for self.new.asked.items
-            ≡ map asked_for self.old.asked.items ++ asked_of (meaning message) ∷ []) }
+    pub fn deliver(&mut self, message: Message<A>) -> Result<(), AllocError>
         ensures demands { OnOk result (map wanted self.new.demands.items
             ≡ map wanted self.old.demands.items ++ Delivers (meaning message) ∷ []) }
         ensures stage { self.new.stage ≡ self.old.stage }
         ensures len { self.new.len ≡ self.old.len }
         ensures sends { self.new.sends ≡ self.old.sends }
     {
-        self.asked.push(AskedFor::by(alloc, &message)?)?;
         self.demands.push(Demand::Deliver(message))?;
         Ok(())
     }
@@ -74,7 +67,6 @@ impl<A: Allocator + Copy> Taken<A> {
         ensures stage { OnOk result (self.new.stage ≡ Closed) }
         ensures len { self.new.len ≡ self.old.len }
         ensures sends { self.new.sends ≡ self.old.sends }
-        ensures asked { self.new.asked ≡ self.old.asked }
     {
         self.demands.push(Demand::Close(fault))?;
         self.stage = Stage::Closed;

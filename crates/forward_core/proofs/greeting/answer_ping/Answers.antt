@@ -14,5 +14,5 @@ passed server item old new answer a o p =
 pub returns-in_ok-taken-in-Passed-clause-greets : goal.returns-in_ok-taken-in-Passed-clause-greets
 returns-in_ok-taken-in-Passed-clause-greets g c =
     let reads = c.in_ok-taken-in-Passed.ensures.reads (Awaiting c.args.server.now) in
-    lets_in c.args.server.now c.args.bytes.now _ _ _ _ c.args.end c.in_ok-taken-in-Passed.taken.len _ _ _ c.requires.shown c.split_at.ensures.front c.split_at.ensures.back
+    lets_in c.args.server.now c.args.bytes.now _ _ _ _ c.args.end c.in_ok-taken-in-Passed.taken.len _ _ c.requires.shown c.split_at.ensures.front c.split_at.ensures.back
     (passed c.args.server.now _ _ _ _ c.in-Passed.is c.new-pong.ensures.items c.in_ok-ping.ensures.right) reads
