@@ -1,8 +1,2 @@
-pub mod Drops
-pub mod Trees
-pub mod Findings
-pub mod Words
-pub mod Examining
-pub mod Labelling
+pub mod Counting
 pub mod Numbering
-pub mod Refusals

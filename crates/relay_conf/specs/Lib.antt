@@ -1,11 +1,5 @@
-pub mod Printed
-pub mod Elements
 pub mod Values
-pub mod Forms
-pub mod Sections
-pub mod Findings
-pub mod Examined
-pub mod Labels
+pub mod Targets
 pub mod Meaning
 pub mod Views
 pub mod Relays

@@ -11,12 +11,13 @@ use Rattle.relay_conf.specs.declared.buffer.FlushMode.TheVariants.{Interval}
 use Rattle.relay_conf.specs.declared.buffer.OverflowAction.{OverflowAction}
 use Rattle.relay_conf.specs.declared.buffer.OverflowAction.TheVariants.{ThrowException}
 use Rattle.relay_conf.specs.declared.buffer.RetrySettings.{RetrySettings}
-use Rattle.relay_conf.specs.declared.form.OutputType.{OutputType}
-use Rattle.relay_conf.specs.declared.form.OutputType.TheVariants as outputs
-use Rattle.relay_conf.specs.Elements.{heading_of, settings_of, children_of, value_of, or_else, is_named}
-use Rattle.relay_conf.specs.Values.{flush_mode_of, overflow_of, threads_of, output_type_of}
-use Rattle.relay_conf.specs.Examined.{has_files}
-use Rattle.relay_conf.specs.Labels.{target_of}
+use Rattle.relay_faults.specs.declared.form.OutputType.{OutputType}
+use Rattle.relay_faults.specs.declared.form.OutputType.TheVariants as outputs
+use Rattle.relay_faults.specs.Elements.{heading_of, settings_of, children_of, value_of, or_else, is_named}
+use Rattle.relay_faults.specs.Values.{threads_of, output_type_of}
+use Rattle.relay_conf.specs.Values.{flush_mode_of, overflow_of}
+use Rattle.relay_faults.specs.Examined.{has_files}
+use Rattle.relay_conf.specs.Targets.{target_of}
 
 -- what a security section says
 pub record SecurityMeaning : Type 0 where

@@ -1,39 +1,16 @@
--- What a relay's configuration means as a whole, and when it is refused.
-use Rattle.std.specs.Prelude.{◌≡◌, ⊤, ℕ, List, [], ◌∷◌, ◌++◌, codes, map, filter, string_bytes}
+-- What a relay's configuration means as a whole.
+use Rattle.std.specs.Prelude.{◌≡◌, ℕ, List, [], ◌∷◌, ◌++◌, codes, map, filter, string_bytes}
 use Rattle.std.specs.List.{AllZip}
-use Rattle.conf_text.specs.Trees.{Tree, trees}
+use Rattle.conf_text.specs.Trees.{Tree}
 use Rattle.tag_pattern.specs.Items.{Item}
 use Rattle.tag_pattern.specs.Grammar.{Slot, IsPattern, plain_patterns}
-use Rattle.relay_conf.specs.declared.fault.RelayFault.{RelayFault}
-use Rattle.relay_conf.specs.declared.fault.RelayError.{RelayError}
-use Rattle.relay_conf.specs.declared.fault.RelayError.TheVariants as errors
-use Rattle.relay_conf.specs.declared.section.Section.TheVariants as sections
 use Rattle.relay_conf.specs.declared.relay.Relay.{Relay}
 use Rattle.relay_conf.specs.declared.relay.Scope.{Scope}
 use Rattle.relay_conf.specs.declared.relay.MatchRule.{MatchRule}
-use Rattle.relay_conf.specs.Elements.{heading_of, children_of, is_named}
-use Rattle.relay_conf.specs.Findings.{Finding, AllPass, AnyStands, FirstStands}
-use Rattle.relay_conf.specs.Examined.{trees_found, words_of}
-use Rattle.relay_conf.specs.Labels.{labels_found}
+use Rattle.relay_faults.specs.Elements.{heading_of, children_of, is_named}
+use Rattle.relay_faults.specs.Examined.{words_of}
 use Rattle.relay_conf.specs.Meaning.{source_of, outputs_of, numbered}
 use Rattle.relay_conf.specs.Views.{source_view, output_view}
-
--- what is found in a configuration: in its sections first, and then with its labels
-abbrev pub all_found : List Tree → List Finding
-all_found elements = trees_found sections.Top (trees elements) ++ labels_found elements
-
--- something in the configuration is this fault
-abbrev pub HasFault : List Tree → RelayFault → Type 0
-HasFault elements f = AnyStands (all_found elements) f
-
--- nothing in the configuration is a fault
-abbrev pub HasNoFault : List Tree → Type 0
-HasNoFault elements = AllPass (all_found elements)
-
--- an error is a fault of the configuration, the first one, or that memory ran out
-abbrev pub IsRefusal : List Tree → RelayError → Type 0
-IsRefusal elements errors.Memory = ⊤
-IsRefusal elements (errors.Fault f) = HasFault elements f × FirstStands (all_found elements) f
 
 -- the word is a pattern, and these are the plain patterns that it stands for
 abbrev pub AreOfWord : List ℕ → List (List Item) → Type 0

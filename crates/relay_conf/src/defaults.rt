@@ -12,8 +12,6 @@ pub const DEFAULT_ACK_RESPONSE_TIMEOUT: u64 = 190;
 pub const DEFAULT_FLUSH_INTERVAL: u64 = 60;
 /// How many threads deliver a buffer's chunks.
 pub const DEFAULT_FLUSH_THREADS: usize = 1;
-/// The most threads that may deliver a buffer's chunks.
-pub const MOST_FLUSH_THREADS: usize = 64;
 /// The wait after the first failure, in seconds.
 pub const DEFAULT_RETRY_WAIT: u64 = 1;
 /// What the wait is multiplied by after each further failure.

@@ -1,26 +1,22 @@
 // A configuration's elements, read into the relay that they describe.
 ghost use Rattle.std.specs.Prelude.{◌≡◌, ◌++◌, ⊤, map, filter, codes, IfOk, IfErr, MatchResult};
 ghost use Rattle.conf_text.specs.Views.{tree_of};
-ghost use Rattle.conf_text.specs.Trees.{trees};
-ghost use Rattle.relay_conf.specs.declared.section.Section.TheVariants as sections;
-ghost use Rattle.relay_conf.specs.Elements.{is_named};
-ghost use Rattle.relay_conf.specs.Findings.{Examines};
-ghost use Rattle.relay_conf.specs.Examined.{trees_found};
+ghost use Rattle.relay_faults.specs.Elements.{is_named};
+ghost use Rattle.relay_faults.specs.Faults.{HasFault, HasNoFault, IsRefusal};
 ghost use Rattle.relay_conf.specs.Meaning.{source_of};
 ghost use Rattle.relay_conf.specs.Views.{source_view};
-ghost use Rattle.relay_conf.specs.Relays.{all_found, HasFault, HasNoFault, IsRefusal, IsRelayOf};
+ghost use Rattle.relay_conf.specs.Relays.{IsRelayOf};
 
 use crate::defaults::{DEFAULT_BIND, DEFAULT_PORT};
-use crate::element::{children_of, is_named, last_value, line_of, pairs_of};
-use crate::examine::examine_element;
-use crate::fault::{RelayError, RelayFault};
-use crate::labels::{examine_labels, target};
 use crate::outputs::{label_scopes, matches_in};
 use crate::relay::{Relay, Scope, Source};
-use crate::section::Section;
 use crate::settings::security_in;
+use crate::target::target;
 use crate::values::{port_or, text_or};
 use conf_text::Element;
+use relay_faults::{
+    RelayError, RelayFault, children_of, examine_elements, is_named, last_value, line_of, pairs_of,
+};
 use std::alloc::{AllocError, Allocator};
 
 impl<A: Allocator + Copy> Relay<A> {
@@ -41,37 +37,9 @@ impl<A: Allocator + Copy> Relay<A> {
         // Elements without a fault are read, unless memory runs out.
         ensures only { HasNoFault (map tree_of elements.now) → MatchResult result (λ _. ⊤) (λ e. e ≡ RelayError.Memory) }
     {
-        examined(alloc, elements)
+        examine_elements(alloc, elements)?;
+        Ok(filled(alloc, elements)?)
     }
-}
-
-// The relay, once nothing is wrong.
-fn examined<A: Allocator + Copy>(alloc: A, elements: &[Element<A>]) -> Result<Relay<A>, RelayError>
-    ensures found { Examines (all_found (map tree_of elements.now)) result }
-    ensures meaning { IfOk result (λ relay. IsRelayOf (map tree_of elements.now) relay) }
-{
-    examine(alloc, elements)?;
-    Ok(filled(alloc, elements)?)
-}
-
-// Goes through a configuration. An error is the first fault, or that memory ran out.
-fn examine<A: Allocator + Copy>(alloc: A, elements: &[Element<A>]) -> Result<(), RelayError>
-    ensures { Examines (all_found (map tree_of elements.now)) result }
-{
-    examine_sections(alloc, elements)?;
-    examine_labels(elements)
-}
-
-fn examine_sections<A: Allocator + Copy>(
-    alloc: A,
-    elements: &[Element<A>],
-) -> Result<(), RelayError>
-    ensures { Examines (trees_found sections.Top (trees (map tree_of elements.now))) result }
-{
-    for element in elements {
-        examine_element(alloc, Section::Top, element)?;
-    }
-    Ok(())
 }
 
 // The relay of a configuration without faults.

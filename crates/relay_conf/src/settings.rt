@@ -2,7 +2,7 @@
 ghost use Rattle.std.specs.Prelude.{◌≡◌, map, filter, IfOk, codes};
 ghost use Rattle.std.specs.Option.{option_map};
 ghost use Rattle.conf_text.specs.Views.{setting, tree_of};
-ghost use Rattle.relay_conf.specs.Elements.{settings_of, is_named};
+ghost use Rattle.relay_faults.specs.Elements.{settings_of, is_named};
 ghost use Rattle.relay_conf.specs.Meaning.{security_of, security_in, server_of, retry_of, path_of, chunk_limit, total_limit, buffer_of, buffer_in, last_child, settings_in};
 ghost use Rattle.relay_conf.specs.Views.{security_view, server_view, kind_view, buffer_view};
 
@@ -12,8 +12,6 @@ use crate::defaults::{
     DEFAULT_FLUSH_THREADS, DEFAULT_MEMORY_CHUNK_LIMIT, DEFAULT_MEMORY_TOTAL_LIMIT, DEFAULT_PORT,
     DEFAULT_RETRY_BASE, DEFAULT_RETRY_FOREVER, DEFAULT_RETRY_TIMEOUT, DEFAULT_RETRY_WAIT,
 };
-use crate::element::{is_named, line_of, pairs_of};
-use crate::examine::has_files;
 use crate::output::Server;
 use crate::relay::Security;
 use crate::values::{
@@ -21,6 +19,7 @@ use crate::values::{
     threads_or, time, time_or,
 };
 use conf_text::{Element, Pair};
+use relay_faults::{has_files, is_named, line_of, pairs_of};
 use std::alloc::{AllocError, Allocator};
 
 fn security<A: Allocator + Copy>(alloc: A, pairs: &[Pair<A>]) -> Result<Security<A>, AllocError>

@@ -1,19 +1,19 @@
 // The values of parameters: those of their last lines, or the defaults.
-ghost use Rattle.std.specs.Prelude.{◌≡◌, map, IfOk, string_bytes, unwrap_or, option_and_then};
+ghost use Rattle.std.specs.Prelude.{◌≡◌, map, IfOk, string_bytes, unwrap_or, option_and_then, is_some};
 ghost use Rattle.std.specs.Option.{option_map};
 ghost use Rattle.conf_text.specs.Views.{setting, tree_of};
 ghost use Rattle.conf_values.specs.Numbers.{number_of, port_of};
 ghost use Rattle.conf_values.specs.Amounts.{size_of, seconds_of};
 ghost use Rattle.conf_values.specs.Words.{boolean_of};
-ghost use Rattle.relay_conf.specs.Elements.{value_of};
-ghost use Rattle.relay_conf.specs.Values.{threads_of, flush_mode_of, overflow_of};
+ghost use Rattle.relay_faults.specs.Elements.{value_of};
+ghost use Rattle.relay_faults.specs.Values.{threads_of, is_flush_mode, is_overflow};
+ghost use Rattle.relay_conf.specs.Values.{flush_mode_of, overflow_of};
 ghost use Rattle.relay_conf.specs.Meaning.{read_or, last_child};
 
 use crate::buffer::{FlushMode, OverflowAction};
-use crate::element::{is_named, last_value};
-use crate::form::{flush_mode, overflow, threads};
 use conf_text::{Element, Pair};
 use conf_values::{boolean, port, seconds, size, whole_number};
+use relay_faults::{is_named, last_value, threads};
 use std::alloc::{AllocError, Allocator};
 
 /// A text.
@@ -131,6 +131,34 @@ pub(crate) fn overflow_or<A: Allocator>(
         None => default,
         Some(value) => overflow(value).unwrap_or(default),
     }
+}
+
+// When a staged chunk is queued.
+fn flush_mode(value: &str) -> Option<FlushMode>
+    ensures meaning { result ≡ flush_mode_of value.now }
+    ensures known { is_some result ≡ is_flush_mode value.now }
+{
+    if value == "default" || value == "interval" {
+        return Some(FlushMode::Interval);
+    }
+    if value == "immediate" {
+        return Some(FlushMode::Immediate);
+    }
+    None
+}
+
+// What follows where a buffer is full.
+fn overflow(value: &str) -> Option<OverflowAction>
+    ensures meaning { result ≡ overflow_of value.now }
+    ensures known { is_some result ≡ is_overflow value.now }
+{
+    if value == "throw_exception" {
+        return Some(OverflowAction::ThrowException);
+    }
+    if value == "drop_oldest_chunk" {
+        return Some(OverflowAction::DropOldestChunk);
+    }
+    None
 }
 
 /// The last of the elements of this name, if there is one.

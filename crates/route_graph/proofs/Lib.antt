@@ -2,6 +2,7 @@ pub mod Chains
 pub mod Covers
 pub mod Firsts
 pub mod Members
+pub mod Numbered
 pub mod Numbers
 pub mod Reached
 pub mod Search

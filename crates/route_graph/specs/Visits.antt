@@ -1,5 +1,8 @@
 -- What is known while an event's way is looked for.
-use Rattle.std.specs.Prelude.{◌≡◌, ℕ, List, [], ◌∷◌, ◌++◌, ◌⊎◌, Contains, slice_index_or}
+use Rattle.std.specs.Prelude.{◌≡◌, ◌==◌, ℕ, List, [], ◌∷◌, ◌++◌, ◌⊎◌, Contains, slice_index_or}
+use Rattle.std.specs.BTreeSet.{BTreeSet, contains}
+use Rattle.std.specs.List.{list_any}
+use Rattle.std.specs.Ordering.{nat_cmp}
 use Rattle.route_graph.specs.declared.visit.Mark.{Mark}
 use Rattle.route_graph.specs.declared.visit.Mark.TheVariants.{Done}
 use Rattle.route_graph.specs.declared.visit.Step.{Step}
@@ -17,3 +20,7 @@ mark_at marks scope = slice_index_or marks scope Done
 -- The one list of numbers with another: at the end, if it wasn't there.
 abbrev pub IsWith : List ℕ → ℕ → List ℕ → Type 0
 IsWith found number more = (Contains found number × (more ≡ found)) ⊎ ((¬ Contains found number) × (more ≡ found ++ number ∷ []))
+
+-- The set has the numbers of the list, and no others.
+abbrev pub HasNumbers : BTreeSet ℕ → List ℕ → Type 0
+HasNumbers set numbers = (number : ℕ) → contains nat_cmp set number ≡ list_any (λ other. other == number) numbers

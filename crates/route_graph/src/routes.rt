@@ -46,8 +46,8 @@ impl<A: Allocator + Copy> Routes<A> {
     /// nothing.
     ///
     /// Each scope that is reached is gone through once, and each of its patterns compared with the tag once at most,
-    /// so copies of relabels cost no more than the outputs that they have. A buffer is looked for among those
-    /// found before it.
+    /// so copies of relabels cost no more than the outputs that they have, each with a look into a set of the
+    /// buffers found before.
     pub fn way<B: Allocator>(&self, scope: ScopeNo, tag: &Tag<B>) -> Result<Way<A>, AllocError>
         ensures way { IfOk result (IsWay self.now tag.now scope.0) }
         ensures leaves { IfOk result (HasLeaves self.now tag.now scope.0) }

@@ -1,5 +1,5 @@
 // What is known while an event's way is looked for: a chain of open scopes, and the buffers found.
-ghost use Rattle.std.specs.Prelude.{◌≡◌, ◌↔◌, [], ◌∷◌, ◌++◌, Contains, IsTrue, IfNone, IfOk, OnOk, map, replicate, reverse, slice_set};
+ghost use Rattle.std.specs.Prelude.{◌≡◌, [], ◌∷◌, ◌++◌, IfNone, IfOk, OnOk, map, replicate, reverse, slice_set};
 ghost use Rattle.std.specs.Option.{option_to_list};
 ghost use Rattle.route_graph.specs.Listing.{numbers_of};
 ghost use Rattle.route_graph.specs.Visits.{Known, mark_at, IsWith};
@@ -8,6 +8,7 @@ ghost use Rattle.route_graph.specs.declared.hop.Hop.{Hop};
 use crate::hop::Hop;
 use relay_conf::{BufferNo, ScopeNo};
 use std::alloc::{AllocError, Allocator};
+use std::collections::BTreeSet;
 use std::marker::Model;
 
 /// How far a scope has been gone through.
@@ -36,16 +37,20 @@ pub(crate) struct Visit<A: Allocator> {
     marks: Vec<Mark, A>,
     ahead: Vec<Step, A>,
     found: Vec<BufferNo, A>,
+    // the numbers of the buffers found
+    numbers: BTreeSet<usize, A>,
 }
 
 impl<A: Allocator> Model for Visit<A> {
     ghost use Rattle.std.specs.Prelude.{reverse};
     ghost use Rattle.route_graph.specs.Listing.{numbers_of};
-    ghost use Rattle.route_graph.specs.Visits.{Known};
+    ghost use Rattle.route_graph.specs.Visits.{Known, HasNumbers};
 
     ghost Value = { Known };
 
     ghost view = { λ v. record { marks = v.marks.items; coming = reverse v.ahead.items; found = numbers_of v.found.items } };
+
+    ghost invariant = { λ v. HasNumbers v.numbers (numbers_of v.found.items) };
 }
 
 impl<A: Allocator> Visit<A> {
@@ -80,18 +85,6 @@ impl<A: Allocator> Visit<A> {
         }
     }
 
-    /// Adds a buffer, if it isn't among those found.
-    pub fn add(&mut self, buffer: BufferNo) -> Result<(), AllocError>
-        ensures marks { OnOk result (self.new.marks ≡ self.old.marks) }
-        ensures coming { OnOk result (self.new.coming ≡ self.old.coming) }
-        ensures found { OnOk result (IsWith self.old.found buffer.0 self.new.found) }
-    {
-        if !has_number(&self.found, buffer) {
-            self.found.push(buffer)?;
-        }
-        Ok(())
-    }
-
     /// Opens a scope, if it is there: its hops come next, and then it is left.
     pub fn enter(&mut self, scope: ScopeNo, hops: &[Hop]) -> Result<(), AllocError>
         ensures marks { OnOk result (self.new.marks ≡ slice_set self.old.marks scope.0 Mark.Open) }
@@ -118,7 +111,21 @@ impl<A: Allocator + Copy> Visit<A> {
             marks: vec![in alloc; Mark::New; scopes]?,
             ahead,
             found: Vec::new(alloc),
+            numbers: BTreeSet::new(alloc),
         })
+    }
+
+    /// Adds a buffer, if it isn't among those found.
+    pub fn add(&mut self, buffer: BufferNo) -> Result<(), AllocError>
+        ensures marks { OnOk result (self.new.marks ≡ self.old.marks) }
+        ensures coming { OnOk result (self.new.coming ≡ self.old.coming) }
+        ensures found { OnOk result (IsWith self.old.found buffer.0 self.new.found) }
+    {
+        self.found.reserve(1)?;
+        if self.numbers.insert(buffer.0)? {
+            self.found.push_reserved(buffer);
+        }
+        Ok(())
     }
 }
 
@@ -130,16 +137,4 @@ fn push_steps<A: Allocator>(ahead: &mut Vec<Step, A>, hops: &[Hop]) -> Result<()
         ahead.push(Step::Take(hops[place]))?;
     }
     Ok(())
-}
-
-// Whether the buffer is one of these.
-fn has_number(buffers: &[BufferNo], buffer: BufferNo) -> bool
-    ensures { IsTrue result ↔ Contains (numbers_of buffers.now) buffer.0 }
-{
-    for other in buffers {
-        if other.0 == buffer.0 {
-            return true;
-        }
-    }
-    false
 }

@@ -1,6 +1,6 @@
 use Rattle.std.proofs.Common.{◌∙◌, sym, arith}
 use Rattle.std.proofs.lemmas.List.{drop_all}
-use Rattle.relay_conf.proofs.Labelling.{buffers_are}
+use Rattle.relay_conf.proofs.Counting.{buffers_are}
 use Rattle.relay_conf.proofs.outputs.+buffers_in.Goals as goal
 
 pub returns : goal.returns

@@ -1,7 +1,7 @@
 use Rattle.std.proofs.Common.{◌≡◌, drop, map}
 use Rattle.std.specs.Option.{option_map}
 use Rattle.conf_text.specs.Views.{tree_of}
-use Rattle.relay_conf.specs.Elements.{or_else}
+use Rattle.relay_faults.specs.Elements.{or_else}
 use Rattle.relay_conf.specs.Meaning.{last_child}
 use Rattle.relay_conf.proofs.values.last_child.Given as goal
 
