@@ -1,0 +1,17 @@
+-- The host of a number is that of the relay that the number means.
+use Rattle.std.proofs.Common.{◌≡◌, ℕ, ◌==◌, Bool, true, false, cond, List, [], ◌∷◌, Option, Some, refl}
+use Rattle.std.specs.Prelude.{string_bytes}
+use Rattle.std.specs.Option.{option_map_or}
+use Rattle.relay_net.specs.Network.{host_from, node_of}
+use Rattle.relay_net.specs.declared.node.Node.{Node}
+
+abbrev pub host_of : {A : Type 0} → Option (Node A) → List ℕ
+host_of found = option_map_or (λ node. string_bytes node.host) found []
+
+pub host_is : {A : Type 0} (nodes : List (Node A)) (number : ℕ) → host_from nodes number ≡ host_of (node_of nodes number)
+host_is [] number = refl
+host_is (node ∷ nodes) number = by (node.number == number) (host_is nodes number)
+  where
+    by : (b : Bool) → host_from nodes number ≡ host_of (node_of nodes number) → cond b (string_bytes node.host) (host_from nodes number) ≡ host_of (cond b (Some node) (node_of nodes number))
+    by true more = refl
+    by false more = more

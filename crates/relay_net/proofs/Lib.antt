@@ -1,0 +1,7 @@
+pub mod Agreement
+pub mod Clients
+pub mod Gets
+pub mod Hosts
+pub mod Nowhere
+pub mod Pairing
+pub mod Passing

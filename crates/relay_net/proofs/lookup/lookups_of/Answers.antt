@@ -1,0 +1,7 @@
+use Rattle.std.proofs.Common.{arith}
+use Rattle.relay_net.proofs.Pairing.{one_lookup, taken_more}
+use Rattle.relay_net.proofs.lookup.lookups_of.Goals as goal
+
+pub loop-node-preserved : goal.loop-node-preserved
+loop-node-preserved g c = rw (c.in_ok-push.ensures.items, taken_more c.args.nodes.now c.loop-node.node-index c.node-item.result (omega arith) c.node-item.is)
+    (one_lookup _ _ c.in_ok-new.field-0 c.node-item.result c.loop-node.invariant c.in_ok-new.ensures)

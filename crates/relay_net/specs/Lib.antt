@@ -1,0 +1,6 @@
+pub mod Addresses
+pub mod Index
+pub mod Lookups
+pub mod Network
+pub mod Outputs
+pub mod Ways

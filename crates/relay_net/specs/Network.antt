@@ -1,0 +1,101 @@
+-- The network: where an address leads, and what outputs a relay has.
+use Rattle.std.specs.Prelude.{◌==◌, ℕ, suc, Bool, false, cond, List, [], ◌∷◌, Option, Some, None, option_map, slice_get, find, is_some, string_bytes}
+use Rattle.std.specs.List.{flat_map, list_all}
+use Rattle.std.specs.Option.{option_and_then, option_map_or}
+use Rattle.std.specs.Str.{bytes_eq}
+use Rattle.relay_conf.specs.declared.relay.Relay.{Relay}
+use Rattle.relay_conf.specs.declared.relay.Source.{Source}
+use Rattle.relay_conf.specs.declared.output.Output.{Output}
+use Rattle.relay_conf.specs.declared.output.Server.{Server}
+use Rattle.relay_net.specs.Addresses.{Address}
+use Rattle.relay_net.specs.Outputs.{number_of, is_numbered, settings_of, is_memory}
+use Rattle.relay_net.specs.declared.address.Entrance.{Entrance}
+use Rattle.relay_net.specs.declared.node.Client.{Client}
+use Rattle.relay_net.specs.declared.node.Node.{Node}
+
+-- a network: its relays, and those who send to them, each in the order of the plan; clients are numbered from 0
+pub record Network (A : Type 0) : Type 0 where
+  pub relays : List (Node A)
+  pub clients : List (Client A)
+
+-- Relays are numbered, and of equal numbers the first is meant.
+
+-- the place of the first relay of this number, where this is the place of the first of them
+abbrev pub place_from : {A : Type 0} → ℕ → List (Node A) → ℕ → Option ℕ
+place_from place [] number = None
+place_from place (node ∷ nodes) number = cond (node.number == number) (Some place) (place_from (suc place) nodes number)
+
+-- the place of the relay that this number means
+abbrev pub place_of : {A : Type 0} → Network A → ℕ → Option ℕ
+place_of net number = place_from 0 net.relays number
+
+-- the relay at this place
+abbrev pub relay_at : {A : Type 0} → Network A → ℕ → Option (Relay A)
+relay_at net place = option_map (λ node. node.relay) (slice_get net.relays place)
+
+-- the relay that this number means
+abbrev pub node_of : {A : Type 0} → List (Node A) → ℕ → Option (Node A)
+node_of nodes number = find (λ node. node.number == number) nodes
+
+-- Addresses: a host, compared as a text, and a port.
+
+-- the first source of the relay with this port
+abbrev pub source_of_port : {A : Type 0} → Relay A → ℕ → Option (Source A)
+source_of_port relay port = find (λ source. source.port == port) relay.sources.items
+
+-- the first source of the relay with this address, if there is one
+abbrev pub source_at : {A : Type 0} → Node A → Address → Option (Source A)
+source_at node address = cond (bytes_eq (string_bytes node.host) address.host) (source_of_port node.relay address.port) None
+
+-- the entrance of the relay at this place, if it has that source, else the other one
+abbrev pub entrance_or : {A : Type 0} → Option (Source A) → ℕ → Option Entrance → Option Entrance
+entrance_or None place other = other
+entrance_or (Some source) place other = Some (record { relay = place; scope = source.label.0 })
+
+-- the entrance at an address, where this is the place of the first of these relays
+abbrev pub entrance_from : {A : Type 0} → ℕ → List (Node A) → Address → Option Entrance
+entrance_from place [] address = None
+entrance_from place (node ∷ nodes) address = entrance_or (source_at node address) place (entrance_from (suc place) nodes address)
+
+-- where a message to this address comes in: the first source of the plan that has it
+abbrev pub entrance : {A : Type 0} → Network A → Address → Option Entrance
+entrance net address = entrance_from 0 net.relays address
+
+-- the host of the relay that this number means (empty where it means none)
+abbrev pub host_from : {A : Type 0} → List (Node A) → ℕ → List ℕ
+host_from [] number = []
+host_from (node ∷ nodes) number = cond (node.number == number) (string_bytes node.host) (host_from nodes number)
+
+-- the address that a client sends to
+abbrev pub address_of_client : {A : Type 0} → Network A → Client A → Address
+address_of_client net client = record { host = host_from net.relays client.relay; port = client.port }
+
+-- the address of a server
+abbrev pub address_of_server : {A : Type 0} → Server A → Address
+address_of_server server = record { host = string_bytes server.host; port = server.port }
+
+-- the relay that the client's number means has a source of its port
+abbrev pub enters : {A : Type 0} → List (Node A) → Client A → Bool
+enters nodes client = option_map_or (λ node. is_some (source_of_port node.relay client.port)) (node_of nodes client.relay) false
+
+-- each client sends to a source
+abbrev pub all_enter : {A : Type 0} → List (Node A) → List (Client A) → Bool
+all_enter nodes clients = list_all (enters nodes) clients
+
+-- Outputs and their buffers.
+
+-- all outputs of a relay, in the order of the text
+abbrev pub outputs_of : {A : Type 0} → Relay A → List (Output A)
+outputs_of relay = flat_map (λ scope. flat_map (λ rule. rule.outputs.items) scope.matches.items) relay.scopes.items
+
+-- the output of this buffer of a relay; of equal numbers the first is meant
+abbrev pub output_of : {A : Type 0} → Relay A → ℕ → Option (Output A)
+output_of relay buffer = find (λ o. is_numbered (number_of o) buffer) (outputs_of relay)
+
+-- the output of this buffer of the relay at this place
+abbrev pub output_at : {A : Type 0} → Network A → ℕ → ℕ → Option (Output A)
+output_at net place buffer = option_and_then (λ relay. output_of relay buffer) (relay_at net place)
+
+-- the chunks of this buffer are in memory
+abbrev pub is_in_memory : {A : Type 0} → Network A → ℕ → ℕ → Bool
+is_in_memory net place buffer = option_map_or (λ settings. is_memory settings.kind) (option_and_then settings_of (output_at net place buffer)) false

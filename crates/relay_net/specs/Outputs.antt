@@ -1,0 +1,73 @@
+-- What an output's settings say.
+use Rattle.std.specs.Prelude.{◌≡◌, ◌==◌, ◌&&◌, not, ℕ, Bool, true, false, List, [], Option, Some, None}
+use Rattle.std.specs.Option.{option_map_or}
+use Rattle.relay_conf.specs.declared.buffer.BufferKind.{BufferKind}
+use Rattle.relay_conf.specs.declared.buffer.BufferKind.TheVariants as kind
+use Rattle.relay_conf.specs.declared.buffer.BufferSettings.{BufferSettings}
+use Rattle.relay_conf.specs.declared.buffer.OverflowAction.{OverflowAction}
+use Rattle.relay_conf.specs.declared.buffer.OverflowAction.TheVariants.{ThrowException, DropOldestChunk}
+use Rattle.relay_conf.specs.declared.output.Output.{Output}
+use Rattle.relay_conf.specs.declared.output.Output.TheVariants as output
+use Rattle.relay_conf.specs.declared.output.Server.{Server}
+
+-- the number of an output's buffer, if it has one
+abbrev pub number_of : {A : Type 0} → Output A → Option ℕ
+number_of (output.Null line) = None
+number_of (output.Relabel target line) = None
+number_of (output.Forward settings line) = Some settings.number.0
+number_of (output.File settings line) = Some settings.number.0
+
+-- the number is there and is this buffer
+abbrev pub is_numbered : Option ℕ → ℕ → Bool
+is_numbered None buffer = false
+is_numbered (Some number) buffer = number == buffer
+
+-- the settings of an output's buffer
+abbrev pub settings_of : {A : Type 0} → Output A → Option (BufferSettings A)
+settings_of (output.Null line) = None
+settings_of (output.Relabel target line) = None
+settings_of (output.Forward settings line) = Some settings.buffer
+settings_of (output.File settings line) = Some settings.buffer
+
+-- the servers that an output sends to
+abbrev pub servers_of : {A : Type 0} → Output A → List (Server A)
+servers_of (output.Null line) = []
+servers_of (output.Relabel target line) = []
+servers_of (output.Forward settings line) = settings.servers.items
+servers_of (output.File settings line) = []
+
+-- the chunks are in memory
+abbrev pub is_memory : {A : Type 0} → BufferKind A → Bool
+is_memory kind.Memory = true
+is_memory (kind.File path) = false
+
+-- the output has a buffer, whose chunks are in memory
+abbrev pub has_memory : {A : Type 0} → Output A → Bool
+has_memory o = option_map_or (λ settings. is_memory settings.kind) (settings_of o) false
+
+-- the chunks outlive a restart
+abbrev pub IsInFile : {A : Type 0} → BufferKind A → Type 0
+IsInFile kind.Memory = ⊥
+IsInFile (kind.File path) = Unit {0}
+
+-- A buffer that lets no chunk go before it is delivered.
+pub record KeepsChunks {A : Type 0} (settings : BufferSettings A) : Type 0 where
+  pub in_file : IsInFile settings.kind
+  pub for_ever : settings.retry.forever ≡ true
+  pub refuses : settings.overflow_action ≡ ThrowException
+
+-- An output that lets go of nothing before it is delivered.
+abbrev pub Keeps : {A : Type 0} → Output A → Type 0
+Keeps (output.Null line) = ⊥
+Keeps (output.Relabel target line) = ⊥
+Keeps (output.Forward settings line) = KeepsChunks settings.buffer × (settings.require_ack_response ≡ true)
+Keeps (output.File settings line) = KeepsChunks settings.buffer
+
+-- a full buffer refuses what comes
+abbrev pub is_refusing : OverflowAction → Bool
+is_refusing ThrowException = true
+is_refusing DropOldestChunk = false
+
+-- whether a buffer lets no chunk go before it is delivered
+abbrev pub keeps_chunks : {A : Type 0} → BufferSettings A → Bool
+keeps_chunks settings = not (is_memory settings.kind) && (settings.retry.forever && is_refusing settings.overflow_action)
