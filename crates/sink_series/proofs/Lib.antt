@@ -1,0 +1,6 @@
+pub mod Items
+pub mod Contents
+pub mod Stays
+pub mod Writes
+pub mod Made
+pub mod Onward

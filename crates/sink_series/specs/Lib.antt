@@ -1,0 +1,9 @@
+pub mod Events
+pub mod Names
+pub mod Views
+pub mod Folders
+pub mod Keeping
+pub mod Faults
+pub mod Still
+pub mod Begun
+pub mod Laws

@@ -1,0 +1,21 @@
+//! The files of a sink: events are written to the newest, and the content of all is read in order.
+#![tactic(auto)]
+
+mod begun;
+mod event;
+mod fault;
+mod files;
+mod laws;
+mod reading;
+mod series;
+mod stored;
+mod writing;
+
+pub use event::SinkEvent;
+pub use fault::SeriesFault;
+pub use laws::{cuts_whole, holds_one, made_adds_nothing, safe_is_content, safe_over_stop};
+pub use series::Series;
+pub use stored::Stored;
+
+#[cfg(test)]
+mod tests;

@@ -1,0 +1,87 @@
+//! The content of bytes.
+ghost use Rattle.std.specs.Prelude.{◌≡◌, ℕ, ◌≤◌, List, ◌∷◌, ◌++◌, length, IfOk, IsSomeAnd, MatchOption};
+ghost use Rattle.sink_series.specs.Events.{Event, IsEvent, item_of, BeginsNone, Holds};
+
+use crate::event::SinkEvent;
+use crate::writing::put_item;
+use event_modes::Entries;
+use msgpack_bytes::{array_of, next_item, next_text};
+use std::alloc::{AllocError, Allocator};
+
+/// The most bytes of a tag.
+const LONGEST_TAG: usize = 1024;
+
+/// The content of the bytes.
+pub(crate) fn read_events<A: Allocator + Copy>(
+    alloc: A,
+    bytes: &[u8],
+) -> Result<Vec<SinkEvent<A>, A>, AllocError>
+    ensures { IfOk result (λ events. Holds bytes.now events.items) }
+{
+    let mut events = Vec::new(alloc);
+    let mut rest = bytes;
+    while let Some(first) = next_event(alloc, rest)? {
+        let (event, behind) = first;
+        events.push(event)?;
+        rest = behind;
+    }
+    Ok(events)
+}
+
+// The event whose item the bytes begin with, and what is behind it. What is read counts where it would be written so.
+fn next_event<'a, A: Allocator + Copy>(
+    alloc: A,
+    bytes: &'a [u8],
+) -> Result<Option<(SinkEvent<A>, &'a [u8])>, AllocError>
+    ensures { IfOk result (λ found. MatchOption found (BeginsNone bytes.now)
+        (λ first. IsEvent first.0 × (bytes.now ≡ item_of first.0 ++ first.1.now))) }
+{
+    let Some((tag, body)) = parts_of(bytes) else {
+        return Ok(None);
+    };
+    let Some(event) = event_of(alloc, tag, body)? else {
+        return Ok(None);
+    };
+    let mut item = Vec::new(alloc);
+    put_item(&mut item, event.tag(), event.entry())?;
+    match bytes.strip_prefix(item.as_slice()) {
+        Some(rest) => Ok(Some((event, rest))),
+        None => Ok(None),
+    }
+}
+
+// The tag, and the time with the record, of the item that the bytes begin with.
+fn parts_of(bytes: &[u8]) -> Option<(&[u8], &[u8])>
+    ensures { (event : Event) (rest : List ℕ) → IsEvent event → bytes.now ≡ item_of event ++ rest
+        → IsSomeAnd result (λ found. (found.0.now ≡ event.tag) × (0x92 ∷ found.1.now ≡ event.entry)) }
+{
+    let behind = array_of(bytes, 3)?;
+    let (tag, content) = next_text(behind)?;
+    let (_, after) = next_item(content)?;
+    let (_, rest) = next_item(after)?;
+    Some((tag, content.split_at(content.len() - rest.len()).0))
+}
+
+// The event of a tag, and of a time with a record, if it is one.
+fn event_of<A: Allocator + Copy>(
+    alloc: A,
+    tag: &[u8],
+    body: &[u8],
+) -> Result<Option<SinkEvent<A>>, AllocError>
+    ensures { IfOk result (λ found. MatchOption found (IsEvent (record { tag = tag.now; entry = 0x92 ∷ body.now }) → ⊥)
+        (λ event. IsEvent event × (event ≡ record { tag = tag.now; entry = 0x92 ∷ body.now }))) }
+{
+    if tag.len() > LONGEST_TAG {
+        return Ok(None);
+    }
+    let mut entry = Vec::with_capacity(alloc, 1 + body.len())?;
+    entry.push(0x92)?;
+    entry.extend_from_slice(body)?;
+    match Entries::read(alloc, &entry, 1)? {
+        None => Ok(None),
+        Some(_stored) => {
+            let tag = Vec::from_slice(alloc, tag)?;
+            Ok(Some(SinkEvent { tag, entry }))
+        }
+    }
+}
