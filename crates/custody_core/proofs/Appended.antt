@@ -3,10 +3,8 @@ use Rattle.std.proofs.Common.{◌≡◌, ◌≢◌, ℕ, ◌+◌, ◌==◌, ◌�
 use Rattle.std.proofs.lemmas.Option.{same_Some}
 use Rattle.std.proofs.lemmas.Bool.{eqb-true, eq-eqb}
 use Rattle.std.proofs.lemmas.List.Elements.{Contains-append_left, Contains-append_right}
-use Rattle.custody_core.specs.declared.chunk.Stage.TheVariants.{Staged}
-use Rattle.custody_core.specs.World.{Chunk, BufferState}
-use Rattle.custody_core.specs.Steps.{CanTake, chunk_with, next_after, appended_to}
-use Rattle.custody_core.specs.Custody.{IsInChunk}
+use Rattle.custody_store.specs.declared.chunk.Stage.TheVariants.{Staged}
+use Rattle.custody_store.specs.Buffers.{Chunk, BufferState, CanTake, chunk_with, next_after, appended_to, IsInChunk}
 use Rattle.custody_core.proofs.Kept.{event_of, HoldsAll, IsSound, KeepsAll, some_and, and_some}
 
 -- the buffer with this chunk and this next serial

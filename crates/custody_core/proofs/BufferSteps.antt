@@ -6,15 +6,15 @@ use Rattle.std.proofs.lemmas.List.Elements.{Contains-append_right}
 use Rattle.relay_conf.specs.declared.buffer.BufferSettings.{BufferSettings}
 use Rattle.relay_conf.specs.declared.output.Output.{Output}
 use Rattle.relay_conf.specs.declared.output.Output.TheVariants as output
-use Rattle.custody_core.specs.declared.chunk.Stage.{Stage}
-use Rattle.custody_core.specs.declared.chunk.Stage.TheVariants.{Staged, Queued, Claimed}
-use Rattle.custody_core.specs.declared.net.Net.{Net}
+use Rattle.custody_store.specs.declared.chunk.Stage.{Stage}
+use Rattle.custody_store.specs.declared.chunk.Stage.TheVariants.{Staged, Queued, Claimed}
+use Rattle.relay_net.specs.Network.{Network, place_of, output_at}
+use Rattle.relay_net.specs.Outputs.{is_memory, is_refusing, keeps_chunks}
+use Rattle.custody_store.specs.Buffers.{Event, Chunk, BufferState, with_chunk, events_of}
+use Rattle.custody_core.specs.World.{World, with_buffer}
+use Rattle.custody_core.specs.Steps.{OfChunk, Allowed, effect, output_named, with_named, with_stored, Stores, DropsOldest}
 use Rattle.step_lines.specs.declared.step.ChunkName.{ChunkName}
 use Rattle.step_lines.specs.declared.step.Step.TheVariants as step
-use Rattle.custody_core.specs.Network.{place_of, output_at}
-use Rattle.custody_core.specs.Settings.{is_memory, is_refusing, keeps_chunks}
-use Rattle.custody_core.specs.World.{Event, Chunk, BufferState, World, with_buffer, with_chunk}
-use Rattle.custody_core.specs.Steps.{OfChunk, Allowed, effect, events_of, output_named, with_named, with_stored, Stores, DropsOldest}
 use Rattle.custody_core.proofs.Kept.{event_of, IsStored, StaysSound, chunk_stays, chunk_goes, sink_grows}
 use Rattle.custody_core.proofs.Invariant.{IsKept, IsNamed, named, buffer_changes, at_buffer}
 use Rattle.custody_core.proofs.Lists.{map-contains}
@@ -31,7 +31,7 @@ keeps_parts settings h =
     go true e = sym e
     go false e = refl
 
-module _ {A : Type 0} (net : Net A) (s : Single net.relays.items net.clients.items) (w : World) (kept : IsKept net w) where
+module _ {A : Type 0} (net : Network A) (s : Single net.relays net.clients) (w : World) (kept : IsKept net w) where
   -- A named chunk is changed, in a way that keeps the one buffer sound.
   changes : (name : ChunkName) (stage : Stage) (P : Chunk → Type 0) (change : Chunk → Option Chunk) (n : IsNamed net w name stage P)
       → (name.buffer ≡ 0 → (w.buffers 0 0).chunks name.serial ≡ Some n.chunk → StaysSound (w.buffers 0 0) (with_chunk name.serial (change n.chunk) (w.buffers 0 0)))
@@ -112,7 +112,7 @@ all_stored sink chunk event inside =
     Contains-append_right sink (events_of chunk.tag chunk.entries) event
     (rw (← same) (map-contains (λ entry. event_of chunk.tag entry) chunk.entries event.entry inside.entry))
 
-written_at : {A : Type 0} (net : Net A) (s : Single net.relays.items net.clients.items) (w : World) (kept : IsKept net w) (name : ChunkName) (P : Chunk → Type 0) (n : IsNamed net w name Claimed P)
+written_at : {A : Type 0} (net : Network A) (s : Single net.relays net.clients) (w : World) (kept : IsKept net w) (name : ChunkName) (P : Chunk → Type 0) (n : IsNamed net w name Claimed P)
     (place : place_of net name.relay ≡ Some 0) (chunk : Chunk) → chunk.stage ≡ Claimed → P chunk → name.buffer ≡ 0 → (w.buffers 0 name.buffer).chunks name.serial ≡ Some chunk → IsKept net (effect net w (step.Write name))
 written_at net s w kept name P n place chunk claimed holds zero_is is_chunk =
     let at : (w.buffers 0 0).chunks name.serial ≡ Some chunk = ap (λ (b : ℕ). (w.buffers 0 b).chunks name.serial) (sym zero_is) ∙ is_chunk in
@@ -128,14 +128,14 @@ written_at net s w kept name P n place chunk claimed holds zero_is is_chunk =
     (λ yes. (λ staged. (let f : Claimed ≡ Staged = sym claimed ∙ staged in cc), λ event inside. rw sink_is (all_stored (w.buffers 0 0).sink chunk event (record { tag = inside.tag; entry = inside.entry })))))
 
 -- All entries of a claimed chunk are stored, which is evidence.
-pub written : {A : Type 0} (net : Net A) (s : Single net.relays.items net.clients.items) (w : World) → IsKept net w → (name : ChunkName) → Allowed net w (step.Write name) → IsKept net (effect net w (step.Write name))
+pub written : {A : Type 0} (net : Network A) (s : Single net.relays net.clients) (w : World) → IsKept net w → (name : ChunkName) → Allowed net w (step.Write name) → IsKept net (effect net w (step.Write name))
 written net s w kept name h =
     let P : Chunk → Type 0 = λ _. IsSomeAnd (output_named net name) Stores in
     let n = named net s w name Claimed P h in
     written_at net s w kept name P n n.place n.chunk n.stage_is n.holds (output_asked net s w kept name Stores n.place n.holds).0 n.is_chunk
 
 -- A buffer that keeps lets no oldest chunk go.
-pub never_oldest : {A : Type 0} (net : Net A) (s : Single net.relays.items net.clients.items) (w : World) → IsKept net w → (relay buffer : ℕ) → Allowed net w (step.Oldest relay buffer) → ⊥
+pub never_oldest : {A : Type 0} (net : Network A) (s : Single net.relays net.clients) (w : World) → IsKept net w → (relay buffer : ℕ) → Allowed net w (step.Oldest relay buffer) → ⊥
 never_oldest net s w kept relay buffer h =
     let r : IsSomeAnd (cond (s.node.number == relay) (Some 0) None) (λ place. IsSomeAnd (output_at net place buffer) DropsOldest × ((serial : ℕ) × IsSomeAnd ((w.buffers place buffer).chunks serial) (λ chunk. chunk.stage ≡ Queued))) = rw (place_is net s relay) at h in
     go (s.node.number == relay) r

@@ -1,20 +1,20 @@
 -- After every list of steps nothing is lost.
 use Rattle.std.proofs.Common.{◌≡◌, true, List, [], ◌∷◌, refl, arith}
 use Rattle.std.proofs.lemmas.List.Elements.{All-contains_itself}
-use Rattle.custody_core.specs.declared.net.Net.{Net}
-use Rattle.step_lines.specs.declared.step.Step.{Step}
-use Rattle.step_lines.specs.declared.step.Step.TheVariants as step
+use Rattle.relay_net.specs.Network.{Network}
 use Rattle.custody_core.specs.World.{World, opening}
 use Rattle.custody_core.specs.Steps.{Allowed, effect, Steps}
+use Rattle.custody_core.specs.Custody.{NothingIsLost}
+use Rattle.step_lines.specs.declared.step.Step.{Step}
+use Rattle.step_lines.specs.declared.step.Step.TheVariants as step
 use Rattle.custody_core.specs.SingleFile.{is_single_file_net}
 use Rattle.custody_core.specs.Premise.{ClientsFit}
-use Rattle.custody_core.specs.Custody.{NothingIsLost}
 use Rattle.custody_core.proofs.Invariant.{IsKept}
 use Rattle.custody_core.proofs.BufferSteps.{enqueued, claimed, given_back, purged, parted, written, never_seen, never_done, never_forwarded, never_discarded, never_oldest}
 use Rattle.custody_core.proofs.WorldSteps.{sent, begun, appended, acknowledged, abandoned, never_foreign, restarted}
 use Rattle.custody_core.proofs.Shape.{Single, single}
 
-module _ {A : Type 0} (net : Net A) (s : Single net.relays.items net.clients.items) (fit : ClientsFit net) where
+module _ {A : Type 0} (net : Network A) (s : Single net.relays net.clients) (fit : ClientsFit net) where
   -- each step keeps what every run keeps
   step_keeps : (w : World) (next : Step A) → IsKept net w → Allowed net w next → IsKept net (effect net w next)
   step_keeps w (step.Send client tag entries) kept h = sent net s w kept client tag entries h
@@ -41,7 +41,7 @@ module _ {A : Type 0} (net : Net A) (s : Single net.relays.items net.clients.ite
   run_keeps [] before after kept is = rw is kept
   run_keeps (next ∷ steps) before after kept run = run_keeps steps (effect net before next) after (step_keeps before next kept run.1) run.2
 
-opening_kept : {A : Type 0} (net : Net A) → IsKept net opening
+opening_kept : {A : Type 0} (net : Network A) → IsKept net opening
 opening_kept net = record {
   sound = record { below = λ serial le. refl; evident = λ serial chunk is yes. absurd (cc) };
   messages = λ k m e. absurd (cc);
@@ -50,7 +50,7 @@ opening_kept net = record {
 }
 
 -- Every event that was acknowledged to a client is held after every list of steps.
-pub kept : {A : Type 0} (net : Net A) → is_single_file_net net.relays.items net.clients.items ≡ true → ClientsFit net → (steps : List (Step A)) (w : World) → Steps net opening steps w → NothingIsLost w
+pub kept : {A : Type 0} (net : Network A) → is_single_file_net net.relays net.clients ≡ true → ClientsFit net → (steps : List (Step A)) (w : World) → Steps net opening steps w → NothingIsLost w
 kept net shape fit steps w run k d less =
-    let after = run_keeps net (single net.relays.items net.clients.items shape) fit steps opening w (opening_kept net) run in
+    let after = run_keeps net (single net.relays net.clients shape) fit steps opening w (opening_kept net) run in
     (0, 0, after.acknowledged _ (All-contains_itself w.acknowledged k d less))

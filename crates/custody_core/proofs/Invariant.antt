@@ -3,14 +3,18 @@ use Rattle.std.proofs.Common.{◌≡◌, ℕ, ◌==◌, Bool, true, false, cond,
 use Rattle.std.proofs.lemmas.Option.{same_Some}
 use Rattle.std.proofs.lemmas.Bool.{eqb-true}
 use Rattle.std.specs.Option.{option_and_then}
-use Rattle.custody_core.specs.declared.chunk.Stage.{Stage}
-use Rattle.custody_core.specs.declared.net.Client.{Client}
-use Rattle.custody_core.specs.declared.net.Net.{Net}
+use Rattle.custody_store.specs.declared.chunk.Stage.{Stage}
+use Rattle.relay_net.specs.declared.node.Client.{Client}
+use Rattle.relay_net.specs.Network.{Network, place_of, address_of_client}
+use Rattle.relay_net.specs.declared.address.Entrance.{Entrance}
+use Rattle.route_graph.specs.Ways.{HaveTag}
+use Rattle.custody_store.specs.Buffers.{Event, Chunk, BufferState, events_of, Holds}
+use Rattle.message_book.specs.declared.sender.Sender.{Sender}
+use Rattle.message_book.specs.Book.{Message, Delivery, newly_acknowledged}
+use Rattle.custody_core.specs.World.{World, with_buffer}
+use Rattle.custody_core.specs.Steps.{OfChunk}
+use Rattle.message_book.specs.declared.sender.Sender.TheVariants as sender
 use Rattle.step_lines.specs.declared.step.ChunkName.{ChunkName}
-use Rattle.custody_core.specs.Network.{Entrance, place_of, address_of_client, HaveTag}
-use Rattle.custody_core.specs.World.{Event, Chunk, BufferState, Sender, from_client, from_chunk, Message, Delivery, World, with_buffer}
-use Rattle.custody_core.specs.Steps.{OfChunk, events_of, newly_acknowledged}
-use Rattle.custody_core.specs.Custody.{Holds}
 use Rattle.custody_core.proofs.Kept.{event_of, HoldsAll, IsSound, KeepsAll, StaysSound, stays_same}
 use Rattle.custody_core.proofs.Lists.{get-set, get-after_set}
 use Rattle.custody_core.proofs.Shape.{Single, place_is}
@@ -20,11 +24,11 @@ abbrev pub Each : {X : Type 0} → (X → Type 0) → List X → Type 0
 Each P xs = (k : ℕ) (x : _) → slice_get xs k ≡ Some x → P x
 
 -- A client sent the message to its source, with a tag of its patterns.
-pub record IsFromClient {A : Type 0} (net : Net A) (message : Message) : Type 0 where
+pub record IsFromClient {A : Type 0} (net : Network A) (message : Message) : Type 0 where
   pub client : ℕ
-  pub sender : message.sender ≡ from_client client
+  pub sender : message.sender ≡ sender.Client client
   pub found : Client A
-  pub is_found : slice_get net.clients.items client ≡ Some found
+  pub is_found : slice_get net.clients client ≡ Some found
   pub has : HaveTag found.patterns.items message.tag
   pub address : message.address ≡ address_of_client net found
 
@@ -39,7 +43,7 @@ pub record IsDelivered (state : BufferState) (messages : List Message) (delivery
   pub is_message : slice_get messages delivery.message ≡ Some message
   pub held : (buffer : ℕ) → Contains delivery.appended buffer → HoldsAll state message.tag message.entries
 
-pub record IsKept {A : Type 0} (net : Net A) (w : World) : Type 0 where
+pub record IsKept {A : Type 0} (net : Network A) (w : World) : Type 0 where
   pub sound : IsSound (w.buffers 0 0)
   pub messages : Each (IsFromClient net) w.messages
   pub deliveries : Each (IsDelivered (w.buffers 0 0) w.messages) w.deliveries
@@ -72,7 +76,7 @@ extends_answered messages number message at k m e = elim (get-after_set messages
       (record message { acknowledged = true }, h.1, ap (λ (x : Message). x.tag) same, ap (λ (x : Message). x.entries) same))
 ]
 
-pub answered_messages : {A : Type 0} (net : Net A) (messages : List Message) (number : ℕ) (message : Message) → slice_get messages number ≡ Some message
+pub answered_messages : {A : Type 0} (net : Network A) (messages : List Message) (number : ℕ) (message : Message) → slice_get messages number ≡ Some message
     → Each (IsFromClient net) messages → Each (IsFromClient net) (slice_set messages number (record message { acknowledged = true }))
 answered_messages net messages number message at each k m e = elim (get-set messages (record message { acknowledged = true }) m number k e) [
   | inl h ↦ each k m h
@@ -80,7 +84,7 @@ answered_messages net messages number message at each k m e = elim (get-set mess
 ]
 
 -- only the buffers changed
-pub buffer_changes : {A : Type 0} (net : Net A) (w : World) (buffers : ℕ → ℕ → BufferState) → StaysSound (w.buffers 0 0) (buffers 0 0) → IsKept net w → IsKept net (record w { buffers = buffers })
+pub buffer_changes : {A : Type 0} (net : Network A) (w : World) (buffers : ℕ → ℕ → BufferState) → StaysSound (w.buffers 0 0) (buffers 0 0) → IsKept net w → IsKept net (record w { buffers = buffers })
 buffer_changes net w buffers stays kept =
     let s = stays kept.sound in
     record {
@@ -100,7 +104,7 @@ at_buffer w buffer change stays =
     ] refl
 
 -- a live chunk of this name, at this stage, of which P holds
-pub record IsNamed {A : Type 0} (net : Net A) (w : World) (name : ChunkName) (stage : Stage) (P : Chunk → Type 0) : Type 0 where
+pub record IsNamed {A : Type 0} (net : Network A) (w : World) (name : ChunkName) (stage : Stage) (P : Chunk → Type 0) : Type 0 where
   pub place : place_of net name.relay ≡ Some 0
   pub chunk : Chunk
   pub is_chunk : (w.buffers 0 name.buffer).chunks name.serial ≡ Some chunk
@@ -111,7 +115,7 @@ first_place : (b : Bool) (place : ℕ) → cond b (Some 0) None ≡ Some place �
 first_place true place e = sym (same_Some 0 place e)
 first_place false place e = absurd (cc)
 
-named_at : {A : Type 0} (net : Net A) (w : World) (name : ChunkName) (stage : Stage) (P : Chunk → Type 0) (o : Option ℕ) → place_of net name.relay ≡ o → (b : Bool) → place_of net name.relay ≡ cond b (Some 0) None
+named_at : {A : Type 0} (net : Network A) (w : World) (name : ChunkName) (stage : Stage) (P : Chunk → Type 0) (o : Option ℕ) → place_of net name.relay ≡ o → (b : Bool) → place_of net name.relay ≡ cond b (Some 0) None
     → IsSomeAnd (option_and_then (λ place. (w.buffers place name.buffer).chunks name.serial) o) (λ chunk. (chunk.stage ≡ stage) × P chunk) → IsNamed net w name stage P
 named_at net w name level P None at b is h = absurd h
 named_at net w name level P (Some place) at b is h =
@@ -124,9 +128,9 @@ named_at net w name level P (Some place) at b is h =
         record { place = at ∙ ap Some zero_is; chunk = chunk; is_chunk = rw zero_is at e; stage_is = f.0; holds = f.1 }
 
 pub newly_from : (sender : Sender) (before : Bool) (tag : List ℕ) (entries : List (List ℕ)) (event : Event) → Contains (newly_acknowledged sender before tag entries) event → Contains (events_of tag entries) event
-newly_from (from_client client) false tag entries event inside = inside
-newly_from (from_client client) true tag entries event inside = absurd (omega arith)
-newly_from (from_chunk place buffer serial) before tag entries event inside = absurd (omega arith)
+newly_from (sender.Client client) false tag entries event inside = inside
+newly_from (sender.Client client) true tag entries event inside = absurd (omega arith)
+newly_from (sender.Chunk place buffer serial) before tag entries event inside = absurd (omega arith)
 
-pub named : {A : Type 0} (net : Net A) (s : Single net.relays.items net.clients.items) (w : World) (name : ChunkName) (stage : Stage) (P : Chunk → Type 0) → OfChunk net w name stage P → IsNamed net w name stage P
+pub named : {A : Type 0} (net : Network A) (s : Single net.relays net.clients) (w : World) (name : ChunkName) (stage : Stage) (P : Chunk → Type 0) → OfChunk net w name stage P → IsNamed net w name stage P
 named net s w name level P h = named_at net w name level P (place_of net name.relay) refl (s.node.number == name.relay) (place_is net s name.relay) h

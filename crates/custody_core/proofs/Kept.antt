@@ -3,10 +3,8 @@ use Rattle.std.proofs.Common.{◌≡◌, ◌≢◌, ℕ, ◌==◌, ◌≤◌, tr
 use Rattle.std.proofs.lemmas.Option.{same_Some}
 use Rattle.std.proofs.lemmas.Bool.{eqb-true, eq-eqb}
 use Rattle.std.proofs.lemmas.List.Elements.{Contains-append_left}
-use Rattle.custody_core.specs.declared.chunk.Stage.TheVariants.{Staged}
-use Rattle.custody_core.specs.World.{Event, Chunk, BufferState, with_chunk}
-use Rattle.custody_core.specs.Steps.{restarted, started_again}
-use Rattle.custody_core.specs.Custody.{IsInChunk, Holds}
+use Rattle.custody_store.specs.declared.chunk.Stage.TheVariants.{Staged}
+use Rattle.custody_store.specs.Buffers.{Event, Chunk, BufferState, with_chunk, restarted, started_again, IsInChunk, Holds}
 
 -- an entry under a tag
 abbrev pub event_of : List ℕ → List ℕ → Event

@@ -5,15 +5,18 @@ use Rattle.std.proofs.lemmas.Bool.{and_parts, eqb-true}
 use Rattle.std.specs.Option.{option_and_then, option_map_or}
 use Rattle.std.proofs.lemmas.List.Elements.{All-contains_itself}
 use Rattle.relay_conf.specs.declared.output.Server.{Server}
-use Rattle.custody_core.specs.declared.chunk.Stage.TheVariants.{Queued, Claimed}
-use Rattle.custody_core.specs.declared.net.Net.{Net}
+use Rattle.custody_store.specs.declared.chunk.Stage.TheVariants.{Queued, Claimed}
+use Rattle.relay_net.specs.Network.{Network, place_of, entrance, address_of_client, address_of_server, is_in_memory}
+use Rattle.custody_store.specs.Buffers.{Event, Chunk, BufferState, with_chunk, events_of, started_again, without_oldest, appended_to}
+use Rattle.message_book.specs.Book.{Message, Delivery}
+use Rattle.message_book.specs.declared.sender.Sender.{Sender}
+use Rattle.custody_core.specs.World.{World, opening, with_buffer}
+use Rattle.custody_core.specs.Steps.{Allowed, effect, Steps, CanAppend, with_named, with_stored, with_delivery, forwarded_to, chunk_named}
+use Rattle.custody_core.specs.Custody.{IsOriginOf, NothingIsMadeUp}
+use Rattle.message_book.specs.declared.sender.Sender.TheVariants as sender
 use Rattle.step_lines.specs.declared.step.ChunkName.{ChunkName}
 use Rattle.step_lines.specs.declared.step.Step.{Step}
 use Rattle.step_lines.specs.declared.step.Step.TheVariants as step
-use Rattle.custody_core.specs.Network.{place_of, entrance, address_of_client, address_of_server}
-use Rattle.custody_core.specs.World.{Event, Chunk, BufferState, Message, Delivery, Sender, World, opening, from_client, from_chunk, with_buffer, with_chunk}
-use Rattle.custody_core.specs.Steps.{events_of, started_again, is_in_memory, without_oldest, Allowed, effect, Steps, CanAppend, with_named, with_stored, with_delivery, forwarded_to, chunk_named, appended_to}
-use Rattle.custody_core.specs.Custody.{IsOriginOf, NothingIsMadeUp}
 use Rattle.custody_core.proofs.Kept.{event_of}
 use Rattle.custody_core.proofs.Lists.{get-push, get-more, get-set, get-after_set, get-contains, contains-take}
 use Rattle.custody_core.proofs.Sourced.{AllSent, IsSourced, Follows, sourced_more, chunk_changes, sink_takes, takes_sent, oldest_goes, starts_again}
@@ -47,7 +50,7 @@ follows_answered messages number message at event is = elim (get-after_set messa
       record { place = is.place; message = record message { acknowledged = true }; there = h.1; origin = record { client = o.client; tag = o.tag; entry = o.entry } })
 ]
 
-module _ {A : Type 0} (net : Net A) (w : World) (is : IsHonest w) where
+module _ {A : Type 0} (net : Network A) (w : World) (is : IsHonest w) where
   -- one buffer changes
   buffer_honest : (place buffer : ℕ) (change : BufferState → BufferState) → IsSourced w.messages (change (w.buffers place buffer)) → IsHonest (with_buffer w place buffer change)
   buffer_honest place buffer change changed = record {
@@ -97,9 +100,9 @@ module _ {A : Type 0} (net : Net A) (w : World) (is : IsHonest w) where
   ]
 
   send_honest : (client : ℕ) (tag : List ℕ) (entries : _) → IsHonest (effect net w (step.Send client tag entries))
-  send_honest client tag entries = honest_or w _ (slice_get net.clients.items client) is (λ found e.
+  send_honest client tag entries = honest_or w _ (slice_get net.clients client) is (λ found e.
       messages_honest (w.messages ++ _ ∷ []) w.buffers (follows_more w.messages (_ ∷ [])) is.buffers
-      (pushed_each (record { sender = from_client client; address = address_of_client net found; tag = tag; entries = map (λ entry. entry.items) entries.items; acknowledged = false })
+      (pushed_each (record { sender = sender.Client client; address = address_of_client net found; tag = tag; entries = map (λ entry. entry.items) entries.items; acknowledged = false })
       (λ entry inside. record { place = length w.messages; message = _; there = last-get w.messages _; origin = record { client = tt; tag = refl; entry = inside } }))
       w.deliveries w.acknowledged)
 
@@ -141,7 +144,7 @@ module _ {A : Type 0} (net : Net A) (w : World) (is : IsHonest w) where
   })
 
 -- a chunk's entries, which were sent, are sent on to a server, if that is there
-sent_on : {A : Type 0} (net : Net A) (w : World) → IsHonest w → (sender : Sender) (chunk : Chunk) → AllSent w.messages chunk.tag chunk.entries → (o : Option (Server A))
+sent_on : {A : Type 0} (net : Network A) (w : World) → IsHonest w → (sender : Sender) (chunk : Chunk) → AllSent w.messages chunk.tag chunk.entries → (o : Option (Server A))
     → (buffers : ℕ → ℕ → BufferState) → ((place buffer : ℕ) → IsSourced w.messages (buffers place buffer))
     → IsHonest (record { buffers = buffers; messages = forwarded_to w.messages sender chunk o; deliveries = w.deliveries; acknowledged = w.acknowledged })
 sent_on net w is sender chunk sent None buffers sourced = record { messages = is.messages; buffers = sourced }
@@ -151,7 +154,7 @@ sent_on net w is sender chunk sent (Some server) buffers sourced =
     (pushed_each net w is next (λ entry inside. follows_more w.messages (next ∷ []) (event_of chunk.tag entry) (sent entry inside))) w.deliveries w.acknowledged
 
 -- the entries of a chunk that is forwarded were sent
-forward_honest : {A : Type 0} (net : Net A) (w : World) → IsHonest w → (name : ChunkName) (server : ℕ) → IsHonest (effect net w (step.Forward name server))
+forward_honest : {A : Type 0} (net : Network A) (w : World) → IsHonest w → (name : ChunkName) (server : ℕ) → IsHonest (effect net w (step.Forward name server))
 forward_honest net w is name server =
     honest_or w _ (place_of net name.relay) is (λ place e.
     honest_or w _ (chunk_named net w name) is (λ chunk f.
@@ -162,9 +165,9 @@ forward_honest net w is name server =
     (λ old new same. (let q = same_Some (record old { forwarded = true }) new same in (ap (λ (x : Chunk). x.tag) (sym q), ap (λ (x : Chunk). x.entries) (sym q))))) in
     let at : (w.buffers place name.buffer).chunks name.serial ≡ Some chunk = rw e at f in
     let is_named : with_named net w name (λ c. Some (record c { forwarded = true })) ≡ with_buffer w place name.buffer change = rw e refl in
-    rw is_named (sent_on net w is (from_chunk place name.buffer name.serial) chunk ((is.buffers place name.buffer).chunks name.serial chunk at) _ _ changed.buffers))))
+    rw is_named (sent_on net w is (sender.Chunk place name.buffer name.serial) chunk ((is.buffers place name.buffer).chunks name.serial chunk at) _ _ changed.buffers))))
 
-module _ {A : Type 0} (net : Net A) (w : World) (is : IsHonest w) where
+module _ {A : Type 0} (net : Network A) (w : World) (is : IsHonest w) where
   -- a chunk's stage or its evidence changes
   marks : (name : ChunkName) (mark : Chunk → Chunk) → ((c : Chunk) → ((mark c).tag ≡ c.tag) × ((mark c).entries ≡ c.entries)) → IsHonest (with_named net w name (λ c. Some (mark c)))
   marks name mark same = named_honest net w is name (λ c. Some (mark c))
@@ -174,7 +177,7 @@ module _ {A : Type 0} (net : Net A) (w : World) (is : IsHonest w) where
   goes name = named_honest net w is name (λ c. None) (λ old new e. absurd (cc))
 
 -- each step leaves such a world
-step_honest : {A : Type 0} (net : Net A) (w : World) (next : Step A) → IsHonest w → Allowed net w next → IsHonest (effect net w next)
+step_honest : {A : Type 0} (net : Network A) (w : World) (next : Step A) → IsHonest w → Allowed net w next → IsHonest (effect net w next)
 step_honest net w (step.Send client tag entries) is h = send_honest net w is client tag entries
 step_honest net w (step.Begin message) is h = begin_honest net w is message
 step_honest net w (step.Append delivery buffer serial) is h = append_honest net w is delivery buffer serial h
@@ -194,7 +197,7 @@ step_honest net w (step.Discard name) is h = goes net w is name
 step_honest net w (step.Oldest relay buffer) is h = oldest_honest net w is relay buffer
 step_honest net w (step.Restart relay) is h = restart_honest net w is relay
 
-run_honest : {A : Type 0} (net : Net A) (steps : List (Step A)) (before after : World) → IsHonest before → Steps net before steps after → IsHonest after
+run_honest : {A : Type 0} (net : Network A) (steps : List (Step A)) (before after : World) → IsHonest before → Steps net before steps after → IsHonest after
 run_honest net [] before after is run = rw run is
 run_honest net (next ∷ steps) before after is run = run_honest net steps (effect net before next) after (step_honest net before next is run.1) run.2
 
@@ -205,7 +208,7 @@ opening_honest = record {
 }
 
 -- Whatever a sink holds after a list of steps a client sent: of every network.
-pub sourced : {A : Type 0} (net : Net A) (steps : List (Step A)) (w : World) → Steps net opening steps w → NothingIsMadeUp w
+pub sourced : {A : Type 0} (net : Network A) (steps : List (Step A)) (w : World) → Steps net opening steps w → NothingIsMadeUp w
 sourced net steps w run place buffer k d less =
     let honest = run_honest net steps opening w opening_honest run in
     let sent = (honest.buffers place buffer).sink _ (All-contains_itself (w.buffers place buffer).sink k d less) in

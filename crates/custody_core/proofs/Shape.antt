@@ -1,5 +1,5 @@
 -- A network of one relay with one scope, one match and one file output that keeps: what its parts are, and where events go.
-use Rattle.std.proofs.Common.{◌≡◌, ℕ, zero, suc, ◌==◌, ◌&&◌, Bool, true, false, cond, List, [], ◌∷◌, Some, None, slice_get, refl, sym, ap, ◌∙◌, arith, inl, inr, find, Contains, string_bytes}
+use Rattle.std.proofs.Common.{◌≡◌, ℕ, zero, suc, ◌==◌, ◌&&◌, Bool, true, false, cond, List, [], ◌∷◌, Some, None, slice_get, refl, sym, ap, subst, ◌∙◌, arith, inl, inr, find, Contains, string_bytes}
 use Rattle.std.specs.List.{list_all, list_any}
 use Rattle.std.specs.Str.{bytes_eq}
 use Rattle.std.proofs.lemmas.Bool.{and_parts, eqb-true, eq-eqb, false≢true}
@@ -11,11 +11,15 @@ use Rattle.relay_conf.specs.declared.relay.MatchRule.{MatchRule}
 use Rattle.relay_conf.specs.declared.relay.Relay.{Relay}
 use Rattle.relay_conf.specs.declared.relay.Scope.{Scope}
 use Rattle.relay_conf.specs.declared.relay.Source.{Source}
-use Rattle.custody_core.specs.declared.net.Client.{Client}
-use Rattle.custody_core.specs.declared.net.Net.{Net}
-use Rattle.custody_core.specs.declared.net.Node.{Node}
-use Rattle.custody_core.specs.Network.{place_of, place_from, entrance, address_of_client, source_at, output_at, output_of, number_of, HaveTag, IsHandedTo, IsRelabelled, IsLeaf, own, further, IsLoop, HasLeaf, HasLoop}
-use Rattle.custody_core.specs.Settings.{keeps_chunks}
+use Rattle.relay_net.specs.declared.node.Client.{Client}
+use Rattle.relay_net.specs.Network.{Network, place_of, place_from, entrance, address_of_client, source_at, output_at, output_of}
+use Rattle.relay_net.specs.declared.node.Node.{Node}
+use Rattle.relay_net.specs.Outputs.{keeps_chunks}
+use Rattle.route_graph.specs.Ways.{HaveTag, IsHandedTo, IsRelabelled, IsLeaf, own, further}
+use Rattle.route_graph.specs.Table.{Table, rule_of}
+use Rattle.route_graph.specs.declared.hop.Hop.{Hop}
+use Rattle.route_graph.specs.declared.hop.Hop.TheVariants as hop
+use Rattle.relay_net.specs.Ways.{table_at, HasLeaf}
 use Rattle.custody_core.specs.SingleFile.{only, is_kept_file, has_one_file, has_one_match, is_single_file, enter_main, has_port, enters, is_single_file_net}
 
 pub record Single {A : Type 0} (nodes : List (Node A)) (clients : List (Client A)) : Type 0 where
@@ -83,7 +87,7 @@ single nodes clients h =
     }
 
 -- Places and outputs.
-module _ {A : Type 0} (net : Net A) (s : Single net.relays.items net.clients.items) where
+module _ {A : Type 0} (net : Network A) (s : Single net.relays net.clients) where
   pub file : Output A
   file = output.File s.settings s.line
 
@@ -127,52 +131,58 @@ enter_at node [] k client all at = cc
 enter_at node (c ∷ clients) zero client all at = rw (same_Some c client at) at ((and_parts (enters node c) (list_all (enters node) clients) all).0)
 enter_at node (c ∷ clients) (suc k) client all at = enter_at node clients k client ((and_parts (enters node c) (list_all (enters node) clients) all).1) at
 
-module _ {A : Type 0} (net : Net A) (s : Single net.relays.items net.clients.items) where
+module _ {A : Type 0} (net : Network A) (s : Single net.relays net.clients) where
   -- a client's messages come in at the one relay, in the main scope
-  pub entrance_is : (k : ℕ) (client : Client A) → slice_get net.clients.items k ≡ Some client → entrance net (address_of_client net client) ≡ Some (record { relay = 0; scope = 0 })
+  pub entrance_is : (k : ℕ) (client : Client A) → slice_get net.clients k ≡ Some client → entrance net (address_of_client net client) ≡ Some (record { relay = 0; scope = 0 })
   entrance_is k client at =
-      let e = and_parts (client.relay == s.node.number) (has_port s.node.relay.sources.items client.port) (enter_at s.node net.clients.items k client s.enter at) in
+      let e = and_parts (client.relay == s.node.number) (has_port s.node.relay.sources.items client.port) (enter_at s.node net.clients k client s.enter at) in
       let number : client.relay ≡ s.node.number = eqb-true client.relay s.node.number e.0 in
       let source = source_is s.node client.port s.main e.1 in
       rw s.nodes_is (rw (eq-eqb s.node.number client.relay (sym number)) (rw source.1 (ap (λ n. Some (record { relay = 0; scope = n })) source.2)))
 
   -- Leaves and loops.
 
-  handed_is : (tag : List ℕ) (scope : ℕ) (o : Output A) → IsHandedTo s.node.relay tag scope o → (scope ≡ 0) × HaveTag s.rule.patterns.items tag × (o ≡ output.File s.settings s.line)
-  handed_is tag zero o h =
-      let in_scope = rw s.scopes_is at h in
-      let taken = rw s.matches_is at in_scope.1 in
-      let one : Contains (s.rule.outputs.items) o → o ≡ output.File s.settings s.line = λ c. only_member (rw s.outputs_is at c) in
-      elim taken as (λ _. (zero ≡ 0) × HaveTag s.rule.patterns.items tag × (o ≡ output.File s.settings s.line)) [
-        | inl t ↦ (refl, t.0, one (rw t.1 at in_scope.2))
-        | inr t ↦ absurd t.1
-      ]
-  handed_is tag (suc scope) o h = absurd (rw s.scopes_is at h)
+  main_table : table_at net 0 ≡ (rule_of s.rule ∷ []) ∷ []
+  main_table = rw s.nodes_is (rw s.scopes_is (rw s.matches_is refl))
 
-  not_relabelled : (tag : List ℕ) (scope target : ℕ) → IsRelabelled s.node.relay tag scope target → ⊥
-  not_relabelled tag scope target (line, handed) = let e = (handed_is tag scope _ handed).2 in cc
+  main_hops : (rule_of s.rule).hops ≡ hop.Buffer s.settings.number ∷ []
+  main_hops = rw s.outputs_is refl
 
-  leaf_of : (tag : List ℕ) (scope buffer : ℕ) → IsLeaf s.node.relay tag scope buffer → HaveTag s.rule.patterns.items tag × (buffer ≡ 0)
-  leaf_of tag scope buffer (own o handed numbered) =
-      let h = handed_is tag scope o handed in
-      let n : number_of (output.File s.settings s.line) ≡ Some buffer = rw h.2 at numbered in
-      (h.1, sym (same_Some s.settings.number.0 buffer n) ∙ s.number_is)
+  handed_in : (tag : List ℕ) (scope : ℕ) (to : Hop) → IsHandedTo ((rule_of s.rule ∷ []) ∷ []) tag scope to → HaveTag s.rule.patterns.items tag × (to ≡ hop.Buffer s.settings.number)
+  handed_in tag zero to (taker, taken, among) = elim taken as (λ _. HaveTag s.rule.patterns.items tag × (to ≡ hop.Buffer s.settings.number)) [
+    | inl t ↦ (t.0, only_member (rw (t.1, main_hops) at among))
+    | inr t ↦ absurd t.1
+  ]
+  handed_in tag (suc scope) to (taker, taken, among) = absurd taken
+
+  handed_is : (tag : List ℕ) (scope : ℕ) (to : Hop) → IsHandedTo (table_at net 0) tag scope to → HaveTag s.rule.patterns.items tag × (to ≡ hop.Buffer s.settings.number)
+  handed_is tag scope to h = handed_in tag scope to (subst (λ (table : Table). IsHandedTo table tag scope to) main_table h)
+
+  not_relabelled : (tag : List ℕ) (scope target : ℕ) → IsRelabelled (table_at net 0) tag scope target → ⊥
+  not_relabelled tag scope target handed = let e = (handed_is tag scope _ handed).1 in cc
+
+  same_number : (buffer : ℕ) → hop.Buffer (record { 0 = buffer }) ≡ hop.Buffer s.settings.number → buffer ≡ s.settings.number.0
+  same_number buffer e = ap number_in e
+    where
+      number_in : Hop → ℕ
+      number_in (hop.Buffer number) = number.0
+      number_in (hop.Scope target) = 0
+
+  leaf_of : (tag : List ℕ) (scope buffer : ℕ) → IsLeaf (table_at net 0) tag scope buffer → HaveTag s.rule.patterns.items tag × (buffer ≡ 0)
+  leaf_of tag scope buffer (own handed) =
+      let h = handed_is tag scope _ handed in
+      (h.0, same_number buffer h.1 ∙ s.number_is)
   leaf_of tag scope buffer (further relabelled more) = absurd (not_relabelled tag scope _ relabelled)
 
-  leaf_there : (tag : List ℕ) → HaveTag s.rule.patterns.items tag → IsLeaf s.node.relay tag 0 0
-  leaf_there tag has = own (output.File s.settings s.line)
-      (rw s.scopes_is (s.rule, rw s.matches_is (inl (has, refl)), rw s.outputs_is (0, omega arith, refl)))
-      (ap Some s.number_is)
+  leaf_there : (tag : List ℕ) → HaveTag s.rule.patterns.items tag → IsLeaf (table_at net 0) tag 0 0
+  leaf_there tag has = own (subst (λ (table : Table). IsHandedTo table tag 0 (hop.Buffer (record { 0 = 0 }))) (sym main_table)
+      (rule_of s.rule, inl (has, refl), rw main_hops (0, omega arith, ap (λ (n : ℕ). hop.Buffer (record { 0 = n })) s.number_is)))
 
   -- the one buffer is the leaf of each message with entries whose tag the match has, and no other is
   pub has_leaf_parts : (tag : List ℕ) (entries : List (List ℕ)) (buffer : ℕ) → HasLeaf net (record { relay = 0; scope = 0 }) tag entries buffer → (¬ (entries ≡ [])) × HaveTag s.rule.patterns.items tag × (buffer ≡ 0)
   has_leaf_parts tag entries buffer h =
-      let leaf : IsLeaf s.node.relay tag 0 buffer = rw s.nodes_is at h.1 in
-      let parts = leaf_of tag 0 buffer leaf in
+      let parts = leaf_of tag 0 buffer h.1 in
       (h.0, parts.0, parts.1)
 
   pub has_leaf : (tag : List ℕ) (entries : List (List ℕ)) → ¬ (entries ≡ []) → HaveTag s.rule.patterns.items tag → HasLeaf net (record { relay = 0; scope = 0 }) tag entries 0
-  has_leaf tag entries some has = (some, rw s.nodes_is (leaf_there tag has))
-
-  pub no_loop : (tag : List ℕ) (entries : List (List ℕ)) → ¬ HasLoop net (record { relay = 0; scope = 0 }) tag entries
-  no_loop tag entries h = let loop : IsLoop s.node.relay tag 0 = rw s.nodes_is at h.1 in not_relabelled tag loop.again loop.next loop.left
+  has_leaf tag entries some has = (some, leaf_there tag has)

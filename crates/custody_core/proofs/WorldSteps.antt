@@ -7,13 +7,16 @@ use Rattle.tag_pattern.specs.Items.{Item}
 use Rattle.tag_pattern.specs.Patterns.{Fits}
 use Rattle.tag_pattern.specs.Parts.{parts_of}
 use Rattle.tag_pattern.proofs.Sets.{subset}
-use Rattle.custody_core.specs.declared.net.Net.{Net}
-use Rattle.custody_core.specs.declared.net.Client.{Client}
+use Rattle.relay_net.specs.Network.{Network, entrance, is_in_memory}
+use Rattle.relay_net.specs.declared.node.Client.{Client}
+use Rattle.relay_net.specs.declared.address.Entrance.{Entrance}
+use Rattle.route_graph.specs.Ways.{HaveTag}
+use Rattle.relay_net.specs.Ways.{HasLeaf}
+use Rattle.custody_store.specs.Buffers.{Event, BufferState, events_of, appended_to, started_again, Holds}
+use Rattle.message_book.specs.Book.{Message, Delivery, ended}
+use Rattle.custody_core.specs.World.{World, with_buffer}
+use Rattle.custody_core.specs.Steps.{Allowed, effect, CanBegin, CanAppend, CanAcknowledge, OfDelivery}
 use Rattle.step_lines.specs.declared.step.Step.TheVariants as step
-use Rattle.custody_core.specs.Network.{Entrance, entrance, HaveTag, HasLeaf}
-use Rattle.custody_core.specs.World.{Event, BufferState, Message, Delivery, World, with_buffer}
-use Rattle.custody_core.specs.Steps.{Allowed, effect, CanBegin, CanAppend, CanAcknowledge, OfDelivery, ended, events_of, appended_to, started_again, is_in_memory}
-use Rattle.custody_core.specs.Custody.{Holds}
 use Rattle.custody_core.specs.Premise.{ClientsFit, patterns_of}
 use Rattle.custody_core.proofs.Kept.{event_of, StaysSound, some_and, file_stays}
 use Rattle.custody_core.proofs.Appended.{Takes, append_takes}
@@ -36,10 +39,10 @@ of_delivery w number P h =
     let m = some_and (slice_get w.messages d.0.message) (P d.0) d.2 in
     record { delivery = d.0; is_delivery = d.1; message = m.0; is_message = m.1; holds = m.2 }
 
-module _ {A : Type 0} (net : Net A) (s : Single net.relays.items net.clients.items) (w : World) (kept : IsKept net w) where
+module _ {A : Type 0} (net : Network A) (s : Single net.relays net.clients) (w : World) (kept : IsKept net w) where
   pub sent : (client : ℕ) (tag : List ℕ) (entries : _) → Allowed net w (step.Send client tag entries) → IsKept net (effect net w (step.Send client tag entries))
   sent client tag entries h =
-      let f = some_and (slice_get net.clients.items client) (λ found. HaveTag found.patterns.items tag) h in
+      let f = some_and (slice_get net.clients client) (λ found. HaveTag found.patterns.items tag) h in
       rw f.1 (record {
         sound = kept.sound;
         messages = λ k m e. elim (get-push w.messages _ m k e) [
@@ -153,17 +156,17 @@ module _ {A : Type 0} (net : Net A) (s : Single net.relays.items net.clients.ite
       let o = of_delivery w number (λ d m. CanAppend net w d m buffer serial) h in
       rw o.is_delivery (rw o.is_message (appended_at number buffer serial o.delivery o.message o.is_delivery o.is_message o.holds))
 
-  one_rule : patterns_of net.relays.items ≡ s.rule.patterns.items
+  one_rule : patterns_of net.relays ≡ s.rule.patterns.items
   one_rule = rw s.nodes_is (rw s.scopes_is (rw s.matches_is (simp append-nil)))
 
   -- The match takes each tag that a client may send.
   module _ (fit : ClientsFit net) where
-    taken : (client : Client A) (k : ℕ) (tag : List ℕ) → slice_get net.clients.items k ≡ Some client → HaveTag client.patterns.items tag → HaveTag s.rule.patterns.items tag
+    taken : (client : Client A) (k : ℕ) (tag : List ℕ) → slice_get net.clients k ≡ Some client → HaveTag client.patterns.items tag → HaveTag s.rule.patterns.items tag
     taken client k tag at has =
         let pattern : List Item = has.1 in
-        let of_client : All (λ p. Any (Fits p) (patterns_of net.relays.items)) client.patterns.items =
-        All-contains (λ c. All (λ p. Any (Fits p) (patterns_of net.relays.items)) c.patterns.items) net.clients.items client fit (get-contains net.clients.items client k at) in
-        let fitting : Any (Fits pattern) (patterns_of net.relays.items) = All-contains (λ p. Any (Fits p) (patterns_of net.relays.items)) client.patterns.items pattern of_client (has.0, has.2, has.3) in
+        let of_client : All (λ p. Any (Fits p) (patterns_of net.relays)) client.patterns.items =
+        All-contains (λ c. All (λ p. Any (Fits p) (patterns_of net.relays)) c.patterns.items) net.clients client fit (get-contains net.clients client k at) in
+        let fitting : Any (Fits pattern) (patterns_of net.relays) = All-contains (λ p. Any (Fits p) (patterns_of net.relays)) client.patterns.items pattern of_client (has.0, has.2, has.3) in
         let of_rule : Any (Fits pattern) s.rule.patterns.items = rw one_rule at fitting in
         (of_rule.0, of_rule.1, of_rule.2, of_rule.3, subset of_rule.4 (parts_of tag) has.4)
 

@@ -1,12 +1,10 @@
-pub mod Chunks
+pub mod Answers
 pub mod Custody
 pub mod Found
-pub mod Kept
-pub mod Network
+pub mod Open
 pub mod Premise
-pub mod Settings
+pub mod Restarts
 pub mod SingleFile
 pub mod Steps
-pub mod Store
 pub mod World
 pub mod WorldOf

@@ -1,6 +1,5 @@
 -- The networks that are taken so far: one relay with one scope, one match and one file output that keeps.
-use Rattle.std.specs.Prelude.{◌≡◌, ◌==◌, ◌&&◌, ℕ, Bool, true, false, List, [], ◌∷◌, Option, slice_get}
-use Rattle.std.specs.Option.{option_and_then}
+use Rattle.std.specs.Prelude.{◌≡◌, ◌==◌, ◌&&◌, ℕ, Bool, true, false, List, [], ◌∷◌}
 use Rattle.std.specs.List.{list_all, list_any}
 use Rattle.relay_conf.specs.declared.output.Output.{Output}
 use Rattle.relay_conf.specs.declared.output.Output.TheVariants as output
@@ -8,9 +7,9 @@ use Rattle.relay_conf.specs.declared.relay.MatchRule.{MatchRule}
 use Rattle.relay_conf.specs.declared.relay.Relay.{Relay}
 use Rattle.relay_conf.specs.declared.relay.Scope.{Scope}
 use Rattle.relay_conf.specs.declared.relay.Source.{Source}
-use Rattle.custody_core.specs.declared.net.Client.{Client}
-use Rattle.custody_core.specs.declared.net.Node.{Node}
-use Rattle.custody_core.specs.Settings.{keeps_chunks}
+use Rattle.relay_net.specs.declared.node.Client.{Client}
+use Rattle.relay_net.specs.declared.node.Node.{Node}
+use Rattle.relay_net.specs.Outputs.{keeps_chunks}
 
 -- a file output that keeps, with the first buffer of its relay
 abbrev pub is_kept_file : {A : Type 0} → Output A → Bool
@@ -56,7 +55,3 @@ enters node client = (client.relay == node.number) && has_port node.relay.source
 -- one such relay, and a source at each client's port
 abbrev pub is_single_file_net : {A : Type 0} → List (Node A) → List (Client A) → Bool
 is_single_file_net nodes clients = only (λ node. is_single_file node.relay && list_all (enters node) clients) nodes
-
--- the first match of the first scope of the first relay
-abbrev pub first_rule : {A : Type 0} → List (Node A) → Option (MatchRule A)
-first_rule nodes = option_and_then (λ node. option_and_then (λ scope. slice_get scope.matches.items 0) (slice_get node.relay.scopes.items 0)) (slice_get nodes 0)

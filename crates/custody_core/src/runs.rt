@@ -1,23 +1,24 @@
 // Whole runs of a network, and what they never lose.
-ghost use Rattle.std.specs.Prelude.{◌≡◌, IfOk, IfErr};
+ghost use Rattle.std.specs.Prelude.{◌≡◌, true, IfOk, IfErr};
 ghost use Rattle.custody_core.specs.Custody.{NothingIsLost, NothingIsMadeUp};
 ghost use Rattle.custody_core.specs.Premise.{ClientsFit};
+ghost use Rattle.custody_core.specs.SingleFile.{is_single_file_net};
 ghost use Rattle.custody_core.specs.Steps.{Steps, IsRefusedAt};
 ghost use Rattle.custody_core.specs.World.{opening};
 ghost use Rattle.custody_core.specs.WorldOf.{world_of, net_of};
 
 use crate::fault::StepFault;
-use crate::net::Net;
 use crate::world::World;
+use relay_net::Net;
 use std::alloc::Allocator;
 use step_lines::Step;
 
 /// Takes the steps one after another, from the network before the first step. An `Err` has the number of the
 /// first step that is refused, counted from 1, and why.
 ///
-/// After every list of steps each event that was acknowledged to a client is in a buffer or in the sink, with
-/// its bytes unchanged, if each pattern of a client fits a pattern of the match; and whatever a sink holds a
-/// client sent, under that tag.
+/// After every list of steps whatever a sink holds a client sent, under that tag. In a network of one relay with one
+/// match and one file output that keeps, each event that was acknowledged to a client is then in a buffer or in the
+/// sink, with its bytes unchanged, if each pattern of a client fits a pattern of the match.
 pub fn run<'n, A: Allocator + Copy>(
     alloc: A,
     net: &'n Net<A>,
@@ -26,7 +27,7 @@ pub fn run<'n, A: Allocator + Copy>(
     ensures net { IfOk result (λ w. net_of w ≡ net.now) }
     ensures taken { IfOk result (λ w. Steps net.now opening steps.now (world_of w)) }
     ensures refused { IfErr result (λ e. IsRefusedAt net.now steps.now e.0 e.1) }
-    ensures nothing_is_lost { ClientsFit net.now → IfOk result (λ w. NothingIsLost (world_of w)) }
+    ensures nothing_is_lost { is_single_file_net net.now.relays net.now.clients ≡ true → ClientsFit net.now → IfOk result (λ w. NothingIsLost (world_of w)) }
     ensures nothing_is_made_up { IfOk result (λ w. NothingIsMadeUp (world_of w)) }
 {
     let mut world = World::new(alloc, net);

@@ -1,17 +1,17 @@
-// The networks that are taken so far: one relay with one scope, one match and one file output that keeps.
+// The networks that are known so far to lose nothing: one relay with one scope, one match and one file output that keeps.
 ghost use Rattle.std.specs.Prelude.{◌≡◌};
 ghost use Rattle.std.specs.List.{list_all};
-ghost use Rattle.custody_core.specs.Settings.{keeps_chunks};
+ghost use Rattle.relay_net.specs.Outputs.{keeps_chunks};
 ghost use Rattle.custody_core.specs.SingleFile as shape;
 ghost use Rattle.custody_core.specs.SingleFile.{only};
 
-use crate::net::{Client, Node};
 use relay_conf::{
     BufferKind, BufferSettings, MatchRule, Output, OverflowAction, Relay, Scope, Source,
 };
+use relay_net::{Client, Node};
 use std::alloc::Allocator;
 
-/// Whether a network can be made of these relays and clients.
+/// Whether these are one relay with one scope, one match and one file output that keeps, and clients of its sources.
 pub fn is_single_file_net<A: Allocator>(relays: &[Node<A>], clients: &[Client<A>]) -> bool
     ensures { result ≡ shape.is_single_file_net relays.now clients.now }
 {

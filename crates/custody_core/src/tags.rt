@@ -1,6 +1,6 @@
 // Which tags the patterns of a match or of a client have.
 ghost use Rattle.std.specs.Prelude.{◌↔◌, IsTrue};
-ghost use Rattle.custody_core.specs.Network.{HaveTag};
+ghost use Rattle.route_graph.specs.Ways.{HaveTag};
 
 use std::alloc::Allocator;
 use tag_pattern::{Plain, Tag, matches};

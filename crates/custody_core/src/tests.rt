@@ -2,9 +2,10 @@ use super::*;
 use relay_conf::{
     BufferKind, BufferNo, BufferSettings, DEFAULT_BIND, DEFAULT_FILE_CHUNK_LIMIT,
     DEFAULT_FILE_TOTAL_LIMIT, DEFAULT_FLUSH_INTERVAL, DEFAULT_FLUSH_THREADS, DEFAULT_RETRY_BASE,
-    DEFAULT_RETRY_TIMEOUT, DEFAULT_RETRY_WAIT, FileSettings, FlushMode, MatchRule, Output,
-    OverflowAction, Relay, RetrySettings, Scope, ScopeNo, Source,
+    DEFAULT_RETRY_TIMEOUT, DEFAULT_RETRY_WAIT, FileSettings, FlushMode, ForwardSettings, MatchRule,
+    Output, OverflowAction, Relay, RetrySettings, Scope, ScopeNo, Server, Source,
 };
+use relay_net::enter;
 use std::alloc::{AllocError, Global};
 use std::test::Fail;
 use tag_pattern::{Pattern, Tag};
@@ -32,6 +33,35 @@ fn store(alloc: Global, path: &str) -> Result<BufferSettings<Global>, AllocError
     })
 }
 
+// Listens on this port, and hands what has a tag of these patterns to this output.
+fn relay(
+    alloc: Global,
+    patterns: &str,
+    port: u16,
+    output: Output<Global>,
+) -> Result<Relay<Global>, Fail> {
+    let rule = MatchRule {
+        patterns: Pattern::read(alloc, patterns)?,
+        outputs: vec![in alloc; output]?,
+        line: 5,
+    };
+    let scope = Scope {
+        name: String::new(alloc),
+        matches: vec![in alloc; rule]?,
+    };
+    let source = Source {
+        port,
+        bind: String::from_str(alloc, DEFAULT_BIND)?,
+        label: ScopeNo(0),
+        security: None,
+        line: 1,
+    };
+    Ok(Relay {
+        sources: vec![in alloc; source]?,
+        scopes: vec![in alloc; scope]?,
+    })
+}
+
 // Stores what has a tag of `app.**`, and listens on port 24225.
 fn hub(alloc: Global) -> Result<Relay<Global>, Fail> {
     let file = Output::File {
@@ -42,26 +72,7 @@ fn hub(alloc: Global) -> Result<Relay<Global>, Fail> {
         },
         line: 5,
     };
-    let rule = MatchRule {
-        patterns: Pattern::read(alloc, "app.**")?,
-        outputs: vec![in alloc; file]?,
-        line: 5,
-    };
-    let scope = Scope {
-        name: String::new(alloc),
-        matches: vec![in alloc; rule]?,
-    };
-    let source = Source {
-        port: 24225,
-        bind: String::from_str(alloc, DEFAULT_BIND)?,
-        label: ScopeNo(0),
-        security: None,
-        line: 1,
-    };
-    Ok(Relay {
-        sources: vec![in alloc; source]?,
-        scopes: vec![in alloc; scope]?,
-    })
+    relay(alloc, "app.**", 24225, file)
 }
 
 // Relay 2, and a client of `app.**` on this port.
@@ -150,8 +161,9 @@ const WHOLE: [Line; 8] = [
 #[test]
 fn an_event_is_stored(rt: HostRuntime) -> Result<(), Fail> {
     let (relays, clients) = plan(rt.alloc(), 24225)?;
-    assert!(rt; is_single_file_net(relays.as_slice(), clients.as_slice()));
-    let net = Net::new(relays, clients);
+    assert!(rt; enter(relays.as_slice(), clients.as_slice()));
+    let net = Net::new(rt.alloc(), relays, clients).map_err(|_| "memory")?;
+    assert!(rt; is_single_file_net(net.relays(), net.clients()));
     let steps = steps_of(rt.alloc(), &WHOLE)?;
     let world = run(rt.alloc(), &net, steps.as_slice()).map_err(|_| "refused")?;
     assert!(rt; world.held(b"app.x", &[0xe1]));
@@ -173,8 +185,9 @@ fn an_event_is_stored(rt: HostRuntime) -> Result<(), Fail> {
 #[test]
 fn steps_are_refused(rt: HostRuntime) -> Result<(), Fail> {
     let (relays, clients) = plan(rt.alloc(), 24225)?;
-    assert!(rt; is_single_file_net(relays.as_slice(), clients.as_slice()));
-    let net = Net::new(relays, clients);
+    assert!(rt; enter(relays.as_slice(), clients.as_slice()));
+    let net = Net::new(rt.alloc(), relays, clients).map_err(|_| "memory")?;
+    assert!(rt; is_single_file_net(net.relays(), net.clients()));
     let without_write = [
         Line::Send(b"app.x"),
         Line::Begin,
@@ -250,8 +263,9 @@ fn other_shapes(rt: HostRuntime) -> Result<(), Fail> {
 #[test]
 fn steps_are_read(rt: HostRuntime) -> Result<(), Fail> {
     let (relays, clients) = plan(rt.alloc(), 24225)?;
-    assert!(rt; is_single_file_net(relays.as_slice(), clients.as_slice()));
-    let net = Net::new(relays, clients);
+    assert!(rt; enter(relays.as_slice(), clients.as_slice()));
+    let net = Net::new(rt.alloc(), relays, clients).map_err(|_| "memory")?;
+    assert!(rt; is_single_file_net(net.relays(), net.clients()));
     let text =
         b"# one event\n\tsend 0 app.x e1 E2\r\n\nbegin  000\nappend 0 0 0\nack 0\nenqueue 2/0/0\nclaim 2/0/0\npart 2/0/0 1\nwrite 2/0/0\npurge 2/0/0\nrestart 2";
     let steps = Step::read_all(rt.alloc(), text)?;
@@ -260,6 +274,133 @@ fn steps_are_read(rt: HostRuntime) -> Result<(), Fail> {
     assert!(rt; world.held(b"app.x", &[0xe2]));
     assert_eq!(rt; world.sink(2, 0).len(), 3);
     assert_eq!(rt; world.acknowledged().len(), 2);
+    Ok(())
+}
+
+// How a relay that forwards differs from one that keeps.
+#[derive(Clone, Copy)]
+enum Edge {
+    Keeps,
+    AsksNothing,
+    InMemory,
+    GivesUp,
+    DropsOldest,
+}
+
+// Listens on this port, and forwards what has a tag of these patterns to that one.
+fn forwarder(
+    alloc: Global,
+    patterns: &str,
+    port: u16,
+    to: u16,
+    edge: Edge,
+) -> Result<Relay<Global>, Fail> {
+    let mut buffer = store(alloc, "edge")?;
+    match edge {
+        Edge::InMemory => buffer.kind = BufferKind::Memory,
+        Edge::GivesUp => buffer.retry.forever = false,
+        Edge::DropsOldest => buffer.overflow_action = OverflowAction::DropOldestChunk,
+        Edge::Keeps | Edge::AsksNothing => {}
+    }
+    let server = Server {
+        host: String::from_str(alloc, "127.0.0.1")?,
+        port: to,
+        line: 6,
+    };
+    let forward = Output::Forward {
+        settings: ForwardSettings {
+            servers: vec![in alloc; server]?,
+            require_ack_response: !matches!(edge, Edge::AsksNothing),
+            ack_response_timeout: 60,
+            security: None,
+            buffer,
+            number: BufferNo(0),
+        },
+        line: 5,
+    };
+    relay(alloc, patterns, port, forward)
+}
+
+fn node(alloc: Global, number: u32, relay: Relay<Global>) -> Result<Node<Global>, AllocError> {
+    Ok(Node {
+        number,
+        host: String::from_str(alloc, "127.0.0.1")?,
+        relay,
+    })
+}
+
+// Relays 1 and 2, the first of which forwards to the second, and a client of the first.
+fn pair(
+    alloc: Global,
+    first: Relay<Global>,
+    second: Relay<Global>,
+    patterns: &str,
+) -> Result<Net<Global>, Fail> {
+    let client = Client {
+        relay: 1,
+        port: 24224,
+        patterns: Pattern::read(alloc, patterns)?,
+    };
+    let relays = vec![in alloc; node(alloc, 1, first)?, node(alloc, 2, second)?]?;
+    let clients = vec![in alloc; client]?;
+    if !enter(relays.as_slice(), clients.as_slice()) {
+        return Err("no source".into());
+    }
+    Ok(Net::new(alloc, relays, clients).map_err(|_| "memory")?)
+}
+
+// What a run of these steps says of an event: whether it is held, or the step that is refused and why.
+fn outcome(
+    alloc: Global,
+    net: &Net<Global>,
+    text: &[u8],
+    tag: &[u8],
+) -> Result<Result<bool, (usize, StepFault)>, Fail> {
+    let steps = Step::read_all(alloc, text)?;
+    Ok(run(alloc, net, steps.as_slice()).map(|world| world.held(tag, &[0xe1])))
+}
+
+const TAKEN: &[u8] = b"send 0 app.x e1\nbegin 0\nappend 0 0 0\nack 0\n";
+
+// An event goes from relay to relay, or is lost where an output lets it go.
+#[test]
+fn events_are_forwarded_or_lost(rt: HostRuntime) -> Result<(), Fail> {
+    let alloc = rt.alloc();
+    let delivered =
+        b"enqueue 1/0/0\nclaim 1/0/0\nforward 1/0/0 0\nbegin 1\nappend 1 0 0\nack 1\nseen 1/0/0\npurge 1/0/0\nenqueue 2/0/0\nclaim 2/0/0\nwrite 2/0/0\npurge 2/0/0";
+    let unseen =
+        b"enqueue 1/0/0\nclaim 1/0/0\nforward 1/0/0 0\nbegin 1\nappend 1 0 0\nack 1\npurge 1/0/0";
+    let done = b"enqueue 1/0/0\nclaim 1/0/0\nforward 1/0/0 0\ndone 1/0/0";
+    let discarded = b"enqueue 1/0/0\nclaim 1/0/0\ndiscard 1/0/0";
+    let rows: [(Edge, &[u8], Result<bool, (usize, StepFault)>); 7] = [
+        (Edge::Keeps, delivered, Ok(true)),
+        (Edge::Keeps, unseen, Err((11, StepFault::NotAllowed))),
+        (Edge::Keeps, b"forward 2/0/0 0", Err((5, StepFault::NoSuch))),
+        (Edge::AsksNothing, done, Ok(false)),
+        (Edge::InMemory, b"restart 1", Ok(false)),
+        (Edge::GivesUp, discarded, Ok(false)),
+        (Edge::DropsOldest, b"enqueue 1/0/0\noldest 1 0", Ok(false)),
+    ];
+    for (edge, steps, wanted) in rows {
+        let first = forwarder(alloc, "app.**", 24224, 24225, edge)?;
+        let net = pair(alloc, first, hub(alloc)?, "app.**")?;
+        let mut text = Vec::from_slice(alloc, TAKEN)?;
+        text.extend_from_slice(steps)?;
+        assert_eq!(rt; outcome(alloc, &net, text.as_slice(), b"app.x")?, wanted);
+    }
+    Ok(())
+}
+
+// Two relays that forward to one another hand an event round, and it is held all the time.
+#[test]
+fn an_event_goes_round(rt: HostRuntime) -> Result<(), Fail> {
+    let alloc = rt.alloc();
+    let first = forwarder(alloc, "**", 24224, 24225, Edge::Keeps)?;
+    let second = forwarder(alloc, "**", 24225, 24224, Edge::Keeps)?;
+    let net = pair(alloc, first, second, "**")?;
+    let text =
+        b"send 0 x e1\nbegin 0\nappend 0 0 0\nack 0\nenqueue 1/0/0\nclaim 1/0/0\nforward 1/0/0 0\nbegin 1\nappend 1 0 0\nenqueue 2/0/0\nclaim 2/0/0\nforward 2/0/0 0\nbegin 2\nappend 2 0 1\nack 2\nack 1\nseen 1/0/0\npurge 1/0/0\nseen 2/0/0\npurge 2/0/0";
+    assert_eq!(rt; outcome(alloc, &net, text, b"x")?, Ok(true));
     Ok(())
 }
 

@@ -278,10 +278,11 @@ impl<A: Allocator + Copy> Places<A> {
         }
     }
 
-    /// The relay of this buffer stops and starts again.
+    /// The relay of this buffer stops and starts again. All room is kept.
     pub fn restart(&mut self, place: usize, buffer: usize, in_memory: bool)
         requires there { IsThere self.old place buffer }
-        ensures { IsChangedAt self.old self.new place buffer (record (contents_at self.old place buffer) { chunks = restarted_chunks in_memory (contents_at self.old place buffer).chunks }) }
+        ensures room { (b : ℕ) → IsThere self.old place b → IsThere self.new place b }
+        ensures changed { IsChangedAt self.old self.new place buffer (record (contents_at self.old place buffer) { chunks = restarted_chunks in_memory (contents_at self.old place buffer).chunks }) }
     {
         let there = &mut self.list[place];
         let found = &mut there.buffers[buffer];

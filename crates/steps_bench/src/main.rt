@@ -2,13 +2,14 @@
 //! the examples, a client of `app.**`, and steps from standard input.
 #![tactic(auto)]
 
-use custody_core::{Client, Net, Node, Step, is_single_file_net, run};
+use custody_core::{Step, run};
 use relay_conf::{
     BufferKind, BufferNo, BufferSettings, DEFAULT_BIND, DEFAULT_FILE_CHUNK_LIMIT,
     DEFAULT_FILE_TOTAL_LIMIT, DEFAULT_FLUSH_INTERVAL, DEFAULT_FLUSH_THREADS, DEFAULT_RETRY_BASE,
     DEFAULT_RETRY_TIMEOUT, DEFAULT_RETRY_WAIT, FileSettings, FlushMode, MatchRule, Output,
     OverflowAction, Relay, RetrySettings, Scope, ScopeNo, Source,
 };
+use relay_net::{Client, Net, Node, enter};
 use std::alloc::{AllocError, Global};
 use std::io;
 use tag_pattern::{Pattern, Plain};
@@ -90,10 +91,13 @@ fn net(alloc: Global) -> Result<Option<Net<Global>>, AllocError> {
     };
     let relays = vec![in alloc; node]?;
     let clients = vec![in alloc; client]?;
-    if !is_single_file_net(&relays, &clients) {
+    if !enter(&relays, &clients) {
         return Ok(None);
     }
-    Ok(Some(Net::new(relays, clients)))
+    match Net::new(alloc, relays, clients) {
+        Ok(net) => Ok(Some(net)),
+        Err(_) => Err(AllocError),
+    }
 }
 
 fn main(rt: HostRuntime) -> io::Result<()> {

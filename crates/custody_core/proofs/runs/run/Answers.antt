@@ -1,6 +1,6 @@
 use Rattle.std.proofs.Common.{◌≡◌, suc, take, drop, subst, ◌∙◌, arith}
 use Rattle.std.proofs.lemmas.List.{length-take-le, take_all}
-use Rattle.custody_core.specs.declared.net.Net.{Net}
+use Rattle.relay_net.specs.Network.{Network}
 use Rattle.custody_core.specs.Steps.{Names, Allowed, IsRefused, effect}
 use Rattle.custody_core.specs.World.{opening}
 use Rattle.custody_core.specs.WorldOf.{world_of}
@@ -24,7 +24,7 @@ returns-in-Err-clause-refused g c =
       number_is = let n = length-take-le place steps (omega arith) in omega arith;
       world = before;
       taken = c.loop-place.invariant.1;
-      is_refused = subst (λ (net : Net _). IsRefused net before step c.in-Err.fault) c.loop-place.invariant.0 c.in-Err.ensures.refused;
+      is_refused = subst (λ (net : Network _). IsRefused net before step c.in-Err.fault) c.loop-place.invariant.0 c.in-Err.ensures.refused;
     }
 
 pub loop-place-preserved : goal.loop-place-preserved
@@ -35,7 +35,7 @@ loop-place-preserved g c =
     let step = c.index-steps-place.result in
     let before = world_of c.loop-place.world in
     let after = world_of c.step.new.self in
-    let ok = subst (λ (net : Net _). Names net before step × Allowed net before step × (after ≡ effect net before step)) c.loop-place.invariant.0 c.in_default.ensures.ok in (
+    let ok = subst (λ (net : Network _). Names net before step × Allowed net before step × (after ≡ effect net before step)) c.loop-place.invariant.0 c.in_default.ensures.ok in (
       c.step.ensures.net ∙ c.loop-place.invariant.0,
       rw (take_next steps place step c.loop-place-test.true c.index-steps-place.is, ok.2)
           (steps_more net opening (take place steps) before step c.loop-place.invariant.1 ok.0 ok.1),
@@ -45,7 +45,7 @@ pub returns-clause-nothing_is_lost : goal.returns-clause-nothing_is_lost
 returns-clause-nothing_is_lost g c =
     let net = c.args.net.now in
     let taken = rw (take_all c.loop-place.place c.args.steps.now c.loop-place-test.false) at c.loop-place.invariant.1 in
-    λ fit. kept net net.single_file fit c.args.steps.now _ taken
+    λ shape fit. kept net shape fit c.args.steps.now _ taken
 
 pub returns-clause-nothing_is_made_up : goal.returns-clause-nothing_is_made_up
 returns-clause-nothing_is_made_up g c =

@@ -1,53 +1,88 @@
-use Rattle.std.proofs.Common.{◌≡◌, ◌<◌, true, set, length, Some, sym, ap, ◌∙◌, arith, slice_get}
+use Rattle.std.proofs.Common.{◌≡◌, true, refl, ap, ◌∙◌, arith}
 use Rattle.std.proofs.lemmas.Grind.{common_steps}
-use Rattle.std.proofs.lemmas.List.Elements.{All-set}
-use Rattle.std.proofs.lemmas.Option.{slice_get_within}
-use Rattle.custody_core.specs.Steps.{CanAcknowledge}
-use Rattle.custody_core.specs.Store.{Row, Contents, answered_row, ended_opening, delivery_of}
-use Rattle.custody_core.proofs.Taken as taken
+use Rattle.std.proofs.lemmas.Result.{err_from_is_err_and}
+use Rattle.message_book.specs.Book.{changed_at, ended}
+use Rattle.custody_core.specs.Steps.{CanAcknowledge, answered}
+use Rattle.custody_core.specs.World.{World}
+use Rattle.custody_core.specs.WorldOf.{world_of}
+use Rattle.custody_core.proofs.Delivered.{ended-along, ended-same}
+use Rattle.custody_core.proofs.Keeping as keeping
 use Rattle.custody_core.proofs.world.World.acknowledge.Goals as goal
+
+pub returns-in_default-clause-answer : goal.returns-in_default-clause-answer
+returns-in_default-clause-answer g c =
+    let w = c.args.self.now in
+    (keeping.none_there w.places w.book c.args.delivery c.in_default.ensures, refl)
+
+pub returns-in_default-message-clause-answer : goal.returns-in_default-message-clause-answer
+returns-in_default-message-clause-answer g c =
+    let w = c.args.self.now in
+    let found = c.in-Some.found.now.delivery in (
+      keeping.shown_there w.places w.book c.args.delivery found c.in-Some.ensures,
+      keeping.of_none w.places w.book c.args.delivery found c.in-Some.ensures (CanAcknowledge w.net.now) (rw c.message-message.ensures at c.in_default-message.ensures),
+      refl,
+    )
+
+pub returns-in_err-can_acknowledge-clause-answer : goal.returns-in_err-can_acknowledge-clause-answer
+returns-in_err-can_acknowledge-clause-answer g c =
+    let w = c.args.self.now in
+    let found = c.in-Some.found.now.delivery in
+    let p = err_from_is_err_and c.from_residual.result c.from_residual.ensures.1 in
+    rw (p.1, p.2) (keeping.shown_there w.places w.book c.args.delivery found c.in-Some.ensures, c.in_err-can_acknowledge.ensures.err, refl)
+
+pub returns-then-not-branch-clause-answer : goal.returns-then-not-branch-clause-answer
+returns-then-not-branch-clause-answer g c =
+    let w = c.args.self.now in
+    let found = c.in-Some.found.now.delivery in (
+      keeping.shown_there w.places w.book c.args.delivery found c.in-Some.ensures,
+      λ h. let yes = c.in_ok-can_acknowledge.ensures.ok.1 h in absurd (cc (yes, c.if-not-branch.true)),
+      refl,
+    )
+
+pub returns-in_err-answer-clause-answer : goal.returns-in_err-answer-clause-answer
+returns-in_err-answer-clause-answer g c =
+    let w = c.args.self.now in
+    let found = c.in-Some.found.now.delivery in
+    let yes : c.in_ok-can_acknowledge.field-0 ≡ true = grind (arith, common_steps) in
+    let may = c.in_ok-can_acknowledge.ensures.ok.0 yes in
+    let p = err_from_is_err_and c.from_residual-in_err-answer.result c.from_residual-in_err-answer.ensures.1 in
+    rw (p.1, p.2) (
+      keeping.shown_there w.places w.book c.args.delivery found c.in-Some.ensures,
+      keeping.weaker_of (world_of w) c.args.delivery (CanAcknowledge w.net.now) (λ d m. d.is_open ≡ true) (λ d m a. a.is_open) may,
+      c.in_err-answer.ensures.err,
+    )
 
 pub end-requires : goal.end-requires
 end-requires g c =
-    let net = c.args.self.now.net.now in
-    let store = c.args.self.now.store in
-    let number = c.args.delivery in
-    let opened = c.in-Some.opened in
-    let at = sym c.in-Some.ensures in
-    let yes : c.can_acknowledge.result ≡ true = grind (arith, common_steps) in
-    let r = taken.row_of net store opened.message (CanAcknowledge net (delivery_of opened)) (c.can_acknowledge.ensures.0 yes) in
-    let e = c.in_ok-answer.ensures.ok r.0 r.1 in
-    rw e (slice_get_within store.deliveries number opened at)
+    let w = c.args.self.now in
+    let a = c.answer.new.self in
+    let found = c.in-Some.found.now.delivery in
+    let m = c.in-Some-message.sent.now in
+    let sent = rw c.message-message.ensures at c.in-Some-message.ensures in
+    let e : world_of a ≡ answered (world_of w) found.message m = rw (c.message-message.ensures, ← sent) at c.in_ok-answer.ensures.ok in
+    let many = keeping.as_many w.places a.places w.book a.book (ap (λ (x : World). x.deliveries) e) in
+    let within = keeping.there w.places w.book c.args.delivery found c.in-Some.ensures in
+    omega arith
 
-pub invariant_of-self-2 : goal.invariant_of-self-2
-invariant_of-self-2 g c =
-    let net = c.args.self.now.net.now in
-    let store = c.args.self.now.store in
-    let number = c.args.delivery in
-    let opened = c.in-Some.opened in
-    let at = sym c.in-Some.ensures in
-    let yes : c.can_acknowledge.result ≡ true = grind (arith, common_steps) in
-    let r = taken.row_of net store opened.message (CanAcknowledge net (delivery_of opened)) (c.can_acknowledge.ensures.0 yes) in
-    let e = c.in_ok-answer.ensures.ok r.0 r.1 in
-    let still : slice_get c.answer.new.self.deliveries number ≡ Some opened = rw e at in
-    let ended = c.end.ensures opened still in
-    let clients = taken.client_of net store c.args.self.now.sent_by_clients opened.message r.0 r.1 in
-    record { sent_by_clients = rw (ended, e) (All-set (λ (row : Row). row.client < length net.clients.items) store.messages opened.message (answered_row r.0) clients c.args.self.now.sent_by_clients) }
+pub invariant_of-self : goal.invariant_of-self
+invariant_of-self g c =
+    let a = c.answer.new.self in
+    let k = keeping.known_delivery a.net.now a.places a.book c.end.new.self (keeping.known_of a) ended c.args.delivery a.book.room ended-same c.end.ensures in
+    record { answers = k.answers; closed = k.closed; sent = k.sent; ending = k.ending }
 
 pub returns-clause-answer : goal.returns-clause-answer
 returns-clause-answer g c =
-    let net = c.args.self.now.net.now in
-    let store = c.args.self.now.store in
+    let w = c.args.self.now in
+    let a = c.answer.new.self in
     let number = c.args.delivery in
-    let opened = c.in-Some.opened in
-    let at = sym c.in-Some.ensures in
-    let yes : c.can_acknowledge.result ≡ true = grind (arith, common_steps) in
-    let r = taken.row_of net store opened.message (CanAcknowledge net (delivery_of opened)) (c.can_acknowledge.ensures.0 yes) in
-    let e = c.in_ok-answer.ensures.ok r.0 r.1 in
-    let still : slice_get c.answer.new.self.deliveries number ≡ Some opened = rw e at in
-    let ended = c.end.ensures opened still in (
-      taken.delivery_within net store number opened at,
-      taken.of_delivery net store number opened at r.0 (CanAcknowledge net) r.1 r.2,
-      taken.acknowledged_is net store _ number opened r.0 at r.1
-          (ended ∙ ap (λ (k : Contents). record k { deliveries = set k.deliveries number (ended_opening opened) }) e),
+    let found = c.in-Some.found.now.delivery in
+    let m = c.in-Some-message.sent.now in
+    let sent = rw c.message-message.ensures at c.in-Some-message.ensures in
+    let e : world_of a ≡ answered (world_of w) found.message m = rw (c.message-message.ensures, ← sent) at c.in_ok-answer.ensures.ok in
+    let yes : c.in_ok-can_acknowledge.field-0 ≡ true = grind (arith, common_steps) in (
+      keeping.shown_there w.places w.book number found c.in-Some.ensures,
+      c.in_ok-can_acknowledge.ensures.ok.0 yes,
+      keeping.delivery_world a.places a.book c.end.new.self ended number a.book.room ended-along c.end.ensures
+          ∙ ap (λ (x : World). record x { deliveries = changed_at x.deliveries number ended }) e
+          ∙ rw (keeping.shown w.places w.book number found c.in-Some.ensures, ← sent) refl,
     )

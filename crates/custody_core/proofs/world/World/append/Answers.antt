@@ -1,69 +1,66 @@
-use Rattle.std.proofs.Common.{◌≡◌, true, set, Some, sym, ap, ◌∙◌, arith, slice_get}
+use Rattle.std.proofs.Common.{◌≡◌, true, false, refl, arith, Contains, IsSome, is_some}
 use Rattle.std.proofs.lemmas.Grind.{common_steps}
-use Rattle.std.proofs.lemmas.Option.{slice_get_within}
 use Rattle.std.proofs.lemmas.Result.{err_from_is_err_and}
+use Rattle.custody_store.specs.Buffers.{CanTake}
+use Rattle.message_book.specs.Book.{Message, Delivery}
+use Rattle.relay_net.specs.Network.{output_at}
 use Rattle.custody_core.specs.Steps.{CanAppend}
-use Rattle.custody_core.specs.Store.{Contents, world_from, appended_opening, delivery_of}
-use Rattle.custody_core.proofs.Shape.{single}
-use Rattle.custody_core.proofs.Taken as taken
+use Rattle.custody_core.specs.WorldOf.{world_of}
+use Rattle.custody_core.proofs.Keeping as keeping
 use Rattle.custody_core.proofs.world.World.append.Goals as goal
+
+pub returns-in_default-clause-answer : goal.returns-in_default-clause-answer
+returns-in_default-clause-answer g c =
+    let w = c.args.self.now in
+    (keeping.none_that w.places w.book c.args.delivery (λ (d : Delivery). IsSome (output_at w.net.now d.entrance.relay c.args.buffer)) c.in_default.ensures, refl)
+
+pub returns-then-is_none-clause-answer : goal.returns-then-is_none-clause-answer
+returns-then-is_none-clause-answer g c =
+    let w = c.args.self.now in
+    let found = c.in-Some.found.now.delivery in
+    let shown = keeping.shown w.places w.book c.args.delivery found c.in-Some.ensures in
+    let none : is_some c.output.result ≡ false = c.if-is_none.ensures in
+    (λ h. let there = rw shown at h in keeping.absent c.output.result _ none (rw c.entrance.ensures at c.output.ensures) there, refl)
+
+pub returns-in_err-can_append-clause-answer : goal.returns-in_err-can_append-clause-answer
+returns-in_err-can_append-clause-answer g c =
+    let w = c.args.self.now in
+    let found = c.in-Some.found.now.delivery in
+    let shown = keeping.shown w.places w.book c.args.delivery found c.in-Some.ensures in
+    let some : is_some c.output.result ≡ true = c.if-is_none.ensures in
+    let there = keeping.present c.output.result _ some (rw c.entrance.ensures at c.output.ensures) in
+    let p = err_from_is_err_and c.from_residual.result c.from_residual.ensures.1 in
+    rw (p.1, p.2) (rw shown there, c.in_err-can_append.ensures.err, refl)
+
+pub returns-then-not-branch-clause-answer : goal.returns-then-not-branch-clause-answer
+returns-then-not-branch-clause-answer g c =
+    let w = c.args.self.now in
+    let found = c.in-Some.found.now.delivery in
+    let shown = keeping.shown w.places w.book c.args.delivery found c.in-Some.ensures in
+    let some : is_some c.output.result ≡ true = c.if-is_none.ensures in
+    let there = keeping.present c.output.result _ some (rw c.entrance.ensures at c.output.ensures) in
+    (rw shown there, λ h. let yes = c.in_ok-can_append.ensures.ok.1 h in absurd (cc (yes, c.if-not-branch.true)), refl)
 
 pub returns-in_err-take_in-clause-answer : goal.returns-in_err-take_in-clause-answer
 returns-in_err-take_in-clause-answer g c =
-    let net = c.args.self.now.net.now in
-    let store = c.args.self.now.store in
-    let s = single net.relays.items net.clients.items net.single_file in
-    let number = c.args.delivery in
-    let opened = c.in-Some.opened in
-    let at = sym c.in-Some.ensures in
-    let zero_is : c.args.buffer ≡ 0 = omega arith in
-    let yes : c.can_append.result ≡ true = grind (arith, common_steps) in
-    let r = taken.row_of net store opened.message (λ m. CanAppend net (world_from net store) (delivery_of opened) m 0 c.args.serial) (c.can_append.ensures.0 yes) in
-    let p = err_from_is_err_and c.from_residual.result c.from_residual.ensures.1 in
-    rw (p.1, p.2) ((rw (taken.delivery_at net store number opened at) (taken.buffer_there net s c.args.buffer zero_is)), (rw zero_is (taken.of_delivery net store number opened at r.0 (λ d m. CanAppend net (world_from net store) d m 0 c.args.serial) r.1 r.2)), ap (world_from net) c.in_err-take_in.ensures.err)
-
-pub mark_appended-requires : goal.mark_appended-requires
-mark_appended-requires g c =
-    let net = c.args.self.now.net.now in
-    let store = c.args.self.now.store in
-    let number = c.args.delivery in
-    let opened = c.in-Some.opened in
-    let at = sym c.in-Some.ensures in
-    let zero_is : c.args.buffer ≡ 0 = omega arith in
-    let yes : c.can_append.result ≡ true = grind (arith, common_steps) in
-    let r = taken.row_of net store opened.message (λ m. CanAppend net (world_from net store) (delivery_of opened) m 0 c.args.serial) (c.can_append.ensures.0 yes) in
-    rw (c.in_ok-take_in.ensures.ok r.0 r.1) (slice_get_within store.deliveries number opened at)
-
-pub invariant_of-self-2 : goal.invariant_of-self-2
-invariant_of-self-2 g c =
-    let net = c.args.self.now.net.now in
-    let store = c.args.self.now.store in
-    let number = c.args.delivery in
-    let opened = c.in-Some.opened in
-    let at = sym c.in-Some.ensures in
-    let zero_is : c.args.buffer ≡ 0 = omega arith in
-    let yes : c.can_append.result ≡ true = grind (arith, common_steps) in
-    let r = taken.row_of net store opened.message (λ m. CanAppend net (world_from net store) (delivery_of opened) m 0 c.args.serial) (c.can_append.ensures.0 yes) in
-    let e = c.in_ok-take_in.ensures.ok r.0 r.1 in
-    let still : slice_get c.take_in.new.self.deliveries number ≡ Some opened = rw e at in
-    record { sent_by_clients = rw (c.mark_appended.ensures opened still, e) c.args.self.now.sent_by_clients }
+    let w = c.args.self.now in
+    let found = c.in-Some.found.now.delivery in
+    let shown = keeping.shown w.places w.book c.args.delivery found c.in-Some.ensures in
+    let some : is_some c.output.result ≡ true = c.if-is_none.ensures in
+    let there = keeping.present c.output.result _ some (rw c.entrance.ensures at c.output.ensures) in
+    let yes : c.in_ok-can_append.field-0 ≡ true = grind (arith, common_steps) in
+    let may = c.in_ok-can_append.ensures.ok.0 yes in
+    let P : Delivery → Message → Type 0 = λ d m. CanAppend w.net.now (world_of w) d m c.args.buffer c.args.serial in
+    let Q : Delivery → Message → Type 0 = λ d m. (d.is_open ≡ true) × (¬ Contains d.appended c.args.buffer) × CanTake ((world_of w).buffers d.entrance.relay c.args.buffer) m.tag c.args.serial in
+    let p = err_from_is_err_and c.from_residual-in_err-take_in.result c.from_residual-in_err-take_in.ensures.1 in
+    rw (p.1, p.2) (rw shown there, keeping.weaker_of (world_of w) c.args.delivery P Q (λ d m a. (a.is_open, a.is_new, a.can_take)) may, c.in_err-take_in.ensures.err)
 
 pub returns-clause-answer : goal.returns-clause-answer
 returns-clause-answer g c =
-    let net = c.args.self.now.net.now in
-    let store = c.args.self.now.store in
-    let s = single net.relays.items net.clients.items net.single_file in
-    let number = c.args.delivery in
-    let opened = c.in-Some.opened in
-    let at = sym c.in-Some.ensures in
-    let zero_is : c.args.buffer ≡ 0 = omega arith in
-    let yes : c.can_append.result ≡ true = grind (arith, common_steps) in
-    let r = taken.row_of net store opened.message (λ m. CanAppend net (world_from net store) (delivery_of opened) m 0 c.args.serial) (c.can_append.ensures.0 yes) in
-    let e = c.in_ok-take_in.ensures.ok r.0 r.1 in
-    let still : slice_get c.take_in.new.self.deliveries number ≡ Some opened = rw e at in
-    let fresh = taken.fresh_of opened.appended r.2.is_new in (
-      (rw (taken.delivery_at net store number opened at) (taken.buffer_there net s c.args.buffer zero_is)),
-      (rw zero_is (taken.of_delivery net store number opened at r.0 (λ d m. CanAppend net (world_from net store) d m 0 c.args.serial) r.1 r.2)),
-      taken.appended_is net store _ number c.args.buffer c.args.serial opened r.0 at r.1 zero_is fresh r.2.can_take
-          (c.mark_appended.ensures opened still ∙ ap (λ (k : Contents). record k { deliveries = set k.deliveries number (appended_opening opened) }) e),
-    )
+    let w = c.args.self.now in
+    let found = c.in-Some.found.now.delivery in
+    let shown = keeping.shown w.places w.book c.args.delivery found c.in-Some.ensures in
+    let some : is_some c.output.result ≡ true = c.if-is_none.ensures in
+    let there = keeping.present c.output.result _ some (rw c.entrance.ensures at c.output.ensures) in
+    let yes : c.in_ok-can_append.field-0 ≡ true = grind (arith, common_steps) in
+    (rw shown there, c.in_ok-can_append.ensures.ok.0 yes, c.in_ok-take_in.ensures.ok)

@@ -1,13 +1,12 @@
-use Rattle.std.proofs.Common.{◌≡◌, length, ◌∙◌, arith, vec_len}
-use Rattle.std.proofs.lemmas.Bool.{eq-eqb}
-use Rattle.custody_core.proofs.Shape.{single}
-use Rattle.custody_core.proofs.Taken as taken
+use Rattle.std.proofs.Common.{arith}
+use Rattle.std.proofs.lemmas.Grind.{common_steps}
+use Rattle.custody_core.proofs.Ways as ways
 use Rattle.custody_core.proofs.world.World.has_leaf.Goals as goal
 
-pub returns-then-not-is_empty : goal.returns-then-not-is_empty
-returns-then-not-is_empty g c =
-    let net = c.args.self.now.net.now in
-    let s = single net.relays.items net.clients.items net.single_file in
-    let entries = c.args.sent.now.entries in
-    let some : length entries.items ≡ 0 → ⊥ = λ e. let z = eq-eqb (vec_len entries) 0 (entries.ok.0 ∙ e) in grind arith in
-    taken.leaf_iff net s c.args.sent.now.tag _ c.takes.result (taken.some_texts entries.items some) c.takes.ensures
+pub returns-in-Leaves : goal.returns-in-Leaves
+returns-in-Leaves g c =
+    let m = c.args.message.now in
+    let some = ways.some_entries c.entries.result.now m.entries c.entries.ensures (λ e. grind (arith, common_steps)) in
+    let leaves = rw c.in-Leaves.is at c.in_ok-way.ensures.leaves in
+    let found = rw c.deref.ensures.value at (ways.found_number c.deref.result.now c.args.buffer c.contains.result c.contains.ensures.cases) in
+    ways.leaf_is c.args.self.now.net.now c.args.at m.tag m.entries some c.in-Leaves.leaves.items (rw c.tag.ensures at leaves) c.args.buffer c.contains.result found

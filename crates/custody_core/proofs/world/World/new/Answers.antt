@@ -1,7 +1,10 @@
 use Rattle.std.proofs.Common.{◌∙◌, ap}
-use Rattle.custody_core.specs.Store.{world_from}
-use Rattle.custody_core.proofs.Views.{opening_is}
+use Rattle.custody_store.specs.Contents.{buffer_of}
+use Rattle.message_book.specs.Book.{Book}
+use Rattle.custody_core.specs.World.{opening}
+use Rattle.custody_core.specs.WorldOf.{world_from}
 use Rattle.custody_core.proofs.world.World.new.Goals as goal
 
 pub returns-clause-opening : goal.returns-clause-opening
-returns-clause-opening g c = ap (world_from c.args.net.now) c.new.ensures ∙ opening_is c.args.net.now
+returns-clause-opening g c = ap (λ (book : Book). world_from c.new.result book) c.new-2.ensures
+    ∙ (λ i. record opening { buffers = λ p b. buffer_of (c.new.ensures.contents p b i) })

@@ -1,39 +1,36 @@
-use Rattle.std.proofs.Common.{rules, ◌≡◌, true, Some, ap, ◌∙◌}
-use Rattle.std.proofs.lemmas.Result.{err_from_is_err_and}
-use Rattle.custody_core.specs.Steps.{with_named}
-use Rattle.custody_core.specs.Store.{world_from}
-use Rattle.custody_core.specs.declared.chunk.Stage.TheVariants.{Claimed}
-use Rattle.custody_core.proofs.Shape.{single}
-use Rattle.custody_core.proofs.Taken as taken
+use Rattle.std.proofs.Common.{rules, ◌≡◌, true, Some, ap, sym, subst, take, ◌∙◌, Option, IsSomeAnd}
+use Rattle.custody_store.specs.Buffers.{Chunk}
+use Rattle.custody_store.specs.declared.chunk.Stage.TheVariants.{Claimed}
+use Rattle.custody_core.specs.Found.{chunk_of, with_found}
+use Rattle.custody_core.specs.Steps.{Stores, with_stored}
+use Rattle.custody_core.specs.World.{World}
+use Rattle.custody_core.specs.WorldOf.{world_of}
+use Rattle.custody_core.proofs.Named.{there, at_stage, live_at, of_output}
+use Rattle.custody_core.proofs.Views.{named_changed, named_stored, stored_whole, chunks_stored}
 use Rattle.custody_core.proofs.world.World.write.Goals as goal
-
-pub returns-in_err-store_first-clause-answer : goal.returns-in_err-store_first-clause-answer
-returns-in_err-store_first-clause-answer g c =
-    let net = c.args.self.now.net.now in
-    let store = c.args.self.now.store in
-    let s = single net.relays.items net.clients.items net.single_file in
-    let f = c.in-Some.ensures.found in
-    let at : c.in-Some.found.look.stage ≡ Claimed = search rules in
-    let p = err_from_is_err_and c.from_residual.result c.from_residual.ensures.1 in
-    rw (p.1, p.2) (taken.there net store _ _ f, taken.at_stage net store _ _ f Claimed _ at (taken.stores_named net s store _ _ f), ap (world_from net) c.in_err-store_first.ensures.err)
 
 pub prove_delivered-requires : goal.prove_delivered-requires
 prove_delivered-requires g c =
     let net = c.args.self.now.net.now in
-    let store = c.args.self.now.store in
-    rw c.in_ok-store_first.ensures.ok (taken.within net store _ _ c.in-Some.ensures.found)
+    let w = world_of c.args.self.now in
+    let found = c.in_ok-found.found in
+    let f = c.in_ok-found.ensures.found in
+    let mid = world_of c.store_first.new.self in
+    let still : chunk_of mid found ≡ chunk_of w found = ap (λ (v : World). chunk_of v found) c.in_ok-store_first.ensures.ok ∙ chunks_stored w found (take found.look.count) in
+    record { claimed = subst (λ (o : Option Chunk). IsSomeAnd o (λ chunk. chunk.stage ≡ Claimed)) (sym still) (live_at net w c.args.name.now found f.0 Claimed f.1) }
 
 pub returns-clause-answer : goal.returns-clause-answer
 returns-clause-answer g c =
     let net = c.args.self.now.net.now in
-    let store = c.args.self.now.store in
-    let s = single net.relays.items net.clients.items net.single_file in
-    let f = c.in-Some.ensures.found in
-    let at : c.in-Some.found.look.stage ≡ Claimed = search rules in
-    let stored = c.in_ok-store_first.ensures.ok in
-    let again = taken.found_after net store c.store_first.new.self _ _ (ap (λ contents. contents.chunks) stored) f in (
-      taken.there net store _ _ f,
-      taken.at_stage net store _ _ f Claimed _ at (taken.stores_named net s store _ _ f),
-      taken.changed_is net c.store_first.new.self _ _ again _ (λ chunk. Some (record chunk { evidence = true })) c.prove_delivered.ensures
-          ∙ ap (λ w. with_named net w c.args.name.now (λ chunk. Some (record chunk { evidence = true }))) (taken.stored_is net store _ _ f _ stored),
+    let w = world_of c.args.self.now in
+    let name = c.args.name.now in
+    let found = c.in_ok-found.found in
+    let f = c.in_ok-found.ensures.found in
+    let stores = of_output net w name found f.0 Stores (c.is_stored.ensures.0 (search rules)) in
+    let mid = c.in_ok-store_first.ensures.ok ∙ stored_whole net w name found f.0 ∙ named_stored net w name found f.0 (λ entries. entries) in (
+      there net w name found f.0,
+      at_stage net w name found f.0 Claimed _ f.1 stores,
+      c.prove_delivered.ensures.world
+          ∙ ap (λ (v : World). with_found v found (λ chunk. Some (record chunk { evidence = true }))) mid
+          ∙ named_changed net w name found f.0 (with_stored net w name (λ entries. entries)) (λ chunk. Some (record chunk { evidence = true })),
     )
