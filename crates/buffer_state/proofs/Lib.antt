@@ -3,3 +3,4 @@ pub mod Named
 pub mod Tables
 pub mod Slots
 pub mod Steps
+pub mod Rooms

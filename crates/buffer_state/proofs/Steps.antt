@@ -382,11 +382,11 @@ staged_chunks slots tag xs next = kept_is (λ (slot : Slot). is_staged slot.chun
 
 -- The waiting serials, as the chunks have them
 
-lookup_below : (slots : Slots) (q : ℕ) → AllByRecursion (λ y. nat_cmp q y ≡ Less) (keys_of slots) → slot_at slots q ≡ None
+pub lookup_below : (slots : Slots) (q : ℕ) → AllByRecursion (λ y. nat_cmp q y ≡ Less) (keys_of slots) → slot_at slots q ≡ None
 lookup_below [] q h = refl
 lookup_below (e ∷ es) q h = rw (ap is_eq h.0) (lookup_below es q h.1)
 
-found_in : (g : Slot → Bool) (slots : Slots) (q : ℕ) → IsStrictlySortedBy nat_cmp (keys_of slots) → list_any (is_at (nat_cmp q)) (kept g slots) ≡ option_map_or g (slot_at slots q) false
+pub found_in : (g : Slot → Bool) (slots : Slots) (q : ℕ) → IsStrictlySortedBy nat_cmp (keys_of slots) → list_any (is_at (nat_cmp q)) (kept g slots) ≡ option_map_or g (slot_at slots q) false
 unfolding kept IsStrictlySortedBy
 found_in g [] q rising = refl
 found_in g (e ∷ es) q rising = by (is_at (nat_cmp q) e.0) refl (g e.1) refl (found_in g es q rising.1)
@@ -407,7 +407,7 @@ all_kept P g (e ∷ es) h = by (g e.1) (all_kept P g es h.1)
     by true rest = (h.0, rest)
     by false rest = rest
 
-rising_kept : (g : Slot → Bool) (slots : Slots) → IsStrictlySortedBy nat_cmp (keys_of slots) → IsStrictlySortedBy nat_cmp (kept g slots)
+pub rising_kept : (g : Slot → Bool) (slots : Slots) → IsStrictlySortedBy nat_cmp (keys_of slots) → IsStrictlySortedBy nat_cmp (kept g slots)
 unfolding kept IsStrictlySortedBy
 rising_kept g [] h = tt
 rising_kept g (e ∷ es) h = by (g e.1) (rising_kept g es h.1)

@@ -24,6 +24,11 @@ pub record State : Type 0 where
   pub next : ℕ  -- the serial of the next new chunk
   pub queue : List ℕ  -- the queued serials, in the order in which they are claimed
 
+-- A buffer at one time, and the serial of a chunk of it for which a step has been made ready.
+pub record Readied : Type 0 where
+  pub state : State
+  pub serial : ℕ
+
 -- the live chunk of this serial
 abbrev pub chunk_at : State → ℕ → Option Chunk
 chunk_at state serial = lookup (is_at (nat_cmp serial)) state.chunks

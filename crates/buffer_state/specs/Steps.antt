@@ -45,6 +45,10 @@ abbrev pub appended : ℕ → List ℕ → List (List ℕ) → State → State
 appended serial tag entries state =
     option_map_or (λ chunk. with_chunk serial (record chunk { entries = chunk.entries ++ entries }) state) (chunk_at state serial) (added serial tag entries state)
 
+-- the state without the chunk of this serial, which comes next again
+abbrev pub taken_back : ℕ → State → State
+taken_back serial state = record { chunks = remove_entry (is_at (nat_cmp serial)) state.chunks; next = serial; queue = state.queue }
+
 -- The place of an append of so many bytes: the newest staged chunk of the tag where they fit into it within this limit, else a new one.
 abbrev pub place_within : ℕ → State → List ℕ → ℕ → ℕ
 place_within limit state tag bytes =

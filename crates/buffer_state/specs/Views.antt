@@ -1,10 +1,11 @@
 -- What a buffer's chunks in memory stand for, and what holds of them.
-use Rattle.std.specs.Prelude.{ℕ, ◌≡◌, ◌+◌, ◌<◌, ◌≤◌, Bool, true, false, not, cond, List, ◌++◌, filter, sum_by, IfSome, nat_eq}
+use Rattle.std.specs.Prelude.{ℕ, ◌≡◌, ◌+◌, ◌<◌, ◌≤◌, Bool, true, false, not, cond, List, ◌++◌, filter, sum_by, IfSome, IsSomeAnd, nat_eq}
 use Rattle.std.specs.Option.{option_map_or}
 use Rattle.std.specs.List.{AllByRecursion, IsDistinct}
 use Rattle.std.specs.Map.{keys_of, values_of}
 use Rattle.std.specs.Ordering.{nat_cmp}
 use Rattle.std.specs.List.Sorted.{IsStrictlySortedBy}
+use Rattle.std.specs.BTreeMap.{is_at}
 use Rattle.std.specs.BTreeSet.{BTreeSet, contains}
 use Rattle.std.specs.declared.collections.VecDeque.{VecDeque}
 use Rattle.std.specs.VecDeque.{deque_len, deque_capacity}
@@ -57,3 +58,15 @@ pub record IsSound {A : Type 0} (slots : Slots) (waiting : BTreeSet ℕ) (order 
 -- the first list is the end of the second
 abbrev pub IsEndOf : List ℕ → List ℕ → Type 0
 IsEndOf end all = (before : List ℕ) × (all ≡ before ++ end)
+
+-- what holds of these fields where there is room for a step on the chunk of this serial, which is staged and whose entries lie together; it is among the waiting ones already
+pub record IsReady {A : Type 0} (slots : Slots) (waiting : BTreeSet ℕ) (order : VecDeque ℕ A) (next serial : ℕ) : Type 0 where
+  pub rising : IsStrictlySortedBy nat_cmp (keys_of slots)
+  pub below : AreBelow next (keys_of slots)
+  pub distinct : IsDistinct nat_eq order.items
+  pub free : AllByRecursion (IsFree slots next) order.items
+  pub room : deque_len order + claims slots + 1 ≤ deque_capacity order
+  pub waits : (other : ℕ) → contains nat_cmp waiting other ≡ cond (is_at (nat_cmp serial) other) true (passes_at is_waiting slots other)
+  pub listed : IsStrictlySortedBy nat_cmp waiting.keys
+  pub together : (other : ℕ) → IfSome (slot_at slots other) IsTogether
+  pub ready : IsSomeAnd (slot_at slots serial) (λ slot. (slot.chunk.stage ≡ Staged) × (slot.apart ≡ 0))

@@ -1,18 +1,25 @@
 //! The chunks of a buffer, and its steps on them.
 
-ghost use Rattle.std.specs.Prelude.{◌≡◌, ◌≤◌, ◌<◌, ◌+◌, ◌⊎◌, [], ◌∷◌, ◌++◌, true, length, filter, IfSome, IfNone, IfOk, OnOk, OnErr, option_map};
+ghost use Rattle.std.specs.Prelude.{◌≡◌, ◌≤◌, ◌<◌, ◌+◌, ◌⊎◌, [], ◌∷◌, ◌++◌, true, length, filter, IfSome, IfNone, IfOk, IfErr, OnOk, OnErr, cond, ℕ, List, None, option_map};
+ghost use Rattle.std.specs.List.{All};
+ghost use Rattle.std.specs.List.Sorted.{IsStrictlySortedBy};
+ghost use Rattle.std.specs.Map.{keys_of, values_of};
+ghost use Rattle.std.specs.Ordering.{nat_cmp};
+ghost use Rattle.std.specs.BTreeMap.{is_at};
+ghost use Rattle.std.specs.BTreeSet.{contains};
 ghost use Rattle.std.specs.VecDeque.{deque_len, deque_capacity};
-ghost use Rattle.buffer_state.specs.State.{empty, chunk_at, size, size_at, is_queued, IsAt, IsStagedOf};
-ghost use Rattle.buffer_state.specs.Steps.{CanAppend, planned, appended, queued_last, claimed, removed, settled, oldest, first_of, greatest_size, place_within};
+ghost use Rattle.buffer_state.specs.State.{State, empty, chunk_at, size, size_at, is_queued, IsAt, IsStagedOf};
+ghost use Rattle.buffer_state.specs.Steps.{CanAppend, planned, appended, queued_last, claimed, removed, settled, taken_back, oldest, first_of, greatest_size, place_within};
+ghost use Rattle.buffer_state.specs.Slots.{changed_at, chunks_in, joined, slot_size, AreBelow};
 ghost use Rattle.buffer_state.specs.Views.{passes_at, IsTogether, IsEndOf};
-ghost use Rattle.buffer_state.specs.declared.chunk.Stage.TheVariants.{Staged, Claimed};
+ghost use Rattle.buffer_state.specs.declared.chunk.Stage.TheVariants.{Staged, Queued, Claimed};
 
 use crate::chunk::{Chunk, Stage};
 use crate::limits::{AppendFault, Limits};
 use crate::table::Table;
 use event_modes::Entries;
 use std::alloc::{AllocError, Allocator};
-use std::collections::{BTreeSet, VecDeque};
+use std::collections::{BTreeMap, BTreeSet, VecDeque};
 use std::marker::Model;
 
 /// The live chunks of a buffer, the serial that comes next, and the queue.
@@ -70,6 +77,16 @@ impl<A: Allocator + Copy> Chunks<A> {
         self.table.get(serial)
     }
 
+    /// The live chunks, by rising serial.
+    pub fn live(&self) -> &BTreeMap<u64, Chunk<A>, A>
+        ensures chunks { chunks_in result.now.entries ≡ self.now.chunks }
+        ensures small { All (λ slot. slot_size slot ≤ greatest_size) (values_of result.now.entries) }
+        ensures rising { IsStrictlySortedBy nat_cmp (keys_of result.now.entries) }
+        ensures below { AreBelow self.now.next (keys_of result.now.entries) }
+    {
+        self.table.live()
+    }
+
     /// The stage of the live chunk of this serial.
     pub fn stage(&self, serial: u64) -> Option<Stage>
         ensures { result ≡ option_map (λ chunk. chunk.stage) (chunk_at self.now serial) }
@@ -89,6 +106,8 @@ impl<A: Allocator + Copy> Chunks<A> {
     ) -> Result<u64, AppendFault>
         ensures place { result ≡ planned limits.now self.now tag.now entries.now }
         ensures can { IfOk result (λ serial. CanAppend self.now serial tag.now entries.now) }
+        ensures near { IfOk result (λ serial. serial ≤ self.now.next) }
+        ensures free { OnOk result (chunk_at self.now self.now.next ≡ None) }
     {
         let size = entries.as_bytes().len() as u64;
         let limit = limits.chunk.min(16_775_168);
@@ -142,9 +161,55 @@ impl<A: Allocator + Copy> Chunks<A> {
         Ok(())
     }
 
+    /// Makes all the room for a step on the staged chunk of this serial.
+    ///
+    /// The error is want of memory, and hands the chunks back.
+    pub fn ready(self, serial: u64) -> Result<Ready<A>, Chunks<A>>
+        requires { IsAt Staged self serial }
+        ensures ok { IfOk result (λ ready. (ready.state ≡ self) × (ready.serial ≡ serial)) }
+        ensures err { IfErr result (λ chunks. chunks ≡ self) }
+    {
+        let Chunks {
+            alloc,
+            mut table,
+            mut waiting,
+            mut queue,
+            next,
+        } = self;
+        if make_room(&mut table, &mut waiting, &mut queue, serial).is_err() {
+            return Err(Chunks {
+                alloc,
+                table,
+                waiting,
+                queue,
+                next,
+            });
+        }
+        Ok(Ready {
+            alloc,
+            table,
+            waiting,
+            queue,
+            next,
+            serial,
+        })
+    }
+
+    /// Takes the append of the newest chunk back: the chunk is gone, and its serial comes next again. It takes no memory.
+    pub fn take_back(&mut self, serial: u64)
+        requires staged { IsAt Staged self.old serial }
+        requires newest { serial + 1 ≡ self.old.next }
+        ensures gone { self.new ≡ taken_back serial self.old }
+        ensures before { (before : State) (tag : List ℕ) (entries : List (List ℕ)) → before.next ≡ serial → self.old ≡ appended serial tag entries before → self.new ≡ before }
+    {
+        self.table.remove(serial);
+        self.next = serial;
+    }
+
     /// Claims the first of the queue, and gives its serial.
     pub fn claim(&mut self) -> Option<u64>
         ensures first { result ≡ first_of self.old.queue }
+        ensures queued { IfSome result (IsAt Queued self.old) }
         ensures state { self.new ≡ claimed self.old }
     {
         let serial = pop_queued(&self.table, &mut self.queue)?;
@@ -172,7 +237,8 @@ impl<A: Allocator + Copy> Chunks<A> {
 
     /// The queued chunk of least serial. It looks at the claimed chunks below it, and at no others.
     pub fn oldest(&self) -> Option<u64>
-        ensures { result ≡ oldest self.now }
+        ensures first { result ≡ oldest self.now }
+        ensures queued { IfSome result (IsAt Queued self.now) }
     {
         first_queued(&self.table, &self.waiting)
     }
@@ -203,6 +269,7 @@ impl<A: Allocator + Copy> Chunks<A> {
         requires limit { limit ≤ greatest_size }
         requires small { size ≤ greatest_size }
         ensures place { result ≡ place_within limit self.now tag.now size }
+        ensures near { result ≤ self.now.next }
         ensures here { (IsStagedOf self.now result tag.now × (size_at self.now result + size ≤ greatest_size)) ⊎ (result ≡ self.now.next) }
     {
         let Some(serial) = self.table.newest(tag) else {
@@ -244,6 +311,124 @@ impl<A: Allocator + Copy> Chunks<A> {
         self.table.grow(serial, piece);
         Ok(())
     }
+}
+
+/// Chunks with all the room for a step on one of them, which is staged. The step isn't done yet, and can't fail.
+#[derive(Drop)]
+pub struct Ready<A: Allocator> {
+    alloc: A,
+    table: Table<A>,
+    // with the serial, which counts as staged all the same
+    waiting: BTreeSet<u64, A>,
+    queue: VecDeque<u64, A>,
+    next: u64,
+    serial: u64,
+}
+
+impl<A: Allocator> Model for Ready<A> {
+    ghost use Rattle.buffer_state.specs.State.{Readied};
+
+    ghost Value = { Readied };
+
+    ghost use Rattle.buffer_state.specs.Views.{state_of, IsReady};
+
+    ghost view = { λ r. record { state = state_of r.table r.queue.items r.next; serial = r.serial } };
+
+    ghost invariant = { λ r. IsReady r.table r.waiting r.queue r.next r.serial };
+}
+
+impl<A: Allocator + Copy> Ready<A> {
+    /// Queues the chunk.
+    pub fn queue(self) -> Chunks<A>
+        ensures { result ≡ queued_last self.serial self.state }
+    {
+        let Ready {
+            alloc,
+            mut table,
+            waiting,
+            mut queue,
+            next,
+            serial,
+        } = self;
+        table.put(serial, Stage::Queued);
+        queue.push_back_reserved(serial);
+        Chunks {
+            alloc,
+            table,
+            waiting,
+            queue,
+            next,
+        }
+    }
+
+    /// Appends entries to the chunk.
+    pub fn append(self, piece: Entries<A>) -> Chunks<A>
+        requires { size_at self.state self.serial + size piece ≤ greatest_size }
+        ensures { (tag : List ℕ) → result ≡ appended self.serial tag piece self.state }
+    {
+        let Ready {
+            alloc,
+            mut table,
+            mut waiting,
+            queue,
+            next,
+            serial,
+        } = self;
+        table.grow(serial, piece);
+        let _ = waiting.remove(&serial);
+        Chunks {
+            alloc,
+            table,
+            waiting,
+            queue,
+            next,
+        }
+    }
+
+    /// Leaves the step out.
+    pub fn leave(self) -> Chunks<A>
+        ensures { result ≡ self.state }
+    {
+        let Ready {
+            alloc,
+            table,
+            mut waiting,
+            queue,
+            next,
+            serial,
+        } = self;
+        let _ = waiting.remove(&serial);
+        Chunks {
+            alloc,
+            table,
+            waiting,
+            queue,
+            next,
+        }
+    }
+}
+
+// Makes the room that queueing and growing a chunk take.
+fn make_room<A: Allocator + Copy>(
+    table: &mut Table<A>,
+    waiting: &mut BTreeSet<u64, A>,
+    queue: &mut VecDeque<u64, A>,
+    serial: u64,
+) -> Result<(), AllocError>
+    ensures table { (table.new ≡ table.old) ⊎ (table.new ≡ changed_at serial joined table.old) }
+    ensures joined { OnOk result (table.new ≡ changed_at serial joined table.old) }
+    ensures waits { OnOk result ((other : ℕ) → contains nat_cmp waiting.new other ≡ cond (is_at (nat_cmp serial) other) true (contains nat_cmp waiting.old other)) }
+    ensures listed { IsStrictlySortedBy nat_cmp waiting.old.keys → IsStrictlySortedBy nat_cmp waiting.new.keys }
+    ensures refused { OnErr result (waiting.new.keys ≡ waiting.old.keys) }
+    ensures items { queue.new.items ≡ queue.old.items }
+    ensures len { deque_len queue.new ≡ deque_len queue.old }
+    ensures kept { deque_capacity queue.old ≤ deque_capacity queue.new }
+    ensures room { OnOk result (deque_len queue.new + length waiting.old.keys + 1 ≤ deque_capacity queue.new) }
+{
+    queue.reserve(waiting.len() + 1)?;
+    table.join(serial)?;
+    let _ = waiting.insert(serial)?;
+    Ok(())
 }
 
 fn is_queued<A: Allocator + Copy>(table: &Table<A>, serial: u64) -> bool

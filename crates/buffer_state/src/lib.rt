@@ -8,7 +8,7 @@ mod table;
 mod tags;
 
 pub use chunk::{Chunk, Stage};
-pub use chunks::Chunks;
+pub use chunks::{Chunks, Ready};
 pub use limits::{AppendFault, Limits};
 
 #[cfg(test)]

@@ -1,13 +1,13 @@
 //! Live chunks by their serials.
 
 ghost use Rattle.std.specs.Prelude.{◌≡◌, false, ◌+◌, ◌≤◌, ◌<◌, ◌^◌, ◌++◌, [], ◌∷◌, IfSome, IsSome, IsSomeAnd, OnOk, OnErr, None, option_map};
-ghost use Rattle.std.specs.List.{last_or, AllByRecursion};
-ghost use Rattle.std.specs.Map.{keys_of, remove_entry};
+ghost use Rattle.std.specs.List.{last_or, All, AllByRecursion};
+ghost use Rattle.std.specs.Map.{keys_of, values_of, remove_entry};
 ghost use Rattle.std.specs.Ordering.{nat_cmp};
 ghost use Rattle.std.specs.BTreeMap.{is_at};
 ghost use Rattle.buffer_state.specs.State.{size, is_staged};
 ghost use Rattle.buffer_state.specs.Steps.{greatest_size};
-ghost use Rattle.buffer_state.specs.Slots.{Slot, slot_at, changed_at, joined, grown, put, fresh, slots_size, staged_in, AreBelow};
+ghost use Rattle.buffer_state.specs.Slots.{Slot, slot_at, changed_at, joined, grown, put, fresh, slot_size, slots_size, staged_in, AreBelow};
 
 use crate::chunk::{Chunk, Stage};
 use crate::tags::TagIndex;
@@ -57,6 +57,14 @@ impl<A: Allocator + Copy> Table<A> {
         ensures small { IfSome result (λ chunk. size chunk.now.chunk.entries ≤ greatest_size) }
     {
         self.chunks.get(&serial)
+    }
+
+    /// All of them, by rising serial.
+    pub fn live(&self) -> &BTreeMap<u64, Chunk<A>, A>
+        ensures all { result.now.entries ≡ self.now }
+        ensures small { All (λ slot. slot_size slot ≤ greatest_size) (values_of self.now) }
+    {
+        &self.chunks
     }
 
     /// How many bytes of entries all have together.

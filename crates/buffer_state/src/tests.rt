@@ -120,6 +120,46 @@ fn refusals(rt: HostRuntime) -> Result<(), AllocError> {
     Ok(())
 }
 
+// A step that is made ready, and is then done or left out.
+fn ready(
+    chunks: Chunks<Global>,
+    serial: u64,
+    piece: Option<Entries<Global>>,
+) -> Result<Chunks<Global>, AllocError> {
+    let Some(Stage::Staged) = chunks.stage(serial) else {
+        return Err(AllocError);
+    };
+    let Ok(ready) = chunks.ready(serial) else {
+        return Err(AllocError);
+    };
+    match piece {
+        Some(_) => Ok(ready.leave()),
+        None => Ok(ready.queue()),
+    }
+}
+
+#[test]
+fn steps_made_ready(rt: HostRuntime) -> Result<(), AllocError> {
+    let alloc = rt.alloc();
+    let one = entries(alloc, 1)?;
+    let mut chunks = Chunks::new(alloc);
+    assert!(rt; put(&mut chunks, &WIDE, b"a", &one)? == Some(0));
+    let mut chunks = ready(chunks, 0, Some(entries(alloc, 2)?))?;
+    assert!(rt; chunks.stage(0) == Some(Stage::Staged));
+    assert!(rt; put(&mut chunks, &WIDE, b"a", &one)? == Some(0));
+    let mut chunks = ready(chunks, 0, None)?;
+    assert!(rt; chunks.stage(0) == Some(Stage::Queued));
+    assert!(rt; put(&mut chunks, &WIDE, b"a", &one)? == Some(1));
+    if let Some(Stage::Staged) = chunks.stage(1) {
+        if chunks.next() == 2 {
+            chunks.take_back(1);
+        }
+    }
+    assert!(rt; chunks.next() == 1 && chunks.chunk(1).is_none());
+    assert!(rt; chunks.claim() == Some(0) && chunks.claim().is_none());
+    Ok(())
+}
+
 // Drops the oldest until nothing is queued, and looks whether the serials rise.
 fn drop_all(chunks: &mut Chunks<Global>, count: u64) -> u64 {
     let mut dropped = 0;

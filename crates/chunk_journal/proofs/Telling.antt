@@ -156,3 +156,18 @@ tells_chunks chunks next t fits =
       };
       means = sym (ap (λ (z : State). settled (after z (Seal next))) r.2.leads);
     }
+
+-- the records that tell live chunks do so in an empty buffer, and with the Seal behind them lead to these chunks
+pub record AreToldBy (chunks : List Numbered) (next : ℕ) : Type 0 where
+  pub each : Each Tells empty (flat_map telling chunks)
+  pub within : (after_all empty (flat_map telling chunks)).next ≤ next
+  pub leads : settled (after (after_all empty (flat_map telling chunks)) (Seal next)) ≡ reopened (record { chunks = chunks; next = next; queue = [] })
+
+pub told_so : (chunks : List Numbered) (next : ℕ) → AreTold 0 chunks next → next < 2 ^ 64 → AreToldBy chunks next
+told_so chunks next t fits =
+    let r = tell_all [] 0 [] chunks next tt t fits in
+    record {
+      each = r.2.each;
+      within = subst (λ (z : State). z.next ≤ next) (sym r.2.leads) r.1;
+      leads = ap (λ (z : State). settled (after z (Seal next))) r.2.leads;
+    }

@@ -1,4 +1,4 @@
-use Rattle.std.proofs.Common.{◌≡◌, length, length-append, arith}
+use Rattle.std.proofs.Common.{length-append, arith}
 use Rattle.std.proofs.lemmas.List.Folds.{concat-append}
 use Rattle.buffer_state.proofs.chunk.Chunk.size.Goals as goal
 

@@ -1,15 +1,14 @@
-use Rattle.std.proofs.Common.{◌≡◌, ◌≢◌, ◌≤◌, ◌<◌, ◌+◌, ◌^◌, ◌++◌, ◌∷◌, [], ◌⊎◌, ℕ, Bool, true, false, cond, List, length, Option, Some, None, option_map, refl, sym, ap, subst, ◌∙◌, arith, rules, inl, inr}
-use Rattle.std.specs.Prelude.{IsSomeAnd, filter}
-use Rattle.std.specs.Option.{option_map_or}
-use Rattle.buffer_state.specs.declared.chunk.Stage.TheVariants.{Staged, Queued, Claimed}
-use Rattle.buffer_state.specs.State.{State, Chunk, chunk_at, size, size_at, is_queued, is_staged, staged_of}
-use Rattle.buffer_state.specs.Steps.{greatest_size, appended, queued_last, claimed, claimed_from, removed, settled, first_of, place_within}
-use Rattle.buffer_state.specs.Slots.{Slot, slot_at, slot_size, fresh, joined, grown, put, changed_at}
-use Rattle.buffer_state.specs.Views.{passes_at, state_of, is_waiting, is_claimed, IsEndOf, IsSound, IsTogether}
+use Rattle.std.proofs.Common.{◌++◌, ℕ, List, sym, ap, ◌∙◌}
+use Rattle.buffer_state.specs.declared.chunk.Stage.TheVariants.{Claimed}
+use Rattle.buffer_state.specs.Steps.{claimed}
+use Rattle.buffer_state.specs.Slots.{Slot, put}
+use Rattle.buffer_state.specs.Views.{state_of}
 use Rattle.std.proofs.Common.{append-nil}
-use Rattle.std.specs.VecDeque.{deque_len}
-use Rattle.buffer_state.proofs.Slots.{without_rest}
-use Rattle.buffer_state.proofs.Steps.{passed, changed_is, sound_end, sound_claim, claim_view, claim_ended, distinct_end, parts}
+use Rattle.buffer_state.proofs.Steps.{passed, changed_is, sound_end, sound_claim, claim_ended}
+use Rattle.buffer_state.specs.State.{State, Chunk, IsAt}
+use Rattle.buffer_state.specs.declared.chunk.Stage.TheVariants.{Queued}
+use Rattle.std.proofs.Common.{◌≡◌, subst}
+use Rattle.buffer_state.proofs.Steps.{and_some, chunk_there}
 use Rattle.buffer_state.proofs.chunks.Chunks.claim.Goals as goal
 
 pub invariant_of-self : goal.invariant_of-self
@@ -32,3 +31,10 @@ returns-clause-state g c =
     ap (λ (t : List (ℕ × Slot)). state_of t c.pop_queued.new.queue.items c.self.inside.next) (c.put.ensures ∙ changed_is c.self.inside.table c.in_ok-serial.serial (put Claimed) v.0 v.1)
     ∙ claim_ended c.self.inside.table c.self.inside.waiting c.self.inside.queue c.self.inside.next c.self.invariant c.in_ok-serial.serial v.0 c.pop_queued.new.queue.items v.1 v.2 f.1 f.2
     ∙ ap claimed c.self.view_is
+
+pub returns-clause-queued : goal.returns-clause-queued
+returns-clause-queued g c =
+    let f = c.in_ok-serial.ensures.first in
+    let v = passed c.self.inside.table c.in_ok-serial.serial f.0 in
+    subst (λ (state : State). IsAt Queued state c.in_ok-serial.serial) c.self.view_is
+    (and_some _ (λ (chunk : Chunk). chunk.stage ≡ Queued) v.0.chunk (chunk_there c.self.inside.table c.self.inside.queue.items c.self.inside.next c.in_ok-serial.serial v.0 v.1) v.2)

@@ -1,15 +1,13 @@
-use Rattle.std.proofs.Common.{◌≡◌, ◌≢◌, ◌≤◌, ◌<◌, ◌+◌, ◌^◌, ◌++◌, ◌∷◌, [], ◌⊎◌, ℕ, Bool, true, false, cond, List, length, Option, Some, None, option_map, refl, sym, ap, subst, ◌∙◌, arith, rules, inl, inr}
-use Rattle.std.specs.Prelude.{IsSomeAnd, filter}
-use Rattle.std.specs.Option.{option_map_or}
-use Rattle.buffer_state.specs.declared.chunk.Stage.TheVariants.{Staged, Queued, Claimed}
-use Rattle.buffer_state.specs.State.{State, Chunk, chunk_at, size, size_at, is_queued, is_staged, staged_of}
-use Rattle.buffer_state.specs.Steps.{greatest_size, appended, queued_last, claimed, claimed_from, removed, settled, first_of, place_within}
-use Rattle.buffer_state.specs.Slots.{Slot, slot_at, slot_size, fresh, joined, grown, put, changed_at}
-use Rattle.buffer_state.specs.Views.{passes_at, state_of, is_waiting, is_claimed, IsEndOf, IsSound, IsTogether}
+use Rattle.std.proofs.Common.{◌≡◌, ℕ, cond, List, Some, sym, ap, subst, ◌∙◌, arith}
+use Rattle.std.specs.Prelude.{IsSomeAnd}
+use Rattle.buffer_state.specs.declared.chunk.Stage.TheVariants.{Queued, Claimed}
+use Rattle.buffer_state.specs.State.{State, chunk_at, is_queued, is_staged}
+use Rattle.buffer_state.specs.Steps.{queued_last}
+use Rattle.buffer_state.specs.Slots.{Slot, slot_at, put}
+use Rattle.buffer_state.specs.Views.{state_of, is_waiting, is_claimed, IsTogether}
 use Rattle.std.specs.Map.{set_value}
 use Rattle.std.specs.BTreeMap.{is_at}
 use Rattle.std.specs.Ordering.{nat_cmp}
-use Rattle.std.specs.VecDeque.{deque_len, deque_capacity}
 use Rattle.buffer_state.proofs.Serials.{if_some}
 use Rattle.buffer_state.proofs.Slots.{without_free}
 use Rattle.buffer_state.proofs.Steps.{slot_there, and_some, claim_part, one, waits_itself, changed_is, sound_queue, queue_view}

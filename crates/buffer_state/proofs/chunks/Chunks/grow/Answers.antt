@@ -1,11 +1,10 @@
-use Rattle.std.proofs.Common.{◌≡◌, ◌≢◌, ◌≤◌, ◌<◌, ◌+◌, ◌^◌, ◌++◌, ◌∷◌, [], ◌⊎◌, ℕ, Bool, true, false, cond, List, length, Option, Some, None, option_map, refl, sym, ap, subst, ◌∙◌, arith, rules, inl, inr}
-use Rattle.std.specs.Prelude.{IsSomeAnd, filter}
-use Rattle.std.specs.Option.{option_map_or}
-use Rattle.buffer_state.specs.declared.chunk.Stage.TheVariants.{Staged, Queued, Claimed}
-use Rattle.buffer_state.specs.State.{State, Chunk, chunk_at, size, size_at, is_queued, is_staged, staged_of}
-use Rattle.buffer_state.specs.Steps.{greatest_size, appended, queued_last, claimed, claimed_from, removed, settled, first_of, place_within}
-use Rattle.buffer_state.specs.Slots.{Slot, slot_at, slot_size, fresh, joined, grown, put, changed_at}
-use Rattle.buffer_state.specs.Views.{passes_at, state_of, is_waiting, is_claimed, IsEndOf, IsSound, IsTogether}
+use Rattle.std.proofs.Common.{◌≡◌, ◌≤◌, ◌+◌, ◌++◌, ℕ, List, Some, refl, sym, ap, subst, ◌∙◌, arith, inl, inr}
+use Rattle.std.specs.Prelude.{IsSomeAnd}
+use Rattle.buffer_state.specs.declared.chunk.Stage.TheVariants.{Staged}
+use Rattle.buffer_state.specs.State.{State, chunk_at, size, size_at}
+use Rattle.buffer_state.specs.Steps.{greatest_size, appended}
+use Rattle.buffer_state.specs.Slots.{Slot, slot_at, slot_size, joined}
+use Rattle.buffer_state.specs.Views.{state_of}
 use Rattle.buffer_state.proofs.Steps.{slot_there, ready_there, size_there, grow_sound, grow_view}
 use Rattle.buffer_state.proofs.chunks.Chunks.grow.Goals as goal
 

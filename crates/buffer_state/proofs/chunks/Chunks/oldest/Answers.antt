@@ -1,17 +1,26 @@
-use Rattle.std.proofs.Common.{◌≡◌, ◌≢◌, ◌≤◌, ◌<◌, ◌+◌, ◌^◌, ◌++◌, ◌∷◌, [], ◌⊎◌, ℕ, Bool, true, false, cond, List, length, Option, Some, None, option_map, refl, sym, ap, subst, ◌∙◌, arith, rules, inl, inr}
-use Rattle.std.specs.Prelude.{IsSomeAnd, filter, nat_le}
-use Rattle.std.specs.Option.{option_map_or}
-use Rattle.std.specs.List.{last_or}
-use Rattle.std.specs.Map.{set_value, remove_entry}
-use Rattle.std.specs.BTreeMap.{is_at}
-use Rattle.std.specs.Ordering.{nat_cmp}
-use Rattle.buffer_state.specs.declared.chunk.Stage.TheVariants.{Staged, Queued, Claimed}
-use Rattle.buffer_state.specs.State.{State, Chunk, chunk_at, size, size_at, is_queued, is_staged, staged_of, newest_staged}
-use Rattle.buffer_state.specs.Steps.{greatest_size, appended, queued_last, claimed, claimed_from, removed, settled, oldest, first_of, place_within}
-use Rattle.buffer_state.specs.Slots.{Slot, slot_at, slot_size, chunks_in, fresh, joined, grown, put, changed_at}
-use Rattle.buffer_state.specs.Views.{passes_at, state_of, is_waiting, is_claimed, claims, IsEndOf, IsSound, IsTogether}
+use Rattle.std.proofs.Common.{◌≡◌, ℕ, Option, Some, None, sym, ap, subst, ◌∙◌}
+use Rattle.buffer_state.specs.State.{State}
+use Rattle.buffer_state.specs.Steps.{oldest, first_of}
 use Rattle.buffer_state.proofs.Steps.{waiting_queued}
+use Rattle.std.specs.Prelude.{IfSome, filter}
+use Rattle.buffer_state.specs.State.{State, Chunk, IsAt, is_queued}
+use Rattle.buffer_state.specs.declared.chunk.Stage.TheVariants.{Queued}
+use Rattle.buffer_state.specs.Steps.{first_of}
+use Rattle.buffer_state.specs.Views.{passes_at}
+use Rattle.buffer_state.proofs.Steps.{passed, and_some, chunk_there}
+use Rattle.buffer_state.proofs.Rooms.{first_passes}
 use Rattle.buffer_state.proofs.chunks.Chunks.oldest.Goals as goal
 
-pub returns : goal.returns
-returns g c = c.first_queued.ensures ∙ ap first_of (waiting_queued c.self.inside.table c.self.inside.waiting c.self.inside.queue c.self.inside.next c.self.invariant) ∙ ap (λ (state : State). oldest state) c.self.view_is
+pub returns-clause-first : goal.returns-clause-first
+returns-clause-first g c = c.first_queued.ensures ∙ ap first_of (waiting_queued c.self.inside.table c.self.inside.waiting c.self.inside.queue c.self.inside.next c.self.invariant) ∙ ap (λ (state : State). oldest state) c.self.view_is
+
+pub returns-clause-queued : goal.returns-clause-queued
+returns-clause-queued g c = by c.first_queued.result c.first_queued.ensures
+  where
+    by : (o : Option ℕ) → o ≡ first_of (filter (passes_at is_queued c.self.inside.table) c.self.inside.waiting.keys) → IfSome o (IsAt Queued c.args.self.now)
+    by None is = tt
+    by (Some s) is = (
+        let v = passed c.self.inside.table s (first_passes (passes_at is_queued c.self.inside.table) c.self.inside.waiting.keys s (sym is)) in
+        subst (λ (state : State). IsAt Queued state s) c.self.view_is
+        (and_some _ (λ (chunk : Chunk). chunk.stage ≡ Queued) v.0.chunk (chunk_there c.self.inside.table c.self.inside.queue.items c.self.inside.next s v.0 v.1) v.2)
+        )

@@ -1,17 +1,10 @@
-use Rattle.std.proofs.Common.{◌≡◌, ◌≢◌, ◌≤◌, ◌<◌, ◌+◌, ◌^◌, ◌++◌, ◌∷◌, [], ◌⊎◌, ℕ, Bool, true, false, cond, List, length, Option, Some, None, option_map, refl, sym, ap, subst, ◌∙◌, arith, rules, inl, inr}
-use Rattle.std.specs.Prelude.{IsSomeAnd, filter, nat_le}
-use Rattle.std.specs.Option.{option_map_or}
+use Rattle.std.proofs.Common.{◌≡◌, ◌+◌, true, false, Some, None, refl, sym, ap, subst, ◌∙◌, arith, inl}
+use Rattle.std.specs.Prelude.{nat_le}
 use Rattle.std.specs.List.{last_or}
-use Rattle.std.specs.Map.{set_value, remove_entry}
-use Rattle.std.specs.BTreeMap.{is_at}
-use Rattle.std.specs.Ordering.{nat_cmp}
-use Rattle.buffer_state.specs.declared.chunk.Stage.TheVariants.{Staged, Queued, Claimed}
-use Rattle.buffer_state.specs.State.{State, Chunk, chunk_at, size, size_at, is_queued, is_staged, staged_of, newest_staged, IsStagedOf}
-use Rattle.buffer_state.specs.Steps.{greatest_size, appended, queued_last, claimed, claimed_from, removed, settled, oldest, first_of, place_within}
-use Rattle.buffer_state.specs.Slots.{Slot, slot_at, slot_size, chunks_in, fresh, joined, grown, put, changed_at}
-use Rattle.buffer_state.specs.Views.{passes_at, state_of, is_waiting, is_claimed, claims, IsEndOf, IsSound, IsTogether}
+use Rattle.buffer_state.specs.State.{State, size_at, newest_staged, IsStagedOf}
 use Rattle.std.proofs.lemmas.Bool.{le-leb, lt-leb}
 use Rattle.buffer_state.proofs.Steps.{staged_chunks, placed, staged_there}
+use Rattle.buffer_state.proofs.Steps.{newest_there, below_at}
 use Rattle.buffer_state.proofs.chunks.Chunks.place.Goals as goal
 
 pub returns-in_default-clause-place : goal.returns-in_default-clause-place
@@ -51,3 +44,10 @@ returns-then-size_at-size-clause-here g c =
           (staged_there c.self.inside.table c.self.inside.queue.items c.self.inside.next c.in-Some.serial c.args.tag.now c.self.invariant.rising (sym c.newest.ensures ∙ c.in-Some.is)),
       omega (arith, le, held, limit),
     )
+
+pub returns-then-size_at-size-clause-near : goal.returns-then-size_at-size-clause-near
+returns-then-size_at-size-clause-near g c =
+    let v = newest_there c.self.inside.table c.args.tag.now c.in-Some.serial c.self.invariant.rising (sym c.newest.ensures ∙ c.in-Some.is) in
+    let lt = below_at c.self.inside.table c.self.inside.next c.in-Some.serial v.0 c.self.invariant.below v.1 in
+    let next : c.self.inside.next ≡ c.args.self.now.next = ap (λ (state : State). state.next) c.self.view_is in
+    omega (arith, lt, next)

@@ -1,9 +1,19 @@
-use Rattle.std.proofs.Common.{◌≡◌, ◌≤◌, ◌<◌, ◌+◌, ◌⊎◌, ℕ, length, sym, ap, subst, ◌∙◌, arith}
+use Rattle.std.proofs.Common.{◌≡◌, ◌≤◌, ◌<◌, ◌+◌, ◌⊎◌, ℕ, length, sym, ap, subst, arith}
 use Rattle.buffer_state.specs.State.{State, IsStagedOf, size, size_at}
 use Rattle.buffer_state.specs.Steps.{CanAppend, greatest_size, last_serial}
 use Rattle.buffer_state.specs.Views.{state_of}
 use Rattle.buffer_state.proofs.Steps.{place_can}
+use Rattle.std.proofs.Common.{None, option_map, ◌∙◌}
+use Rattle.buffer_state.specs.State.{chunk_at}
+use Rattle.buffer_state.specs.Slots.{Slot}
+use Rattle.buffer_state.proofs.Serials.{lookup_above}
+use Rattle.buffer_state.proofs.Slots.{lookup_chunks}
 use Rattle.buffer_state.proofs.chunks.Chunks.plan.Goals.{else-place-self-via-then-place-self+else-self, else-place-self-via-else-place-self}
+use Rattle.std.proofs.Common.{None, option_map, ◌∙◌}
+use Rattle.buffer_state.specs.State.{chunk_at}
+use Rattle.buffer_state.specs.Slots.{Slot}
+use Rattle.buffer_state.proofs.Serials.{lookup_above}
+use Rattle.buffer_state.proofs.Slots.{lookup_chunks}
 use Rattle.buffer_state.proofs.chunks.Chunks.plan.Goals as goal
 
 pub returns-clause-can : goal.returns-clause-can
@@ -22,3 +32,7 @@ returns-clause-can g c =
     let least = c.min-limit.ensures in
     subst (λ (state : State). CanAppend state c.place-place.result c.args.tag.now c.args.entries.now) c.self.view_is
     (place_can c.self.inside.table c.self.inside.waiting c.self.inside.queue c.self.inside.next c.place-place.result c.args.tag.now c.args.entries.now c.self.invariant here more (omega (arith, bytes, le, least)))
+
+pub returns-clause-free : goal.returns-clause-free
+returns-clause-free g c = subst (λ (state : State). chunk_at state state.next ≡ None) c.self.view_is
+    (lookup_chunks c.self.inside.table c.self.inside.next ∙ ap (option_map (λ (slot : Slot). slot.chunk)) (lookup_above c.self.inside.table c.self.inside.next c.self.invariant.below))

@@ -1,4 +1,4 @@
-use Rattle.std.proofs.Common.{◌≡◌, ℕ, Option, Some, option_map, sym, ap, ◌∙◌, arith, rules}
+use Rattle.std.proofs.Common.{Option, Some, option_map, sym, ap, ◌∙◌}
 use Rattle.buffer_state.specs.State.{State, Chunk, chunk_at}
 use Rattle.buffer_state.specs.Slots.{Slot}
 use Rattle.buffer_state.proofs.Slots.{lookup_chunks}

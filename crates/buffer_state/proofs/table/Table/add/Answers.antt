@@ -1,11 +1,11 @@
-use Rattle.std.proofs.Common.{◌≡◌, ◌≤◌, ◌<◌, ◌+◌, ◌^◌, ◌++◌, ◌∷◌, [], ℕ, List, length, refl, sym, ap, ◌∙◌, arith, rules}
+use Rattle.std.proofs.Common.{◌≡◌, ◌≤◌, ◌<◌, ◌^◌, ◌++◌, ◌∷◌, [], ℕ, List, length, sym, ap, ◌∙◌, arith}
 use Rattle.std.specs.Map.{remove_entry, keys_of}
 use Rattle.std.specs.BTreeMap.{is_at}
 use Rattle.std.specs.Ordering.{nat_cmp}
 use Rattle.buffer_state.specs.State.{size}
 use Rattle.buffer_state.specs.Steps.{greatest_size}
 use Rattle.buffer_state.specs.Slots.{Slot, slot_size, fresh, AreBelow}
-use Rattle.buffer_state.proofs.Serials.{on_err, on_err_at, on_ok_at, insert_last, removed_last}
+use Rattle.buffer_state.proofs.Serials.{on_err_at, on_ok_at, insert_last, removed_last}
 use Rattle.buffer_state.proofs.Tables.{added_fits, same_index, total_small}
 use Rattle.buffer_state.proofs.table.Table.add.Goals as goal
 

@@ -1,4 +1,4 @@
-use Rattle.std.proofs.Common.{◌≡◌, ◌≤◌, ◌<◌, ◌+◌, ◌^◌, length, refl, sym, ap, ◌∙◌, IsSomeAnd, arith, rules}
+use Rattle.std.proofs.Common.{◌≡◌, ◌≤◌, ◌+◌, length, sym, ap, IsSomeAnd, arith}
 use Rattle.buffer_state.specs.State.{size}
 use Rattle.buffer_state.specs.Steps.{greatest_size}
 use Rattle.buffer_state.specs.Slots.{Slot, slot_at}

@@ -1,4 +1,4 @@
-use Rattle.std.proofs.Common.{◌≡◌, true, false, refl, sym, ap, ◌∙◌, arith, rules}
+use Rattle.std.proofs.Common.{◌≡◌, true, false, sym, rules}
 use Rattle.buffer_state.specs.State.{is_staged}
 use Rattle.buffer_state.proofs.Tables.{left_fits, put_fits}
 use Rattle.buffer_state.proofs.table.Table.put.Goals as goal

@@ -1,6 +1,5 @@
-use Rattle.std.proofs.Common.{◌≡◌, ◌≤◌, ◌-◌, ◌+◌, length, refl, sym, ap, ◌∙◌, arith, rules}
-use Rattle.buffer_state.specs.Slots.{slot_size, slots_size}
-use Rattle.buffer_state.specs.Steps.{greatest_size}
+use Rattle.std.proofs.Common.{◌≡◌, ◌+◌, length, sym, ◌∙◌, arith}
+use Rattle.buffer_state.specs.Slots.{slot_size}
 use Rattle.buffer_state.proofs.Tables.{small_at, part_of, gone_staged, gone_other}
 use Rattle.buffer_state.proofs.table.Table.remove.Goals as goal
 

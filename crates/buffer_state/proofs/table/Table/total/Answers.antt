@@ -1,4 +1,3 @@
-use Rattle.std.proofs.Common.{◌≡◌, ◌<◌, ◌^◌, sym, ap, rules}
 use Rattle.buffer_state.proofs.Tables.{total_small}
 use Rattle.buffer_state.proofs.table.Table.total.Goals as goal
 

@@ -1,0 +1,17 @@
+use Rattle.std.proofs.Common.{ap, ◌∙◌}
+use Rattle.buffer_state.specs.State.{IsAt}
+use Rattle.buffer_state.specs.Steps.{reopened}
+use Rattle.buffer_state.specs.declared.chunk.Stage.TheVariants.{Queued}
+use Rattle.buffer_state.proofs.Serials.{if_some}
+use Rattle.buffer_store.specs.Buffers.{Held}
+use Rattle.buffer_store.proofs.Claims.{claim_counts}
+use Rattle.buffer_store.proofs.ShortTags.{tags_claimed}
+use Rattle.buffer_store.proofs.buffer.Buffer.claim.Goals as goal
+
+pub invariant_of-self : goal.invariant_of-self
+invariant_of-self g c = record { stays_open = c.self.invariant.stays_open; tags = rw c.claim.ensures.state (tags_claimed c.self.inside.chunks c.self.invariant.tags) }
+
+pub returns-clause-counts : goal.returns-clause-counts
+returns-clause-counts g c = ap reopened c.claim.ensures.state
+    ∙ claim_counts c.self.inside.chunks c.claim.result c.claim.ensures.first (λ s e. if_some c.claim.result (IsAt Queued c.self.inside.chunks) s c.claim.ensures.queued e)
+    ∙ ap (λ (b : Held g.row.D.Denot). reopened b.chunks) c.self.view_is

@@ -1,0 +1,92 @@
+//! Why a buffer refuses a call.
+
+use buffer_state::AppendFault;
+use disk_files::DirError;
+use journal_files::OpenError;
+use std::alloc::AllocError;
+use thiserror::Error;
+
+/// Why a buffer refuses a call, printed by its code.
+#[derive(Clone, Copy, Debug, Drop, PartialEq, Eq, Error)]
+pub enum BufferFault {
+    /// With the entries that are there, these are more than the buffer takes.
+    #[error("B1")]
+    Full,
+    /// The entries alone are more than a chunk takes.
+    #[error("B2")]
+    TooLarge,
+    /// The chunk isn't in the state that the call needs, or there is none.
+    #[error("B3")]
+    Gone,
+    /// The device failed in this call. From then on each call that writes answers `Failed`.
+    #[error("B4")]
+    Fault,
+    /// The device failed before. The buffer is to be opened again.
+    #[error("B5")]
+    Failed,
+    /// The serials have run out, or the generations of the journal.
+    #[error("B6")]
+    LastSerial,
+    /// The journal has something whole that is no record, or that can't stand there.
+    #[error("B7")]
+    Damaged,
+    /// There was no memory.
+    #[error("out of memory")]
+    Memory,
+}
+
+impl From<AllocError> for BufferFault {
+    ghost use Rattle.std.specs.Prelude.{◌≡◌};
+    ghost use Rattle.buffer_store.specs.declared.fault.BufferFault.TheVariants.{Memory};
+
+    ghost from_gives = { λ _ e. e ≡ Memory };
+
+    fn from(_refused: AllocError) -> BufferFault {
+        BufferFault::Memory
+    }
+}
+
+impl From<AppendFault> for BufferFault {
+    ghost use Rattle.std.specs.Prelude.{◌≡◌};
+    ghost use Rattle.buffer_store.specs.Refusals.{of_plan};
+
+    ghost from_gives = { λ refused e. e ≡ of_plan refused };
+
+    fn from(refused: AppendFault) -> BufferFault {
+        match refused {
+            AppendFault::TooLarge => BufferFault::TooLarge,
+            AppendFault::Full => BufferFault::Full,
+            AppendFault::LastSerial => BufferFault::LastSerial,
+        }
+    }
+}
+
+impl From<DirError> for BufferFault {
+    ghost use Rattle.std.specs.Prelude.{◌≡◌};
+    ghost use Rattle.buffer_store.specs.Refusals.{of_dir};
+
+    ghost from_gives = { λ refused e. e ≡ of_dir refused };
+
+    fn from(refused: DirError) -> BufferFault {
+        match refused {
+            DirError::Memory => BufferFault::Memory,
+            _ => BufferFault::Fault,
+        }
+    }
+}
+
+impl From<OpenError> for BufferFault {
+    ghost use Rattle.std.specs.Prelude.{◌≡◌};
+    ghost use Rattle.buffer_store.specs.Refusals.{of_opening};
+
+    ghost from_gives = { λ refused e. e ≡ of_opening refused };
+
+    fn from(refused: OpenError) -> BufferFault {
+        match refused {
+            OpenError::Memory => BufferFault::Memory,
+            OpenError::Fault => BufferFault::Fault,
+            OpenError::Damaged => BufferFault::Damaged,
+            OpenError::LastGeneration => BufferFault::LastSerial,
+        }
+    }
+}

@@ -1,0 +1,257 @@
+-- A generation that is begun beside the older ones.
+use Rattle.std.proofs.Common.{◌≡◌, ◌⊎◌, ⊎_elim, ℕ, zero, suc, ◌+◌, ◌<◌, ◌≤◌, ◌^◌, Bool, true, false, cond, List, ◌++◌, length, take, min, Option, Some, None, refl, sym, ap, subst, ◌∙◌, arith, inl, inr}
+use Rattle.std.specs.Str.{bytes_eq}
+use Rattle.std.specs.List.{AllByRecursion, flat_map}
+use Rattle.std.proofs.lemmas.Bool.{cases_eq, cases_lt}
+use Rattle.std.proofs.lemmas.List.{take-append-le, take_min, take_all, take-take, length-take}
+use Rattle.std.proofs.lemmas.Slice.Eq.{bytes_eq-Decides}
+use Rattle.std.proofs.Math.Seq.{take-append-add}
+use Rattle.disk_files.specs.Disk.{File, Disk, Folder, MayStay, SameDisk, Changes, with_file, fresh, grown}
+use Rattle.disk_files.proofs.Moments.{here, elsewhere, follows, leaves_same}
+use Rattle.disk_files.proofs.Table.{itself}
+use Rattle.buffer_state.specs.State.{State}
+use Rattle.buffer_state.specs.Steps.{settled, reopened}
+use Rattle.chunk_journal.specs.Records.{Record, Seal, record_bytes, IsRecord}
+use Rattle.chunk_journal.specs.Journal.{journal_bytes}
+use Rattle.chunk_journal.specs.Meaning.{IsReplayed, EndsUnsealed, after_all, telling, AreTold}
+use Rattle.chunk_journal.proofs.Coming.{journal_push}
+use Rattle.chunk_journal.proofs.Telling.{told_so}
+use Rattle.journal_files.specs.Folders.{journal_name, IsPassedOver, PassesAbove, Opens}
+use Rattle.journal_files.specs.Tellings.{Telling, records_of, state_at_seal, state_of, reopened_at, opening, IsTelling, OpensWithin}
+use Rattle.journal_files.specs.Views.{OpenJournal}
+use Rattle.journal_files.specs.Disks.{Keeps, Recovers, HasNoneFrom}
+use Rattle.journal_files.specs.Pieces.{HasNew, IsUnfinished, Partly, sealed}
+use Rattle.journal_files.proofs.Names.{apart, numbers_apart}
+use Rattle.journal_files.proofs.Cuts.{IsCut, cut}
+use Rattle.journal_files.proofs.Recovery.{file_with, passed_none}
+use Rattle.journal_files.proofs.Steps.{all_last}
+
+-- ---- what it tells
+
+-- what is told of these chunks can be told so
+pub record CanOpen (s : State) : Type 0 where
+  pub telling : IsTelling (opening s)
+  pub leads : settled (state_of (opening s)) ≡ reopened s
+
+pub can_open : (s : State) → AreTold 0 s.chunks s.next → AllByRecursion IsRecord (flat_map telling s.chunks) → IsRecord (Seal s.next) → CanOpen s
+can_open s told each seal =
+    let so = told_so s.chunks s.next told seal.fields in
+    record {
+      telling = record { tells = so.each; greater = so.within; allowed = tt; records = all_last (flat_map telling s.chunks) (Seal s.next) each seal; few = omega arith };
+      leads = so.leads;
+    }
+
+bytes_of : (s : State) → journal_bytes (records_of (opening s)) ≡ journal_bytes (flat_map telling s.chunks) ++ record_bytes (Seal s.next)
+bytes_of s = journal_push (flat_map telling s.chunks) (Seal s.next)
+
+-- ---- what there is of it
+
+pub some_first : (name told seal : List ℕ) (old new : Disk) → IsUnfinished name told old new → IsUnfinished name (told ++ seal) old new
+some_first name told seal old new (inl same) = inl same
+some_first name told seal old new (inr some) =
+    let len = min some.len (length told) in
+    let e : take some.len told ≡ take len (told ++ seal) = sym (take-append-le len told seal (omega arith) ∙ take_min some.len told) in
+    inr (record { len = len; new = record { none = some.new.none; made = subst (λ (b : List ℕ). SameDisk new (with_file old name (Some (grown b fresh)))) e some.new.made } })
+
+pub some_second : (name told seal : List ℕ) (old mid new : Disk) → HasNew name told old mid → Partly name seal mid new → IsUnfinished name (told ++ seal) old new
+some_second name told seal old mid new first second =
+    let grew = follows old mid new name (Some (grown told fresh)) (grown (take second.len seal)) first.made second.grew in
+    inr (record {
+      len = length told + second.len;
+      new = record {
+        none = first.none;
+        made = subst (λ (b : List ℕ). SameDisk new (with_file old name (Some (grown b fresh)))) (sym (take-append-add told seal second.len)) grew;
+      };
+    })
+
+-- ---- whole
+
+module _ (journal : OpenJournal) (s : State) (can : CanOpen s) (old mid new : Disk) (told seal : List ℕ) where
+  pub whole : told ≡ journal_bytes (flat_map telling s.chunks) → seal ≡ record_bytes (Seal s.next) → 1 ≤ journal.number → journal.number < 2 ^ 32 → HasNoneFrom journal.path old journal.number
+      → HasNew (journal_name journal.path journal.number) told old mid → Changes (journal_name journal.path journal.number) (sealed seal) mid new → Keeps journal new (opening s)
+  whole told_is seal_is first last none made changes =
+      let name = journal_name journal.path journal.number in
+      let after = follows old mid new name (Some (grown told fresh)) (sealed seal) made.made changes in
+      let bytes : told ++ seal ≡ journal_bytes (records_of (opening s)) = ap (λ (z : List ℕ). z ++ seal) told_is ∙ ap (λ (z : List ℕ). journal_bytes (flat_map telling s.chunks) ++ z) seal_is ∙ sym (bytes_of s) in
+      record {
+        telling = can.telling;
+        first = first;
+        last = last;
+        synced = length (told ++ seal);
+        there = here old new name _ after ∙ ap (λ (w : List ℕ). Some (file_with w (length (told ++ seal)))) bytes;
+        holds = omega (arith, ap length bytes);
+        fits = omega (arith, ap length bytes);
+        newest = λ n above below.
+            elsewhere old new name (journal_name journal.path n) _ after (numbers_apart journal.path journal.number n last below (λ e. omega (arith, e, above))) ∙ none n (omega (arith, above)) below;
+      }
+
+-- ---- other files
+
+pub others_first : (name bytes other : List ℕ) (old new : Disk) → (other ≡ name → ⊥) → IsUnfinished name bytes old new → new other ≡ old other
+others_first name bytes other old new differ (inl same) = same other
+others_first name bytes other old new differ (inr some) = elsewhere old new name other _ some.new.made (apart name other (λ e. differ (sym e)))
+
+pub others_whole : (name told seal other : List ℕ) (old mid new : Disk) → (other ≡ name → ⊥) → HasNew name told old mid → Changes name (sealed seal) mid new → new other ≡ old other
+others_whole name told seal other old mid new differ made changes =
+    elsewhere mid new name other _ changes (apart name other (λ e. differ (sym e))) ∙ elsewhere old mid name other _ made.made (apart name other (λ e. differ (sym e)))
+
+-- ---- a stop while it is begun
+
+-- a folder beside one without the file of this number, which is passed over
+module _ (path : List ℕ) (folder hidden : Folder) (number : ℕ) (last : number < 2 ^ 32) (none : hidden (journal_name path number) ≡ None) (passed : IsPassedOver (folder (journal_name path number)))
+    (others : (n : ℕ) → n < 2 ^ 32 → (number ≡ n → ⊥) → folder (journal_name path n) ≡ hidden (journal_name path n)) where
+  passes_too : (n : ℕ) → n < 2 ^ 32 → IsPassedOver (hidden (journal_name path n)) → IsPassedOver (folder (journal_name path n))
+  passes_too n below over =
+      ⊎_elim (λ same. subst (λ (m : ℕ). IsPassedOver (folder (journal_name path m))) same passed)
+      (λ differ. subst IsPassedOver (sym (others n below differ)) over) (cases_eq number n)
+
+  pub opens_too : (state : State) → Opens path hidden state → Opens path folder state
+  opens_too state (inr nothing) = inr (nothing.0, λ n above below. passes_too n below (nothing.1 n above below))
+  opens_too state (inl o) =
+      let differ : number ≡ o.number → ⊥ = λ e. (let gone = sym none ∙ ap (λ (n : ℕ). hidden (journal_name path n)) e ∙ o.highest.there in cc gone) in
+      inl (record {
+        number = o.number;
+        bytes = o.bytes;
+        used = o.used;
+        highest = record {
+          first = o.highest.first;
+          last = o.highest.last;
+          there = others o.number o.highest.last differ ∙ o.highest.there;
+          above = λ n above below. passes_too n below (o.highest.above n above below);
+        };
+        means = o.means;
+      })
+
+-- the folder without this file
+abbrev without : List ℕ → Folder → Folder
+without name folder other = cond (bytes_eq name other) None (folder other)
+
+without_at : (b : Bool) (o left : Option (List ℕ)) → b ≡ false → left ≡ cond b None left
+without_at true o left e = absurd (cc e)
+without_at false o left e = refl
+
+hides : (b : Bool) (o made : Option File) (left : Option (List ℕ)) → (b ≡ true → o ≡ None) → MayStay (cond b made o) left → MayStay o (cond b None left)
+hides true o made left none stays = subst (λ (f : Option File). MayStay f None) (sym (none refl)) refl
+hides false o made left none stays = stays
+
+state_same : (t : Telling) (s : State) → settled (state_of (opening s)) ≡ reopened s → settled (state_of t) ≡ reopened s → (k : ℕ) → k ≤ length (opening s).steps → reopened_at (opening s) k ≡ reopened_at t (length t.steps)
+state_same t s leads means zero le = leads ∙ sym means ∙ ap (λ (z : List Record). settled (after_all (state_at_seal t) z)) (sym (take_all (length t.steps) t.steps (omega arith)))
+state_same t s leads means (suc k) le = absurd (omega (arith, le))
+
+-- what is left of a generation: nothing that counts, or what means something
+record CutLeft (t : Telling) (left : Option (List ℕ)) : Type 0 where
+  bytes : List ℕ
+  is : left ≡ Some bytes
+  cut : IsCut t bytes
+
+abbrev IsSomeCut : Telling → Option (List ℕ) → Type 0
+IsSomeCut t left = IsPassedOver left ⊎ CutLeft t left
+
+cut_at : (t : Telling) → IsTelling t → (bytes : List ℕ) (n : ℕ) → take n (journal_bytes (records_of t)) ≡ bytes → IsSomeCut t (Some bytes)
+cut_at t is bytes n e =
+    ⊎_elim (λ unsealed. inl (subst EndsUnsealed e unsealed)) (λ c. inr (record { bytes = bytes; is = refl; cut = subst (IsCut t) e c })) (cut t is n)
+
+-- a beginning of a generation that tells what the older one means
+module _ (path : List ℕ) (number : ℕ) (t : Telling) (s : State) (can : CanOpen s) (first : 1 ≤ number) (last : number < 2 ^ 32) (means : settled (state_of t) ≡ reopened s) (folder : Folder)
+    (above : PassesAbove path folder number) where
+  pub opens_new : t.sure ≤ length t.steps → (bytes : List ℕ) → folder (journal_name path number) ≡ Some bytes → IsCut (opening s) bytes → OpensWithin path t folder
+  opens_new few bytes there c = record {
+    steps = length t.steps;
+    enough = few;
+    begun = omega arith;
+    opens = inl (record {
+      number = number;
+      bytes = bytes;
+      used = c.used;
+      highest = record { first = first; last = last; there = there; above = above };
+      means = subst (λ (z : State). IsReplayed bytes z c.used) (state_same t s can.leads means c.steps c.begun) c.means;
+    });
+  }
+
+  -- what is left of the file: nothing, or some of the bytes
+  left_opens : (hidden : Folder) → hidden (journal_name path number) ≡ None → ((n : ℕ) → n < 2 ^ 32 → (number ≡ n → ⊥) → folder (journal_name path n) ≡ hidden (journal_name path n))
+      → OpensWithin path t hidden → (left : Option (List ℕ)) → folder (journal_name path number) ≡ left → IsSomeCut (opening s) left → OpensWithin path t folder
+  left_opens hidden none others w left is (inl passed) = record {
+    steps = w.steps;
+    enough = w.enough;
+    begun = w.begun;
+    opens = opens_too path folder hidden number last none (subst IsPassedOver (sym is) passed) others (reopened_at t w.steps) w.opens;
+  }
+  left_opens hidden none others w left is (inr c) = opens_new (omega (arith, w.enough, w.begun)) c.bytes (is ∙ c.is) c.cut
+
+-- the bytes that are left
+cut_of : (t : Telling) → IsTelling t → (written : List ℕ) (len : ℕ) (left : Option (List ℕ)) → written ≡ journal_bytes (records_of t) → MayStay (Some (grown (take len written) fresh)) left → IsSomeCut t left
+cut_of t is written len None e stays = inl tt
+cut_of t is written len (Some bytes) e stays =
+    elim (cases_lt len (length bytes)) [
+      | inl lt ↦ cut_at t is bytes len (ap (take len) (sym e) ∙ sym (take_all (length bytes) (take len written) (omega (arith, lt, length-take len written))) ∙ stays.1)
+      | inr le ↦ cut_at t is bytes (length bytes) (ap (take (length bytes)) (sym e) ∙ sym (take-take (length bytes) len written le) ∙ stays.1)
+    ]
+
+pub unfinished : (path : List ℕ) (number : ℕ) (t : Telling) (s : State) (old new : Disk) → CanOpen s → 1 ≤ number → number < 2 ^ 32 → settled (state_of t) ≡ reopened s → HasNoneFrom path old number
+    → Recovers path old t → IsUnfinished (journal_name path number) (journal_bytes (records_of (opening s))) old new → Recovers path new t
+unfinished path number t s old new can first last means none before (inl same) folder leaves = before folder (leaves_same new old folder same leaves)
+unfinished path number t s old new can first last means none before (inr some) folder leaves =
+    let name = journal_name path number in
+    let file : Option File = Some (grown (take some.len (journal_bytes (records_of (opening s)))) fresh) in
+    let hidden = without name folder in
+    let w = before hidden (λ q. hides (bytes_eq name q) (old q) file (folder q) (λ e. ap old (sym ((bytes_eq-Decides name q).0 e)) ∙ some.new.none) (subst (λ (f : Option File). MayStay f (folder q)) (some.new.made q) (leaves q))) in
+    let gone : hidden name ≡ None = ap (λ (b : Bool). cond b None (folder name)) (itself name) in
+    let at : new name ≡ file = here old new name _ some.new.made in
+    left_opens path number t s can first last means folder
+    (λ n above below. passed_none (folder (journal_name path n)) (subst (λ (f : Option File). MayStay f (folder (journal_name path n)))
+    (elsewhere old new name (journal_name path n) _ some.new.made (numbers_apart path number n last below (λ e. omega (arith, e, above))) ∙ none n (omega (arith, above)) below) (leaves (journal_name path n))))
+    hidden gone (λ n below differ. without_at (bytes_eq name (journal_name path n)) (folder (journal_name path n)) (folder (journal_name path n)) (numbers_apart path number n last below differ))
+    w (folder name) refl (cut_of (opening s) can.telling (journal_bytes (records_of (opening s))) some.len (folder name) refl (subst (λ (f : Option File). MayStay f (folder name)) at (leaves name)))
+
+-- ---- a journal whose older files change
+
+pub kept_above : (journal : OpenJournal) (disk after : Disk) (t : Telling) → Keeps journal disk t → ((n : ℕ) → journal.number ≤ n → n < 2 ^ 32 → after (journal_name journal.path n) ≡ disk (journal_name journal.path n)) → Keeps journal after t
+kept_above journal disk after t keeps same = record {
+  telling = keeps.telling;
+  first = keeps.first;
+  last = keeps.last;
+  synced = keeps.synced;
+  there = same journal.number (omega arith) keeps.last ∙ keeps.there;
+  holds = keeps.holds;
+  fits = keeps.fits;
+  newest = λ n above below. same n (omega (arith, above)) below ∙ keeps.newest n above below;
+}
+
+-- a new generation opens to the state of the older one
+pub renewed : (path : List ℕ) (t : Telling) (s : State) (folder : Folder) → t.sure ≤ length t.steps → settled (state_of (opening s)) ≡ reopened s → settled (state_of t) ≡ reopened s → OpensWithin path (opening s) folder → OpensWithin path t folder
+renewed path t s folder few leads means w = record {
+  steps = length t.steps;
+  enough = few;
+  begun = omega arith;
+  opens = subst (Opens path folder) (state_same t s leads means w.steps w.begun) w.opens;
+}
+
+-- ---- beginning as it is done
+
+module _ (path : List ℕ) (number : ℕ) (s : State) (can : CanOpen s) (name told : List ℕ) (first : 1 ≤ number) (last : number < 2 ^ 32) (name_is : name ≡ journal_name path number)
+    (told_is : told ≡ journal_bytes (flat_map telling s.chunks)) where
+  run_is : (seal : List ℕ) → seal ≡ record_bytes (Seal s.next) → told ++ seal ≡ journal_bytes (records_of (opening s))
+  run_is seal seal_is = ap (λ (z : List ℕ). z ++ seal) told_is ∙ ap (λ (z : List ℕ). journal_bytes (flat_map telling s.chunks) ++ z) seal_is ∙ sym (bytes_of s)
+
+  stops_so : (t : Telling) (old new : Disk) (seal : List ℕ) → seal ≡ record_bytes (Seal s.next) → settled (state_of t) ≡ reopened s → HasNoneFrom path old number → Recovers path old t
+      → IsUnfinished name (told ++ seal) old new → Recovers path new t
+  stops_so t old new seal seal_is means none before some =
+      unfinished path number t s old new can first last means none before
+      (subst (λ (n : List ℕ). IsUnfinished n (journal_bytes (records_of (opening s))) old new) name_is (subst (λ (b : List ℕ). IsUnfinished name b old new) (run_is seal seal_is) some))
+
+  pub stops_early : (t : Telling) (old new : Disk) → settled (state_of t) ≡ reopened s → HasNoneFrom path old number → Recovers path old t → IsUnfinished name told old new → Recovers path new t
+  stops_early t old new means none before some =
+      stops_so t old new (record_bytes (Seal s.next)) refl means none before (some_first name told (record_bytes (Seal s.next)) old new some)
+
+  pub stops_late : (t : Telling) (old mid new : Disk) (seal : List ℕ) → seal ≡ record_bytes (Seal s.next) → settled (state_of t) ≡ reopened s → HasNoneFrom path old number → Recovers path old t
+      → HasNew name told old mid → Partly name seal mid new → Recovers path new t
+  stops_late t old mid new seal seal_is means none before made some = stops_so t old new seal seal_is means none before (some_second name told seal old mid new made some)
+
+  pub ends : (journal : OpenJournal) (old mid new : Disk) (seal : List ℕ) → journal.path ≡ path → journal.number ≡ number → seal ≡ record_bytes (Seal s.next) → HasNoneFrom path old number
+      → HasNew name told old mid → Changes name (sealed seal) mid new → Keeps journal new (opening s)
+  ends journal old mid new seal path_is number_is seal_is none made changes =
+      let named : name ≡ journal_name journal.path journal.number = name_is ∙ ap (λ (p : List ℕ). journal_name p number) (sym path_is) ∙ ap (λ (n : ℕ). journal_name journal.path n) (sym number_is) in
+      whole journal s can old mid new told seal told_is seal_is (omega (arith, first, number_is)) (omega (arith, last, number_is))
+      (λ n from below. ap (λ (p : List ℕ). old (journal_name p n)) path_is ∙ none n (omega (arith, from, number_is)) below)
+      (subst (λ (z : List ℕ). HasNew z told old mid) named made) (subst (λ (z : List ℕ). Changes z (sealed seal) mid new) named changes)

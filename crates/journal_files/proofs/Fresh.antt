@@ -1,0 +1,39 @@
+-- The generation that opening begins is above all that were ever there.
+use Rattle.std.proofs.Common.{◌≡◌, ℕ, ◌+◌, ◌<◌, ◌≤◌, ◌^◌, List, Option, Some, None, refl, sym, subst, ◌∙◌, arith}
+use Rattle.std.specs.Prelude.{IsSome}
+use Rattle.disk_files.specs.Disk.{Disk, SameDisk, reads}
+use Rattle.journal_files.specs.Folders.{journal_name}
+use Rattle.journal_files.specs.Tellings.{Telling}
+use Rattle.journal_files.specs.Views.{OpenJournal}
+use Rattle.journal_files.specs.Disks.{Keeps, HasNoneFrom, HasNoStray}
+use Rattle.journal_files.specs.Found.{IsFound}
+use Rattle.journal_files.proofs.Names.{same_number}
+use Rattle.journal_files.proofs.Older.{IsAbove}
+use Rattle.journal_files.proofs.Beginning.{kept_above}
+
+none_of : {A : Type 0} (o : Option A) → (IsSome o → ⊥) → o ≡ None
+none_of None no_some = refl
+none_of (Some x) no_some = absurd (no_some refl)
+
+not_some : {A : Type 0} (o : Option A) → o ≡ None → IsSome o → ⊥
+not_some o is some = let gone = subst IsSome is some in cc gone
+
+pub none_above : (path : List ℕ) (disk mid : Disk) (greatest number : ℕ) → number ≡ greatest + 1 → IsFound path (reads disk) greatest → HasNoStray path disk → SameDisk mid disk → HasNoneFrom path mid number
+none_above path disk mid greatest number is found stray same n from below =
+    same (journal_name path n)
+    ∙ none_of (disk (journal_name path n))
+    (λ some. let b = stray n (omega (arith, from, is)) below some in not_some (reads disk (journal_name path b.number)) (found.above b.number (omega (arith, b.above, from, is)) b.last) b.there)
+
+-- the names of this generation and those above are of none below
+pub is_above : (path : List ℕ) (number n : ℕ) → number ≤ n → n < 2 ^ 32 → IsAbove path number (journal_name path n)
+is_above path number n from below m lt e = let same = same_number path n m below (omega (arith, lt, from, below)) e in omega (arith, same, lt, from)
+
+pub keeps_alone : (path : List ℕ) (number : ℕ) (journal : OpenJournal) (mid new : Disk) (t : Telling) → journal.path ≡ path → journal.number ≡ number → Keeps journal mid t
+    → ((name : List ℕ) → IsAbove path number name → new name ≡ mid name) → Keeps journal new t
+keeps_alone path number journal mid new t path_is number_is keeps elsewhere =
+    kept_above journal mid new t keeps
+    (λ n from below. subst (λ (p : List ℕ). new (journal_name p n) ≡ mid (journal_name p n)) (sym path_is) (elsewhere (journal_name path n) (is_above path number n (omega (arith, from, number_is)) below)))
+
+pub own_is_above : (path : List ℕ) (number : ℕ) (journal : OpenJournal) → journal.path ≡ path → journal.number ≡ number → number < 2 ^ 32 → IsAbove path number (journal_name journal.path journal.number)
+own_is_above path number journal path_is number_is last =
+    subst (λ (p : List ℕ). IsAbove path number (journal_name p journal.number)) (sym path_is) (is_above path number journal.number (omega (arith, number_is)) (omega (arith, number_is, last)))

@@ -1,0 +1,14 @@
+pub mod Names
+pub mod Cuts
+pub mod Recovery
+pub mod Steps
+pub mod OneWay
+pub mod Written
+pub mod Tags
+pub mod Spelled
+pub mod Reading
+pub mod Beginning
+pub mod Older
+pub mod Searched
+pub mod Renewing
+pub mod Fresh

@@ -1,0 +1,51 @@
+-- A folder opens one way.
+use Rattle.std.proofs.Common.{◌≡◌, ℕ, ◌<◌, List, Option, Some, sym, ap, subst, ◌∙◌, arith, inl, inr}
+use Rattle.std.proofs.lemmas.Bool.{cases_lt}
+use Rattle.disk_files.specs.Disk.{Folder}
+use Rattle.buffer_state.specs.State.{State}
+use Rattle.chunk_journal.specs.Meaning.{IsReplayed, Answer, Means, NotSealed, BadRecord}
+use Rattle.chunk_journal.specs.Laws.{AnswersOneWay}
+use Rattle.journal_files.specs.Folders.{journal_name, IsPassedOver, OpensBy, Opens}
+
+state_in : State → Answer → State
+state_in other (Means state used) = state
+state_in other NotSealed = other
+state_in other BadRecord = other
+
+some_same : {A : Type 0} {x y : A} → Some x ≡ Some y → x ≡ y
+some_same e = cc e
+
+module _ (law : AnswersOneWay) where
+  -- a sealed generation isn't passed over
+  counts : (bytes : List ℕ) (file : Option (List ℕ)) (state : State) (used : ℕ) → file ≡ Some bytes → IsReplayed bytes state used → IsPassedOver file → ⊥
+  counts bytes file state used there means passed =
+      let differs : Means state used ≡ NotSealed = law bytes (Means state used) NotSealed means (subst IsPassedOver there passed) in
+      cc differs
+
+  same_state : (bytes : List ℕ) (one other : State) (m n : ℕ) → IsReplayed bytes one m → IsReplayed bytes other n → one ≡ other
+  unfolding state_in
+  same_state bytes one other m n a b = ap (state_in other) (law bytes (Means one m) (Means other n) a b)
+
+  not_below : (path : List ℕ) (folder : Folder) (one other : State) (a : OpensBy path folder one) (b : OpensBy path folder other) → a.number < b.number → ⊥
+  not_below path folder one other a b lt =
+      counts b.bytes (folder (journal_name path b.number)) other b.used b.highest.there b.means (a.highest.above b.number lt b.highest.last)
+
+  same_generation : (path : List ℕ) (folder : Folder) (one other : State) (a : OpensBy path folder one) (b : OpensBy path folder other) → a.number ≡ b.number → one ≡ other
+  same_generation path folder one other a b e =
+      let same : a.bytes ≡ b.bytes = some_same (sym a.highest.there ∙ ap (λ (n : ℕ). folder (journal_name path n)) e ∙ b.highest.there) in
+      same_state b.bytes one other a.used b.used (subst (λ (z : List ℕ). IsReplayed z one a.used) same a.means) b.means
+
+  pub one_way : (path : List ℕ) (folder : Folder) (one other : State) → Opens path folder one → Opens path folder other → one ≡ other
+  one_way path folder one other (inl a) (inl b) =
+      elim (cases_lt a.number b.number) [
+        | inl lt ↦ absurd (not_below path folder one other a b lt)
+        | inr le ↦ elim (cases_lt b.number a.number) [
+          | inl lt ↦ absurd (not_below path folder other one b a lt)
+          | inr ge ↦ same_generation path folder one other a b (omega (arith, le, ge))
+        ]
+      ]
+  one_way path folder one other (inl a) (inr b) =
+      absurd (counts a.bytes (folder (journal_name path a.number)) one a.used a.highest.there a.means (b.1 a.number (omega (arith, a.highest.first)) a.highest.last))
+  one_way path folder one other (inr a) (inl b) =
+      absurd (counts b.bytes (folder (journal_name path b.number)) other b.used b.highest.there b.means (a.1 b.number (omega (arith, b.highest.first)) b.highest.last))
+  one_way path folder one other (inr a) (inr b) = a.0 ∙ sym b.0

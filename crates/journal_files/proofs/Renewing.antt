@@ -1,0 +1,61 @@
+-- A journal goes on in the next generation.
+use Rattle.std.proofs.Common.{◌≡◌, ◌⊎◌, ⊎_elim, ℕ, ◌+◌, ◌<◌, ◌≤◌, ◌^◌, false, List, Option, Some, refl, sym, ap, subst, ◌∙◌, arith}
+use Rattle.std.specs.Prelude.{IsSome}
+use Rattle.std.specs.Str.{bytes_eq}
+use Rattle.disk_files.specs.Disk.{Disk, SameDisk, Changes, unlinked}
+use Rattle.disk_files.specs.declared.dir.FileNo.{FileNo}
+use Rattle.disk_files.proofs.Moments.{elsewhere}
+use Rattle.buffer_state.specs.State.{State}
+use Rattle.buffer_state.specs.Steps.{settled, reopened}
+use Rattle.journal_files.specs.Folders.{journal_name}
+use Rattle.journal_files.specs.Tellings.{Telling, state_of, opening, OpensWithin}
+use Rattle.journal_files.specs.Views.{OpenJournal, IsOpenIn}
+use Rattle.journal_files.specs.Disks.{Keeps, Recovers, HasNoneFrom}
+use Rattle.journal_files.proofs.Names.{same_number, numbers_apart}
+use Rattle.journal_files.proofs.Recovery.{recovers}
+use Rattle.journal_files.proofs.Beginning.{kept_above, renewed}
+
+-- what the older generation gives to begin with
+module _ (journal : OpenJournal) (old : Disk) (t : Telling) (keeps : Keeps journal old t) (path : List ℕ) (number : ℕ) (path_is : path ≡ journal.path) (number_is : number ≡ journal.number + 1) where
+  pub none_from : HasNoneFrom path old number
+  none_from n from below = ap (λ (p : List ℕ). old (journal_name p n)) path_is ∙ keeps.newest n (omega (arith, from, number_is)) below
+
+  pub recovers_at : Recovers path old t
+  recovers_at = subst (λ (p : List ℕ). Recovers p old t) (sym path_is) (recovers journal old t keeps)
+
+  pub recovers_as : (new : Disk) → Recovers path new t → Recovers journal.path new t
+  recovers_as new now_so = subst (λ (p : List ℕ). Recovers p new t) path_is now_so
+
+-- the older file is removed
+module _ (journal next : OpenJournal) (mid new : Disk) (path_is : next.path ≡ journal.path) (number_is : next.number ≡ journal.number + 1) (last : journal.number < 2 ^ 32) where
+  stays_apart : (n : ℕ) → next.number ≤ n → n < 2 ^ 32 → bytes_eq (journal_name journal.path journal.number) (journal_name next.path n) ≡ false
+  stays_apart n from below =
+      subst (λ (p : List ℕ). bytes_eq (journal_name journal.path journal.number) (journal_name p n) ≡ false) (sym path_is)
+      (numbers_apart journal.path journal.number n last below (λ e. omega (arith, e, from, number_is)))
+
+  pub still_keeps : (s : State) → Keeps next mid (opening s) → SameDisk new mid ⊎ Changes (journal_name journal.path journal.number) unlinked mid new → Keeps next new (opening s)
+  still_keeps s keeps removed =
+      kept_above next mid new (opening s) keeps
+      (λ n from below. ⊎_elim (λ same. same (journal_name next.path n))
+      (λ changes. elsewhere mid new (journal_name journal.path journal.number) (journal_name next.path n) _ changes (stays_apart n from below)) removed)
+
+  pub still_recovers : (old : Disk) (t : Telling) (s : State) → Keeps journal old t → settled (state_of (opening s)) ≡ reopened s → settled (state_of t) ≡ reopened s → Keeps next mid (opening s)
+      → SameDisk new mid ⊎ Changes (journal_name journal.path journal.number) unlinked mid new → Recovers journal.path new t
+  still_recovers old t s keeps leads means begun removed folder leaves =
+      let w = recovers next new (opening s) (still_keeps s begun removed) folder leaves in
+      renewed journal.path t s folder keeps.telling.few leads means (subst (λ (p : List ℕ). OpensWithin p (opening s) folder) path_is w)
+
+some_same : {A : Type 0} {x y : A} → Some x ≡ Some y → x ≡ y
+some_same e = cc e
+
+-- the two files are two open files
+pub two_files : (opened : FileNo → Option (List ℕ)) (journal next : OpenJournal) → next.path ≡ journal.path → next.number ≡ journal.number + 1 → next.number < 2 ^ 32
+    → opened journal.file ≡ Some (journal_name journal.path journal.number) → IsOpenIn next opened → next.file ≡ journal.file → ⊥
+two_files opened journal next path_is number_is last here there same =
+    let names : journal_name journal.path next.number ≡ journal_name journal.path journal.number =
+    some_same (ap (λ (p : List ℕ). Some (journal_name p next.number)) (sym path_is) ∙ sym there ∙ ap opened same ∙ here) in
+    let numbers = same_number journal.path next.number journal.number last (omega (arith, last, number_is)) names in
+    absurd (omega (arith, numbers, number_is))
+
+pub is_some_name : {A : Type 0} (o : Option A) (x : A) → o ≡ Some x → IsSome o
+is_some_name o x is = subst IsSome (sym is) refl

@@ -1,0 +1,31 @@
+use Rattle.std.proofs.Common.{ap, ◌∙◌}
+use Rattle.journal_files.specs.Views.{OpenJournal}
+use Rattle.journal_files.proofs.Steps.{put_ok, put_err, put_moments, on_ok, on_err}
+use Rattle.journal_files.proofs.journal.Journal.put.Goals as goal
+
+pub returns-clause-ok : goal.returns-clause-ok
+returns-clause-ok g c = λ honest t item keeps ready allowed.
+    let old = g.D.Dir.history c.args.dir.now in
+    let mid = g.D.Dir.history c.append-told.new.self in
+    let named = ap (λ (j : OpenJournal). g.D.Dir.opened c.args.dir.now j.file) c.self.view_is ∙ c.requires.open in
+    let bytes = c.deref.ensures.value ∙ ap (λ (j : OpenJournal). j.ready) c.self.view_is ∙ ready.1 in
+    on_ok c.append-told.result (c.append-told.ensures.ok honest _ named)
+    (λ changes. put_ok c.args.self.now _ old mid t item c.deref.result.now bytes keeps ready.0 allowed (ap (λ (j : OpenJournal). j.path) c.self.view_is) (ap (λ (j : OpenJournal). j.number) c.self.view_is) changes)
+
+pub returns-clause-err : goal.returns-clause-err
+returns-clause-err g c = λ honest t item keeps ready allowed.
+    let old = g.D.Dir.history c.args.dir.now in
+    let mid = g.D.Dir.history c.append-told.new.self in
+    let named = ap (λ (j : OpenJournal). g.D.Dir.opened c.args.dir.now j.file) c.self.view_is ∙ c.requires.open in
+    let bytes = c.deref.ensures.value ∙ ap (λ (j : OpenJournal). j.ready) c.self.view_is ∙ ready.1 in
+    on_err c.append-told.result (c.append-told.ensures.err honest _ named)
+    (λ some. put_err c.args.self.now c.args.self.now old mid t item c.deref.result.now bytes keeps ready.0 allowed some.0 some.1)
+
+pub returns-clause-moments : goal.returns-clause-moments
+returns-clause-moments g c = λ honest t item keeps ready allowed.
+    let old = g.D.Dir.history c.args.dir.now in
+    let mid = g.D.Dir.history c.append-told.new.self in
+    let named = ap (λ (j : OpenJournal). g.D.Dir.opened c.args.dir.now j.file) c.self.view_is ∙ c.requires.open in
+    let bytes = c.deref.ensures.value ∙ ap (λ (j : OpenJournal). j.ready) c.self.view_is ∙ ready.1 in
+    put_moments c.args.self.now c.args.self.now old mid t item c.deref.result.now bytes keeps ready.0 allowed c.append-told.result (c.append-told.ensures.time honest)
+    (c.append-told.ensures.ok honest _ named) (c.append-told.ensures.err honest _ named)

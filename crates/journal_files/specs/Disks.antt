@@ -1,0 +1,38 @@
+-- A journal on a disk.
+use Rattle.std.specs.Prelude.{ℕ, ◌≡◌, ◌<◌, ◌≤◌, ◌^◌, true, false, List, length, None, Some, IsSome}
+use Rattle.disk_files.specs.Disk.{Disk, Folder, StopLeaves, reads}
+use Rattle.chunk_journal.specs.Journal.{journal_bytes}
+use Rattle.journal_files.specs.Folders.{journal_name}
+use Rattle.journal_files.specs.Tellings.{Telling, records_of, sure_records, IsTelling, OpensWithin}
+use Rattle.journal_files.specs.Views.{OpenJournal}
+
+-- The disk has the journal, whole: the file of its generation has the records that it told and nothing else, a stop leaves this file
+-- with the chunks, the Seal and the sure steps at least, and no greater generation was ever begun.
+pub record Keeps (journal : OpenJournal) (disk : Disk) (t : Telling) : Type 0 where
+  pub telling : IsTelling t
+  pub first : 1 ≤ journal.number
+  pub last : journal.number < 2 ^ 32
+  pub synced : ℕ
+  pub there : disk (journal_name journal.path journal.number)
+      ≡ Some (record { written = journal_bytes (records_of t); synced = synced; is_durable = true; is_removed = false })
+  pub holds : length (journal_bytes (sure_records t)) ≤ synced
+  pub fits : synced ≤ length (journal_bytes (records_of t))
+  pub newest : (n : ℕ) → journal.number < n → n < 2 ^ 32 → disk (journal_name journal.path n) ≡ None
+
+-- Each folder that a stop may leave now opens to the state after some of the steps, all sure ones among them.
+abbrev pub Recovers : List ℕ → Disk → Telling → Type 0
+Recovers path disk t = (folder : Folder) → StopLeaves disk folder → OpensWithin path t folder
+
+-- no generation from this one on was ever begun
+abbrev pub HasNoneFrom : List ℕ → Disk → ℕ → Type 0
+HasNoneFrom path disk number = (n : ℕ) → number ≤ n → n < 2 ^ 32 → disk (journal_name path n) ≡ None
+
+-- Each generation that was ever begun is at or below one that reads. (So no removed one comes back above all that are there.)
+pub record IsBelowSome (path : List ℕ) (disk : Disk) (n : ℕ) : Type 0 where
+  pub number : ℕ
+  pub above : n ≤ number
+  pub last : number < 2 ^ 32
+  pub there : IsSome (reads disk (journal_name path number))
+
+abbrev pub HasNoStray : List ℕ → Disk → Type 0
+HasNoStray path disk = (n : ℕ) → 1 ≤ n → n < 2 ^ 32 → IsSome (disk (journal_name path n)) → IsBelowSome path disk n

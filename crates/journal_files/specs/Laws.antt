@@ -1,0 +1,16 @@
+-- What holds of journals on a disk, apart from any call.
+use Rattle.std.specs.Prelude.{ℕ, ◌≡◌, List}
+use Rattle.disk_files.specs.Disk.{Disk, Folder}
+use Rattle.buffer_state.specs.State.{State}
+use Rattle.journal_files.specs.Folders.{Opens}
+use Rattle.journal_files.specs.Tellings.{Telling}
+use Rattle.journal_files.specs.Views.{OpenJournal}
+use Rattle.journal_files.specs.Disks.{Keeps, Recovers}
+
+-- Recovery: whatever a stop leaves of a journal opens to the state after some of its steps, all sure ones among them.
+abbrev pub RecoversAll : Type 0
+RecoversAll = (journal : OpenJournal) (disk : Disk) (t : Telling) → Keeps journal disk t → Recovers journal.path disk t
+
+-- a folder opens one way
+abbrev pub OpensOneWay : Type 0
+OpensOneWay = (path : List ℕ) (folder : Folder) (one other : State) → Opens path folder one → Opens path folder other → one ≡ other

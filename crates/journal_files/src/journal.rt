@@ -1,0 +1,164 @@
+//! An open generation of a buffer's journal.
+
+ghost use Rattle.std.specs.Prelude.{◌≡◌, ◌≢◌, ◌↔◌, ℕ, ◌+◌, ◌-◌, ◌*◌, ◌^◌, ◌<◌, ◌≤◌, [], length, min, OnOk, OnErr, Err, IsTrue};
+ghost use Rattle.disk_files.specs.Disk.{SameDisk};
+ghost use Rattle.disk_files.specs.Moments.{Elapses, LeavesOnly, now};
+ghost use Rattle.disk_files.specs.Faults.{HasCause};
+ghost use Rattle.disk_files.specs.declared.dir.FileNo.{FileNo};
+ghost use Rattle.buffer_state.specs.Steps.{settled, reopened};
+ghost use Rattle.chunk_journal.specs.Records.{Record as Step, body_of, longest_body};
+ghost use Rattle.chunk_journal.specs.Meaning.{Allows};
+ghost use Rattle.chunk_journal.specs.Spelled.{record_of, HasShortTag};
+ghost use Rattle.journal_files.specs.Tellings.{Telling, begun, all_sure, opening, state_of, OpensWithin};
+ghost use Rattle.journal_files.specs.Views.{IsOpenIn, IsReady, HasShortTags};
+ghost use Rattle.journal_files.specs.Disks.{Keeps, Recovers};
+ghost use Rattle.journal_files.specs.Faults.{HasReason};
+ghost use Rattle.journal_files.specs.declared.error.RenewError.{RenewError};
+
+use crate::error::RenewError;
+use crate::pieces::begin;
+use buffer_state::Chunks;
+use chunk_journal::{Record, put_record};
+use disk_files::{Dir, DirError, FileNo};
+use std::alloc::{AllocError, Allocator};
+use std::marker::Model;
+
+const RENEWED_LEN: u64 = 268_435_456;
+
+/// An open generation of a buffer's journal: one file of a folder that is lent to each call.
+#[derive(Drop)]
+pub struct Journal<A: Allocator> {
+    pub(crate) path: Vec<u8, A>,
+    pub(crate) number: u32,
+    pub(crate) file: FileNo,
+    // how many bytes were told, up to the greatest number of its type
+    pub(crate) len: u64,
+    // what is told next
+    pub(crate) ready: Vec<u8, A>,
+}
+
+impl<A: Allocator> Model for Journal<A> {
+    ghost use Rattle.journal_files.specs.Views.{OpenJournal};
+
+    ghost Value = { OpenJournal };
+
+    ghost view = { λ j. record { path = j.path.items; number = j.number; file = j.file; len = j.len; ready = j.ready.items } };
+}
+
+impl<A: Allocator> Journal<A> {
+    /// Whether the journal has more than 268,435,456 bytes, and more than twice as many as the live chunks have.
+    pub fn wants_renewal(&self, live: u64) -> bool
+        ensures { IsTrue result ↔ ((268435456 < self.now.len) × (2 * live < self.now.len)) }
+    {
+        self.len > RENEWED_LEN && u128::from(self.len) > 2 * u128::from(live)
+    }
+
+    /// Spells a record, and makes room for it in the folder, so that `put` needs no memory.
+    /// Asks for a tag of at most 1,024 bytes and for at most 16,777,216 bytes behind the length.
+    ///
+    /// The error is want of memory; then nothing is ready.
+    pub fn ready<D: Dir, B: Allocator>(
+        &mut self,
+        dir: &mut D,
+        item: &Record<'_, B>,
+    ) -> Result<(), AllocError>
+        requires open { IsOpenIn self.old (D.opened dir.old) }
+        requires tag { HasShortTag (record_of item.now) }
+        requires short { length (body_of (record_of item.now)) ≤ longest_body }
+        ensures ready { OnOk result (IsReady self.new (record_of item.now)) }
+        ensures room { OnOk result (length self.new.ready ≤ D.bytes_left dir.new self.new.file) }
+        ensures rest { self.new ≡ record self.old { ready = self.new.ready } }
+        ensures honest { D.is_honest dir.old → D.is_honest dir.new }
+        ensures time { D.is_honest dir.old → Elapses (D.history dir.old) (D.history dir.new) }
+        ensures same { D.is_honest dir.old → SameDisk (now (D.history dir.new)) (now (D.history dir.old)) }
+        ensures opened { (other : FileNo) → D.opened dir.new other ≡ D.opened dir.old other }
+        ensures cause { D.fault_count dir.new ≡ D.fault_count dir.old }
+    {
+        self.ready.clear();
+        put_record(&mut self.ready, item)?;
+        dir.reserve(self.file, self.ready.len())
+    }
+
+    /// Tells the record that is ready, and doesn't sync.
+    ///
+    /// The error is `Fault`. Then the step is begun, and a stop may leave it or not; the journal is not to be used again.
+    pub fn put<D: Dir>(&mut self, dir: &mut D) -> Result<(), DirError>
+        requires open { IsOpenIn self.old (D.opened dir.old) }
+        requires room { length self.old.ready ≤ D.bytes_left dir.old self.old.file }
+        ensures journal { self.new ≡ record self.old { len = min (self.old.len + length self.old.ready) (2 ^ 64 - 1); ready = [] } }
+        ensures honest { D.is_honest dir.old → D.is_honest dir.new }
+        ensures ok { D.is_honest dir.old → (t : Telling) (item : Step) → Keeps self.old (now (D.history dir.old)) t
+            → IsReady self.old item → Allows (state_of t) item
+            → OnOk result (Keeps self.new (now (D.history dir.new)) (begun item t)) }
+        ensures err { D.is_honest dir.old → (t : Telling) (item : Step) → Keeps self.old (now (D.history dir.old)) t
+            → IsReady self.old item → Allows (state_of t) item
+            → OnErr result (Recovers self.old.path (now (D.history dir.new)) (begun item t)) }
+        // A stop at any moment of the call leaves a folder that opens so.
+        ensures moments { D.is_honest dir.old → (t : Telling) (item : Step) → Keeps self.old (now (D.history dir.old)) t
+            → IsReady self.old item → Allows (state_of t) item
+            → LeavesOnly (D.history dir.old) (D.history dir.new) (OpensWithin self.old.path (begun item t)) }
+        ensures opened { (other : FileNo) → D.opened dir.new other ≡ D.opened dir.old other }
+        ensures cause { HasCause (D.fault_count dir.old) (D.fault_count dir.new) result }
+        ensures only { OnErr result (result ≡ Err DirError.Fault) }
+    {
+        let told = dir.append(self.file, &self.ready);
+        self.len = self.len.saturating_add(self.ready.len() as u64);
+        self.ready.clear();
+        told
+    }
+
+    /// After its `Ok` each stop leaves all steps that were begun. The error is `Fault`, and changes nothing.
+    pub fn sync<D: Dir>(&self, dir: &mut D) -> Result<(), DirError>
+        requires open { IsOpenIn self.now (D.opened dir.old) }
+        ensures honest { D.is_honest dir.old → D.is_honest dir.new }
+        ensures ok { D.is_honest dir.old → (t : Telling) → Keeps self.now (now (D.history dir.old)) t
+            → OnOk result (Keeps self.now (now (D.history dir.new)) (all_sure t)) }
+        ensures err { D.is_honest dir.old → (t : Telling) → Keeps self.now (now (D.history dir.old)) t
+            → OnErr result (Keeps self.now (now (D.history dir.new)) t) }
+        // A stop at any moment of the call leaves a folder that opens so.
+        ensures moments { D.is_honest dir.old → (t : Telling) → Keeps self.now (now (D.history dir.old)) t
+            → LeavesOnly (D.history dir.old) (D.history dir.new) (OpensWithin self.now.path t) }
+        ensures opened { (other : FileNo) → D.opened dir.new other ≡ D.opened dir.old other }
+        ensures cause { HasCause (D.fault_count dir.old) (D.fault_count dir.new) result }
+        ensures only { OnErr result (result ≡ Err DirError.Fault) }
+    {
+        dir.sync(self.file)
+    }
+}
+
+impl<A: Allocator + Copy> Journal<A> {
+    /// Goes on in the next generation, which begins with these chunks, claimed ones told as queued. Asks that no chunk's tag
+    /// has more than 1,024 bytes. The older file is removed once the new one is synced.
+    ///
+    /// `LastGeneration` comes first, and it and `Memory` change nothing. After `Fault` every stop leaves a folder
+    /// that opens as before; the journal is not to be used again.
+    pub fn renew<D: Dir>(&mut self, dir: &mut D, chunks: &Chunks<A>) -> Result<(), RenewError>
+        requires open { IsOpenIn self.old (D.opened dir.old) }
+        requires tags { HasShortTags chunks.now }
+        ensures honest { D.is_honest dir.old → D.is_honest dir.new }
+        ensures ok { D.is_honest dir.old → (t : Telling) → Keeps self.old (now (D.history dir.old)) t
+            → OnOk result (Keeps self.new (now (D.history dir.new)) (opening chunks.now)) }
+        ensures state { OnOk result (settled (state_of (opening chunks.now)) ≡ reopened chunks.now) }
+        ensures fault { D.is_honest dir.old → (t : Telling) → Keeps self.old (now (D.history dir.old)) t
+            → settled (state_of t) ≡ reopened chunks.now
+            → (result ≡ Err RenewError.Fault) → Recovers self.old.path (now (D.history dir.new)) t }
+        ensures memory { D.is_honest dir.old → (t : Telling) → Keeps self.old (now (D.history dir.old)) t
+            → (result ≡ Err RenewError.Memory) → Keeps self.new (now (D.history dir.new)) t }
+        ensures last { (result ≡ Err RenewError.LastGeneration) ↔ (2 ^ 32 ≤ self.old.number + 1) }
+        ensures unchanged { (result ≡ Err RenewError.LastGeneration) → D.is_honest dir.old → SameDisk (now (D.history dir.new)) (now (D.history dir.old)) }
+        ensures path { self.new.path ≡ self.old.path }
+        ensures number { OnOk result (self.new.number ≡ self.old.number + 1) }
+        ensures journal { OnErr result (self.new ≡ self.old) }
+        ensures open { result ≢ Err RenewError.Fault → IsOpenIn self.new (D.opened dir.new) }
+        ensures cause { HasReason (D.fault_count dir.old) (D.fault_count dir.new) result RenewError.Fault }
+    {
+        if self.number == u32::MAX {
+            return Err(RenewError::LastGeneration);
+        }
+        let alloc = *self.path.allocator();
+        let next = begin(alloc, dir, &self.path, self.number + 1, chunks)?;
+        dir.remove(self.file)?;
+        *self = next;
+        Ok(())
+    }
+}

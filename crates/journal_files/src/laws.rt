@@ -1,0 +1,21 @@
+//! What holds of journals on a disk. These functions do nothing: each stands for a theorem.
+
+ghost use Rattle.journal_files.specs.Laws.{RecoversAll, OpensOneWay};
+
+use chunk_journal::{answers_one_way, cuts_generation, cuts_whole};
+use numbered_files::names_differ;
+
+/// Whatever a stop leaves of a journal opens to the state after some of its steps, and all steps that were synced are among them.
+pub fn recovers_all()
+    ensures { RecoversAll }
+{
+    cuts_whole();
+    cuts_generation();
+}
+
+/// A folder opens to one state.
+pub fn opens_one_way()
+    ensures { OpensOneWay }
+{
+    answers_one_way();
+}

@@ -1,0 +1,16 @@
+//! A buffer's journal as the files of a folder: one generation after another, and what a stop leaves of them.
+#![tactic(auto)]
+
+mod error;
+mod journal;
+mod laws;
+mod opening;
+mod pieces;
+mod spelling;
+#[cfg(test)]
+mod tests;
+
+pub use error::{OpenError, RenewError};
+pub use journal::Journal;
+pub use laws::{opens_one_way, recovers_all};
+pub use opening::Opened;

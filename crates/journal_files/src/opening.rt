@@ -1,0 +1,195 @@
+//! Opening a journal: what the folder means, and a new generation that says so.
+
+ghost use Rattle.std.specs.Prelude.{◌≡◌, ◌≢◌, ◌⊎◌, ℕ, ◌+◌, ◌-◌, ◌^◌, ◌<◌, ◌≤◌, List, Some, None, false, IsSome, IsTrue, OnOk, OnErr, IfOk, IfSome, Err};
+ghost use Rattle.std.specs.Ordering.{nat_cmp};
+ghost use Rattle.std.specs.BTreeSet.{contains};
+ghost use Rattle.disk_files.specs.Disk.{SameDisk, reads};
+ghost use Rattle.disk_files.specs.Moments.{Elapses, now};
+ghost use Rattle.disk_files.specs.Faults.{HasCause};
+ghost use Rattle.disk_files.specs.declared.dir.FileNo.{FileNo};
+ghost use Rattle.buffer_state.specs.Steps.{settled, reopened};
+ghost use Rattle.journal_files.specs.Folders.{journal_name, Opens, IsDamagedFolder};
+ghost use Rattle.journal_files.specs.Tellings.{opening, state_of};
+ghost use Rattle.journal_files.specs.Views.{IsOpenIn, HasShortTags};
+ghost use Rattle.journal_files.specs.Disks.{Keeps, HasNoStray};
+ghost use Rattle.journal_files.specs.Faults.{HasReason};
+ghost use Rattle.journal_files.specs.Found.{IsFound, IsRead};
+ghost use Rattle.journal_files.specs.declared.error.OpenError.{OpenError};
+
+use crate::error::OpenError;
+use crate::journal::Journal;
+use crate::pieces::{begin, generations, remove_one};
+use buffer_state::Chunks;
+use chunk_journal::{ReplayError, replay};
+use disk_files::{Dir, DirError};
+use numbered_files::{numbers, read_file};
+use std::alloc::Allocator;
+use std::collections::BTreeSet;
+
+/// An opened journal, and what it means.
+#[derive(Drop)]
+pub struct Opened<A: Allocator> {
+    /// The generation that was begun for it.
+    pub journal: Journal<A>,
+    /// The live chunks and the next serial; the queue goes by rising serial.
+    pub chunks: Chunks<A>,
+}
+
+impl<A: Allocator + Copy> Journal<A> {
+    /// Opens the journal whose files' names begin with this path: takes the greatest generation that has a whole Seal, passing over
+    /// those without one, writes what it means as the generation above the greatest file there is, syncs it, and removes the older ones.
+    ///
+    /// `Damaged`: the greatest generation that isn't passed over has a whole record that can't stand there, or what is none.
+    /// `LastGeneration`: the greatest file there is is number 4,294,967,295. These two change nothing.
+    /// After `Memory` and `Fault` the new file may be there, whole or not, and older ones removed once it is synced.
+    pub fn open<D: Dir>(alloc: A, dir: &mut D, path: &[u8]) -> Result<Opened<A>, OpenError>
+        ensures honest { D.is_honest dir.old → D.is_honest dir.new }
+        ensures state { D.is_honest dir.old
+            → IfOk result (λ opened. Opens path.now (reads (now (D.history dir.old))) opened.chunks) }
+        ensures keeps { D.is_honest dir.old → HasNoStray path.now (now (D.history dir.old))
+            → IfOk result (λ opened. Keeps opened.journal (now (D.history dir.new)) (opening opened.chunks)) }
+        ensures starts { IfOk result (λ opened. settled (state_of (opening opened.chunks)) ≡ reopened opened.chunks) }
+        ensures tags { IfOk result (λ opened. HasShortTags opened.chunks) }
+        ensures path { IfOk result (λ opened. opened.journal.path ≡ path.now) }
+        ensures open { IfOk result (λ opened. IsOpenIn opened.journal (D.opened dir.new)) }
+        ensures damaged { D.is_honest dir.old → (result ≡ Err OpenError.Damaged)
+            → IsDamagedFolder path.now (reads (now (D.history dir.old))) }
+        ensures last { D.is_honest dir.old → (result ≡ Err OpenError.LastGeneration)
+            → IsSome (reads (now (D.history dir.old)) (journal_name path.now (2 ^ 32 - 1))) }
+        // Files of other names stay as they are.
+        ensures elsewhere { D.is_honest dir.old → (name : List ℕ) → ((n : ℕ) → n < 2 ^ 32 → name ≢ journal_name path.now n)
+            → now (D.history dir.new) name ≡ now (D.history dir.old) name }
+        ensures unchanged { D.is_honest dir.old → ((result ≡ Err OpenError.Damaged) ⊎ (result ≡ Err OpenError.LastGeneration))
+            → SameDisk (now (D.history dir.new)) (now (D.history dir.old)) }
+        ensures cause { HasReason (D.fault_count dir.old) (D.fault_count dir.new) result OpenError.Fault }
+    {
+        let found = find(alloc, dir, path)?;
+        if found.greatest == u32::MAX {
+            return Err(OpenError::LastGeneration);
+        }
+        let number = found.greatest + 1;
+        let journal = begin(alloc, dir, path, number, &found.chunks)?;
+        remove_older(alloc, dir, path, number)?;
+        Ok(Opened {
+            journal,
+            chunks: found.chunks,
+        })
+    }
+}
+
+// What a folder means, and the greatest number of its generations, 0 where there is none.
+#[derive(Drop)]
+pub struct Found<A: Allocator> {
+    chunks: Chunks<A>,
+    greatest: u32,
+}
+
+fn find<A: Allocator + Copy, D: Dir>(
+    alloc: A,
+    dir: &mut D,
+    path: &[u8],
+) -> Result<Found<A>, OpenError>
+    ensures honest { D.is_honest dir.old → D.is_honest dir.new }
+    ensures same { D.is_honest dir.old → SameDisk (now (D.history dir.new)) (now (D.history dir.old)) }
+    ensures state { D.is_honest dir.old
+        → IfOk result (λ found. Opens path.now (reads (now (D.history dir.old))) found.chunks) }
+    ensures greatest { D.is_honest dir.old
+        → IfOk result (λ found. IsFound path.now (reads (now (D.history dir.old))) found.greatest) }
+    ensures tags { IfOk result (λ found. HasShortTags found.chunks) }
+    ensures damaged { D.is_honest dir.old → (result ≡ Err OpenError.Damaged)
+        → IsDamagedFolder path.now (reads (now (D.history dir.old))) }
+    ensures not_last { result ≢ Err OpenError.LastGeneration }
+    ensures cause { HasReason (D.fault_count dir.old) (D.fault_count dir.new) result OpenError.Fault }
+{
+    let mut rest = numbers(alloc, dir, generations(path))?;
+    let greatest = greatest_of(&rest);
+    while let Some(number) = rest.pop_last() {
+        if let Some(chunks) = read_generation(alloc, dir, path, number)? {
+            return Ok(Found { chunks, greatest });
+        }
+    }
+    Ok(Found {
+        chunks: Chunks::new(alloc),
+        greatest,
+    })
+}
+
+// The greatest of the numbers, 0 where there is none.
+fn greatest_of<A: Allocator>(numbers: &BTreeSet<u32, A>) -> u32
+    ensures there { (result ≡ 0) ⊎ IsTrue (contains nat_cmp numbers.now result) }
+    ensures above { (n : ℕ) → result < n → contains nat_cmp numbers.now n ≡ false }
+{
+    match numbers.last() {
+        Some(number) => *number,
+        None => 0,
+    }
+}
+
+// What the generation of this number means, if it is there: none where it ends before a Seal.
+fn read_generation<A: Allocator + Copy, D: Dir>(
+    alloc: A,
+    dir: &mut D,
+    path: &[u8],
+    number: u32,
+) -> Result<Option<Chunks<A>>, OpenError>
+    ensures honest { D.is_honest dir.old → D.is_honest dir.new }
+    ensures same { D.is_honest dir.old → SameDisk (now (D.history dir.new)) (now (D.history dir.old)) }
+    ensures read { D.is_honest dir.old → IsRead (reads (now (D.history dir.old)) (journal_name path.now number)) result }
+    ensures tags { IfOk result (λ found. IfSome found HasShortTags) }
+    ensures not_last { result ≢ Err OpenError.LastGeneration }
+    ensures cause { HasReason (D.fault_count dir.old) (D.fault_count dir.new) result OpenError.Fault }
+{
+    let name = generations(path).name(alloc, number)?;
+    let file = dir.open(&name)?;
+    let bytes = read_file(alloc, dir, file)?;
+    match replay(alloc, &bytes) {
+        Ok(replayed) => Ok(Some(replayed.chunks)),
+        Err(ReplayError::NotSealed) => Ok(None),
+        Err(ReplayError::BadRecord) => Err(OpenError::Damaged),
+        Err(ReplayError::Memory) => Err(OpenError::Memory),
+    }
+}
+
+// Removes the generations below this one.
+fn remove_older<A: Allocator + Copy, D: Dir>(
+    alloc: A,
+    dir: &mut D,
+    path: &[u8],
+    number: u32,
+) -> Result<(), DirError>
+    ensures honest { D.is_honest dir.old → D.is_honest dir.new }
+    ensures elsewhere { D.is_honest dir.old → (name : List ℕ)
+        → ((n : ℕ) → n < number → name ≢ journal_name path.now n)
+        → now (D.history dir.new) name ≡ now (D.history dir.old) name }
+    ensures kept { (other : FileNo) (name : List ℕ) → ((n : ℕ) → n < number → name ≢ journal_name path.now n)
+        → D.opened dir.old other ≡ Some name → D.opened dir.new other ≡ Some name }
+    ensures cause { HasCause (D.fault_count dir.old) (D.fault_count dir.new) result }
+{
+    let mut rest = numbers(alloc, dir, generations(path))?;
+    while let Some(older) = rest.pop_last() {
+        remove_below(alloc, dir, path, older, number)?;
+    }
+    Ok(())
+}
+
+// Removes a generation if it is below this one.
+fn remove_below<A: Allocator, D: Dir>(
+    alloc: A,
+    dir: &mut D,
+    path: &[u8],
+    older: u32,
+    number: u32,
+) -> Result<(), DirError>
+    ensures honest { D.is_honest dir.old → D.is_honest dir.new }
+    ensures elsewhere { D.is_honest dir.old → (name : List ℕ)
+        → ((n : ℕ) → n < number → name ≢ journal_name path.now n)
+        → now (D.history dir.new) name ≡ now (D.history dir.old) name }
+    ensures kept { (other : FileNo) (name : List ℕ) → ((n : ℕ) → n < number → name ≢ journal_name path.now n)
+        → D.opened dir.old other ≡ Some name → D.opened dir.new other ≡ Some name }
+    ensures cause { HasCause (D.fault_count dir.old) (D.fault_count dir.new) result }
+{
+    if older >= number {
+        return Ok(());
+    }
+    remove_one(alloc, dir, path, older)
+}
