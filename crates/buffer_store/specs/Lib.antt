@@ -1,2 +1,3 @@
 pub mod Buffers
 pub mod Refusals
+pub mod Laws

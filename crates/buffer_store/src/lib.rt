@@ -3,9 +3,11 @@
 
 mod buffer;
 mod fault;
+mod laws;
 mod telling;
 #[cfg(test)]
 mod tests;
 
 pub use buffer::{Appended, Buffer};
 pub use fault::BufferFault;
+pub use laws::recovers_what_is_sure;

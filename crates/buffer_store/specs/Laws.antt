@@ -1,0 +1,20 @@
+-- What holds of buffers and stops, apart from any call.
+use Rattle.std.specs.Prelude.{ℕ, ◌≡◌, ◌≤◌, length}
+use Rattle.disk_files.specs.Disk.{Disk, Folder, StopLeaves}
+use Rattle.buffer_state.specs.State.{State}
+use Rattle.journal_files.specs.Folders.{Opens}
+use Rattle.journal_files.specs.Tellings.{Telling, reopened_at}
+use Rattle.journal_files.specs.Views.{OpenJournal}
+use Rattle.buffer_store.specs.Buffers.{Holds}
+
+-- the state is the one after some of the steps, all sure ones among them, as opening gives it
+pub record IsOfSome (t : Telling) (state : State) : Type 0 where
+  pub steps : ℕ
+  pub enough : t.sure ≤ steps
+  pub begun : steps ≤ length t.steps
+  pub state_is : state ≡ reopened_at t steps
+
+-- Recovery: where the disk holds a buffer, each folder that a stop leaves opens to the state after some of the steps told, all sure ones among them, and to no other.
+abbrev pub RecoversWhatIsSure : Type 0
+RecoversWhatIsSure = (journal : OpenJournal) (chunks : State) (disk : Disk) (t : Telling) (folder : Folder) (state : State)
+    → Holds journal chunks disk t → StopLeaves disk folder → Opens journal.path folder state → IsOfSome t state
