@@ -1,4 +1,4 @@
--- What the plan must give for nothing to be lost, as long as networks are of one relay with one match.
+-- What the plan must give for nothing to be lost in a network of one relay with one match.
 use Rattle.std.specs.Prelude.{List, All, Any}
 use Rattle.std.specs.List.{flat_map}
 use Rattle.tag_pattern.specs.Items.{Item}

@@ -1,4 +1,4 @@
--- The networks that are taken so far: one relay with one scope, one match and one file output that keeps.
+-- The networks that are known so far to lose nothing: one relay with one scope, one match and one file output that keeps.
 use Rattle.std.specs.Prelude.{◌≡◌, ◌==◌, ◌&&◌, ℕ, Bool, true, false, List, [], ◌∷◌}
 use Rattle.std.specs.List.{list_all, list_any}
 use Rattle.relay_conf.specs.declared.output.Output.{Output}

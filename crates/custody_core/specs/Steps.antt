@@ -136,7 +136,7 @@ Allowed net w (step.Oldest relay buffer) = IsSomeAnd (place_of net relay) (λ pl
     IsSomeAnd (output_at net place buffer) DropsOldest × HasQueued (w.buffers place buffer))
 Allowed net w (step.Restart relay) = Unit {0}
 
--- What a step leaves. Where what it names isn't there, nothing changes.
+-- What a step leaves: spoken of where all that it names is there.
 
 -- the world after a relay of the plan acknowledged a message to its sender
 abbrev pub answered : World → ℕ → Message → World

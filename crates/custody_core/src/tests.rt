@@ -250,10 +250,11 @@ fn steps_are_refused(rt: HostRuntime) -> Result<(), Fail> {
     Ok(())
 }
 
-// No network is made where a client has no source, or of no relays at all.
+// A client without a source enters no network, and neither that nor a network without relays is of the shape.
 #[test]
 fn other_shapes(rt: HostRuntime) -> Result<(), Fail> {
     let (relays, clients) = plan(rt.alloc(), 24226)?;
+    assert!(rt; !enter(relays.as_slice(), clients.as_slice()));
     assert!(rt; !is_single_file_net(relays.as_slice(), clients.as_slice()));
     assert!(rt; !is_single_file_net(&[], clients.as_slice()));
     Ok(())
@@ -277,7 +278,7 @@ fn steps_are_read(rt: HostRuntime) -> Result<(), Fail> {
     Ok(())
 }
 
-// How a relay that forwards differs from one that keeps.
+// How a relay that forwards differs from one that keeps; the last one's server is no source of the plan.
 #[derive(Clone, Copy)]
 enum Edge {
     Keeps,
@@ -285,6 +286,7 @@ enum Edge {
     InMemory,
     GivesUp,
     DropsOldest,
+    LeavesThePlan,
 }
 
 // Listens on this port, and forwards what has a tag of these patterns to that one.
@@ -300,7 +302,7 @@ fn forwarder(
         Edge::InMemory => buffer.kind = BufferKind::Memory,
         Edge::GivesUp => buffer.retry.forever = false,
         Edge::DropsOldest => buffer.overflow_action = OverflowAction::DropOldestChunk,
-        Edge::Keeps | Edge::AsksNothing => {}
+        Edge::Keeps | Edge::AsksNothing | Edge::LeavesThePlan => {}
     }
     let server = Server {
         host: String::from_str(alloc, "127.0.0.1")?,
@@ -372,17 +374,25 @@ fn events_are_forwarded_or_lost(rt: HostRuntime) -> Result<(), Fail> {
         b"enqueue 1/0/0\nclaim 1/0/0\nforward 1/0/0 0\nbegin 1\nappend 1 0 0\nack 1\npurge 1/0/0";
     let done = b"enqueue 1/0/0\nclaim 1/0/0\nforward 1/0/0 0\ndone 1/0/0";
     let discarded = b"enqueue 1/0/0\nclaim 1/0/0\ndiscard 1/0/0";
-    let rows: [(Edge, &[u8], Result<bool, (usize, StepFault)>); 7] = [
+    let outside =
+        b"enqueue 1/0/0\nclaim 1/0/0\nforward 1/0/0 0\nforeign 1\nseen 1/0/0\npurge 1/0/0";
+    let rows: [(Edge, &[u8], Result<bool, (usize, StepFault)>); 8] = [
         (Edge::Keeps, delivered, Ok(true)),
         (Edge::Keeps, unseen, Err((11, StepFault::NotAllowed))),
         (Edge::Keeps, b"forward 2/0/0 0", Err((5, StepFault::NoSuch))),
         (Edge::AsksNothing, done, Ok(false)),
+        (Edge::LeavesThePlan, outside, Ok(false)),
         (Edge::InMemory, b"restart 1", Ok(false)),
         (Edge::GivesUp, discarded, Ok(false)),
         (Edge::DropsOldest, b"enqueue 1/0/0\noldest 1 0", Ok(false)),
     ];
     for (edge, steps, wanted) in rows {
-        let first = forwarder(alloc, "app.**", 24224, 24225, edge)?;
+        let to = if matches!(edge, Edge::LeavesThePlan) {
+            24226
+        } else {
+            24225
+        };
+        let first = forwarder(alloc, "app.**", 24224, to, edge)?;
         let net = pair(alloc, first, hub(alloc)?, "app.**")?;
         let mut text = Vec::from_slice(alloc, TAKEN)?;
         text.extend_from_slice(steps)?;
@@ -391,7 +401,16 @@ fn events_are_forwarded_or_lost(rt: HostRuntime) -> Result<(), Fail> {
     Ok(())
 }
 
-// Two relays that forward to one another hand an event round, and it is held all the time.
+// Whether the event is held after so many of the steps, which are all allowed.
+fn held_after(alloc: Global, net: &Net<Global>, steps: &[Step<Global>], count: usize) -> bool {
+    let first = steps.split_at(count.min(steps.len())).0;
+    match run(alloc, net, first) {
+        Ok(world) => world.held(b"x", &[0xe1]),
+        Err(_) => false,
+    }
+}
+
+// Two relays that forward to one another hand an event round, and it is held from its first append on.
 #[test]
 fn an_event_goes_round(rt: HostRuntime) -> Result<(), Fail> {
     let alloc = rt.alloc();
@@ -400,7 +419,11 @@ fn an_event_goes_round(rt: HostRuntime) -> Result<(), Fail> {
     let net = pair(alloc, first, second, "**")?;
     let text =
         b"send 0 x e1\nbegin 0\nappend 0 0 0\nack 0\nenqueue 1/0/0\nclaim 1/0/0\nforward 1/0/0 0\nbegin 1\nappend 1 0 0\nenqueue 2/0/0\nclaim 2/0/0\nforward 2/0/0 0\nbegin 2\nappend 2 0 1\nack 2\nack 1\nseen 1/0/0\npurge 1/0/0\nseen 2/0/0\npurge 2/0/0";
-    assert_eq!(rt; outcome(alloc, &net, text, b"x")?, Ok(true));
+    let steps = Step::read_all(alloc, text)?;
+    assert_eq!(rt; steps.len(), 20);
+    for count in 3..21 {
+        assert!(rt; held_after(alloc, &net, steps.as_slice(), count));
+    }
     Ok(())
 }
 

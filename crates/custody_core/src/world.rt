@@ -127,7 +127,7 @@ impl<'n, A: Allocator + Copy> World<'n, A> {
     /// what it asks for doesn't hold. `Memory` refuses only what would be allowed, but for `begin`, `append` and `ack`,
     /// where it may come before the way was found. A refusal changes nothing.
     /// The time doesn't depend on how much the network holds, but for the entries that the step moves, the way of the
-    /// message, and the buffers of a relay that starts again.
+    /// message, the buffers of a relay that starts again, and the serials that `oldest` passes, each once between restarts.
     pub fn step(&mut self, step: &Step<A>) -> Result<(), StepFault>
         ensures net { net_of self.new ≡ net_of self.old }
         ensures ok { OnOk result (Names (net_of self.old) (world_of self.old) step.now × Allowed (net_of self.old) (world_of self.old) step.now × (world_of self.new ≡ effect (net_of self.old) (world_of self.old) step.now)) }
