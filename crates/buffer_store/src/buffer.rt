@@ -1,6 +1,6 @@
 //! A buffer.
 
-ghost use Rattle.std.specs.Prelude.{◌≡◌, ◌≢◌, ◌↔◌, ◌⊎◌, ◌+◌, ◌^◌, ◌<◌, ◌≤◌, ℕ, List, true, false, length, Some, None, Ok, Err, IfOk, IfErr, OnOk, OnErr, IsTrue};
+ghost use Rattle.std.specs.Prelude.{◌≡◌, ◌≢◌, ◌↔◌, ◌⊎◌, ◌+◌, ◌-◌, ◌^◌, ◌<◌, ◌≤◌, ℕ, List, true, false, length, Some, None, Ok, Err, IsSome, IfSome, IfOk, IfErr, OnOk, OnErr, IsTrue};
 ghost use Rattle.disk_files.specs.Disk.{SameDisk, reads};
 ghost use Rattle.disk_files.specs.Moments.{now};
 ghost use Rattle.event_modes.specs.Message.{longest_tag};
@@ -9,7 +9,7 @@ ghost use Rattle.buffer_state.specs.Steps.{CanAppend, greatest_size, planned, pl
 ghost use Rattle.buffer_state.specs.declared.chunk.Stage.TheVariants.{Staged, Queued, Claimed};
 ghost use Rattle.buffer_state.specs.declared.limits.AppendFault.{AppendFault};
 ghost use Rattle.chunk_journal.specs.Records.{Append, Queue, Purge};
-ghost use Rattle.journal_files.specs.Folders.{Opens, IsDamagedFolder};
+ghost use Rattle.journal_files.specs.Folders.{Opens, IsDamagedFolder, IsNext, journal_name};
 ghost use Rattle.journal_files.specs.Tellings.{Telling, all_sure, opening};
 ghost use Rattle.journal_files.specs.Views.{IsReady, HasShortTags};
 ghost use Rattle.journal_files.specs.Disks.{Recovers, HasNoStray};
@@ -77,9 +77,15 @@ impl<D: Dir, A: Allocator + Copy> Buffer<D, A> {
             → IfOk result (λ buffer. Holds buffer.journal buffer.chunks (now (D.history buffer.dir)) (opening buffer.chunks)) }
         ensures settings { IfOk result (λ buffer. buffer.limits ≡ limits) }
         ensures path { IfOk result (λ buffer. buffer.journal.path ≡ path.now) }
+        ensures next { D.is_honest dir → IfOk result (λ buffer. IsNext path.now (reads (now (D.history dir))) buffer.journal.number) }
         ensures going { IfOk result (λ buffer. buffer.failed ≡ false) }
         ensures damaged { D.is_honest dir → IfErr result (λ refused. refused.0 ≡ BufferFault.Damaged
             → IsDamagedFolder path.now (reads (now (D.history dir)))) }
+        ensures last { D.is_honest dir → IfErr result (λ refused. refused.0 ≡ BufferFault.LastSerial
+            → IsSome (reads (now (D.history dir)) (journal_name path.now (2 ^ 32 - 1)))) }
+        ensures unchanged { D.is_honest dir → IfErr result (λ refused. (refused.0 ≡ BufferFault.Damaged) ⊎ (refused.0 ≡ BufferFault.LastSerial)
+            → SameDisk (now (D.history refused.1)) (now (D.history dir))) }
+        ensures only { IfErr result (λ refused. (refused.0 ≡ BufferFault.Damaged) ⊎ ((refused.0 ≡ BufferFault.LastSerial) ⊎ ((refused.0 ≡ BufferFault.Memory) ⊎ (refused.0 ≡ BufferFault.Fault)))) }
         ensures faultless { IfOk result (λ buffer. D.fault_count buffer.dir ≡ D.fault_count dir) }
         ensures cause { IfErr result (λ refused. refused.0 ≡ BufferFault.Fault → Rises (D.fault_count dir) (D.fault_count refused.1)) }
     {
@@ -142,9 +148,16 @@ impl<D: Dir, A: Allocator + Copy> Buffer<D, A> {
         ensures flags { Flags self.old.failed self.new.failed result }
         ensures settings { self.new.limits ≡ self.old.limits }
         ensures path { self.new.journal.path ≡ self.old.journal.path }
+        ensures number { self.new.journal.number ≡ self.old.journal.number }
+        // Files of other names stay as they are.
+        ensures elsewhere { D.is_honest self.old.dir → (name : List ℕ) → name ≢ journal_name self.old.journal.path self.old.journal.number
+            → now (D.history self.new.dir) name ≡ now (D.history self.old.dir) name }
         ensures honest { D.is_honest self.old.dir → D.is_honest self.new.dir }
         ensures begins { D.is_honest self.old.dir → Begins self.old.journal self.new.journal self.old.chunks self.new.chunks
             (now (D.history self.old.dir)) (now (D.history self.new.dir)) (Append (place_of self.old.limits self.old.chunks tag.now entries.now) tag.now entries.now) all_sure result }
+        // But for a fault, a refusal leaves the folder as it was.
+        ensures untouched { D.is_honest self.old.dir → result ≢ Err BufferFault.Fault
+            → OnErr result (SameDisk (now (D.history self.new.dir)) (now (D.history self.old.dir))) }
         ensures cause { HasReason (D.fault_count self.old.dir) (D.fault_count self.new.dir) result BufferFault.Fault }
     {
         if self.failed {
@@ -184,9 +197,16 @@ impl<D: Dir, A: Allocator + Copy> Buffer<D, A> {
         ensures flags { Flags self.old.failed self.new.failed result }
         ensures settings { self.new.limits ≡ self.old.limits }
         ensures path { self.new.journal.path ≡ self.old.journal.path }
+        ensures number { self.new.journal.number ≡ self.old.journal.number }
+        // Files of other names stay as they are.
+        ensures elsewhere { D.is_honest self.old.dir → (name : List ℕ) → name ≢ journal_name self.old.journal.path self.old.journal.number
+            → now (D.history self.new.dir) name ≡ now (D.history self.old.dir) name }
         ensures honest { D.is_honest self.old.dir → D.is_honest self.new.dir }
         ensures begins { D.is_honest self.old.dir → IsReady self.old.journal (Append serial tag.now entries.now) → Begins self.old.journal self.new.journal self.old.chunks self.new.chunks
             (now (D.history self.old.dir)) (now (D.history self.new.dir)) (Append serial tag.now entries.now) all_sure result }
+        // But for a fault, a refusal leaves the folder as it was.
+        ensures untouched { D.is_honest self.old.dir → result ≢ Err BufferFault.Fault
+            → OnErr result (SameDisk (now (D.history self.new.dir)) (now (D.history self.old.dir))) }
         ensures cause { HasReason (D.fault_count self.old.dir) (D.fault_count self.new.dir) result BufferFault.Fault }
     {
         self.chunks.append(serial, tag, entries)?;
@@ -215,9 +235,16 @@ impl<D: Dir, A: Allocator + Copy> Buffer<D, A> {
         ensures flags { Flags self.old.failed self.new.failed result }
         ensures settings { self.new.limits ≡ self.old.limits }
         ensures path { self.new.journal.path ≡ self.old.journal.path }
+        ensures number { self.new.journal.number ≡ self.old.journal.number }
+        // Files of other names stay as they are.
+        ensures elsewhere { D.is_honest self.old.dir → (name : List ℕ) → name ≢ journal_name self.old.journal.path self.old.journal.number
+            → now (D.history self.new.dir) name ≡ now (D.history self.old.dir) name }
         ensures honest { D.is_honest self.old.dir → D.is_honest self.new.dir }
         ensures begins { D.is_honest self.old.dir → (tag : List ℕ) → CanAppend self.old.chunks serial tag entries.now → serial ≤ self.old.chunks.next → IsReady self.old.journal (Append serial tag entries.now) → Begins self.old.journal self.new.journal self.old.chunks self.new.chunks
             (now (D.history self.old.dir)) (now (D.history self.new.dir)) (Append serial tag entries.now) all_sure result }
+        // But for a fault, a refusal leaves the folder as it was.
+        ensures untouched { D.is_honest self.old.dir → result ≢ Err BufferFault.Fault
+            → OnErr result (SameDisk (now (D.history self.new.dir)) (now (D.history self.old.dir))) }
         ensures cause { HasReason (D.fault_count self.old.dir) (D.fault_count self.new.dir) result BufferFault.Fault }
     {
         let mut piece = Entries::new(self.alloc);
@@ -266,9 +293,16 @@ impl<D: Dir, A: Allocator + Copy> Buffer<D, A> {
         ensures flags { Flags self.old.failed self.new.failed result }
         ensures settings { self.new.limits ≡ self.old.limits }
         ensures path { self.new.journal.path ≡ self.old.journal.path }
+        ensures number { self.new.journal.number ≡ self.old.journal.number }
+        // Files of other names stay as they are.
+        ensures elsewhere { D.is_honest self.old.dir → (name : List ℕ) → name ≢ journal_name self.old.journal.path self.old.journal.number
+            → now (D.history self.new.dir) name ≡ now (D.history self.old.dir) name }
         ensures honest { D.is_honest self.old.dir → D.is_honest self.new.dir }
         ensures begins { D.is_honest self.old.dir → Begins self.old.journal self.new.journal self.old.chunks self.new.chunks
             (now (D.history self.old.dir)) (now (D.history self.new.dir)) (Queue serial) all_sure result }
+        // But for a fault, a refusal leaves the folder as it was.
+        ensures untouched { D.is_honest self.old.dir → result ≢ Err BufferFault.Fault
+            → OnErr result (SameDisk (now (D.history self.new.dir)) (now (D.history self.old.dir))) }
         ensures cause { HasReason (D.fault_count self.old.dir) (D.fault_count self.new.dir) result BufferFault.Fault }
     {
         if self.failed {
@@ -293,9 +327,16 @@ impl<D: Dir, A: Allocator + Copy> Buffer<D, A> {
         ensures flags { Flags self.old.failed self.new.failed result }
         ensures settings { self.new.limits ≡ self.old.limits }
         ensures path { self.new.journal.path ≡ self.old.journal.path }
+        ensures number { self.new.journal.number ≡ self.old.journal.number }
+        // Files of other names stay as they are.
+        ensures elsewhere { D.is_honest self.old.dir → (name : List ℕ) → name ≢ journal_name self.old.journal.path self.old.journal.number
+            → now (D.history self.new.dir) name ≡ now (D.history self.old.dir) name }
         ensures honest { D.is_honest self.old.dir → D.is_honest self.new.dir }
         ensures begins { D.is_honest self.old.dir → IsReady self.old.journal (Queue serial) → Begins self.old.journal self.new.journal self.old.chunks self.new.chunks
             (now (D.history self.old.dir)) (now (D.history self.new.dir)) (Queue serial) all_sure result }
+        // But for a fault, a refusal leaves the folder as it was.
+        ensures untouched { D.is_honest self.old.dir → result ≢ Err BufferFault.Fault
+            → OnErr result (SameDisk (now (D.history self.new.dir)) (now (D.history self.old.dir))) }
         ensures cause { HasReason (D.fault_count self.old.dir) (D.fault_count self.new.dir) result BufferFault.Fault }
     {
         let ready = self.make_ready(serial)?;
@@ -312,6 +353,7 @@ impl<D: Dir, A: Allocator + Copy> Buffer<D, A> {
     /// Claims the first of the queue, and gives its serial. It writes nothing, and goes on after a fault.
     pub fn claim(&mut self) -> Option<u64>
         ensures first { result ≡ first_of self.old.chunks.queue }
+        ensures queued { IfSome result (IsAt Queued self.old.chunks) }
         ensures state { self.new ≡ record self.old { chunks = claimed self.old.chunks } }
         // A claim isn't told: the journal counts the chunk as queued.
         ensures counts { reopened self.new.chunks ≡ reopened self.old.chunks }
@@ -341,9 +383,16 @@ impl<D: Dir, A: Allocator + Copy> Buffer<D, A> {
         ensures flags { Flags self.old.failed self.new.failed result }
         ensures settings { self.new.limits ≡ self.old.limits }
         ensures path { self.new.journal.path ≡ self.old.journal.path }
+        ensures number { self.new.journal.number ≡ self.old.journal.number }
+        // Files of other names stay as they are.
+        ensures elsewhere { D.is_honest self.old.dir → (name : List ℕ) → name ≢ journal_name self.old.journal.path self.old.journal.number
+            → now (D.history self.new.dir) name ≡ now (D.history self.old.dir) name }
         ensures honest { D.is_honest self.old.dir → D.is_honest self.new.dir }
         ensures begins { D.is_honest self.old.dir → Begins self.old.journal self.new.journal self.old.chunks self.new.chunks
             (now (D.history self.old.dir)) (now (D.history self.new.dir)) (Purge serial) (λ t. t) result }
+        // But for a fault, a refusal leaves the folder as it was.
+        ensures untouched { D.is_honest self.old.dir → result ≢ Err BufferFault.Fault
+            → OnErr result (SameDisk (now (D.history self.new.dir)) (now (D.history self.old.dir))) }
         ensures cause { HasReason (D.fault_count self.old.dir) (D.fault_count self.new.dir) result BufferFault.Fault }
     {
         if self.failed {
@@ -369,9 +418,16 @@ impl<D: Dir, A: Allocator + Copy> Buffer<D, A> {
         ensures flags { Flags self.old.failed self.new.failed result }
         ensures settings { self.new.limits ≡ self.old.limits }
         ensures path { self.new.journal.path ≡ self.old.journal.path }
+        ensures number { self.new.journal.number ≡ self.old.journal.number }
+        // Files of other names stay as they are.
+        ensures elsewhere { D.is_honest self.old.dir → (name : List ℕ) → name ≢ journal_name self.old.journal.path self.old.journal.number
+            → now (D.history self.new.dir) name ≡ now (D.history self.old.dir) name }
         ensures honest { D.is_honest self.old.dir → D.is_honest self.new.dir }
         ensures begins { D.is_honest self.old.dir → (serial : ℕ) → oldest self.old.chunks ≡ Some serial → Begins self.old.journal self.new.journal self.old.chunks self.new.chunks
             (now (D.history self.old.dir)) (now (D.history self.new.dir)) (Purge serial) (λ t. t) result }
+        // But for a fault, a refusal leaves the folder as it was.
+        ensures untouched { D.is_honest self.old.dir → result ≢ Err BufferFault.Fault
+            → OnErr result (SameDisk (now (D.history self.new.dir)) (now (D.history self.old.dir))) }
         ensures cause { HasReason (D.fault_count self.old.dir) (D.fault_count self.new.dir) result BufferFault.Fault }
     {
         if self.failed {
@@ -394,9 +450,16 @@ impl<D: Dir, A: Allocator + Copy> Buffer<D, A> {
         ensures flags { Flags self.old.failed self.new.failed result }
         ensures settings { self.new.limits ≡ self.old.limits }
         ensures path { self.new.journal.path ≡ self.old.journal.path }
+        ensures number { self.new.journal.number ≡ self.old.journal.number }
+        // Files of other names stay as they are.
+        ensures elsewhere { D.is_honest self.old.dir → (name : List ℕ) → name ≢ journal_name self.old.journal.path self.old.journal.number
+            → now (D.history self.new.dir) name ≡ now (D.history self.old.dir) name }
         ensures honest { D.is_honest self.old.dir → D.is_honest self.new.dir }
         ensures begins { D.is_honest self.old.dir → Begins self.old.journal self.new.journal self.old.chunks self.new.chunks
             (now (D.history self.old.dir)) (now (D.history self.new.dir)) (Purge serial) (λ t. t) result }
+        // But for a fault, a refusal leaves the folder as it was.
+        ensures untouched { D.is_honest self.old.dir → result ≢ Err BufferFault.Fault
+            → OnErr result (SameDisk (now (D.history self.new.dir)) (now (D.history self.old.dir))) }
         ensures cause { HasReason (D.fault_count self.old.dir) (D.fault_count self.new.dir) result BufferFault.Fault }
     {
         let item: Record<'_, A> = Record::Purge { serial };
@@ -428,6 +491,14 @@ impl<D: Dir, A: Allocator + Copy> Buffer<D, A> {
             → result ≢ Err BufferFault.Fault → OnErr result (Holds self.new.journal self.new.chunks (now (D.history self.new.dir)) t) }
         ensures recovers { D.is_honest self.old.dir → (t : Telling) → Holds self.old.journal self.old.chunks (now (D.history self.old.dir)) t
             → result ≡ Err BufferFault.Fault → Recovers self.old.journal.path (now (D.history self.new.dir)) t }
+        ensures only { OnErr result ((result ≡ Err BufferFault.Failed) ⊎ ((result ≡ Err BufferFault.LastSerial) ⊎ ((result ≡ Err BufferFault.Memory) ⊎ (result ≡ Err BufferFault.Fault)))) }
+        // But for a fault, a refusal leaves the folder as it was.
+        ensures untouched { D.is_honest self.old.dir → result ≢ Err BufferFault.Fault
+            → OnErr result (SameDisk (now (D.history self.new.dir)) (now (D.history self.old.dir))) }
+        // Files of other names stay as they are.
+        ensures elsewhere { D.is_honest self.old.dir → (name : List ℕ) → name ≢ journal_name self.old.journal.path self.old.journal.number
+            → name ≢ journal_name self.old.journal.path (self.old.journal.number + 1)
+            → now (D.history self.new.dir) name ≡ now (D.history self.old.dir) name }
         ensures cause { HasReason (D.fault_count self.old.dir) (D.fault_count self.new.dir) result BufferFault.Fault }
     {
         if self.failed {

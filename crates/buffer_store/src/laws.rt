@@ -1,13 +1,15 @@
 //! What holds of every buffer. This function does nothing: it stands for a theorem.
 
-ghost use Rattle.buffer_store.specs.Laws.{RecoversWhatIsSure};
+ghost use Rattle.buffer_store.specs.Laws.{HoldsRecovers, RecoversWhatIsSure};
 
 use journal_files::{opens_one_way, recovers_all};
 
 /// A folder that a stop left opens to what the buffer's chunks were after some of the steps that its journal was told,
 /// claimed ones counted as queued; and all those steps are among them whose call answered `Ok` after a sync.
+/// So it is wherever the disk holds a buffer, and also after a device's fault.
 pub fn recovers_what_is_sure()
-    ensures { RecoversWhatIsSure }
+    ensures holds { HoldsRecovers }
+    ensures recovers { RecoversWhatIsSure }
 {
     recovers_all();
     opens_one_way();

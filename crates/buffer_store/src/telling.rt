@@ -1,12 +1,13 @@
 //! One record told and synced.
 
-ghost use Rattle.std.specs.Prelude.{◌≡◌, ◌≤◌, length, OnOk, OnErr, Err, Option, List, ℕ};
+ghost use Rattle.std.specs.Prelude.{◌≡◌, ◌≢◌, ◌≤◌, length, OnOk, OnErr, Err, Option, List, ℕ};
 ghost use Rattle.disk_files.specs.Moments.{now};
 ghost use Rattle.disk_files.specs.declared.dir.FileNo.{FileNo};
 ghost use Rattle.chunk_journal.specs.Records.{Record};
 ghost use Rattle.chunk_journal.specs.Meaning.{Allows};
 ghost use Rattle.journal_files.specs.Tellings.{Telling, begun, all_sure, state_of};
 ghost use Rattle.journal_files.specs.Views.{IsOpenIn, IsReady};
+ghost use Rattle.journal_files.specs.Folders.{journal_name};
 ghost use Rattle.journal_files.specs.Disks.{Keeps, Recovers};
 ghost use Rattle.journal_files.specs.Faults.{HasReason};
 
@@ -29,6 +30,8 @@ pub(crate) fn tell<D: Dir, A: Allocator>(
     ensures err { D.is_honest dir.old → (t : Telling) (item : Record) → Keeps journal.old (now (D.history dir.old)) t
         → IsReady journal.old item → Allows (state_of t) item
         → OnErr result (Recovers journal.old.path (now (D.history dir.new)) (begun item t)) }
+    ensures elsewhere { D.is_honest dir.old → (name : List ℕ) → name ≢ journal_name journal.old.path journal.old.number
+        → now (D.history dir.new) name ≡ now (D.history dir.old) name }
     ensures path { journal.new.path ≡ journal.old.path }
     ensures number { journal.new.number ≡ journal.old.number }
     ensures file { journal.new.file ≡ journal.old.file }
@@ -56,6 +59,8 @@ pub(crate) fn put<D: Dir, A: Allocator>(
     ensures err { D.is_honest dir.old → (t : Telling) (item : Record) → Keeps journal.old (now (D.history dir.old)) t
         → IsReady journal.old item → Allows (state_of t) item
         → OnErr result (Recovers journal.old.path (now (D.history dir.new)) (begun item t)) }
+    ensures elsewhere { D.is_honest dir.old → (name : List ℕ) → name ≢ journal_name journal.old.path journal.old.number
+        → now (D.history dir.new) name ≡ now (D.history dir.old) name }
     ensures path { journal.new.path ≡ journal.old.path }
     ensures number { journal.new.number ≡ journal.old.number }
     ensures file { journal.new.file ≡ journal.old.file }

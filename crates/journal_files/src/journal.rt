@@ -1,6 +1,6 @@
 //! An open generation of a buffer's journal.
 
-ghost use Rattle.std.specs.Prelude.{◌≡◌, ◌≢◌, ◌↔◌, ℕ, ◌+◌, ◌-◌, ◌*◌, ◌^◌, ◌<◌, ◌≤◌, [], length, min, OnOk, OnErr, Err, IsTrue};
+ghost use Rattle.std.specs.Prelude.{◌≡◌, ◌≢◌, ◌↔◌, ℕ, ◌+◌, ◌-◌, ◌*◌, ◌^◌, ◌<◌, ◌≤◌, List, [], length, min, OnOk, OnErr, Err, IsTrue};
 ghost use Rattle.disk_files.specs.Disk.{SameDisk};
 ghost use Rattle.disk_files.specs.Moments.{Elapses, LeavesOnly, now};
 ghost use Rattle.disk_files.specs.Faults.{HasCause};
@@ -11,6 +11,7 @@ ghost use Rattle.chunk_journal.specs.Meaning.{Allows};
 ghost use Rattle.chunk_journal.specs.Spelled.{record_of, HasShortTag};
 ghost use Rattle.journal_files.specs.Tellings.{Telling, begun, all_sure, opening, state_of, OpensWithin};
 ghost use Rattle.journal_files.specs.Views.{IsOpenIn, IsReady, HasShortTags};
+ghost use Rattle.journal_files.specs.Folders.{journal_name};
 ghost use Rattle.journal_files.specs.Disks.{Keeps, Recovers};
 ghost use Rattle.journal_files.specs.Faults.{HasReason};
 ghost use Rattle.journal_files.specs.declared.error.RenewError.{RenewError};
@@ -56,7 +57,7 @@ impl<A: Allocator> Journal<A> {
     /// Spells a record, and makes room for it in the folder, so that `put` needs no memory.
     /// Asks for a tag of at most 1,024 bytes and for at most 16,777,216 bytes behind the length.
     ///
-    /// The error is want of memory; then nothing is ready.
+    /// The error is want of memory; then nothing of the folder changed, and the journal tells what it told.
     pub fn ready<D: Dir, B: Allocator>(
         &mut self,
         dir: &mut D,
@@ -97,6 +98,9 @@ impl<A: Allocator> Journal<A> {
         ensures moments { D.is_honest dir.old → (t : Telling) (item : Step) → Keeps self.old (now (D.history dir.old)) t
             → IsReady self.old item → Allows (state_of t) item
             → LeavesOnly (D.history dir.old) (D.history dir.new) (OpensWithin self.old.path (begun item t)) }
+        // Files of other names stay as they are.
+        ensures elsewhere { D.is_honest dir.old → (name : List ℕ) → name ≢ journal_name self.old.path self.old.number
+            → now (D.history dir.new) name ≡ now (D.history dir.old) name }
         ensures opened { (other : FileNo) → D.opened dir.new other ≡ D.opened dir.old other }
         ensures cause { HasCause (D.fault_count dir.old) (D.fault_count dir.new) result }
         ensures only { OnErr result (result ≡ Err DirError.Fault) }
@@ -118,6 +122,9 @@ impl<A: Allocator> Journal<A> {
         // A stop at any moment of the call leaves a folder that opens so.
         ensures moments { D.is_honest dir.old → (t : Telling) → Keeps self.now (now (D.history dir.old)) t
             → LeavesOnly (D.history dir.old) (D.history dir.new) (OpensWithin self.now.path t) }
+        // Files of other names stay as they are.
+        ensures elsewhere { D.is_honest dir.old → (name : List ℕ) → name ≢ journal_name self.now.path self.now.number
+            → now (D.history dir.new) name ≡ now (D.history dir.old) name }
         ensures opened { (other : FileNo) → D.opened dir.new other ≡ D.opened dir.old other }
         ensures cause { HasCause (D.fault_count dir.old) (D.fault_count dir.new) result }
         ensures only { OnErr result (result ≡ Err DirError.Fault) }
@@ -146,6 +153,10 @@ impl<A: Allocator + Copy> Journal<A> {
             → (result ≡ Err RenewError.Memory) → Keeps self.new (now (D.history dir.new)) t }
         ensures last { (result ≡ Err RenewError.LastGeneration) ↔ (2 ^ 32 ≤ self.old.number + 1) }
         ensures unchanged { (result ≡ Err RenewError.LastGeneration) → D.is_honest dir.old → SameDisk (now (D.history dir.new)) (now (D.history dir.old)) }
+        ensures memory_same { D.is_honest dir.old → (result ≡ Err RenewError.Memory) → SameDisk (now (D.history dir.new)) (now (D.history dir.old)) }
+        // Files of other names stay as they are.
+        ensures elsewhere { D.is_honest dir.old → (name : List ℕ) → name ≢ journal_name self.old.path self.old.number → name ≢ journal_name self.old.path (self.old.number + 1)
+            → now (D.history dir.new) name ≡ now (D.history dir.old) name }
         ensures path { self.new.path ≡ self.old.path }
         ensures number { OnOk result (self.new.number ≡ self.old.number + 1) }
         ensures journal { OnErr result (self.new ≡ self.old) }

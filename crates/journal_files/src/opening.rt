@@ -8,7 +8,7 @@ ghost use Rattle.disk_files.specs.Moments.{Elapses, now};
 ghost use Rattle.disk_files.specs.Faults.{HasCause};
 ghost use Rattle.disk_files.specs.declared.dir.FileNo.{FileNo};
 ghost use Rattle.buffer_state.specs.Steps.{settled, reopened};
-ghost use Rattle.journal_files.specs.Folders.{journal_name, Opens, IsDamagedFolder};
+ghost use Rattle.journal_files.specs.Folders.{journal_name, Opens, IsDamagedFolder, IsNext};
 ghost use Rattle.journal_files.specs.Tellings.{opening, state_of};
 ghost use Rattle.journal_files.specs.Views.{IsOpenIn, HasShortTags};
 ghost use Rattle.journal_files.specs.Disks.{Keeps, HasNoStray};
@@ -50,6 +50,7 @@ impl<A: Allocator + Copy> Journal<A> {
             → IfOk result (λ opened. Keeps opened.journal (now (D.history dir.new)) (opening opened.chunks)) }
         ensures starts { IfOk result (λ opened. settled (state_of (opening opened.chunks)) ≡ reopened opened.chunks) }
         ensures tags { IfOk result (λ opened. HasShortTags opened.chunks) }
+        ensures next { D.is_honest dir.old → IfOk result (λ opened. IsNext path.now (reads (now (D.history dir.old))) opened.journal.number) }
         ensures path { IfOk result (λ opened. opened.journal.path ≡ path.now) }
         ensures open { IfOk result (λ opened. IsOpenIn opened.journal (D.opened dir.new)) }
         ensures damaged { D.is_honest dir.old → (result ≡ Err OpenError.Damaged)

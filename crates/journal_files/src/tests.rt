@@ -107,12 +107,22 @@ fn reopened_after(alloc: Global, passes: u64) -> Result<Outcome, OpenError> {
     seen(alloc, &mut dir.into_inner())
 }
 
+// What a folder with chunk 0 opens to after a stop, where an opening before it had so many calls that passed.
+fn kept_after(alloc: Global, passes: u64) -> Result<Outcome, OpenError> {
+    let mut dir = Fuse::after(folder_after(alloc, u64::MAX), passes);
+    let _ = seen(alloc, &mut dir);
+    seen(alloc, &mut dir.into_inner().stop(Keep::Least))
+}
+
 #[test]
 fn a_device_that_fails_at_each_call(rt: HostRuntime) -> Result<(), Fail> {
     let alloc = rt.alloc();
     for passes in 0..OPENING {
         assert_eq!(rt; opened_after(alloc, passes), Err(OpenError::Fault));
         assert_eq!(rt; reopened_after(alloc, passes), Ok(NOTHING));
+    }
+    for passes in 0..14 {
+        assert_eq!(rt; kept_after(alloc, passes), Ok(STAGED));
     }
     Ok(())
 }

@@ -1,11 +1,16 @@
 use Rattle.buffer_store.proofs.laws.recovers_what_is_sure.Goals as goal
 
-pub returns : goal.returns
-returns c journal chunks disk t folder state holds left opens =
-    let within = c.recovers_all.ensures journal disk t holds.keeps folder left in
-    record {
-      steps = within.steps;
-      enough = within.enough;
-      begun = within.begun;
-      state_is = c.opens_one_way.ensures journal.path folder state _ opens within.opens;
-    }
+pub returns-clause-holds : goal.returns-clause-holds
+returns-clause-holds c journal chunks disk t holds = c.recovers_all.ensures journal disk t holds.keeps
+
+pub returns-clause-recovers : goal.returns-clause-recovers
+returns-clause-recovers c path disk t folder recovers left =
+    let within = recovers folder left in (
+      within,
+      λ state opens. record {
+        steps = within.steps;
+        enough = within.enough;
+        begun = within.begun;
+        state_is = c.opens_one_way.ensures path folder state _ opens within.opens;
+      },
+    )

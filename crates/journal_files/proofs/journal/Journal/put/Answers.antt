@@ -1,6 +1,8 @@
-use Rattle.std.proofs.Common.{ap, ◌∙◌}
+use Rattle.std.proofs.Common.{ap, sym, ◌∙◌}
+use Rattle.disk_files.proofs.Moments.{elsewhere}
 use Rattle.journal_files.specs.Views.{OpenJournal}
-use Rattle.journal_files.proofs.Steps.{put_ok, put_err, put_moments, on_ok, on_err}
+use Rattle.journal_files.proofs.Names.{apart}
+use Rattle.journal_files.proofs.Steps.{put_ok, put_err, put_moments, either, on_ok, on_err}
 use Rattle.journal_files.proofs.journal.Journal.put.Goals as goal
 
 pub returns-clause-ok : goal.returns-clause-ok
@@ -29,3 +31,10 @@ returns-clause-moments g c = λ honest t item keeps ready allowed.
     let bytes = c.deref.ensures.value ∙ ap (λ (j : OpenJournal). j.ready) c.self.view_is ∙ ready.1 in
     put_moments c.args.self.now c.args.self.now old mid t item c.deref.result.now bytes keeps ready.0 allowed c.append-told.result (c.append-told.ensures.time honest)
     (c.append-told.ensures.ok honest _ named) (c.append-told.ensures.err honest _ named)
+
+pub returns-clause-elsewhere : goal.returns-clause-elsewhere
+returns-clause-elsewhere g c = λ honest name differs.
+    let named = ap (λ (j : OpenJournal). g.D.Dir.opened c.args.dir.now j.file) c.self.view_is ∙ c.requires.open in
+    either c.append-told.result (c.append-told.ensures.ok honest _ named) (c.append-told.ensures.err honest _ named)
+    (λ changes. elsewhere _ _ _ name _ changes (apart _ name (λ e. differs (sym e))))
+    (λ some. elsewhere _ _ _ name _ some.1 (apart _ name (λ e. differs (sym e))))

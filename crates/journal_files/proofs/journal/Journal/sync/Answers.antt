@@ -1,5 +1,7 @@
-use Rattle.std.proofs.Common.{ap, ◌∙◌}
+use Rattle.std.proofs.Common.{ap, sym, ◌∙◌}
+use Rattle.disk_files.proofs.Moments.{elsewhere}
 use Rattle.journal_files.specs.Views.{OpenJournal}
+use Rattle.journal_files.proofs.Names.{apart}
 use Rattle.journal_files.proofs.Recovery.{recovers}
 use Rattle.journal_files.proofs.Steps.{synced_all, kept, less_sure, either, on_ok, one_call}
 use Rattle.journal_files.proofs.journal.Journal.sync.Goals as goal
@@ -16,3 +18,10 @@ returns-clause-moments g c = λ honest t keeps.
     (either c.sync.result (c.sync.ensures.ok honest _ named) (c.sync.ensures.err honest)
     (λ changes folder leaves. less_sure c.args.self.now.path t folder keeps.telling.few (recovers c.args.self.now _ _ (synced_all c.args.self.now _ _ t keeps changes) folder leaves))
     (λ same. recovers c.args.self.now _ t (kept c.args.self.now _ _ t keeps same)))
+
+pub returns-clause-elsewhere : goal.returns-clause-elsewhere
+returns-clause-elsewhere g c = λ honest name differs.
+    let named = ap (λ (j : OpenJournal). g.D.Dir.opened c.args.dir.now j.file) c.self.view_is ∙ c.requires.open in
+    either c.sync.result (c.sync.ensures.ok honest _ named) (c.sync.ensures.err honest)
+    (λ changes. elsewhere _ _ _ name _ changes (apart _ name (λ e. differs (sym e))))
+    (λ same. same name)
