@@ -1,6 +1,6 @@
 -- Chunks with claims forgotten: what each step does to them.
 use Rattle.std.proofs.Common.{◌≡◌, ◌⊎◌, inl, inr, ℕ, ◌≤◌, Bool, true, false, cond, List, [], ◌∷◌, ◌++◌, Option, Some, None, option_map, refl, sym, ap, subst, ◌∙◌, arith}
-use Rattle.std.specs.Prelude.{IsSomeAnd, filter}
+use Rattle.std.specs.Prelude.{IsSomeAnd, IfSome, filter}
 use Rattle.std.specs.Option.{option_map_or}
 use Rattle.std.specs.Ordering.{nat_cmp}
 use Rattle.std.specs.BTreeMap.{is_at}
@@ -10,7 +10,7 @@ use Rattle.std.proofs.lemmas.Option.{same_Some}
 use Rattle.buffer_state.specs.declared.chunk.Stage.{Stage}
 use Rattle.buffer_state.specs.declared.chunk.Stage.TheVariants.{Staged, Queued, Claimed}
 use Rattle.buffer_state.specs.State.{State, Chunk, Numbered, chunk_at, is_queued, size, size_at, IsAt}
-use Rattle.buffer_state.specs.Steps.{CanAppend, with_chunk, added, appended, restaged, queued_last, claimed, removed, settled, reopened, unclaimed, unclaimed_chunks, first_of}
+use Rattle.buffer_state.specs.Steps.{CanAppend, with_chunk, added, appended, restaged, queued_last, claimed, claimed_from, removed, settled, reopened, unclaimed, unclaimed_chunks, first_of}
 use Rattle.buffer_state.proofs.Serials.{at_itself}
 use Rattle.chunk_journal.specs.Records.{Append, Queue, Purge}
 use Rattle.chunk_journal.specs.Meaning.{Allows}
@@ -152,6 +152,36 @@ restage_same c s stage was counts here queue = by (chunk_at c s) refl here
         free_set (is_at (nat_cmp s)) c.chunks (record chunk { stage = stage })
         ∙ ap (λ (stage : Stage). set_value (is_at (nat_cmp s)) (unclaimed_chunks c.chunks) (record chunk { stage = stage })) (counts ∙ ap unclaimed (sym h))
         ∙ set_same (is_at (nat_cmp s)) (unclaimed_chunks c.chunks) (free chunk) (free_at (is_at (nat_cmp s)) c.chunks ∙ ap (option_map free) at))
+
+-- a chunk that was set is what it was set to
+set_found : (test : ℕ → Bool) (es : List Numbered) (v w : Chunk) → lookup test es ≡ Some v → lookup test (set_value test es w) ≡ Some w
+set_found test [] v w at = absurd (cc at)
+set_found test (e ∷ es) v w at = by (test e.0) refl at (set_found test es v w)
+  where
+    by : (b : Bool) → test e.0 ≡ b → cond b (Some e.1) (lookup test es) ≡ Some v → (lookup test es ≡ Some v → lookup test (set_value test es w) ≡ Some w)
+        → lookup test (cond b ((e.0, w) ∷ es) (e ∷ set_value test es w)) ≡ Some w
+    by true is at rest = rw is refl
+    by false is at rest = rw is (rest at)
+
+-- the first of the queue is claimed then
+restaged_at : (c : State) (s : ℕ) (rest : List ℕ) → IsAt Queued c s → IsAt Claimed (restaged s Claimed (record c { queue = rest })) s
+restaged_at c s rest here = by (chunk_at c s) refl here
+  where
+    by : (o : Option Chunk) → chunk_at c s ≡ o → IsSomeAnd o (λ chunk. chunk.stage ≡ Queued)
+        → IsAt Claimed (option_map_or (λ chunk. with_chunk s (record chunk { stage = Claimed }) (record c { queue = rest })) o (record c { queue = rest })) s
+    by None at h = absurd h
+    by (Some chunk) at h = subst (λ o. IsSomeAnd o (λ chunk. chunk.stage ≡ Claimed)) (sym (set_found (is_at (nat_cmp s)) c.chunks chunk (record chunk { stage = Claimed }) at)) refl
+
+claims_first : (c : State) (s : ℕ) → first_of c.queue ≡ Some s → IsAt Queued c s → IsAt Claimed (claimed c) s
+claims_first c s first here = by c.queue refl first
+  where
+    by : (queue : List ℕ) → c.queue ≡ queue → first_of queue ≡ Some s → IsAt Claimed (claimed_from queue c) s
+    by [] e f = absurd (cc f)
+    by (x ∷ rest) e f = rw (same_Some x s f) (restaged_at c s rest here)
+
+pub claim_takes : (c : State) (result : Option ℕ) → result ≡ first_of c.queue → IfSome result (IsAt Queued c) → IfSome result (IsAt Claimed (claimed c))
+claim_takes c None first queued = tt
+claim_takes c (Some s) first queued = claims_first c s (sym first) queued
 
 -- a chunk that is claimed counts as queued
 pub claim_counts : (c : State) (result : Option ℕ) → result ≡ first_of c.queue → ((s : ℕ) → result ≡ Some s → IsAt Queued c s) → reopened (claimed c) ≡ reopened c

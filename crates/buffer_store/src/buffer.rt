@@ -354,6 +354,7 @@ impl<D: Dir, A: Allocator + Copy> Buffer<D, A> {
     pub fn claim(&mut self) -> Option<u64>
         ensures first { result ≡ first_of self.old.chunks.queue }
         ensures queued { IfSome result (IsAt Queued self.old.chunks) }
+        ensures taken { IfSome result (IsAt Claimed self.new.chunks) }
         ensures state { self.new ≡ record self.old { chunks = claimed self.old.chunks } }
         // A claim isn't told: the journal counts the chunk as queued.
         ensures counts { reopened self.new.chunks ≡ reopened self.old.chunks }

@@ -85,6 +85,10 @@ fn steps_and_opening_again(rt: HostRuntime) -> Result<(), BufferFault> {
     buffer.enqueue(0)?;
     assert!(rt; buffer.enqueue(0) == Err(BufferFault::Gone));
     assert!(rt; buffer.purge(0) == Err(BufferFault::Gone));
+    let Some(claimed) = buffer.claim() else {
+        return Err(BufferFault::Gone);
+    };
+    buffer.give_back(claimed);
     assert!(rt; buffer.claim() == Some(0) && buffer.claim().is_none());
     let mut buffer = open(alloc, buffer.into_dir().stop(Keep::Least), WIDE)?;
     assert!(rt; buffer.chunks().stage(0) == Some(Stage::Queued));

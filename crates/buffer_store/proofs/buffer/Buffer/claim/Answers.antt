@@ -1,10 +1,11 @@
-use Rattle.std.proofs.Common.{ap, ◌∙◌}
-use Rattle.buffer_state.specs.State.{IsAt}
+use Rattle.std.proofs.Common.{ap, sym, subst, ◌∙◌}
+use Rattle.std.specs.Prelude.{IfSome}
+use Rattle.buffer_state.specs.State.{State, IsAt}
 use Rattle.buffer_state.specs.Steps.{reopened}
-use Rattle.buffer_state.specs.declared.chunk.Stage.TheVariants.{Queued}
+use Rattle.buffer_state.specs.declared.chunk.Stage.TheVariants.{Queued, Claimed}
 use Rattle.buffer_state.proofs.Serials.{if_some}
 use Rattle.buffer_store.specs.Buffers.{Held}
-use Rattle.buffer_store.proofs.Claims.{claim_counts}
+use Rattle.buffer_store.proofs.Claims.{claim_counts, claim_takes}
 use Rattle.buffer_store.proofs.ShortTags.{tags_claimed}
 use Rattle.buffer_store.proofs.buffer.Buffer.claim.Goals as goal
 
@@ -15,3 +16,7 @@ pub returns-clause-counts : goal.returns-clause-counts
 returns-clause-counts g c = ap reopened c.claim.ensures.state
     ∙ claim_counts c.self.inside.chunks c.claim.result c.claim.ensures.first (λ s e. if_some c.claim.result (IsAt Queued c.self.inside.chunks) s c.claim.ensures.queued e)
     ∙ ap (λ (b : Held g.row.D.Denot). reopened b.chunks) c.self.view_is
+
+pub returns-clause-taken : goal.returns-clause-taken
+returns-clause-taken g c = subst (λ (b : Held g.row.D.Denot). IfSome c.claim.result (IsAt Claimed c.claim.new.self)) c.self.view_is
+    (subst (λ (state : State). IfSome c.claim.result (IsAt Claimed state)) (sym c.claim.ensures.state) (claim_takes c.self.inside.chunks c.claim.result c.claim.ensures.first c.claim.ensures.queued))
