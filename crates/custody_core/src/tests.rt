@@ -90,7 +90,7 @@ fn plan(alloc: Global, port: u16) -> Result<(Vec<Node<Global>>, Vec<Client<Globa
     Ok((vec![in alloc; node]?, vec![in alloc; client]?))
 }
 
-// A step of the rows, on chunk 2/0/0.
+// A step of the tables, on chunk 2/0/0.
 #[derive(Clone, Copy)]
 enum Line {
     Send(&'static [u8]),
