@@ -34,5 +34,6 @@ pub record IsBelowSome (path : List ℕ) (disk : Disk) (n : ℕ) : Type 0 where
   pub last : number < 2 ^ 32
   pub there : IsSome (reads disk (journal_name path number))
 
+-- no generation that was ever begun is above all that read
 abbrev pub HasNoStray : List ℕ → Disk → Type 0
 HasNoStray path disk = (n : ℕ) → 1 ≤ n → n < 2 ^ 32 → IsSome (disk (journal_name path n)) → IsBelowSome path disk n

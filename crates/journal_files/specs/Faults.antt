@@ -21,6 +21,7 @@ open_error dir.Fault = opening.Fault
 open_error dir.NoSuchFile = opening.Fault
 open_error dir.NameTaken = opening.Fault
 
+-- the same, where a journal is renewed
 abbrev pub renew_error : DirError → RenewError
 renew_error dir.Memory = renewing.Memory
 renew_error dir.Fault = renewing.Fault
