@@ -3,3 +3,4 @@ pub mod Targets
 pub mod Meaning
 pub mod Views
 pub mod Relays
+pub mod Buffers

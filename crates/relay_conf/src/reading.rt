@@ -6,6 +6,7 @@ ghost use Rattle.relay_faults.specs.Faults.{HasFault, HasNoFault, IsRefusal};
 ghost use Rattle.relay_conf.specs.Meaning.{source_of};
 ghost use Rattle.relay_conf.specs.Views.{source_view};
 ghost use Rattle.relay_conf.specs.Relays.{IsRelayOf};
+ghost use Rattle.relay_conf.specs.Buffers.{HaveOwnBuffers};
 
 use crate::defaults::{DEFAULT_BIND, DEFAULT_PORT};
 use crate::outputs::{label_scopes, matches_in};
@@ -30,6 +31,8 @@ impl<A: Allocator + Copy> Relay<A> {
         // What is read has no fault, and is the relay that the elements describe.
         ensures faultless { IfOk result (λ _. HasNoFault (map tree_of elements.now)) }
         ensures meaning { IfOk result (λ relay. IsRelayOf (map tree_of elements.now) relay) }
+        // Each buffer is that of one output.
+        ensures own_buffers { IfOk result (λ relay. HaveOwnBuffers relay) }
         // What is refused has that fault, and it is the first, or memory ran out.
         ensures refused { IfErr result (λ e. IsRefusal (map tree_of elements.now) e) }
         // Elements with a fault aren't read.

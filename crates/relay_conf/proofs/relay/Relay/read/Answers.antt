@@ -1,0 +1,5 @@
+use Rattle.relay_conf.proofs.OwnBuffers.{own_buffers}
+use Rattle.relay_conf.proofs.relay.Relay.read.Goals as goal
+
+pub returns-clause-own_buffers : goal.returns-clause-own_buffers
+returns-clause-own_buffers g c = own_buffers _ c.in_ok-filled.field-0 c.in_ok-filled.ensures
