@@ -1,5 +1,5 @@
 -- How often a device has refused.
-use Rattle.std.specs.Prelude.{◌≡◌, ◌⊎◌, ℕ, ◌-◌, ◌^◌, ◌<◌, ◌≤◌, Result, Err, OnOk, OnErr}
+use Rattle.std.specs.Prelude.{◌≡◌, ◌⊎◌, ℕ, ◌-◌, ◌^◌, ◌<◌, ◌≤◌, Result, Err, OnOk, OnErr, IsErrOf}
 use Rattle.disk_files.specs.declared.dir.DirError.{DirError}
 use Rattle.disk_files.specs.declared.dir.DirError.TheVariants.{Memory}
 
@@ -11,4 +11,5 @@ Rises before after = (before < after) ⊎ (2 ^ 64 - 1 ≤ after)
 pub record HasCause {T : Type 0} (before after : ℕ) (result : Result T DirError) : Type 0 where
   pub later : before ≤ after
   pub passed : OnOk result (after ≡ before)
-  pub refused : OnErr result (((result ≡ Err Memory) × (after ≡ before)) ⊎ Rises before after)
+  pub memory : IsErrOf result Memory → after ≡ before
+  pub refused : OnErr result ((result ≡ Err Memory) ⊎ Rises before after)

@@ -84,6 +84,7 @@ where
         kind: ErrorKind,
         refusal: DirError,
     ) -> Result<FileNo, DirError>
+        requires { refusal ≢ DirError.Memory }
         ensures opened { IfOk result (λ file. open_name (slice_get self.new.files.items file.0) ≡ Some name.now) }
         ensures others { (other : FileNo) → IsSome (open_name (slice_get self.old.files.items other.0))
             → open_name (slice_get self.new.files.items other.0) ≡ open_name (slice_get self.old.files.items other.0) }
