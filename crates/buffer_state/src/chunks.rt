@@ -1,6 +1,6 @@
 //! The chunks of a buffer, and its steps on them.
 
-ghost use Rattle.std.specs.Prelude.{◌≡◌, ◌≤◌, ◌<◌, ◌+◌, ◌⊎◌, [], ◌∷◌, ◌++◌, true, length, filter, IfSome, IfNone, IfOk, IfErr, OnOk, OnErr, cond, ℕ, List, None, option_map};
+ghost use Rattle.std.specs.Prelude.{◌≡◌, ◌≤◌, ◌<◌, ◌^◌, ◌+◌, ◌⊎◌, [], ◌∷◌, ◌++◌, true, length, filter, IfSome, IfNone, IfOk, IfErr, OnOk, OnErr, cond, ℕ, List, None, option_map};
 ghost use Rattle.std.specs.List.{All};
 ghost use Rattle.std.specs.List.Sorted.{IsStrictlySortedBy};
 ghost use Rattle.std.specs.Map.{keys_of, values_of};
@@ -8,7 +8,7 @@ ghost use Rattle.std.specs.Ordering.{nat_cmp};
 ghost use Rattle.std.specs.BTreeMap.{is_at};
 ghost use Rattle.std.specs.BTreeSet.{contains};
 ghost use Rattle.std.specs.VecDeque.{deque_len, deque_capacity};
-ghost use Rattle.buffer_state.specs.State.{State, empty, chunk_at, size, size_at, is_queued, IsAt, IsStagedOf};
+ghost use Rattle.buffer_state.specs.State.{State, empty, chunk_at, size, size_at, total_size, is_queued, IsAt, IsStagedOf};
 ghost use Rattle.buffer_state.specs.Steps.{CanAppend, planned, appended, queued_last, claimed, removed, settled, taken_back, oldest, first_of, greatest_size, place_within};
 ghost use Rattle.buffer_state.specs.Slots.{changed_at, chunks_in, joined, slot_size, AreBelow};
 ghost use Rattle.buffer_state.specs.Views.{passes_at, IsTogether, IsEndOf};
@@ -85,6 +85,14 @@ impl<A: Allocator + Copy> Chunks<A> {
         ensures below { AreBelow self.now.next (keys_of result.now.entries) }
     {
         self.table.live()
+    }
+
+    /// How many bytes of entries all live chunks have together.
+    pub fn total(&self) -> u128
+        ensures sum { result ≡ total_size self.now }
+        ensures small { result < 2 ^ 88 }
+    {
+        self.table.total()
     }
 
     /// The stage of the live chunk of this serial.

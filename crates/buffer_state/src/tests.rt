@@ -110,6 +110,7 @@ fn refusals(rt: HostRuntime) -> Result<(), AllocError> {
         total: 5,
     };
     assert!(rt; put(&mut chunks, &small, b"a", &one)? == Some(0));
+    assert!(rt; chunks.total() == 3);
     assert!(rt; chunks.plan(&small, b"a", &one) == Err(AppendFault::Full));
     assert!(rt; chunks.plan(&small, b"a", &many) == Err(AppendFault::TooLarge));
     let narrow = Limits { chunk: 5, total: 9 };
