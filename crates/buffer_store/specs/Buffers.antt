@@ -8,7 +8,7 @@ use Rattle.buffer_state.specs.Steps.{settled, reopened}
 use Rattle.chunk_journal.specs.Records.{Record}
 use Rattle.journal_files.specs.Tellings.{Telling, state_of, begun}
 use Rattle.journal_files.specs.Views.{OpenJournal, IsOpenIn, HasShortTags}
-use Rattle.journal_files.specs.Disks.{Keeps, Recovers}
+use Rattle.journal_files.specs.Disks.{Keeps, Recovers, HasNoStray}
 use Rattle.buffer_store.specs.declared.fault.BufferFault.{BufferFault}
 
 -- A buffer: the folder and the open journal in it, the chunks in memory, what it takes at most, and whether the device has failed it.
@@ -30,11 +30,12 @@ pub record Holds (journal : OpenJournal) (chunks : State) (disk : Disk) (t : Tel
   pub means : settled (state_of t) ≡ reopened chunks
 
 -- A step was begun by a call on an open journal: after its `Ok` the journal tells the step, so far as `answered` says; after `Fault` each stop leaves it or not;
--- and after any other refusal the journal tells what it told.
+-- and after any other refusal the journal tells what it told. A `Fault` leaves no stray generation, so that the folder can be opened again at once.
 pub record Begins {T : Type 0} (old_journal new_journal : OpenJournal) (old_chunks new_chunks : State) (old_disk new_disk : Disk) (item : Record) (answered : Telling → Telling) (result : Result T BufferFault) : Type 0 where
   pub done : (t : Telling) → Holds old_journal old_chunks old_disk t → OnOk result (Holds new_journal new_chunks new_disk (answered (begun item t)))
   pub refused : (t : Telling) → Holds old_journal old_chunks old_disk t → result ≢ Err BufferFault.Fault → OnErr result (Holds new_journal new_chunks new_disk t)
   pub recovers : (t : Telling) → Holds old_journal old_chunks old_disk t → result ≡ Err BufferFault.Fault → Recovers old_journal.path new_disk (begun item t)
+  pub stray : (t : Telling) → Holds old_journal old_chunks old_disk t → result ≡ Err BufferFault.Fault → HasNoStray old_journal.path new_disk
 
 -- how a call leaves the failed flag: it rises with a `Fault`, and stays at all else
 pub record Flags {T : Type 0} (old new : Bool) (result : Result T BufferFault) : Type 0 where

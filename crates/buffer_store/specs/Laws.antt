@@ -1,19 +1,12 @@
 -- What holds of buffers and stops, apart from any call.
-use Rattle.std.specs.Prelude.{ℕ, ◌≡◌, ◌≤◌, List, length}
+use Rattle.std.specs.Prelude.{ℕ, List}
 use Rattle.disk_files.specs.Disk.{Disk, Folder, StopLeaves}
 use Rattle.buffer_state.specs.State.{State}
 use Rattle.journal_files.specs.Folders.{Opens}
-use Rattle.journal_files.specs.Tellings.{Telling, OpensWithin, reopened_at}
+use Rattle.journal_files.specs.Tellings.{Telling, IsOfSome, OpensWithin}
 use Rattle.journal_files.specs.Views.{OpenJournal}
 use Rattle.journal_files.specs.Disks.{Recovers}
 use Rattle.buffer_store.specs.Buffers.{Holds}
-
--- the state is the one after some of the steps, all sure ones among them, as opening gives it
-pub record IsOfSome (t : Telling) (state : State) : Type 0 where
-  pub steps : ℕ
-  pub enough : t.sure ≤ steps
-  pub begun : steps ≤ length t.steps
-  pub state_is : state ≡ reopened_at t steps
 
 -- where the disk holds a buffer, each stop is recovered from
 abbrev pub HoldsRecovers : Type 0

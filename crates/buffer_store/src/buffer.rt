@@ -1,18 +1,18 @@
 //! A buffer.
 
-ghost use Rattle.std.specs.Prelude.{◌≡◌, ◌≢◌, ◌↔◌, ◌⊎◌, ◌+◌, ◌-◌, ◌^◌, ◌<◌, ◌≤◌, ℕ, List, true, false, length, Some, None, Ok, Err, IsSome, IfSome, IfOk, IfErr, OnOk, OnErr, IsTrue};
+ghost use Rattle.std.specs.Prelude.{◌≡◌, ◌≢◌, ◌↔◌, ◌⊎◌, ◌+◌, ◌-◌, ◌*◌, ◌^◌, ◌<◌, ◌≤◌, ℕ, List, true, false, length, Some, None, Ok, Err, IsSome, IfSome, IfOk, IfErr, OnOk, OnErr, IsTrue};
 ghost use Rattle.disk_files.specs.Disk.{SameDisk, reads};
-ghost use Rattle.disk_files.specs.Moments.{now};
+ghost use Rattle.disk_files.specs.Moments.{LeavesOnly, now};
 ghost use Rattle.event_modes.specs.Message.{longest_tag};
-ghost use Rattle.buffer_state.specs.State.{IsAt, chunk_at, size, size_at};
+ghost use Rattle.buffer_state.specs.State.{IsAt, chunk_at, size, size_at, total_size};
 ghost use Rattle.buffer_state.specs.Steps.{CanAppend, greatest_size, planned, place_of, appended, queued_last, claimed, removed, oldest, first_of, reopened};
 ghost use Rattle.buffer_state.specs.declared.chunk.Stage.TheVariants.{Staged, Queued, Claimed};
 ghost use Rattle.buffer_state.specs.declared.limits.AppendFault.{AppendFault};
 ghost use Rattle.chunk_journal.specs.Records.{Append, Queue, Purge};
 ghost use Rattle.journal_files.specs.Folders.{Opens, IsDamagedFolder, IsNext, journal_name};
-ghost use Rattle.journal_files.specs.Tellings.{Telling, all_sure, opening};
+ghost use Rattle.journal_files.specs.Tellings.{Telling, OpensWithin, all_sure, opening};
 ghost use Rattle.journal_files.specs.Views.{IsReady, HasShortTags};
-ghost use Rattle.journal_files.specs.Disks.{Recovers, HasNoStray};
+ghost use Rattle.journal_files.specs.Disks.{Recovers, HasNoStray, HasNoneBelow};
 ghost use Rattle.journal_files.specs.Faults.{HasReason};
 ghost use Rattle.disk_files.specs.Faults.{Rises};
 ghost use Rattle.buffer_store.specs.Refusals.{of_plan};
@@ -63,7 +63,8 @@ impl<D: Dir, A: Allocator + Copy> Buffer<D, A> {
     /// Opens the buffer whose files' names begin with this path: its chunks are what the journal in the folder means.
     /// The queue goes by rising serial, and what was claimed is queued. The journal goes on in a new generation.
     ///
-    /// Each refusal hands the folder back. `Damaged` and `LastSerial`, which is answered past the last generation, change nothing.
+    /// Each refusal hands the folder back, and all but `Fault` change nothing. `LastSerial` is answered past the last generation.
+    /// After `Fault` the folder opens to what it opened to, with or without a stop before.
     pub fn open(
         alloc: A,
         dir: D,
@@ -75,6 +76,8 @@ impl<D: Dir, A: Allocator + Copy> Buffer<D, A> {
         ensures map { D.is_honest dir → IfOk result (λ buffer. Opens path.now (reads (now (D.history dir))) buffer.chunks) }
         ensures holds { D.is_honest dir → HasNoStray path.now (now (D.history dir))
             → IfOk result (λ buffer. Holds buffer.journal buffer.chunks (now (D.history buffer.dir)) (opening buffer.chunks)) }
+        // No chunk is claimed, and the queue goes by rising serial.
+        ensures unclaimed { IfOk result (λ buffer. reopened buffer.chunks ≡ buffer.chunks) }
         ensures settings { IfOk result (λ buffer. buffer.limits ≡ limits) }
         ensures path { IfOk result (λ buffer. buffer.journal.path ≡ path.now) }
         ensures next { D.is_honest dir → IfOk result (λ buffer. IsNext path.now (reads (now (D.history dir))) buffer.journal.number) }
@@ -83,11 +86,19 @@ impl<D: Dir, A: Allocator + Copy> Buffer<D, A> {
             → IsDamagedFolder path.now (reads (now (D.history dir)))) }
         ensures last { D.is_honest dir → IfErr result (λ refused. refused.0 ≡ BufferFault.LastSerial
             → IsSome (reads (now (D.history dir)) (journal_name path.now (2 ^ 32 - 1)))) }
-        ensures unchanged { D.is_honest dir → IfErr result (λ refused. (refused.0 ≡ BufferFault.Damaged) ⊎ (refused.0 ≡ BufferFault.LastSerial)
+        ensures unchanged { D.is_honest dir → IfErr result (λ refused. refused.0 ≢ BufferFault.Fault
             → SameDisk (now (D.history refused.1)) (now (D.history dir))) }
+        // A stop at any moment of the call leaves a folder that opens to what one before the call could open to.
+        ensures moments { D.is_honest dir → HasNoStray path.now (now (D.history dir)) → (t : Telling) → Recovers path.now (now (D.history dir)) t
+            → IfOk result (λ buffer. LeavesOnly (D.history dir) (D.history buffer.dir) (OpensWithin path.now t)) }
+        ensures moments_back { D.is_honest dir → HasNoStray path.now (now (D.history dir)) → (t : Telling) → Recovers path.now (now (D.history dir)) t
+            → IfErr result (λ refused. LeavesOnly (D.history dir) (D.history refused.1) (OpensWithin path.now t)) }
+        ensures stray_back { D.is_honest dir → HasNoStray path.now (now (D.history dir)) → IfErr result (λ refused. HasNoStray path.now (now (D.history refused.1))) }
+        ensures alone { D.is_honest dir → IfOk result (λ buffer. HasNoneBelow path.now (now (D.history buffer.dir)) buffer.journal.number) }
         ensures only { IfErr result (λ refused. (refused.0 ≡ BufferFault.Damaged) ⊎ ((refused.0 ≡ BufferFault.LastSerial) ⊎ ((refused.0 ≡ BufferFault.Memory) ⊎ (refused.0 ≡ BufferFault.Fault)))) }
         ensures faultless { IfOk result (λ buffer. D.fault_count buffer.dir ≡ D.fault_count dir) }
         ensures cause { IfErr result (λ refused. refused.0 ≡ BufferFault.Fault → Rises (D.fault_count dir) (D.fault_count refused.1)) }
+        ensures quiet { IfErr result (λ refused. refused.0 ≢ BufferFault.Fault → D.fault_count refused.1 ≡ D.fault_count dir) }
     {
         let mut dir = dir;
         match Journal::open(alloc, &mut dir, path) {
@@ -474,6 +485,14 @@ impl<D: Dir, A: Allocator + Copy> Buffer<D, A> {
         told
     }
 
+    /// Whether the journal has more than 268,435,456 bytes, and more than twice as many as the entries of all live chunks have:
+    /// then it is to be renewed.
+    pub fn wants_renewal(&self) -> bool
+        ensures { IsTrue result ↔ ((268435456 < self.now.journal.len) × (2 * total_size self.now.chunks < self.now.journal.len)) }
+    {
+        self.journal.wants_renewal(self.chunks.total())
+    }
+
     /// Goes on in a new generation of the journal, which tells only what is live. The chunks stay as they are.
     ///
     /// The first of `Failed`, `LastSerial`, `Memory` and `Fault` that applies; `LastSerial` past the last generation.
@@ -492,6 +511,12 @@ impl<D: Dir, A: Allocator + Copy> Buffer<D, A> {
             → result ≢ Err BufferFault.Fault → OnErr result (Holds self.new.journal self.new.chunks (now (D.history self.new.dir)) t) }
         ensures recovers { D.is_honest self.old.dir → (t : Telling) → Holds self.old.journal self.old.chunks (now (D.history self.old.dir)) t
             → result ≡ Err BufferFault.Fault → Recovers self.old.journal.path (now (D.history self.new.dir)) t }
+        // A stop at any moment of the call leaves a folder that opens so.
+        ensures moments { D.is_honest self.old.dir → (t : Telling) → Holds self.old.journal self.old.chunks (now (D.history self.old.dir)) t
+            → LeavesOnly (D.history self.old.dir) (D.history self.new.dir) (OpensWithin self.old.journal.path t) }
+        ensures stray { D.is_honest self.old.dir → (t : Telling) → Holds self.old.journal self.old.chunks (now (D.history self.old.dir)) t
+            → HasNoStray self.old.journal.path (now (D.history self.new.dir)) }
+        ensures gone { D.is_honest self.old.dir → OnOk result (reads (now (D.history self.new.dir)) (journal_name self.old.journal.path self.old.journal.number) ≡ None) }
         ensures only { OnErr result ((result ≡ Err BufferFault.Failed) ⊎ ((result ≡ Err BufferFault.LastSerial) ⊎ ((result ≡ Err BufferFault.Memory) ⊎ (result ≡ Err BufferFault.Fault)))) }
         // But for a fault, a refusal leaves the folder as it was.
         ensures untouched { D.is_honest self.old.dir → result ≢ Err BufferFault.Fault

@@ -8,12 +8,12 @@ ghost use Rattle.chunk_journal.specs.Meaning.{Allows};
 ghost use Rattle.journal_files.specs.Tellings.{Telling, begun, all_sure, state_of};
 ghost use Rattle.journal_files.specs.Views.{IsOpenIn, IsReady};
 ghost use Rattle.journal_files.specs.Folders.{journal_name};
-ghost use Rattle.journal_files.specs.Disks.{Keeps, Recovers};
+ghost use Rattle.journal_files.specs.Disks.{Keeps, Recovers, HasNoStray};
 ghost use Rattle.journal_files.specs.Faults.{HasReason};
 
 use crate::fault::BufferFault;
 use disk_files::Dir;
-use journal_files::{Journal, recovers_all};
+use journal_files::{Journal, has_no_stray, recovers_all};
 use std::alloc::Allocator;
 
 /// Tells the record that is ready, and syncs it. The error is `Fault`.
@@ -30,6 +30,9 @@ pub(crate) fn tell<D: Dir, A: Allocator>(
     ensures err { D.is_honest dir.old → (t : Telling) (item : Record) → Keeps journal.old (now (D.history dir.old)) t
         → IsReady journal.old item → Allows (state_of t) item
         → OnErr result (Recovers journal.old.path (now (D.history dir.new)) (begun item t)) }
+    ensures stray { D.is_honest dir.old → (t : Telling) (item : Record) → Keeps journal.old (now (D.history dir.old)) t
+        → IsReady journal.old item → Allows (state_of t) item
+        → OnErr result (HasNoStray journal.old.path (now (D.history dir.new))) }
     ensures elsewhere { D.is_honest dir.old → (name : List ℕ) → name ≢ journal_name journal.old.path journal.old.number
         → now (D.history dir.new) name ≡ now (D.history dir.old) name }
     ensures path { journal.new.path ≡ journal.old.path }
@@ -39,6 +42,7 @@ pub(crate) fn tell<D: Dir, A: Allocator>(
     ensures cause { HasReason (D.fault_count dir.old) (D.fault_count dir.new) result BufferFault.Fault }
     ensures only { OnErr result (result ≡ Err BufferFault.Fault) }
 {
+    has_no_stray();
     recovers_all();
     journal.put(dir)?;
     journal.sync(dir)?;
@@ -59,6 +63,9 @@ pub(crate) fn put<D: Dir, A: Allocator>(
     ensures err { D.is_honest dir.old → (t : Telling) (item : Record) → Keeps journal.old (now (D.history dir.old)) t
         → IsReady journal.old item → Allows (state_of t) item
         → OnErr result (Recovers journal.old.path (now (D.history dir.new)) (begun item t)) }
+    ensures stray { D.is_honest dir.old → (t : Telling) (item : Record) → Keeps journal.old (now (D.history dir.old)) t
+        → IsReady journal.old item → Allows (state_of t) item
+        → OnErr result (HasNoStray journal.old.path (now (D.history dir.new))) }
     ensures elsewhere { D.is_honest dir.old → (name : List ℕ) → name ≢ journal_name journal.old.path journal.old.number
         → now (D.history dir.new) name ≡ now (D.history dir.old) name }
     ensures path { journal.new.path ≡ journal.old.path }

@@ -123,6 +123,7 @@ fn renewed(rt: HostRuntime) -> Result<(), BufferFault> {
     let mut buffer = open(alloc, MemoryDir::new(alloc), WIDE)?;
     assert!(rt; append(alloc, &mut buffer, 1)? == 0);
     buffer.enqueue(0)?;
+    assert!(rt; !buffer.wants_renewal());
     buffer.renew()?;
     assert!(rt; buffer.chunks().stage(0) == Some(Stage::Queued) && buffer.chunks().next() == 1);
     let mut dir = buffer.into_dir();

@@ -1,13 +1,15 @@
 -- A generation that is begun beside the older ones.
-use Rattle.std.proofs.Common.{◌≡◌, ◌⊎◌, ⊎_elim, ℕ, zero, suc, ◌+◌, ◌<◌, ◌≤◌, ◌^◌, Bool, true, false, cond, List, ◌++◌, length, take, min, Option, Some, None, refl, sym, ap, subst, ◌∙◌, arith, inl, inr}
+use Rattle.std.proofs.Common.{◌≡◌, ◌⊎◌, ⊎_elim, ℕ, zero, suc, ◌+◌, ◌<◌, ◌≤◌, ◌^◌, Bool, true, false, cond, List, ◌++◌, length, take, [], min, Option, Some, None, refl, sym, ap, subst, ◌∙◌, arith, inl, inr}
 use Rattle.std.specs.Str.{bytes_eq}
 use Rattle.std.specs.List.{AllByRecursion, flat_map}
 use Rattle.std.proofs.lemmas.Bool.{cases_eq, cases_lt}
-use Rattle.std.proofs.lemmas.List.{take-append-le, take_min, take_all, take-take, length-take}
+use Rattle.std.proofs.lemmas.List.{length-append, take-append-le, take_min, take_all, take-take, length-take}
 use Rattle.std.proofs.lemmas.Slice.Eq.{bytes_eq-Decides}
 use Rattle.std.proofs.Math.Seq.{take-append-add}
 use Rattle.disk_files.specs.Disk.{File, Disk, Folder, MayStay, SameDisk, Changes, with_file, fresh, grown}
-use Rattle.disk_files.proofs.Moments.{here, elsewhere, follows, leaves_same}
+use Rattle.disk_files.specs.Moments.{History, now, LeavesOnly}
+use Rattle.disk_files.specs.declared.dir.FileNo.{FileNo}
+use Rattle.disk_files.proofs.Moments.{here, elsewhere, follows, leaves_same, weaker, joined}
 use Rattle.disk_files.proofs.Table.{itself}
 use Rattle.buffer_state.specs.State.{State}
 use Rattle.buffer_state.specs.Steps.{settled, reopened}
@@ -17,14 +19,14 @@ use Rattle.chunk_journal.specs.Meaning.{IsReplayed, EndsUnsealed, after_all, tel
 use Rattle.chunk_journal.proofs.Coming.{journal_push}
 use Rattle.chunk_journal.proofs.Telling.{told_so}
 use Rattle.journal_files.specs.Folders.{journal_name, IsPassedOver, PassesAbove, Opens}
-use Rattle.journal_files.specs.Tellings.{Telling, records_of, state_at_seal, state_of, reopened_at, opening, IsTelling, OpensWithin}
+use Rattle.journal_files.specs.Tellings.{Telling, records_of, state_at_seal, state_of, reopened_at, opening, IsTelling, IsOfSome, OpensWithin}
 use Rattle.journal_files.specs.Views.{OpenJournal}
 use Rattle.journal_files.specs.Disks.{Keeps, Recovers, HasNoneFrom}
-use Rattle.journal_files.specs.Pieces.{HasNew, IsUnfinished, Partly, sealed}
+use Rattle.journal_files.specs.Pieces.{HasNew, IsUnfinished, IsSealing, IsLeftOf, Partly, sealed}
 use Rattle.journal_files.proofs.Names.{apart, numbers_apart}
 use Rattle.journal_files.proofs.Cuts.{IsCut, cut}
-use Rattle.journal_files.proofs.Recovery.{file_with, passed_none}
-use Rattle.journal_files.proofs.Steps.{all_last}
+use Rattle.journal_files.proofs.Recovery.{file_with, passed_none, recovers}
+use Rattle.journal_files.proofs.Steps.{all_last, counted_more}
 
 -- ---- what it tells
 
@@ -67,9 +69,9 @@ some_second name told seal old mid new first second =
 -- ---- whole
 
 module _ (journal : OpenJournal) (s : State) (can : CanOpen s) (old mid new : Disk) (told seal : List ℕ) where
-  pub whole : told ≡ journal_bytes (flat_map telling s.chunks) → seal ≡ record_bytes (Seal s.next) → 1 ≤ journal.number → journal.number < 2 ^ 32 → HasNoneFrom journal.path old journal.number
-      → HasNew (journal_name journal.path journal.number) told old mid → Changes (journal_name journal.path journal.number) (sealed seal) mid new → Keeps journal new (opening s)
-  whole told_is seal_is first last none made changes =
+  pub whole : told ≡ journal_bytes (flat_map telling s.chunks) → seal ≡ record_bytes (Seal s.next) → 1 ≤ journal.number → journal.number < 2 ^ 32 → journal.len ≡ counted_more (length told) (length seal)
+      → HasNoneFrom journal.path old journal.number → HasNew (journal_name journal.path journal.number) told old mid → Changes (journal_name journal.path journal.number) (sealed seal) mid new → Keeps journal new (opening s)
+  whole told_is seal_is first last len_is none made changes =
       let name = journal_name journal.path journal.number in
       let after = follows old mid new name (Some (grown told fresh)) (sealed seal) made.made changes in
       let bytes : told ++ seal ≡ journal_bytes (records_of (opening s)) = ap (λ (z : List ℕ). z ++ seal) told_is ∙ ap (λ (z : List ℕ). journal_bytes (flat_map telling s.chunks) ++ z) seal_is ∙ sym (bytes_of s) in
@@ -81,6 +83,7 @@ module _ (journal : OpenJournal) (s : State) (can : CanOpen s) (old mid new : Di
         there = here old new name _ after ∙ ap (λ (w : List ℕ). Some (file_with w (length (told ++ seal)))) bytes;
         holds = omega (arith, ap length bytes);
         fits = omega (arith, ap length bytes);
+        counted = omega (arith, len_is, ap length bytes, length-append told seal);
         newest = λ n above below.
             elsewhere old new name (journal_name journal.path n) _ after (numbers_apart journal.path journal.number n last below (λ e. omega (arith, e, above))) ∙ none n (omega (arith, above)) below;
       }
@@ -134,9 +137,28 @@ hides : (b : Bool) (o made : Option File) (left : Option (List ℕ)) → (b ≡ 
 hides true o made left none stays = subst (λ (f : Option File). MayStay f None) (sym (none refl)) refl
 hides false o made left none stays = stays
 
-state_same : (t : Telling) (s : State) → settled (state_of (opening s)) ≡ reopened s → settled (state_of t) ≡ reopened s → (k : ℕ) → k ≤ length (opening s).steps → reopened_at (opening s) k ≡ reopened_at t (length t.steps)
-state_same t s leads means zero le = leads ∙ sym means ∙ ap (λ (z : List Record). settled (after_all (state_at_seal t) z)) (sym (take_all (length t.steps) t.steps (omega arith)))
-state_same t s leads means (suc k) le = absurd (omega (arith, le))
+state_same : (t : Telling) (s : State) → settled (state_of (opening s)) ≡ reopened s → (m : IsOfSome t (reopened s)) → (k : ℕ) → k ≤ length (opening s).steps → reopened_at (opening s) k ≡ reopened_at t m.steps
+state_same t s leads m zero le = leads ∙ m.state_is
+state_same t s leads m (suc k) le = absurd (omega (arith, le))
+
+-- what all of the steps lead to
+pub of_all : (t : Telling) (s : State) → IsTelling t → settled (state_of t) ≡ reopened s → IsOfSome t (reopened s)
+of_all t s is means = record {
+  steps = length t.steps;
+  enough = is.few;
+  begun = omega arith;
+  state_is = sym means ∙ ap (λ (z : List Record). settled (after_all (state_at_seal t) z)) (sym (take_all (length t.steps) t.steps (omega arith)));
+}
+
+-- what a folder that opens within a telling opens to
+pub of_folder : (path : List ℕ) (folder : Folder) (t : Telling) (s : State) → ((one other : State) → Opens path folder one → Opens path folder other → one ≡ other) → OpensWithin path t folder → Opens path folder s → reopened s ≡ s
+    → IsOfSome t (reopened s)
+of_folder path folder t s one_way w opens same = record {
+  steps = w.steps;
+  enough = w.enough;
+  begun = w.begun;
+  state_is = same ∙ one_way s (reopened_at t w.steps) opens w.opens;
+}
 
 -- what is left of a generation: nothing that counts, or what means something
 record CutLeft (t : Telling) (left : Option (List ℕ)) : Type 0 where
@@ -152,19 +174,19 @@ cut_at t is bytes n e =
     ⊎_elim (λ unsealed. inl (subst EndsUnsealed e unsealed)) (λ c. inr (record { bytes = bytes; is = refl; cut = subst (IsCut t) e c })) (cut t is n)
 
 -- a beginning of a generation that tells what the older one means
-module _ (path : List ℕ) (number : ℕ) (t : Telling) (s : State) (can : CanOpen s) (first : 1 ≤ number) (last : number < 2 ^ 32) (means : settled (state_of t) ≡ reopened s) (folder : Folder)
+module _ (path : List ℕ) (number : ℕ) (t : Telling) (s : State) (can : CanOpen s) (first : 1 ≤ number) (last : number < 2 ^ 32) (m : IsOfSome t (reopened s)) (folder : Folder)
     (above : PassesAbove path folder number) where
-  pub opens_new : t.sure ≤ length t.steps → (bytes : List ℕ) → folder (journal_name path number) ≡ Some bytes → IsCut (opening s) bytes → OpensWithin path t folder
-  opens_new few bytes there c = record {
-    steps = length t.steps;
-    enough = few;
-    begun = omega arith;
+  pub opens_new : (bytes : List ℕ) → folder (journal_name path number) ≡ Some bytes → IsCut (opening s) bytes → OpensWithin path t folder
+  opens_new bytes there c = record {
+    steps = m.steps;
+    enough = m.enough;
+    begun = m.begun;
     opens = inl (record {
       number = number;
       bytes = bytes;
       used = c.used;
       highest = record { first = first; last = last; there = there; above = above };
-      means = subst (λ (z : State). IsReplayed bytes z c.used) (state_same t s can.leads means c.steps c.begun) c.means;
+      means = subst (λ (z : State). IsReplayed bytes z c.used) (state_same t s can.leads m c.steps c.begun) c.means;
     });
   }
 
@@ -177,7 +199,7 @@ module _ (path : List ℕ) (number : ℕ) (t : Telling) (s : State) (can : CanOp
     begun = w.begun;
     opens = opens_too path folder hidden number last none (subst IsPassedOver (sym is) passed) others (reopened_at t w.steps) w.opens;
   }
-  left_opens hidden none others w left is (inr c) = opens_new (omega (arith, w.enough, w.begun)) c.bytes (is ∙ c.is) c.cut
+  left_opens hidden none others w left is (inr c) = opens_new c.bytes (is ∙ c.is) c.cut
 
 -- the bytes that are left
 cut_of : (t : Telling) → IsTelling t → (written : List ℕ) (len : ℕ) (left : Option (List ℕ)) → written ≡ journal_bytes (records_of t) → MayStay (Some (grown (take len written) fresh)) left → IsSomeCut t left
@@ -188,17 +210,17 @@ cut_of t is written len (Some bytes) e stays =
       | inr le ↦ cut_at t is bytes (length bytes) (ap (take (length bytes)) (sym e) ∙ sym (take-take (length bytes) len written le) ∙ stays.1)
     ]
 
-pub unfinished : (path : List ℕ) (number : ℕ) (t : Telling) (s : State) (old new : Disk) → CanOpen s → 1 ≤ number → number < 2 ^ 32 → settled (state_of t) ≡ reopened s → HasNoneFrom path old number
+pub unfinished : (path : List ℕ) (number : ℕ) (t : Telling) (s : State) (old new : Disk) → CanOpen s → 1 ≤ number → number < 2 ^ 32 → IsOfSome t (reopened s) → HasNoneFrom path old number
     → Recovers path old t → IsUnfinished (journal_name path number) (journal_bytes (records_of (opening s))) old new → Recovers path new t
-unfinished path number t s old new can first last means none before (inl same) folder leaves = before folder (leaves_same new old folder same leaves)
-unfinished path number t s old new can first last means none before (inr some) folder leaves =
+unfinished path number t s old new can first last m none before (inl same) folder leaves = before folder (leaves_same new old folder same leaves)
+unfinished path number t s old new can first last m none before (inr some) folder leaves =
     let name = journal_name path number in
     let file : Option File = Some (grown (take some.len (journal_bytes (records_of (opening s)))) fresh) in
     let hidden = without name folder in
     let w = before hidden (λ q. hides (bytes_eq name q) (old q) file (folder q) (λ e. ap old (sym ((bytes_eq-Decides name q).0 e)) ∙ some.new.none) (subst (λ (f : Option File). MayStay f (folder q)) (some.new.made q) (leaves q))) in
     let gone : hidden name ≡ None = ap (λ (b : Bool). cond b None (folder name)) (itself name) in
     let at : new name ≡ file = here old new name _ some.new.made in
-    left_opens path number t s can first last means folder
+    left_opens path number t s can first last m folder
     (λ n above below. passed_none (folder (journal_name path n)) (subst (λ (f : Option File). MayStay f (folder (journal_name path n)))
     (elsewhere old new name (journal_name path n) _ some.new.made (numbers_apart path number n last below (λ e. omega (arith, e, above))) ∙ none n (omega (arith, above)) below) (leaves (journal_name path n))))
     hidden gone (λ n below differ. without_at (bytes_eq name (journal_name path n)) (folder (journal_name path n)) (folder (journal_name path n)) (numbers_apart path number n last below differ))
@@ -215,16 +237,17 @@ kept_above journal disk after t keeps same = record {
   there = same journal.number (omega arith) keeps.last ∙ keeps.there;
   holds = keeps.holds;
   fits = keeps.fits;
+  counted = keeps.counted;
   newest = λ n above below. same n (omega (arith, above)) below ∙ keeps.newest n above below;
 }
 
 -- a new generation opens to the state of the older one
-pub renewed : (path : List ℕ) (t : Telling) (s : State) (folder : Folder) → t.sure ≤ length t.steps → settled (state_of (opening s)) ≡ reopened s → settled (state_of t) ≡ reopened s → OpensWithin path (opening s) folder → OpensWithin path t folder
-renewed path t s folder few leads means w = record {
-  steps = length t.steps;
-  enough = few;
-  begun = omega arith;
-  opens = subst (Opens path folder) (state_same t s leads means w.steps w.begun) w.opens;
+pub renewed : (path : List ℕ) (t : Telling) (s : State) (folder : Folder) → settled (state_of (opening s)) ≡ reopened s → IsOfSome t (reopened s) → OpensWithin path (opening s) folder → OpensWithin path t folder
+renewed path t s folder leads m w = record {
+  steps = m.steps;
+  enough = m.enough;
+  begun = m.begun;
+  opens = subst (Opens path folder) (state_same t s leads m w.steps w.begun) w.opens;
 }
 
 -- ---- beginning as it is done
@@ -234,24 +257,41 @@ module _ (path : List ℕ) (number : ℕ) (s : State) (can : CanOpen s) (name to
   run_is : (seal : List ℕ) → seal ≡ record_bytes (Seal s.next) → told ++ seal ≡ journal_bytes (records_of (opening s))
   run_is seal seal_is = ap (λ (z : List ℕ). z ++ seal) told_is ∙ ap (λ (z : List ℕ). journal_bytes (flat_map telling s.chunks) ++ z) seal_is ∙ sym (bytes_of s)
 
-  stops_so : (t : Telling) (old new : Disk) (seal : List ℕ) → seal ≡ record_bytes (Seal s.next) → settled (state_of t) ≡ reopened s → HasNoneFrom path old number → Recovers path old t
+  stops_so : (t : Telling) (old new : Disk) (seal : List ℕ) → seal ≡ record_bytes (Seal s.next) → IsOfSome t (reopened s) → HasNoneFrom path old number → Recovers path old t
       → IsUnfinished name (told ++ seal) old new → Recovers path new t
-  stops_so t old new seal seal_is means none before some =
-      unfinished path number t s old new can first last means none before
+  stops_so t old new seal seal_is m none before some =
+      unfinished path number t s old new can first last m none before
       (subst (λ (n : List ℕ). IsUnfinished n (journal_bytes (records_of (opening s))) old new) name_is (subst (λ (b : List ℕ). IsUnfinished name b old new) (run_is seal seal_is) some))
 
-  pub stops_early : (t : Telling) (old new : Disk) → settled (state_of t) ≡ reopened s → HasNoneFrom path old number → Recovers path old t → IsUnfinished name told old new → Recovers path new t
-  stops_early t old new means none before some =
-      stops_so t old new (record_bytes (Seal s.next)) refl means none before (some_first name told (record_bytes (Seal s.next)) old new some)
+  stops_early : (t : Telling) (old new : Disk) → IsOfSome t (reopened s) → HasNoneFrom path old number → Recovers path old t → IsUnfinished name told old new → Recovers path new t
+  stops_early t old new m none before some =
+      stops_so t old new (record_bytes (Seal s.next)) refl m none before (some_first name told (record_bytes (Seal s.next)) old new some)
 
-  pub stops_late : (t : Telling) (old mid new : Disk) (seal : List ℕ) → seal ≡ record_bytes (Seal s.next) → settled (state_of t) ≡ reopened s → HasNoneFrom path old number → Recovers path old t
-      → HasNew name told old mid → Partly name seal mid new → Recovers path new t
-  stops_late t old mid new seal seal_is means none before made some = stops_so t old new seal seal_is means none before (some_second name told seal old mid new made some)
-
-  pub ends : (journal : OpenJournal) (old mid new : Disk) (seal : List ℕ) → journal.path ≡ path → journal.number ≡ number → seal ≡ record_bytes (Seal s.next) → HasNoneFrom path old number
+  pub ends : (journal : OpenJournal) (old mid new : Disk) (seal : List ℕ) → journal.path ≡ path → journal.number ≡ number → journal.len ≡ counted_more (length told) (length seal) → seal ≡ record_bytes (Seal s.next) → HasNoneFrom path old number
       → HasNew name told old mid → Changes name (sealed seal) mid new → Keeps journal new (opening s)
-  ends journal old mid new seal path_is number_is seal_is none made changes =
+  ends journal old mid new seal path_is number_is len_is seal_is none made changes =
       let named : name ≡ journal_name journal.path journal.number = name_is ∙ ap (λ (p : List ℕ). journal_name p number) (sym path_is) ∙ ap (λ (n : ℕ). journal_name journal.path n) (sym number_is) in
-      whole journal s can old mid new told seal told_is seal_is (omega (arith, first, number_is)) (omega (arith, last, number_is))
+      whole journal s can old mid new told seal told_is seal_is (omega (arith, first, number_is)) (omega (arith, last, number_is)) len_is
       (λ n from below. ap (λ (p : List ℕ). old (journal_name p n)) path_is ∙ none n (omega (arith, from, number_is)) below)
       (subst (λ (z : List ℕ). HasNew z told old mid) named made) (subst (λ (z : List ℕ). Changes z (sealed seal) mid new) named changes)
+
+  -- what a stop leaves at each moment
+  module _ (t : Telling) (m : IsOfSome t (reopened s)) (old mid : History) (none : HasNoneFrom path (now old) number) (before : Recovers path (now old) t) (makes : LeavesOnly old mid (IsLeftOf (IsUnfinished name told (now old)))) where
+    pub making : LeavesOnly old mid (OpensWithin path t)
+    making =
+        weaker old mid (IsLeftOf (IsUnfinished name told (now old))) (OpensWithin path t)
+        (λ folder left. stops_early t (now old) left.disk m none before left.so folder left.stays) makes
+
+    module _ (file : FileNo) (seal : List ℕ) (seal_is : seal ≡ record_bytes (Seal s.next)) (made : HasNew name told (now old) (now mid)) where
+      seal_left : (disk : Disk) → IsSealing name seal (now mid) disk → Recovers path disk t
+      seal_left disk (inl same) folder leaves = making.each mid.moment making.later (omega arith) folder (leaves_same disk (now mid) folder same leaves)
+      seal_left disk (inr (inl some)) folder leaves = stops_so t (now old) disk seal seal_is m none before (some_second name told seal (now old) (now mid) disk made some) folder leaves
+      seal_left disk (inr (inr changes)) folder leaves =
+          let journal : OpenJournal = record { path = path; number = number; file = file; len = counted_more (length told) (length seal); ready = [] } in
+          renewed path t s folder can.leads m
+          (recovers journal disk (opening s) (ends journal (now old) (now mid) disk seal refl refl refl seal_is none made changes) folder leaves)
+
+      pub sealing : (new : History) → LeavesOnly mid new (IsLeftOf (IsSealing name seal (now mid))) → LeavesOnly old new (OpensWithin path t)
+      sealing new seals =
+          joined old mid new (OpensWithin path t) making
+          (weaker mid new (IsLeftOf (IsSealing name seal (now mid))) (OpensWithin path t) (λ folder left. seal_left left.disk left.so folder left.stays) seals)

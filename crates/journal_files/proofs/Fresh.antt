@@ -1,22 +1,23 @@
 -- The generation that opening begins is above all that were ever there.
-use Rattle.std.proofs.Common.{◌≡◌, ℕ, ◌+◌, ◌<◌, ◌≤◌, ◌^◌, List, Option, Some, None, refl, sym, subst, ◌∙◌, arith}
+use Rattle.std.proofs.Common.{◌≡◌, ◌⊎◌, ℕ, ◌+◌, ◌<◌, ◌≤◌, ◌^◌, List, Option, Some, None, refl, sym, subst, ◌∙◌, arith}
 use Rattle.std.specs.Prelude.{IsSome}
-use Rattle.disk_files.specs.Disk.{Disk, SameDisk, reads}
+use Rattle.std.specs.Ordering.{nat_cmp}
+use Rattle.std.specs.BTreeMap.{BTreeMap, get}
+use Rattle.disk_files.specs.declared.dir.FileNo.{FileNo}
+use Rattle.disk_files.specs.Disk.{File, Disk, SameDisk, read_of, reads}
 use Rattle.journal_files.specs.Folders.{journal_name}
 use Rattle.journal_files.specs.Tellings.{Telling}
 use Rattle.journal_files.specs.Views.{OpenJournal}
 use Rattle.journal_files.specs.Disks.{Keeps, HasNoneFrom, HasNoStray}
 use Rattle.journal_files.specs.Found.{IsFound}
 use Rattle.journal_files.proofs.Names.{same_number}
-use Rattle.journal_files.proofs.Older.{IsAbove}
+use Rattle.journal_files.specs.Pieces.{IsAbove, IsGoneBut}
+use Rattle.journal_files.proofs.Strays.{not_some}
 use Rattle.journal_files.proofs.Beginning.{kept_above}
 
 none_of : {A : Type 0} (o : Option A) → (IsSome o → ⊥) → o ≡ None
 none_of None no_some = refl
 none_of (Some x) no_some = absurd (no_some refl)
-
-not_some : {A : Type 0} (o : Option A) → o ≡ None → IsSome o → ⊥
-not_some o is some = let gone = subst IsSome is some in cc gone
 
 pub none_above : (path : List ℕ) (disk mid : Disk) (greatest number : ℕ) → number ≡ greatest + 1 → IsFound path (reads disk) greatest → HasNoStray path disk → SameDisk mid disk → HasNoneFrom path mid number
 none_above path disk mid greatest number is found stray same n from below =
@@ -37,3 +38,11 @@ keeps_alone path number journal mid new t path_is number_is keeps elsewhere =
 pub own_is_above : (path : List ℕ) (number : ℕ) (journal : OpenJournal) → journal.path ≡ path → journal.number ≡ number → number < 2 ^ 32 → IsAbove path number (journal_name journal.path journal.number)
 own_is_above path number journal path_is number_is last =
     subst (λ (p : List ℕ). IsAbove path number (journal_name p journal.number)) (sym path_is) (is_above path number journal.number (omega (arith, number_is)) (omega (arith, number_is, last)))
+
+-- what is there of a generation below, once the new one was begun
+pub opened_alone : (path : List ℕ) (number n : ℕ) (files : BTreeMap ℕ FileNo) (old mid new : Disk) → number < 2 ^ 32 → n < number → SameDisk mid old → ((name : List ℕ) → (name ≡ journal_name path number → ⊥) → new name ≡ mid name)
+    → IsGoneBut path files old n → IsGoneBut path files new n
+opened_alone path number n files old mid new last under same elsewhere gone =
+    let name = journal_name path n in
+    let is : new name ≡ old name = elsewhere name (λ e. let numbers = same_number path n number (omega (arith, under, last)) last e in omega (arith, numbers, under)) ∙ same name in
+    subst (λ (o : Option File). (read_of o ≡ None) ⊎ IsSome (get nat_cmp files n)) (sym is) gone

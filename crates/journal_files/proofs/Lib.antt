@@ -8,7 +8,9 @@ pub mod Tags
 pub mod Spelled
 pub mod Reading
 pub mod Beginning
-pub mod Older
+pub mod OlderFiles
 pub mod Searched
 pub mod Renewing
 pub mod Fresh
+pub mod Strays
+pub mod OpeningMoments

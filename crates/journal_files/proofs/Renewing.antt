@@ -1,19 +1,22 @@
 -- A journal goes on in the next generation.
-use Rattle.std.proofs.Common.{◌≡◌, ◌⊎◌, ⊎_elim, ℕ, ◌+◌, ◌<◌, ◌≤◌, ◌^◌, false, List, Option, Some, refl, sym, ap, subst, ◌∙◌, arith}
+use Rattle.std.proofs.Common.{◌≡◌, ◌⊎◌, ⊎_elim, ℕ, ◌+◌, ◌<◌, ◌≤◌, ◌^◌, false, List, Option, Some, None, option_map, Result, OnOk, OnErr, refl, sym, ap, subst, ◌∙◌, arith, inr}
 use Rattle.std.specs.Prelude.{IsSome}
 use Rattle.std.specs.Str.{bytes_eq}
-use Rattle.disk_files.specs.Disk.{Disk, SameDisk, Changes, unlinked}
+use Rattle.disk_files.specs.Disk.{File, Disk, SameDisk, Changes, unlinked, read_of, reads}
+use Rattle.disk_files.specs.Moments.{History, now, Elapses, LeavesOnly}
 use Rattle.disk_files.specs.declared.dir.FileNo.{FileNo}
-use Rattle.disk_files.proofs.Moments.{elsewhere}
+use Rattle.disk_files.proofs.Moments.{here, elsewhere, goes_on}
 use Rattle.buffer_state.specs.State.{State}
 use Rattle.buffer_state.specs.Steps.{settled, reopened}
 use Rattle.journal_files.specs.Folders.{journal_name}
-use Rattle.journal_files.specs.Tellings.{Telling, state_of, opening, OpensWithin}
+use Rattle.journal_files.specs.Tellings.{Telling, state_of, opening, IsOfSome, OpensWithin}
 use Rattle.journal_files.specs.Views.{OpenJournal, IsOpenIn}
-use Rattle.journal_files.specs.Disks.{Keeps, Recovers, HasNoneFrom}
+use Rattle.journal_files.specs.Disks.{Keeps, Recovers, HasNoneFrom, HasNoStray}
 use Rattle.journal_files.proofs.Names.{same_number, numbers_apart}
 use Rattle.journal_files.proofs.Recovery.{recovers}
+use Rattle.journal_files.proofs.Steps.{either}
 use Rattle.journal_files.proofs.Beginning.{kept_above, renewed}
+use Rattle.journal_files.proofs.Strays.{kept_no_stray}
 
 -- what the older generation gives to begin with
 module _ (journal : OpenJournal) (old : Disk) (t : Telling) (keeps : Keeps journal old t) (path : List ℕ) (number : ℕ) (path_is : path ≡ journal.path) (number_is : number ≡ journal.number + 1) where
@@ -23,8 +26,8 @@ module _ (journal : OpenJournal) (old : Disk) (t : Telling) (keeps : Keeps journ
   pub recovers_at : Recovers path old t
   recovers_at = subst (λ (p : List ℕ). Recovers p old t) (sym path_is) (recovers journal old t keeps)
 
-  pub recovers_as : (new : Disk) → Recovers path new t → Recovers journal.path new t
-  recovers_as new now_so = subst (λ (p : List ℕ). Recovers p new t) path_is now_so
+  pub no_stray_at : HasNoStray path old
+  no_stray_at = subst (λ (p : List ℕ). HasNoStray p old) (sym path_is) (kept_no_stray journal old t keeps)
 
 -- the older file is removed
 module _ (journal next : OpenJournal) (mid new : Disk) (path_is : next.path ≡ journal.path) (number_is : next.number ≡ journal.number + 1) (last : journal.number < 2 ^ 32) where
@@ -39,11 +42,14 @@ module _ (journal next : OpenJournal) (mid new : Disk) (path_is : next.path ≡ 
       (λ n from below. ⊎_elim (λ same. same (journal_name next.path n))
       (λ changes. elsewhere mid new (journal_name journal.path journal.number) (journal_name next.path n) _ changes (stays_apart n from below)) removed)
 
-  pub still_recovers : (old : Disk) (t : Telling) (s : State) → Keeps journal old t → settled (state_of (opening s)) ≡ reopened s → settled (state_of t) ≡ reopened s → Keeps next mid (opening s)
+  pub still_recovers : (t : Telling) (s : State) → settled (state_of (opening s)) ≡ reopened s → IsOfSome t (reopened s) → Keeps next mid (opening s)
       → SameDisk new mid ⊎ Changes (journal_name journal.path journal.number) unlinked mid new → Recovers journal.path new t
-  still_recovers old t s keeps leads means begun removed folder leaves =
+  still_recovers t s leads m begun removed folder leaves =
       let w = recovers next new (opening s) (still_keeps s begun removed) folder leaves in
-      renewed journal.path t s folder keeps.telling.few leads means (subst (λ (p : List ℕ). OpensWithin p (opening s) folder) path_is w)
+      renewed journal.path t s folder leads m (subst (λ (p : List ℕ). OpensWithin p (opening s) folder) path_is w)
+
+  pub still_no_stray : (s : State) → Keeps next mid (opening s) → SameDisk new mid ⊎ Changes (journal_name journal.path journal.number) unlinked mid new → HasNoStray journal.path new
+  still_no_stray s begun removed = subst (λ (p : List ℕ). HasNoStray p new) path_is (kept_no_stray next new (opening s) (still_keeps s begun removed))
 
 some_same : {A : Type 0} {x y : A} → Some x ≡ Some y → x ≡ y
 some_same e = cc e
@@ -59,3 +65,18 @@ two_files opened journal next path_is number_is last here there same =
 
 pub is_some_name : {A : Type 0} (o : Option A) (x : A) → o ≡ Some x → IsSome o
 is_some_name o x is = subst IsSome (sym is) refl
+
+-- a removed file doesn't read
+pub unlinked_gone : (o : Option File) → read_of (option_map unlinked o) ≡ None
+unlinked_gone None = refl
+unlinked_gone (Some f) = refl
+
+pub removed_gone : (name : List ℕ) (old new : Disk) → Changes name unlinked old new → reads new name ≡ None
+removed_gone name old new changes = ap read_of (here old new name _ changes) ∙ unlinked_gone (old name)
+
+-- a removal at each of its moments
+pub removing : {T E : Type 0} (path : List ℕ) (t : Telling) (name : List ℕ) (old mid new : History) (result : Result T E) → LeavesOnly old mid (OpensWithin path t) → Elapses mid new
+    → ((disk : Disk) → SameDisk disk (now mid) ⊎ Changes name unlinked (now mid) disk → Recovers path disk t)
+    → OnOk result (Changes name unlinked (now mid) (now new)) → OnErr result (SameDisk (now new) (now mid) ⊎ Changes name unlinked (now mid) (now new)) → LeavesOnly old new (OpensWithin path t)
+removing path t name old mid new result so_far time still ok err =
+    goes_on old mid new (OpensWithin path t) so_far time (still (now new) (either result ok err (λ changes. inr changes) (λ some. some)))

@@ -8,7 +8,7 @@ use Rattle.std.specs.Cmp.{nat_cmp_is}
 use Rattle.std.specs.BTreeMap.{is_at}
 use Rattle.std.specs.BTreeSet.{BTreeSet, contains}
 use Rattle.disk_files.specs.Disk.{Folder, SameDisk, reads}
-use Rattle.disk_files.specs.Moments.{History, now}
+use Rattle.disk_files.specs.Moments.{History, Elapses, now}
 use Rattle.buffer_state.specs.State.{State, empty}
 use Rattle.chunk_journal.specs.Meaning.{EndsUnsealed, IsDamaged}
 use Rattle.journal_files.specs.Folders.{journal_name, IsPassedOver, PassesAbove, IsHighest, Opens, IsDamagedFolder}
@@ -22,6 +22,7 @@ pub record IsLeft (path : List ℕ) (folder : Folder) (rest : BTreeSet ℕ) : Ty
 -- the disk stays, and nothing was refused
 pub record Searches {D : Type 0} (honest : D → Type 0) (history : D → History) (faults : D → ℕ) (path : List ℕ) (rest : BTreeSet ℕ) (first dir : D) : Type 0 where
   pub is_honest : honest first → honest dir
+  pub time : honest first → Elapses (history first) (history dir)
   pub same : honest first → SameDisk (now (history dir)) (now (history first))
   pub quiet : faults dir ≡ faults first
   pub left : honest first → IsLeft path (reads (now (history first))) rest
@@ -48,7 +49,7 @@ pub record IsTaken (k : ℕ) (old new : BTreeSet ℕ) : Type 0 where
 not_above : (k q : ℕ) → is_lt (nat_cmp k q) ≡ false → k < q → ⊥
 not_above k q not lt = let less : is_lt (nat_cmp k q) ≡ true = ap is_lt (sym (nat_cmp_is k q Less lt)) in cc (not, less)
 
-at_same : (k n : ℕ) → is_at (nat_cmp k) n ≡ true → k ≡ n
+pub at_same : (k n : ℕ) → is_at (nat_cmp k) n ≡ true → k ≡ n
 at_same k n at =
     elim (cases_lt k n) [
       | inl lt ↦ absurd (let other : is_at (nat_cmp k) n ≡ false = ap is_eq (sym (nat_cmp_is k n Less lt)) in cc (at, other))

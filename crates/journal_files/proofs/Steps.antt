@@ -1,5 +1,5 @@
 -- A journal on a disk over one call: a record is told, or what was told is synced.
-use Rattle.std.proofs.Common.{◌≡◌, ℕ, ◌<◌, ◌≤◌, Bool, true, false, cond, List, [], ◌∷◌, ◌++◌, length, take, Option, Some, None, option_map, Result, Ok, Err, OnOk, OnErr, refl, sym, ap, subst, ◌∙◌, append_assoc, arith}
+use Rattle.std.proofs.Common.{◌≡◌, ℕ, ◌+◌, ◌-◌, ◌^◌, ◌<◌, ◌≤◌, min, Bool, true, false, cond, List, [], ◌∷◌, ◌++◌, length, take, Option, Some, None, option_map, Result, Ok, Err, OnOk, OnErr, refl, sym, ap, subst, ◌∙◌, append_assoc, arith}
 use Rattle.std.specs.Str.{bytes_eq}
 use Rattle.std.specs.List.{AllByRecursion}
 use Rattle.std.proofs.lemmas.List.{length-append, take-append-le, take_all}
@@ -53,10 +53,19 @@ more_steps path item t folder w = record {
   opens = subst (λ (z : List Record). Opens path folder (settled (after_all (state_at_seal t) z))) (sym (take-append-le w.steps t.steps (item ∷ []) w.begun)) w.opens;
 }
 
+-- the length that a journal counts once so many bytes more are told
+abbrev pub counted_more : ℕ → ℕ → ℕ
+counted_more len more = min (len + more) (2 ^ 64 - 1)
+
+-- the journal once this record was told
+abbrev pub one_more : Record → OpenJournal → OpenJournal
+one_more item journal = record journal { len = counted_more journal.len (length (record_bytes item)) }
+
 -- the record is told
-pub told : (journal new : OpenJournal) (disk after : Disk) (t : Telling) (item : Record) → new.path ≡ journal.path → new.number ≡ journal.number → Keeps journal disk t → IsRecord item → Allows (state_of t) item
+pub told : (journal new : OpenJournal) (disk after : Disk) (t : Telling) (item : Record) → new.path ≡ journal.path → new.number ≡ journal.number → new.len ≡ counted_more journal.len (length (record_bytes item))
+    → Keeps journal disk t → IsRecord item → Allows (state_of t) item
     → Changes (journal_name journal.path journal.number) (grown (record_bytes item)) disk after → Keeps new after (begun item t)
-told journal new disk after t item same_path same_number keeps one allowed changes =
+told journal new disk after t item same_path same_number len_is keeps one allowed changes =
     let name = journal_name journal.path journal.number in
     let file = file_with (journal_bytes (records_of t)) keeps.synced in
     let at : after name ≡ Some (grown (record_bytes item) file) = here disk after name _ changes ∙ ap (option_map (grown (record_bytes item))) keeps.there in
@@ -70,6 +79,7 @@ told journal new disk after t item same_path same_number keeps one allowed chang
           (subst (λ (n : ℕ). after (journal_name journal.path n) ≡ Some (file_with (journal_bytes (records_of (begun item t))) keeps.synced)) (sym same_number) now_there);
       holds = subst (λ (z : List Record). length (journal_bytes z) ≤ keeps.synced) (sym (sure_begun item t keeps.telling.few)) keeps.holds;
       fits = omega (arith, keeps.fits, ap length (bytes_begun item t), length-append (journal_bytes (records_of t)) (record_bytes item));
+      counted = omega (arith, len_is, keeps.counted, ap length (bytes_begun item t), length-append (journal_bytes (records_of t)) (record_bytes item));
       newest = λ n above below.
           let over : journal.number < n = omega (arith, same_number, above) in
           subst (λ (p : List ℕ). after (journal_name p n) ≡ None) (sym same_path)
@@ -91,7 +101,7 @@ pub torn : (journal : OpenJournal) (disk after : Disk) (t : Telling) (item : Rec
 torn journal disk after t item n keeps one allowed changes folder leaves =
     let name = journal_name journal.path journal.number in
     let whole : Disk = with_file disk name (option_map (grown (record_bytes item)) (disk name)) in
-    recovers journal whole (begun item t) (told journal journal disk whole t item refl refl keeps one allowed (λ other. refl)) folder
+    recovers (one_more item journal) whole (begun item t) (told journal (one_more item journal) disk whole t item refl refl refl keeps one allowed (λ other. refl)) folder
     (λ other. torn_at disk after name other (record_bytes item) n (file_with (journal_bytes (records_of t)) keeps.synced) (folder other) keeps.there keeps.fits changes (leaves other) (bytes_eq name other) refl)
 
 -- ---- a sync
@@ -114,6 +124,7 @@ synced_all journal disk after t keeps changes =
       there = here disk after name _ changes ∙ ap (option_map flushed) keeps.there;
       holds = omega (arith, ap (λ (z : List Record). length (journal_bytes z)) (sure_all t));
       fits = omega arith;
+      counted = keeps.counted;
       newest = λ n above below.
           elsewhere disk after name (journal_name journal.path n) _ changes (numbers_apart journal.path journal.number n keeps.last below (λ e. omega (arith, e, above))) ∙ keeps.newest n above below;
     }
@@ -128,6 +139,7 @@ kept journal disk after t keeps same = record {
   there = same (journal_name journal.path journal.number) ∙ keeps.there;
   holds = keeps.holds;
   fits = keeps.fits;
+  counted = keeps.counted;
   newest = λ n above below. same (journal_name journal.path n) ∙ keeps.newest n above below;
 }
 
@@ -161,9 +173,9 @@ one_call old new P time before after = goes_on old old new P (started old P befo
 
 module _ (journal new : OpenJournal) (old mid : History) (t : Telling) (item : Record) (bytes : List ℕ) (ready : bytes ≡ record_bytes item) (keeps : Keeps journal (now old) t) (one : IsRecord item)
     (allowed : Allows (state_of t) item) where
-  pub put_ok : new.path ≡ journal.path → new.number ≡ journal.number → Changes (journal_name journal.path journal.number) (grown bytes) (now old) (now mid) → Keeps new (now mid) (begun item t)
-  put_ok same_path same_number changes =
-      told journal new (now old) (now mid) t item same_path same_number keeps one allowed
+  pub put_ok : new.path ≡ journal.path → new.number ≡ journal.number → new.len ≡ counted_more journal.len (length bytes) → Changes (journal_name journal.path journal.number) (grown bytes) (now old) (now mid) → Keeps new (now mid) (begun item t)
+  put_ok same_path same_number len_is changes =
+      told journal new (now old) (now mid) t item same_path same_number (len_is ∙ ap (λ (b : List ℕ). counted_more journal.len (length b)) ready) keeps one allowed
       (subst (λ (b : List ℕ). Changes (journal_name journal.path journal.number) (grown b) (now old) (now mid)) ready changes)
 
   pub put_err : (n : ℕ) → Changes (journal_name journal.path journal.number) (grown (take n bytes)) (now old) (now mid) → Recovers journal.path (now mid) (begun item t)
@@ -178,6 +190,6 @@ module _ (journal new : OpenJournal) (old mid : History) (t : Telling) (item : R
   put_moments result time ok err =
       one_call old mid (OpensWithin journal.path (begun item t)) time (λ folder leaves. more_steps journal.path item t folder (recovers journal (now old) t keeps folder leaves))
       (either result ok err
-      (λ changes. recovers journal (now mid) (begun item t) (told journal journal (now old) (now mid) t item refl refl keeps one allowed
+      (λ changes. recovers (one_more item journal) (now mid) (begun item t) (told journal (one_more item journal) (now old) (now mid) t item refl refl refl keeps one allowed
       (subst (λ (b : List ℕ). Changes (journal_name journal.path journal.number) (grown b) (now old) (now mid)) ready changes)))
       (λ some. put_err some.0 some.1))

@@ -1,5 +1,5 @@
 -- A journal on a disk.
-use Rattle.std.specs.Prelude.{ℕ, ◌≡◌, ◌<◌, ◌≤◌, ◌^◌, true, false, List, length, None, Some, IsSome}
+use Rattle.std.specs.Prelude.{ℕ, ◌≡◌, ◌-◌, ◌<◌, ◌≤◌, ◌^◌, true, false, min, List, length, None, Some, IsSome}
 use Rattle.disk_files.specs.Disk.{Disk, Folder, StopLeaves, reads}
 use Rattle.chunk_journal.specs.Journal.{journal_bytes}
 use Rattle.journal_files.specs.Folders.{journal_name}
@@ -8,6 +8,7 @@ use Rattle.journal_files.specs.Views.{OpenJournal}
 
 -- The disk has the journal, whole: the file of its generation has the records that it told and nothing else, a stop leaves this file
 -- with the chunks, the Seal and the sure steps at least, and no greater generation was ever begun.
+-- The journal knows how many bytes these are, up to the greatest number of its type.
 pub record Keeps (journal : OpenJournal) (disk : Disk) (t : Telling) : Type 0 where
   pub telling : IsTelling t
   pub first : 1 ≤ journal.number
@@ -17,6 +18,7 @@ pub record Keeps (journal : OpenJournal) (disk : Disk) (t : Telling) : Type 0 wh
       ≡ Some (record { written = journal_bytes (records_of t); synced = synced; is_durable = true; is_removed = false })
   pub holds : length (journal_bytes (sure_records t)) ≤ synced
   pub fits : synced ≤ length (journal_bytes (records_of t))
+  pub counted : journal.len ≡ min (length (journal_bytes (records_of t))) (2 ^ 64 - 1)
   pub newest : (n : ℕ) → journal.number < n → n < 2 ^ 32 → disk (journal_name journal.path n) ≡ None
 
 -- Each folder that a stop may leave now opens to the state after some of the steps, all sure ones among them.
@@ -26,6 +28,10 @@ Recovers path disk t = (folder : Folder) → StopLeaves disk folder → OpensWit
 -- no generation from this one on was ever begun
 abbrev pub HasNoneFrom : List ℕ → Disk → ℕ → Type 0
 HasNoneFrom path disk number = (n : ℕ) → number ≤ n → n < 2 ^ 32 → disk (journal_name path n) ≡ None
+
+-- no generation below this one reads
+abbrev pub HasNoneBelow : List ℕ → Disk → ℕ → Type 0
+HasNoneBelow path disk number = (n : ℕ) → 1 ≤ n → n < number → reads disk (journal_name path n) ≡ None
 
 -- Each generation that was ever begun is at or below one that reads. (So no removed one comes back above all that are there.)
 pub record IsBelowSome (path : List ℕ) (disk : Disk) (n : ℕ) : Type 0 where

@@ -8,11 +8,12 @@ use Rattle.journal_files.specs.declared.error.OpenError.TheVariants as opening
 use Rattle.journal_files.specs.declared.error.RenewError.{RenewError}
 use Rattle.journal_files.specs.declared.error.RenewError.TheVariants as renewing
 
--- The count of the device's refusals rises where the call answers so, and doesn't where it succeeds.
+-- The count of the device's refusals rises where the call answers so, and at no other answer.
 pub record HasReason {T E : Type 0} (before after : ℕ) (result : Result T E) (fault : E) : Type 0 where
   pub later : before ≤ after
   pub passed : OnOk result (after ≡ before)
   pub failed : IsErrOf result fault → Rises before after
+  pub others : (IsErrOf result fault → ⊥) → after ≡ before
 
 -- what a folder's refusal is answered as: any but for want of memory is the device's
 abbrev pub open_error : DirError → OpenError

@@ -1,6 +1,10 @@
 -- What the pieces of opening and renewing do to a disk. (Words of private functions.)
-use Rattle.std.specs.Prelude.{ℕ, ◌≡◌, ◌⊎◌, List, take, None, Some, option_map}
-use Rattle.disk_files.specs.Disk.{Disk, File, fresh, grown, flushed, with_file, SameDisk}
+use Rattle.std.specs.Prelude.{ℕ, ◌≡◌, ◌≢◌, ◌⊎◌, ◌<◌, List, take, Option, None, Some, IsSome, option_map}
+use Rattle.std.specs.Ordering.{nat_cmp}
+use Rattle.std.specs.BTreeMap.{BTreeMap, get}
+use Rattle.disk_files.specs.Disk.{Disk, File, Folder, StopLeaves, Changes, fresh, grown, flushed, with_file, SameDisk, reads}
+use Rattle.disk_files.specs.declared.dir.FileNo.{FileNo}
+use Rattle.journal_files.specs.Folders.{journal_name}
 
 -- a new file of this name has these bytes, of which nothing is certainly on the disk
 pub record HasNew (name bytes : List ℕ) (before after : Disk) : Type 0 where
@@ -24,3 +28,30 @@ pub record Partly (name bytes : List ℕ) (before after : Disk) : Type 0 where
 -- these bytes were added, and synced with all before them
 abbrev pub sealed : List ℕ → File → File
 sealed bytes f = flushed (grown bytes f)
+
+-- nothing changed yet, or some of these bytes were added, or all of them and they are synced with all before them
+abbrev pub IsSealing : List ℕ → List ℕ → Disk → Disk → Type 0
+IsSealing name bytes before after = SameDisk after before ⊎ (Partly name bytes before after ⊎ Changes name (sealed bytes) before after)
+
+-- a stop may leave this folder of a disk that is so
+pub record IsLeftOf (IsSo : Disk → Type 0) (folder : Folder) : Type 0 where
+  pub disk : Disk
+  pub so : IsSo disk
+  pub stays : StopLeaves disk folder
+
+-- the name of no generation below this one
+abbrev pub IsAbove : List ℕ → ℕ → List ℕ → Type 0
+IsAbove path number name = (n : ℕ) → n < number → name ≢ journal_name path n
+
+-- only generations below this one changed
+abbrev pub ChangesBelow : List ℕ → ℕ → Disk → Disk → Type 0
+ChangesBelow path number before after = (name : List ℕ) → IsAbove path number name → after name ≡ before name
+
+-- these are open files of generations, by their numbers, which are below this one
+pub record AreOlder (path : List ℕ) (number : ℕ) (opened : FileNo → Option (List ℕ)) (older : BTreeMap ℕ FileNo) : Type 0 where
+  pub below : (n : ℕ) → IsSome (get nat_cmp older n) → n < number
+  pub named : (n : ℕ) (file : FileNo) → get nat_cmp older n ≡ Some file → opened file ≡ Some (journal_name path n)
+
+-- no file of this number reads, but one that is among these
+abbrev pub IsGoneBut : List ℕ → BTreeMap ℕ FileNo → Disk → ℕ → Type 0
+IsGoneBut path older disk n = (reads disk (journal_name path n) ≡ None) ⊎ IsSome (get nat_cmp older n)

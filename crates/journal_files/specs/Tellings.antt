@@ -1,5 +1,5 @@
 -- What a journal has told, and what a stop may make of it.
-use Rattle.std.specs.Prelude.{ℕ, ◌≤◌, List, [], ◌∷◌, ◌++◌, length, take}
+use Rattle.std.specs.Prelude.{ℕ, ◌≡◌, ◌≤◌, List, [], ◌∷◌, ◌++◌, length, take}
 use Rattle.std.specs.List.{AllByRecursion, flat_map}
 use Rattle.disk_files.specs.Disk.{Folder}
 use Rattle.buffer_state.specs.State.{State, empty}
@@ -34,6 +34,13 @@ state_of t = after_all (state_at_seal t) t.steps
 -- the state that opening gives where so many of its steps were left: the queue goes by rising serial
 abbrev pub reopened_at : Telling → ℕ → State
 reopened_at t k = settled (after_all (state_at_seal t) (take k t.steps))
+
+-- the state is the one after some of the steps, all sure ones among them, as opening gives it
+pub record IsOfSome (t : Telling) (state : State) : Type 0 where
+  pub steps : ℕ
+  pub enough : t.sure ≤ steps
+  pub begun : steps ≤ length t.steps
+  pub state_is : state ≡ reopened_at t steps
 
 -- its records can be told so
 pub record IsTelling (t : Telling) : Type 0 where

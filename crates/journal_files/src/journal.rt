@@ -1,7 +1,7 @@
 //! An open generation of a buffer's journal.
 
-ghost use Rattle.std.specs.Prelude.{◌≡◌, ◌≢◌, ◌↔◌, ℕ, ◌+◌, ◌-◌, ◌*◌, ◌^◌, ◌<◌, ◌≤◌, List, [], length, min, OnOk, OnErr, Err, IsTrue};
-ghost use Rattle.disk_files.specs.Disk.{SameDisk};
+ghost use Rattle.std.specs.Prelude.{◌≡◌, ◌≢◌, ◌↔◌, ℕ, ◌+◌, ◌-◌, ◌*◌, ◌^◌, ◌<◌, ◌≤◌, List, [], length, min, None, OnOk, OnErr, Err, IsTrue};
+ghost use Rattle.disk_files.specs.Disk.{SameDisk, reads};
 ghost use Rattle.disk_files.specs.Moments.{Elapses, LeavesOnly, now};
 ghost use Rattle.disk_files.specs.Faults.{HasCause};
 ghost use Rattle.disk_files.specs.declared.dir.FileNo.{FileNo};
@@ -12,7 +12,7 @@ ghost use Rattle.chunk_journal.specs.Spelled.{record_of, HasShortTag};
 ghost use Rattle.journal_files.specs.Tellings.{Telling, begun, all_sure, opening, state_of, OpensWithin};
 ghost use Rattle.journal_files.specs.Views.{IsOpenIn, IsReady, HasShortTags};
 ghost use Rattle.journal_files.specs.Folders.{journal_name};
-ghost use Rattle.journal_files.specs.Disks.{Keeps, Recovers};
+ghost use Rattle.journal_files.specs.Disks.{Keeps, Recovers, HasNoStray};
 ghost use Rattle.journal_files.specs.Faults.{HasReason};
 ghost use Rattle.journal_files.specs.declared.error.RenewError.{RenewError};
 
@@ -48,10 +48,10 @@ impl<A: Allocator> Model for Journal<A> {
 
 impl<A: Allocator> Journal<A> {
     /// Whether the journal has more than 268,435,456 bytes, and more than twice as many as the live chunks have.
-    pub fn wants_renewal(&self, live: u64) -> bool
+    pub fn wants_renewal(&self, live: u128) -> bool
         ensures { IsTrue result ↔ ((268435456 < self.now.len) × (2 * live < self.now.len)) }
     {
-        self.len > RENEWED_LEN && u128::from(self.len) > 2 * u128::from(live)
+        self.len > RENEWED_LEN && live < (u128::from(self.len) + 1) / 2
     }
 
     /// Spells a record, and makes room for it in the folder, so that `put` needs no memory.
@@ -94,6 +94,7 @@ impl<A: Allocator> Journal<A> {
         ensures err { D.is_honest dir.old → (t : Telling) (item : Step) → Keeps self.old (now (D.history dir.old)) t
             → IsReady self.old item → Allows (state_of t) item
             → OnErr result (Recovers self.old.path (now (D.history dir.new)) (begun item t)) }
+        ensures stray { D.is_honest dir.old → (t : Telling) → Keeps self.old (now (D.history dir.old)) t → HasNoStray self.old.path (now (D.history dir.new)) }
         // A stop at any moment of the call leaves a folder that opens so.
         ensures moments { D.is_honest dir.old → (t : Telling) (item : Step) → Keeps self.old (now (D.history dir.old)) t
             → IsReady self.old item → Allows (state_of t) item
@@ -149,6 +150,12 @@ impl<A: Allocator + Copy> Journal<A> {
         ensures fault { D.is_honest dir.old → (t : Telling) → Keeps self.old (now (D.history dir.old)) t
             → settled (state_of t) ≡ reopened chunks.now
             → (result ≡ Err RenewError.Fault) → Recovers self.old.path (now (D.history dir.new)) t }
+        // A stop at any moment of the call leaves a folder that opens so.
+        ensures moments { D.is_honest dir.old → (t : Telling) → Keeps self.old (now (D.history dir.old)) t
+            → settled (state_of t) ≡ reopened chunks.now
+            → LeavesOnly (D.history dir.old) (D.history dir.new) (OpensWithin self.old.path t) }
+        ensures stray { D.is_honest dir.old → (t : Telling) → Keeps self.old (now (D.history dir.old)) t → HasNoStray self.old.path (now (D.history dir.new)) }
+        ensures gone { D.is_honest dir.old → OnOk result (reads (now (D.history dir.new)) (journal_name self.old.path self.old.number) ≡ None) }
         ensures memory { D.is_honest dir.old → (t : Telling) → Keeps self.old (now (D.history dir.old)) t
             → (result ≡ Err RenewError.Memory) → Keeps self.new (now (D.history dir.new)) t }
         ensures last { (result ≡ Err RenewError.LastGeneration) ↔ (2 ^ 32 ≤ self.old.number + 1) }

@@ -1,6 +1,6 @@
 //! What holds of journals on a disk. These functions do nothing: each stands for a theorem.
 
-ghost use Rattle.journal_files.specs.Laws.{RecoversAll, OpensOneWay};
+ghost use Rattle.journal_files.specs.Laws.{RecoversAll, OpensOneWay, KeepsNoStray, LeavesNoStray};
 
 use chunk_journal::{answers_one_way, cuts_generation, cuts_whole};
 use numbered_files::names_differ;
@@ -12,6 +12,12 @@ pub fn recovers_all()
     cuts_whole();
     cuts_generation();
 }
+
+/// Neither a journal that is whole on its disk nor a stop leaves a removed generation above all that are there.
+pub fn has_no_stray()
+    ensures kept { KeepsNoStray }
+    ensures left { LeavesNoStray }
+{}
 
 /// A folder opens to one state.
 pub fn opens_one_way()

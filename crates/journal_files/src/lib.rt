@@ -4,6 +4,7 @@
 mod error;
 mod journal;
 mod laws;
+mod older;
 mod opening;
 mod pieces;
 mod spelling;
@@ -12,5 +13,5 @@ mod tests;
 
 pub use error::{OpenError, RenewError};
 pub use journal::Journal;
-pub use laws::{opens_one_way, recovers_all};
+pub use laws::{has_no_stray, opens_one_way, recovers_all};
 pub use opening::Opened;

@@ -1,27 +1,26 @@
 //! Opening a journal: what the folder means, and a new generation that says so.
 
-ghost use Rattle.std.specs.Prelude.{◌≡◌, ◌≢◌, ◌⊎◌, ℕ, ◌+◌, ◌-◌, ◌^◌, ◌<◌, ◌≤◌, List, Some, None, false, IsSome, IsTrue, OnOk, OnErr, IfOk, IfSome, Err};
+ghost use Rattle.std.specs.Prelude.{◌≡◌, ◌≢◌, ◌⊎◌, ℕ, ◌+◌, ◌-◌, ◌^◌, ◌<◌, ◌≤◌, List, Some, None, false, IsSome, IsTrue, OnErr, IfOk, IfSome, Err};
 ghost use Rattle.std.specs.Ordering.{nat_cmp};
 ghost use Rattle.std.specs.BTreeSet.{contains};
 ghost use Rattle.disk_files.specs.Disk.{SameDisk, reads};
-ghost use Rattle.disk_files.specs.Moments.{Elapses, now};
-ghost use Rattle.disk_files.specs.Faults.{HasCause};
-ghost use Rattle.disk_files.specs.declared.dir.FileNo.{FileNo};
+ghost use Rattle.disk_files.specs.Moments.{Elapses, LeavesOnly, now};
 ghost use Rattle.buffer_state.specs.Steps.{settled, reopened};
 ghost use Rattle.journal_files.specs.Folders.{journal_name, Opens, IsDamagedFolder, IsNext};
-ghost use Rattle.journal_files.specs.Tellings.{opening, state_of};
+ghost use Rattle.journal_files.specs.Tellings.{Telling, OpensWithin, opening, state_of};
 ghost use Rattle.journal_files.specs.Views.{IsOpenIn, HasShortTags};
-ghost use Rattle.journal_files.specs.Disks.{Keeps, HasNoStray};
+ghost use Rattle.journal_files.specs.Disks.{Keeps, Recovers, HasNoStray, HasNoneBelow};
 ghost use Rattle.journal_files.specs.Faults.{HasReason};
 ghost use Rattle.journal_files.specs.Found.{IsFound, IsRead};
 ghost use Rattle.journal_files.specs.declared.error.OpenError.{OpenError};
 
 use crate::error::OpenError;
 use crate::journal::Journal;
-use crate::pieces::{begin, generations, remove_one};
+use crate::older::Older;
+use crate::pieces::{begin, generations};
 use buffer_state::Chunks;
-use chunk_journal::{ReplayError, replay};
-use disk_files::{Dir, DirError};
+use chunk_journal::{ReplayError, answers_one_way, replay};
+use disk_files::Dir;
 use numbered_files::{numbers, read_file};
 use std::alloc::Allocator;
 use std::collections::BTreeSet;
@@ -40,14 +39,16 @@ impl<A: Allocator + Copy> Journal<A> {
     /// those without one, writes what it means as the generation above the greatest file there is, syncs it, and removes the older ones.
     ///
     /// `Damaged`: the greatest generation that isn't passed over has a whole record that can't stand there, or what is none.
-    /// `LastGeneration`: the greatest file there is is number 4,294,967,295. These two change nothing.
-    /// After `Memory` and `Fault` the new file may be there, whole or not, and older ones removed once it is synced.
+    /// `LastGeneration`: the greatest file there is is number 4,294,967,295. These two and `Memory` change nothing.
+    /// After `Fault` the new file may be there, whole or not, and older ones removed once it is synced; the folder opens to what it opened to.
     pub fn open<D: Dir>(alloc: A, dir: &mut D, path: &[u8]) -> Result<Opened<A>, OpenError>
         ensures honest { D.is_honest dir.old → D.is_honest dir.new }
         ensures state { D.is_honest dir.old
             → IfOk result (λ opened. Opens path.now (reads (now (D.history dir.old))) opened.chunks) }
         ensures keeps { D.is_honest dir.old → HasNoStray path.now (now (D.history dir.old))
             → IfOk result (λ opened. Keeps opened.journal (now (D.history dir.new)) (opening opened.chunks)) }
+        // No chunk is claimed, and the queue goes by rising serial.
+        ensures unclaimed { IfOk result (λ opened. reopened opened.chunks ≡ opened.chunks) }
         ensures starts { IfOk result (λ opened. settled (state_of (opening opened.chunks)) ≡ reopened opened.chunks) }
         ensures tags { IfOk result (λ opened. HasShortTags opened.chunks) }
         ensures next { D.is_honest dir.old → IfOk result (λ opened. IsNext path.now (reads (now (D.history dir.old))) opened.journal.number) }
@@ -60,17 +61,25 @@ impl<A: Allocator + Copy> Journal<A> {
         // Files of other names stay as they are.
         ensures elsewhere { D.is_honest dir.old → (name : List ℕ) → ((n : ℕ) → n < 2 ^ 32 → name ≢ journal_name path.now n)
             → now (D.history dir.new) name ≡ now (D.history dir.old) name }
-        ensures unchanged { D.is_honest dir.old → ((result ≡ Err OpenError.Damaged) ⊎ (result ≡ Err OpenError.LastGeneration))
-            → SameDisk (now (D.history dir.new)) (now (D.history dir.old)) }
+        ensures unchanged { D.is_honest dir.old → result ≢ Err OpenError.Fault
+            → OnErr result (SameDisk (now (D.history dir.new)) (now (D.history dir.old))) }
+        // A stop at any moment of the call, whatever it answers, leaves a folder that opens to what one before the call could open to.
+        ensures moments { D.is_honest dir.old → HasNoStray path.now (now (D.history dir.old))
+            → (t : Telling) → Recovers path.now (now (D.history dir.old)) t
+            → LeavesOnly (D.history dir.old) (D.history dir.new) (OpensWithin path.now t) }
+        ensures stray { D.is_honest dir.old → HasNoStray path.now (now (D.history dir.old)) → HasNoStray path.now (now (D.history dir.new)) }
+        ensures alone { D.is_honest dir.old → IfOk result (λ opened. HasNoneBelow path.now (now (D.history dir.new)) opened.journal.number) }
         ensures cause { HasReason (D.fault_count dir.old) (D.fault_count dir.new) result OpenError.Fault }
     {
         let found = find(alloc, dir, path)?;
         if found.greatest == u32::MAX {
             return Err(OpenError::LastGeneration);
         }
+        answers_one_way();
         let number = found.greatest + 1;
+        let older = Older::open(alloc, dir, path, number)?;
         let journal = begin(alloc, dir, path, number, &found.chunks)?;
-        remove_older(alloc, dir, path, number)?;
+        older.remove(dir)?;
         Ok(Opened {
             journal,
             chunks: found.chunks,
@@ -91,12 +100,14 @@ fn find<A: Allocator + Copy, D: Dir>(
     path: &[u8],
 ) -> Result<Found<A>, OpenError>
     ensures honest { D.is_honest dir.old → D.is_honest dir.new }
+    ensures time { D.is_honest dir.old → Elapses (D.history dir.old) (D.history dir.new) }
     ensures same { D.is_honest dir.old → SameDisk (now (D.history dir.new)) (now (D.history dir.old)) }
     ensures state { D.is_honest dir.old
         → IfOk result (λ found. Opens path.now (reads (now (D.history dir.old))) found.chunks) }
     ensures greatest { D.is_honest dir.old
         → IfOk result (λ found. IsFound path.now (reads (now (D.history dir.old))) found.greatest) }
     ensures tags { IfOk result (λ found. HasShortTags found.chunks) }
+    ensures unclaimed { IfOk result (λ found. reopened found.chunks ≡ found.chunks) }
     ensures damaged { D.is_honest dir.old → (result ≡ Err OpenError.Damaged)
         → IsDamagedFolder path.now (reads (now (D.history dir.old))) }
     ensures not_last { result ≢ Err OpenError.LastGeneration }
@@ -134,9 +145,11 @@ fn read_generation<A: Allocator + Copy, D: Dir>(
     number: u32,
 ) -> Result<Option<Chunks<A>>, OpenError>
     ensures honest { D.is_honest dir.old → D.is_honest dir.new }
+    ensures time { D.is_honest dir.old → Elapses (D.history dir.old) (D.history dir.new) }
     ensures same { D.is_honest dir.old → SameDisk (now (D.history dir.new)) (now (D.history dir.old)) }
     ensures read { D.is_honest dir.old → IsRead (reads (now (D.history dir.old)) (journal_name path.now number)) result }
     ensures tags { IfOk result (λ found. IfSome found HasShortTags) }
+    ensures unclaimed { IfOk result (λ found. IfSome found (λ chunks. reopened chunks ≡ chunks)) }
     ensures not_last { result ≢ Err OpenError.LastGeneration }
     ensures cause { HasReason (D.fault_count dir.old) (D.fault_count dir.new) result OpenError.Fault }
 {
@@ -149,48 +162,4 @@ fn read_generation<A: Allocator + Copy, D: Dir>(
         Err(ReplayError::BadRecord) => Err(OpenError::Damaged),
         Err(ReplayError::Memory) => Err(OpenError::Memory),
     }
-}
-
-// Removes the generations below this one.
-fn remove_older<A: Allocator + Copy, D: Dir>(
-    alloc: A,
-    dir: &mut D,
-    path: &[u8],
-    number: u32,
-) -> Result<(), DirError>
-    ensures honest { D.is_honest dir.old → D.is_honest dir.new }
-    ensures elsewhere { D.is_honest dir.old → (name : List ℕ)
-        → ((n : ℕ) → n < number → name ≢ journal_name path.now n)
-        → now (D.history dir.new) name ≡ now (D.history dir.old) name }
-    ensures kept { (other : FileNo) (name : List ℕ) → ((n : ℕ) → n < number → name ≢ journal_name path.now n)
-        → D.opened dir.old other ≡ Some name → D.opened dir.new other ≡ Some name }
-    ensures cause { HasCause (D.fault_count dir.old) (D.fault_count dir.new) result }
-{
-    let mut rest = numbers(alloc, dir, generations(path))?;
-    while let Some(older) = rest.pop_last() {
-        remove_below(alloc, dir, path, older, number)?;
-    }
-    Ok(())
-}
-
-// Removes a generation if it is below this one.
-fn remove_below<A: Allocator, D: Dir>(
-    alloc: A,
-    dir: &mut D,
-    path: &[u8],
-    older: u32,
-    number: u32,
-) -> Result<(), DirError>
-    ensures honest { D.is_honest dir.old → D.is_honest dir.new }
-    ensures elsewhere { D.is_honest dir.old → (name : List ℕ)
-        → ((n : ℕ) → n < number → name ≢ journal_name path.now n)
-        → now (D.history dir.new) name ≡ now (D.history dir.old) name }
-    ensures kept { (other : FileNo) (name : List ℕ) → ((n : ℕ) → n < number → name ≢ journal_name path.now n)
-        → D.opened dir.old other ≡ Some name → D.opened dir.new other ≡ Some name }
-    ensures cause { HasCause (D.fault_count dir.old) (D.fault_count dir.new) result }
-{
-    if older >= number {
-        return Ok(());
-    }
-    remove_one(alloc, dir, path, older)
 }

@@ -2,16 +2,16 @@
 
 ghost use Rattle.std.specs.Prelude.{◌≡◌, ◌≢◌, ℕ, ◌+◌, ◌-◌, ◌*◌, ◌^◌, ◌<◌, ◌≤◌, List, [], ◌++◌, length, take, Some, None, IsSome, OnOk, OnErr, IfOk, Err, IsErrOf};
 ghost use Rattle.disk_files.specs.Disk.{SameDisk, Changes};
-ghost use Rattle.disk_files.specs.Moments.{now};
+ghost use Rattle.disk_files.specs.Moments.{LeavesOnly, now};
 ghost use Rattle.disk_files.specs.Faults.{HasCause};
 ghost use Rattle.disk_files.specs.declared.dir.FileNo.{FileNo};
 ghost use Rattle.buffer_state.specs.Steps.{settled, reopened};
 ghost use Rattle.numbered_files.specs.Names.{file_name};
 ghost use Rattle.journal_files.specs.Folders.{journal_name};
-ghost use Rattle.journal_files.specs.Tellings.{Telling, opening, state_of};
+ghost use Rattle.journal_files.specs.Tellings.{Telling, IsOfSome, OpensWithin, opening, state_of};
 ghost use Rattle.journal_files.specs.Views.{IsOpenIn, HasShortTags};
-ghost use Rattle.journal_files.specs.Disks.{Keeps, Recovers, HasNoneFrom};
-ghost use Rattle.journal_files.specs.Pieces.{HasNew, IsUnfinished, Partly, sealed};
+ghost use Rattle.journal_files.specs.Disks.{Keeps, Recovers, HasNoneFrom, HasNoStray};
+ghost use Rattle.journal_files.specs.Pieces.{HasNew, IsUnfinished, IsSealing, IsLeftOf, Partly, sealed};
 
 use crate::journal::Journal;
 use crate::spelling::{spell_chunks, spell_seal};
@@ -45,9 +45,12 @@ pub(crate) fn begin<A: Allocator + Copy, D: Dir>(
     ensures honest { D.is_honest dir.old → D.is_honest dir.new }
     ensures ok { D.is_honest dir.old → HasNoneFrom path.now (now (D.history dir.old)) number
         → IfOk result (λ journal. Keeps journal (now (D.history dir.new)) (opening chunks.now)) }
-    ensures err { D.is_honest dir.old → (t : Telling) → Recovers path.now (now (D.history dir.old)) t
-        → HasNoneFrom path.now (now (D.history dir.old)) number → settled (state_of t) ≡ reopened chunks.now
-        → OnErr result (Recovers path.now (now (D.history dir.new)) t) }
+    // A stop at any moment of the call leaves a folder that opens so.
+    ensures moments { D.is_honest dir.old → (t : Telling) → Recovers path.now (now (D.history dir.old)) t
+        → HasNoneFrom path.now (now (D.history dir.old)) number → IsOfSome t (reopened chunks.now)
+        → LeavesOnly (D.history dir.old) (D.history dir.new) (OpensWithin path.now t) }
+    ensures stray { D.is_honest dir.old → HasNoneFrom path.now (now (D.history dir.old)) number
+        → HasNoStray path.now (now (D.history dir.old)) → HasNoStray path.now (now (D.history dir.new)) }
     ensures state { OnOk result (settled (state_of (opening chunks.now)) ≡ reopened chunks.now) }
     ensures memory { D.is_honest dir.old → IsErrOf result DirError.Memory
         → SameDisk (now (D.history dir.new)) (now (D.history dir.old)) }
@@ -83,6 +86,8 @@ fn make<D: Dir>(dir: &mut D, name: &[u8], bytes: &[u8], more: usize) -> Result<F
         → OnOk result (HasNew name.now bytes.now (now (D.history dir.old)) (now (D.history dir.new))) }
     ensures err { D.is_honest dir.old
         → OnErr result (IsUnfinished name.now bytes.now (now (D.history dir.old)) (now (D.history dir.new))) }
+    ensures moments { D.is_honest dir.old
+        → LeavesOnly (D.history dir.old) (D.history dir.new) (IsLeftOf (IsUnfinished name.now bytes.now (now (D.history dir.old)))) }
     ensures memory { D.is_honest dir.old → IsErrOf result DirError.Memory
         → SameDisk (now (D.history dir.new)) (now (D.history dir.old)) }
     ensures opened { IfOk result (λ file. D.opened dir.new file ≡ Some name.now) }
@@ -105,29 +110,12 @@ fn seal_with<D: Dir>(dir: &mut D, file: FileNo, bytes: &[u8]) -> Result<(), DirE
         → OnOk result (Changes name (sealed bytes.now) (now (D.history dir.old)) (now (D.history dir.new))) }
     ensures err { D.is_honest dir.old → (name : List ℕ) → D.opened dir.old file ≡ Some name
         → OnErr result (Partly name bytes.now (now (D.history dir.old)) (now (D.history dir.new))) }
+    ensures moments { D.is_honest dir.old → (name : List ℕ) → D.opened dir.old file ≡ Some name
+        → LeavesOnly (D.history dir.old) (D.history dir.new) (IsLeftOf (IsSealing name bytes.now (now (D.history dir.old)))) }
     ensures opened { (other : FileNo) → D.opened dir.new other ≡ D.opened dir.old other }
     ensures cause { HasCause (D.fault_count dir.old) (D.fault_count dir.new) result }
     ensures only { OnErr result (result ≡ Err DirError.Fault) }
 {
     dir.append(file, bytes)?;
     dir.sync(file)
-}
-
-/// Removes an older generation.
-pub(crate) fn remove_one<A: Allocator, D: Dir>(
-    alloc: A,
-    dir: &mut D,
-    path: &[u8],
-    number: u32,
-) -> Result<(), DirError>
-    ensures honest { D.is_honest dir.old → D.is_honest dir.new }
-    ensures elsewhere { D.is_honest dir.old → (name : List ℕ) → name ≢ journal_name path.now number
-        → now (D.history dir.new) name ≡ now (D.history dir.old) name }
-    ensures kept { (other : FileNo) (name : List ℕ) → name ≢ journal_name path.now number
-        → D.opened dir.old other ≡ Some name → D.opened dir.new other ≡ Some name }
-    ensures cause { HasCause (D.fault_count dir.old) (D.fault_count dir.new) result }
-{
-    let name = generations(path).name(alloc, number)?;
-    let file = dir.open(&name)?;
-    dir.remove(file)
 }

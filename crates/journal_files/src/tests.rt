@@ -71,7 +71,7 @@ fn queue<D: Dir>(alloc: Global, dir: &mut D) -> Result<(), OpenError> {
     Ok(())
 }
 
-// Opening a new folder asks for a list, a file, two appends, a sync and another list; then come the append and its sync.
+// Opening a new folder asks for two lists, a file, two appends and a sync; then come the append and its sync.
 const OPENING: u64 = 6;
 
 // The folder after an append of which so many calls pass.

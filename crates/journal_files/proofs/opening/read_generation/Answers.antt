@@ -3,7 +3,7 @@ use Rattle.disk_files.specs.Disk.{reads}
 use Rattle.disk_files.specs.Moments.{now}
 use Rattle.chunk_journal.specs.Meaning.{IsReplayed, EndsUnsealed, IsDamaged}
 use Rattle.journal_files.proofs.Reading.{all_read}
-use Rattle.journal_files.proofs.Tags.{replayed_short}
+use Rattle.journal_files.proofs.Tags.{replayed_short, replayed_unclaimed}
 use Rattle.journal_files.proofs.opening.read_generation.Goals as goal
 
 pub returns-in-Ok-clause-read : goal.returns-in-Ok-clause-read
@@ -22,6 +22,9 @@ returns-in-Ok-clause-read g c = λ honest.
 
 pub returns-in-Ok-clause-tags : goal.returns-in-Ok-clause-tags
 returns-in-Ok-clause-tags g c = replayed_short c.deref-2.result.now c.in-Ok.replayed.chunks c.in-Ok.replayed.used c.in-Ok.ensures.ok
+
+pub returns-in-Ok-clause-unclaimed : goal.returns-in-Ok-clause-unclaimed
+returns-in-Ok-clause-unclaimed g c = replayed_unclaimed c.deref-2.result.now c.in-Ok.replayed.chunks c.in-Ok.replayed.used c.in-Ok.ensures.ok
 
 pub returns-in-Err-NotSealed-clause-read : goal.returns-in-Err-NotSealed-clause-read
 returns-in-Err-NotSealed-clause-read g c = λ honest.

@@ -31,7 +31,8 @@ returns-then-is_err-clause-begins g c = λ honest tag can near ready.
     (failed_by c.self-2.inside.journal c.self-2.inside.journal c.tell-told.new.journal (now (g.D.Dir.history c.self-2.inside.dir)) (now (g.D.Dir.history c.self-2.inside.dir)) (now (g.D.Dir.history c.tell-told.new.dir)) c.args.self.now.chunks (appended c.args.serial tag c.args.entries.now c.args.self.now.chunks) (Append c.args.serial tag c.args.entries.now) all_sure c.tell-told.result refl (λ n. refl)
     (λ t same. (append_allowed (state_of t) c.args.self.now.chunks same c.args.serial tag c.args.entries.now can near, append_same (state_of t) c.args.self.now.chunks same c.args.serial tag c.args.entries.now))
     (sym c.is_err.ensures.value ∙ c.if-is_err.true) c.tell-told.ensures.only
-    (λ t keeps allowed. c.tell-told.ensures.err honest0 t (Append c.args.serial tag c.args.entries.now) keeps ready0 allowed) c.leave.result)
+    (λ t keeps allowed. c.tell-told.ensures.err honest0 t (Append c.args.serial tag c.args.entries.now) keeps ready0 allowed)
+    (λ t keeps allowed. c.tell-told.ensures.stray honest0 t (Append c.args.serial tag c.args.entries.now) keeps ready0 allowed) c.leave.result)
 
 pub returns-clause-begins : goal.returns-clause-begins
 returns-clause-begins g c = λ honest tag can near ready.

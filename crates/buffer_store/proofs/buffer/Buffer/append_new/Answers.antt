@@ -26,7 +26,8 @@ returns-then-is_err-clause-begins g c = λ honest ready.
     (failed_by c.self.inside.journal c.self.inside.journal c.tell-told.new.journal (now (g.D.Dir.history c.self.inside.dir)) (now (g.D.Dir.history c.self.inside.dir)) (now (g.D.Dir.history c.tell-told.new.dir)) c.self.inside.chunks c.append.new.self (Append c.args.serial c.args.tag.now c.args.entries.now) all_sure c.tell-told.result refl (λ n. refl)
     (λ t same. (append_allowed (state_of t) c.self.inside.chunks same c.args.serial c.args.tag.now c.args.entries.now can near, subst (Same (appended c.args.serial c.args.tag.now c.args.entries.now (state_of t))) (sym c.in_ok-append.ensures.ok) (append_same (state_of t) c.self.inside.chunks same c.args.serial c.args.tag.now c.args.entries.now)))
     (sym c.is_err.ensures.value ∙ c.if-is_err.true) c.tell-told.ensures.only
-    (λ t keeps allowed. c.tell-told.ensures.err honest0 t (Append c.args.serial c.args.tag.now c.args.entries.now) keeps ready0 allowed) c.take_back.new.self)
+    (λ t keeps allowed. c.tell-told.ensures.err honest0 t (Append c.args.serial c.args.tag.now c.args.entries.now) keeps ready0 allowed)
+    (λ t keeps allowed. c.tell-told.ensures.stray honest0 t (Append c.args.serial c.args.tag.now c.args.entries.now) keeps ready0 allowed) c.take_back.new.self)
 
 pub returns-clause-begins : goal.returns-clause-begins
 returns-clause-begins g c = λ honest ready.

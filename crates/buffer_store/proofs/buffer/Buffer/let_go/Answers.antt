@@ -20,7 +20,8 @@ returns-then-is_err-clause-begins g c = λ honest.
     (failed_by c.self.inside.journal c.ready.new.self c.put-told.new.journal (now (g.D.Dir.history c.self.inside.dir)) (now (g.D.Dir.history c.ready.new.dir)) (now (g.D.Dir.history c.put-told.new.dir)) c.self.inside.chunks (removed c.args.serial c.self.inside.chunks) (Purge c.args.serial) (λ t. t) c.put-told.result c.ready.ensures.rest (c.ready.ensures.same honest0)
     (λ t same. (purge_allowed (state_of t) c.self.inside.chunks same c.args.serial waits, purge_same (state_of t) c.self.inside.chunks same c.args.serial))
     (sym c.is_err.ensures.value ∙ c.if-is_err.true) c.put-told.ensures.only
-    (λ t keeps allowed. c.put-told.ensures.err (c.ready.ensures.honest honest0) t (Purge c.args.serial) keeps c.in_ok-ready.ensures.ready allowed) c.self.inside.chunks)
+    (λ t keeps allowed. c.put-told.ensures.err (c.ready.ensures.honest honest0) t (Purge c.args.serial) keeps c.in_ok-ready.ensures.ready allowed)
+    (λ t keeps allowed. c.put-told.ensures.stray (c.ready.ensures.honest honest0) t (Purge c.args.serial) keeps c.in_ok-ready.ensures.ready allowed) c.self.inside.chunks)
 
 pub invariant_of-self-2 : goal.invariant_of-self-2
 invariant_of-self-2 g c = record {

@@ -34,7 +34,8 @@ returns-then-is_err-clause-begins g c = λ honest ready.
     (failed_by c.self.inside.journal c.self.inside.journal c.tell-told.new.journal (now (g.D.Dir.history c.self.inside.dir)) (now (g.D.Dir.history c.self.inside.dir)) (now (g.D.Dir.history c.tell-told.new.dir)) c.args.self.now.chunks (queued_last c.args.serial c.args.self.now.chunks) (Queue c.args.serial) all_sure c.tell-told.result refl (λ n. refl)
     (λ t same. (queue_allowed (state_of t) c.args.self.now.chunks same c.args.serial c.requires.staged, queue_same (state_of t) c.args.self.now.chunks same c.args.serial))
     (sym c.is_err.ensures.value ∙ c.if-is_err.true) c.tell-told.ensures.only
-    (λ t keeps allowed. c.tell-told.ensures.err honest0 t (Queue c.args.serial) keeps ready0 allowed) c.leave.result)
+    (λ t keeps allowed. c.tell-told.ensures.err honest0 t (Queue c.args.serial) keeps ready0 allowed)
+    (λ t keeps allowed. c.tell-told.ensures.stray honest0 t (Queue c.args.serial) keeps ready0 allowed) c.leave.result)
 
 pub returns-clause-begins : goal.returns-clause-begins
 returns-clause-begins g c = λ honest ready.

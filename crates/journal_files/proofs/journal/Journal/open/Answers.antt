@@ -1,36 +1,196 @@
-use Rattle.std.proofs.Common.{◌+◌, ◌<◌, ◌^◌, refl, arith, ◌∙◌}
-use Rattle.disk_files.specs.Moments.{now}
-use Rattle.journal_files.specs.Tellings.{opening}
-use Rattle.journal_files.proofs.Fresh.{none_above, keeps_alone, own_is_above}
+use Rattle.std.proofs.Common.{◌≡◌, None, ℕ, ◌+◌, ◌<◌, ◌^◌, List, refl, arith, subst, sym, ◌∙◌}
+use Rattle.disk_files.specs.Disk.{SameDisk, reads}
+use Rattle.disk_files.specs.Moments.{LeavesOnly, now}
+use Rattle.disk_files.proofs.Moments.{rests, joined}
+use Rattle.buffer_state.specs.Steps.{reopened}
+use Rattle.journal_files.specs.Folders.{journal_name}
+use Rattle.journal_files.specs.Tellings.{IsOfSome, OpensWithin}
+use Rattle.journal_files.specs.Pieces.{AreOlder, ChangesBelow, IsGoneBut, IsLeftOf}
+use Rattle.journal_files.proofs.Beginning.{of_folder}
+use Rattle.journal_files.proofs.Fresh.{none_above, own_is_above, opened_alone}
+use Rattle.journal_files.proofs.OlderFiles.{still_older}
+use Rattle.journal_files.proofs.OneWay.{one_way}
+use Rattle.journal_files.proofs.OpeningMoments.{recovers_same, quiet, keeps_still, no_stray_still, removed_so}
+use Rattle.journal_files.proofs.Strays.{same_stray}
 use Rattle.journal_files.proofs.journal.Journal.open.Goals as goal
+
+pub returns-in_err-found-clause-moments : goal.returns-in_err-found-clause-moments
+returns-in_err-found-clause-moments g c = λ honest stray t before. quiet c.args.path.now t (g.D.Dir.history c.args.dir.now) (g.D.Dir.history c.find.new.dir) before (c.find.ensures.time honest) (c.find.ensures.same honest)
+
+pub returns-then-found-clause-moments : goal.returns-then-found-clause-moments
+returns-then-found-clause-moments g c = λ honest stray t before. quiet c.args.path.now t (g.D.Dir.history c.args.dir.now) (g.D.Dir.history c.find.new.dir) before (c.find.ensures.time honest) (c.find.ensures.same honest)
+
+pub returns-in_err-older-clause-moments : goal.returns-in_err-older-clause-moments
+returns-in_err-older-clause-moments g c = λ honest stray t before.
+    let greatest = c.in_ok-found.found.greatest in
+    let found_honest = c.in_ok-found.ensures.honest honest in
+    rests (g.D.Dir.history c.args.dir.now) (g.D.Dir.history c.find.new.dir) (g.D.Dir.history c.open.new.dir) (OpensWithin c.args.path.now t) (quiet c.args.path.now t (g.D.Dir.history c.args.dir.now) (g.D.Dir.history c.find.new.dir) before (c.find.ensures.time honest) (c.find.ensures.same honest)) (c.open.ensures.time found_honest) (c.open.ensures.same found_honest)
+
+pub returns-in_err-journal-clause-moments : goal.returns-in_err-journal-clause-moments
+returns-in_err-journal-clause-moments g c = λ honest stray t before.
+    let greatest = c.in_ok-found.found.greatest in
+    let found_honest = c.in_ok-found.ensures.honest honest in
+    let older_honest = c.in_ok-older.ensures.honest found_honest in
+    let same : SameDisk (now (g.D.Dir.history c.open.new.dir)) (now (g.D.Dir.history c.args.dir.now)) = λ name. c.open.ensures.same found_honest name ∙ c.in_ok-found.ensures.same honest name in
+    let none = none_above c.args.path.now (now (g.D.Dir.history c.args.dir.now)) (now (g.D.Dir.history c.open.new.dir)) greatest (greatest + 1) refl (c.in_ok-found.ensures.greatest honest) stray same in
+    let m : IsOfSome t (reopened c.in_ok-found.found.chunks) = of_folder c.args.path.now (reads (now (g.D.Dir.history c.args.dir.now))) t c.in_ok-found.found.chunks (one_way c.answers_one_way.ensures c.args.path.now (reads (now (g.D.Dir.history c.args.dir.now)))) (before (reads (now (g.D.Dir.history c.args.dir.now))) (g.met.D.Dir.reads_stay c.args.dir.now honest))
+    (c.in_ok-found.ensures.state honest) c.in_ok-found.ensures.unclaimed in
+    joined (g.D.Dir.history c.args.dir.now) (g.D.Dir.history c.open.new.dir) (g.D.Dir.history c.begin.new.dir) (OpensWithin c.args.path.now t) (rests (g.D.Dir.history c.args.dir.now) (g.D.Dir.history c.find.new.dir) (g.D.Dir.history c.open.new.dir) (OpensWithin c.args.path.now t) (quiet c.args.path.now t (g.D.Dir.history c.args.dir.now) (g.D.Dir.history c.find.new.dir) before (c.find.ensures.time honest) (c.find.ensures.same honest)) (c.open.ensures.time found_honest) (c.open.ensures.same found_honest)) (c.begin.ensures.moments older_honest t (recovers_same c.args.path.now t (now (g.D.Dir.history c.args.dir.now)) (now (g.D.Dir.history c.open.new.dir)) same before) none m)
+
+pub returns-in_err-remove-clause-moments : goal.returns-in_err-remove-clause-moments
+returns-in_err-remove-clause-moments g c = λ honest stray t before.
+    let greatest = c.in_ok-found.found.greatest in
+    let found_honest = c.in_ok-found.ensures.honest honest in
+    let older_honest = c.in_ok-older.ensures.honest found_honest in
+    let same : SameDisk (now (g.D.Dir.history c.open.new.dir)) (now (g.D.Dir.history c.args.dir.now)) = λ name. c.open.ensures.same found_honest name ∙ c.in_ok-found.ensures.same honest name in
+    let none = none_above c.args.path.now (now (g.D.Dir.history c.args.dir.now)) (now (g.D.Dir.history c.open.new.dir)) greatest (greatest + 1) refl (c.in_ok-found.ensures.greatest honest) stray same in
+    let m : IsOfSome t (reopened c.in_ok-found.found.chunks) = of_folder c.args.path.now (reads (now (g.D.Dir.history c.args.dir.now))) t c.in_ok-found.found.chunks (one_way c.answers_one_way.ensures c.args.path.now (reads (now (g.D.Dir.history c.args.dir.now)))) (before (reads (now (g.D.Dir.history c.args.dir.now))) (g.met.D.Dir.reads_stay c.args.dir.now honest))
+    (c.in_ok-found.ensures.state honest) c.in_ok-found.ensures.unclaimed in
+    let begun_honest = c.in_ok-journal.ensures.honest older_honest in
+    let keeps = c.in_ok-journal.ensures.ok older_honest none in
+    let removing : LeavesOnly (g.D.Dir.history c.begin.new.dir) (g.D.Dir.history c.remove.new.dir) (IsLeftOf (ChangesBelow c.args.path.now (greatest + 1) (now (g.D.Dir.history c.begin.new.dir)))) = subst (λ (p : List ℕ). LeavesOnly (g.D.Dir.history c.begin.new.dir) (g.D.Dir.history c.remove.new.dir) (IsLeftOf (ChangesBelow p (greatest + 1) (now (g.D.Dir.history c.begin.new.dir))))) c.in_ok-older.ensures.path
+    (subst (λ (k : ℕ). LeavesOnly (g.D.Dir.history c.begin.new.dir) (g.D.Dir.history c.remove.new.dir) (IsLeftOf (ChangesBelow c.in_ok-older.older.path.now k (now (g.D.Dir.history c.begin.new.dir))))) c.in_ok-older.ensures.number (c.remove.ensures.moments begun_honest)) in
+    removed_so c.args.path.now (greatest + 1) c.in_ok-journal.journal (now (g.D.Dir.history c.begin.new.dir)) c.in_ok-found.found.chunks c.in_ok-journal.ensures.path c.in_ok-journal.ensures.number keeps
+    t c.in_ok-journal.ensures.state m (g.D.Dir.history c.args.dir.now) (g.D.Dir.history c.begin.new.dir) (g.D.Dir.history c.remove.new.dir) refl (joined (g.D.Dir.history c.args.dir.now) (g.D.Dir.history c.open.new.dir) (g.D.Dir.history c.begin.new.dir) (OpensWithin c.args.path.now t) (rests (g.D.Dir.history c.args.dir.now) (g.D.Dir.history c.find.new.dir) (g.D.Dir.history c.open.new.dir) (OpensWithin c.args.path.now t) (quiet c.args.path.now t (g.D.Dir.history c.args.dir.now) (g.D.Dir.history c.find.new.dir) before (c.find.ensures.time honest) (c.find.ensures.same honest)) (c.open.ensures.time found_honest) (c.open.ensures.same found_honest)) (c.begin.ensures.moments older_honest t (recovers_same c.args.path.now t (now (g.D.Dir.history c.args.dir.now)) (now (g.D.Dir.history c.open.new.dir)) same before) none m)) removing
+
+pub returns-clause-moments : goal.returns-clause-moments
+returns-clause-moments g c = λ honest stray t before.
+    let greatest = c.in_ok-found.found.greatest in
+    let found_honest = c.in_ok-found.ensures.honest honest in
+    let older_honest = c.in_ok-older.ensures.honest found_honest in
+    let same : SameDisk (now (g.D.Dir.history c.open.new.dir)) (now (g.D.Dir.history c.args.dir.now)) = λ name. c.open.ensures.same found_honest name ∙ c.in_ok-found.ensures.same honest name in
+    let none = none_above c.args.path.now (now (g.D.Dir.history c.args.dir.now)) (now (g.D.Dir.history c.open.new.dir)) greatest (greatest + 1) refl (c.in_ok-found.ensures.greatest honest) stray same in
+    let m : IsOfSome t (reopened c.in_ok-found.found.chunks) = of_folder c.args.path.now (reads (now (g.D.Dir.history c.args.dir.now))) t c.in_ok-found.found.chunks (one_way c.answers_one_way.ensures c.args.path.now (reads (now (g.D.Dir.history c.args.dir.now)))) (before (reads (now (g.D.Dir.history c.args.dir.now))) (g.met.D.Dir.reads_stay c.args.dir.now honest))
+    (c.in_ok-found.ensures.state honest) c.in_ok-found.ensures.unclaimed in
+    let begun_honest = c.in_ok-journal.ensures.honest older_honest in
+    let keeps = c.in_ok-journal.ensures.ok older_honest none in
+    let removing : LeavesOnly (g.D.Dir.history c.begin.new.dir) (g.D.Dir.history c.remove.new.dir) (IsLeftOf (ChangesBelow c.args.path.now (greatest + 1) (now (g.D.Dir.history c.begin.new.dir)))) = subst (λ (p : List ℕ). LeavesOnly (g.D.Dir.history c.begin.new.dir) (g.D.Dir.history c.remove.new.dir) (IsLeftOf (ChangesBelow p (greatest + 1) (now (g.D.Dir.history c.begin.new.dir))))) c.in_ok-older.ensures.path
+    (subst (λ (k : ℕ). LeavesOnly (g.D.Dir.history c.begin.new.dir) (g.D.Dir.history c.remove.new.dir) (IsLeftOf (ChangesBelow c.in_ok-older.older.path.now k (now (g.D.Dir.history c.begin.new.dir))))) c.in_ok-older.ensures.number (c.remove.ensures.moments begun_honest)) in
+    removed_so c.args.path.now (greatest + 1) c.in_ok-journal.journal (now (g.D.Dir.history c.begin.new.dir)) c.in_ok-found.found.chunks c.in_ok-journal.ensures.path c.in_ok-journal.ensures.number keeps
+    t c.in_ok-journal.ensures.state m (g.D.Dir.history c.args.dir.now) (g.D.Dir.history c.begin.new.dir) (g.D.Dir.history c.remove.new.dir) refl (joined (g.D.Dir.history c.args.dir.now) (g.D.Dir.history c.open.new.dir) (g.D.Dir.history c.begin.new.dir) (OpensWithin c.args.path.now t) (rests (g.D.Dir.history c.args.dir.now) (g.D.Dir.history c.find.new.dir) (g.D.Dir.history c.open.new.dir) (OpensWithin c.args.path.now t) (quiet c.args.path.now t (g.D.Dir.history c.args.dir.now) (g.D.Dir.history c.find.new.dir) before (c.find.ensures.time honest) (c.find.ensures.same honest)) (c.open.ensures.time found_honest) (c.open.ensures.same found_honest)) (c.begin.ensures.moments older_honest t (recovers_same c.args.path.now t (now (g.D.Dir.history c.args.dir.now)) (now (g.D.Dir.history c.open.new.dir)) same before) none m)) removing
+
+pub returns-in_err-found-clause-stray : goal.returns-in_err-found-clause-stray
+returns-in_err-found-clause-stray g c = λ honest stray. same_stray c.args.path.now (now (g.D.Dir.history c.args.dir.now)) (now (g.D.Dir.history c.find.new.dir)) (c.find.ensures.same honest) stray
+
+pub returns-then-found-clause-stray : goal.returns-then-found-clause-stray
+returns-then-found-clause-stray g c = λ honest stray. same_stray c.args.path.now (now (g.D.Dir.history c.args.dir.now)) (now (g.D.Dir.history c.find.new.dir)) (c.find.ensures.same honest) stray
+
+pub returns-in_err-older-clause-stray : goal.returns-in_err-older-clause-stray
+returns-in_err-older-clause-stray g c = λ honest stray.
+    let greatest = c.in_ok-found.found.greatest in
+    let found_honest = c.in_ok-found.ensures.honest honest in
+    let same : SameDisk (now (g.D.Dir.history c.open.new.dir)) (now (g.D.Dir.history c.args.dir.now)) = λ name. c.open.ensures.same found_honest name ∙ c.in_ok-found.ensures.same honest name in
+    same_stray c.args.path.now (now (g.D.Dir.history c.args.dir.now)) (now (g.D.Dir.history c.open.new.dir)) same stray
+
+pub returns-in_err-journal-clause-stray : goal.returns-in_err-journal-clause-stray
+returns-in_err-journal-clause-stray g c = λ honest stray.
+    let greatest = c.in_ok-found.found.greatest in
+    let found_honest = c.in_ok-found.ensures.honest honest in
+    let older_honest = c.in_ok-older.ensures.honest found_honest in
+    let same : SameDisk (now (g.D.Dir.history c.open.new.dir)) (now (g.D.Dir.history c.args.dir.now)) = λ name. c.open.ensures.same found_honest name ∙ c.in_ok-found.ensures.same honest name in
+    let none = none_above c.args.path.now (now (g.D.Dir.history c.args.dir.now)) (now (g.D.Dir.history c.open.new.dir)) greatest (greatest + 1) refl (c.in_ok-found.ensures.greatest honest) stray same in
+    c.begin.ensures.stray older_honest none (same_stray c.args.path.now (now (g.D.Dir.history c.args.dir.now)) (now (g.D.Dir.history c.open.new.dir)) same stray)
+
+pub returns-in_err-remove-clause-stray : goal.returns-in_err-remove-clause-stray
+returns-in_err-remove-clause-stray g c = λ honest stray.
+    let greatest = c.in_ok-found.found.greatest in
+    let found_honest = c.in_ok-found.ensures.honest honest in
+    let older_honest = c.in_ok-older.ensures.honest found_honest in
+    let same : SameDisk (now (g.D.Dir.history c.open.new.dir)) (now (g.D.Dir.history c.args.dir.now)) = λ name. c.open.ensures.same found_honest name ∙ c.in_ok-found.ensures.same honest name in
+    let none = none_above c.args.path.now (now (g.D.Dir.history c.args.dir.now)) (now (g.D.Dir.history c.open.new.dir)) greatest (greatest + 1) refl (c.in_ok-found.ensures.greatest honest) stray same in
+    let begun_honest = c.in_ok-journal.ensures.honest older_honest in
+    let keeps = c.in_ok-journal.ensures.ok older_honest none in
+    let below : ChangesBelow c.args.path.now (greatest + 1) (now (g.D.Dir.history c.begin.new.dir)) (now (g.D.Dir.history c.remove.new.dir)) = subst (λ (p : List ℕ). ChangesBelow p (greatest + 1) (now (g.D.Dir.history c.begin.new.dir)) (now (g.D.Dir.history c.remove.new.dir))) c.in_ok-older.ensures.path
+    (subst (λ (k : ℕ). ChangesBelow c.in_ok-older.older.path.now k (now (g.D.Dir.history c.begin.new.dir)) (now (g.D.Dir.history c.remove.new.dir))) c.in_ok-older.ensures.number (c.remove.ensures.elsewhere begun_honest)) in
+    no_stray_still c.args.path.now (greatest + 1) c.in_ok-journal.journal (now (g.D.Dir.history c.begin.new.dir)) c.in_ok-found.found.chunks c.in_ok-journal.ensures.path c.in_ok-journal.ensures.number keeps (now (g.D.Dir.history c.remove.new.dir)) below
+
+pub returns-clause-stray : goal.returns-clause-stray
+returns-clause-stray g c = λ honest stray.
+    let greatest = c.in_ok-found.found.greatest in
+    let found_honest = c.in_ok-found.ensures.honest honest in
+    let older_honest = c.in_ok-older.ensures.honest found_honest in
+    let same : SameDisk (now (g.D.Dir.history c.open.new.dir)) (now (g.D.Dir.history c.args.dir.now)) = λ name. c.open.ensures.same found_honest name ∙ c.in_ok-found.ensures.same honest name in
+    let none = none_above c.args.path.now (now (g.D.Dir.history c.args.dir.now)) (now (g.D.Dir.history c.open.new.dir)) greatest (greatest + 1) refl (c.in_ok-found.ensures.greatest honest) stray same in
+    let begun_honest = c.in_ok-journal.ensures.honest older_honest in
+    let keeps = c.in_ok-journal.ensures.ok older_honest none in
+    let below : ChangesBelow c.args.path.now (greatest + 1) (now (g.D.Dir.history c.begin.new.dir)) (now (g.D.Dir.history c.remove.new.dir)) = subst (λ (p : List ℕ). ChangesBelow p (greatest + 1) (now (g.D.Dir.history c.begin.new.dir)) (now (g.D.Dir.history c.remove.new.dir))) c.in_ok-older.ensures.path
+    (subst (λ (k : ℕ). ChangesBelow c.in_ok-older.older.path.now k (now (g.D.Dir.history c.begin.new.dir)) (now (g.D.Dir.history c.remove.new.dir))) c.in_ok-older.ensures.number (c.remove.ensures.elsewhere begun_honest)) in
+    no_stray_still c.args.path.now (greatest + 1) c.in_ok-journal.journal (now (g.D.Dir.history c.begin.new.dir)) c.in_ok-found.found.chunks c.in_ok-journal.ensures.path c.in_ok-journal.ensures.number keeps (now (g.D.Dir.history c.remove.new.dir)) below
 
 pub returns-clause-keeps : goal.returns-clause-keeps
 returns-clause-keeps g c = λ honest stray.
     let greatest = c.in_ok-found.found.greatest in
     let found_honest = c.in_ok-found.ensures.honest honest in
-    let none = none_above c.args.path.now (now (g.D.Dir.history c.args.dir.now)) (now (g.D.Dir.history c.find.new.dir)) greatest (greatest + 1) refl (c.in_ok-found.ensures.greatest honest) stray (c.in_ok-found.ensures.same honest) in
-    keeps_alone c.args.path.now (greatest + 1) c.in_ok-journal.journal (now (g.D.Dir.history c.begin.new.dir)) (now (g.D.Dir.history c.remove_older.new.dir)) (opening c.in_ok-found.found.chunks)
-    c.in_ok-journal.ensures.path c.in_ok-journal.ensures.number (c.in_ok-journal.ensures.ok found_honest none) (c.in_ok-remove_older.ensures.elsewhere (c.in_ok-journal.ensures.honest found_honest))
+    let older_honest = c.in_ok-older.ensures.honest found_honest in
+    let same : SameDisk (now (g.D.Dir.history c.open.new.dir)) (now (g.D.Dir.history c.args.dir.now)) = λ name. c.open.ensures.same found_honest name ∙ c.in_ok-found.ensures.same honest name in
+    let none = none_above c.args.path.now (now (g.D.Dir.history c.args.dir.now)) (now (g.D.Dir.history c.open.new.dir)) greatest (greatest + 1) refl (c.in_ok-found.ensures.greatest honest) stray same in
+    let begun_honest = c.in_ok-journal.ensures.honest older_honest in
+    let keeps = c.in_ok-journal.ensures.ok older_honest none in
+    let below : ChangesBelow c.args.path.now (greatest + 1) (now (g.D.Dir.history c.begin.new.dir)) (now (g.D.Dir.history c.remove.new.dir)) = subst (λ (p : List ℕ). ChangesBelow p (greatest + 1) (now (g.D.Dir.history c.begin.new.dir)) (now (g.D.Dir.history c.remove.new.dir))) c.in_ok-older.ensures.path
+    (subst (λ (k : ℕ). ChangesBelow c.in_ok-older.older.path.now k (now (g.D.Dir.history c.begin.new.dir)) (now (g.D.Dir.history c.remove.new.dir))) c.in_ok-older.ensures.number (c.remove.ensures.elsewhere begun_honest)) in
+    keeps_still c.args.path.now (greatest + 1) c.in_ok-journal.journal (now (g.D.Dir.history c.begin.new.dir)) c.in_ok-found.found.chunks c.in_ok-journal.ensures.path c.in_ok-journal.ensures.number keeps (now (g.D.Dir.history c.remove.new.dir)) below
+
+pub remove-requires : goal.remove-requires
+remove-requires g c =
+    let greatest = c.in_ok-found.found.greatest in
+    let files = still_older c.args.path.now (greatest + 1) (g.D.Dir.opened c.open.new.dir) (g.D.Dir.opened c.begin.new.dir) c.in_ok-older.older.files c.in_ok-older.ensures.files c.in_ok-journal.ensures.others in
+    record {
+      files = subst (λ (p : List ℕ). AreOlder p c.in_ok-older.older.number (g.D.Dir.opened c.begin.new.dir) c.in_ok-older.older.files) (sym c.in_ok-older.ensures.path)
+          (subst (λ (k : ℕ). AreOlder c.args.path.now k (g.D.Dir.opened c.begin.new.dir) c.in_ok-older.older.files) (sym c.in_ok-older.ensures.number) files);
+    }
 
 pub returns-clause-open : goal.returns-clause-open
 returns-clause-open g c =
     let greatest = c.in_ok-found.found.greatest in
     let small : greatest + 1 < 2 ^ 32 = grind (arith, c.if-found.false, c.find.type_inv, c.in_ok-found.is) in
-    c.in_ok-remove_older.ensures.kept c.in_ok-journal.journal.file _ (own_is_above c.args.path.now (greatest + 1) c.in_ok-journal.journal c.in_ok-journal.ensures.path c.in_ok-journal.ensures.number small)
+    let path_is = c.in_ok-journal.ensures.path ∙ sym c.in_ok-older.ensures.path in
+    let number_is = c.in_ok-journal.ensures.number ∙ sym c.in_ok-older.ensures.number in
+    c.in_ok-remove.ensures.kept c.in_ok-journal.journal.file _
+    (own_is_above c.in_ok-older.older.path.now c.in_ok-older.older.number c.in_ok-journal.journal path_is number_is (subst (λ (k : ℕ). k < 2 ^ 32) (sym c.in_ok-older.ensures.number) small))
     c.in_ok-journal.ensures.open
 
-pub returns-in_err-remove_older-clause-elsewhere : goal.returns-in_err-remove_older-clause-elsewhere
-returns-in_err-remove_older-clause-elsewhere g c = λ honest name differs.
+pub returns-in_err-remove-clause-elsewhere : goal.returns-in_err-remove-clause-elsewhere
+returns-in_err-remove-clause-elsewhere g c = λ honest name differs.
     let greatest = c.in_ok-found.found.greatest in
-    let small : greatest + 1 < 2 ^ 32 = grind (arith, c.if-found.false, c.find.type_inv, c.in_ok-found.is) in
     let found_honest = c.in_ok-found.ensures.honest honest in
-    c.in_err-remove_older.ensures.elsewhere (c.in_ok-journal.ensures.honest found_honest) name (λ n below. differs n (omega (arith, below, small)))
-    ∙ c.in_ok-journal.ensures.elsewhere found_honest name (differs (greatest + 1) small) ∙ c.in_ok-found.ensures.same honest name
+    let older_honest = c.in_ok-older.ensures.honest found_honest in
+    let begun_honest = c.in_ok-journal.ensures.honest older_honest in
+    let small : greatest + 1 < 2 ^ 32 = grind (arith, c.if-found.false, c.find.type_inv, c.in_ok-found.is) in
+    let below : ChangesBelow c.args.path.now (greatest + 1) (now (g.D.Dir.history c.begin.new.dir)) (now (g.D.Dir.history c.remove.new.dir)) = subst (λ (p : List ℕ). ChangesBelow p (greatest + 1) (now (g.D.Dir.history c.begin.new.dir)) (now (g.D.Dir.history c.remove.new.dir))) c.in_ok-older.ensures.path
+    (subst (λ (k : ℕ). ChangesBelow c.in_ok-older.older.path.now k (now (g.D.Dir.history c.begin.new.dir)) (now (g.D.Dir.history c.remove.new.dir))) c.in_ok-older.ensures.number (c.remove.ensures.elsewhere begun_honest)) in
+    below name (λ n lt. differs n (omega (arith, lt, small)))
+    ∙ c.in_ok-journal.ensures.elsewhere older_honest name (differs (greatest + 1) small) ∙ c.in_ok-older.ensures.same found_honest name ∙ c.in_ok-found.ensures.same honest name
 
 pub returns-clause-elsewhere : goal.returns-clause-elsewhere
 returns-clause-elsewhere g c = λ honest name differs.
     let greatest = c.in_ok-found.found.greatest in
-    let small : greatest + 1 < 2 ^ 32 = grind (arith, c.if-found.false, c.find.type_inv, c.in_ok-found.is) in
     let found_honest = c.in_ok-found.ensures.honest honest in
-    c.in_ok-remove_older.ensures.elsewhere (c.in_ok-journal.ensures.honest found_honest) name (λ n below. differs n (omega (arith, below, small)))
-    ∙ c.in_ok-journal.ensures.elsewhere found_honest name (differs (greatest + 1) small) ∙ c.in_ok-found.ensures.same honest name
+    let older_honest = c.in_ok-older.ensures.honest found_honest in
+    let begun_honest = c.in_ok-journal.ensures.honest older_honest in
+    let small : greatest + 1 < 2 ^ 32 = grind (arith, c.if-found.false, c.find.type_inv, c.in_ok-found.is) in
+    let below : ChangesBelow c.args.path.now (greatest + 1) (now (g.D.Dir.history c.begin.new.dir)) (now (g.D.Dir.history c.remove.new.dir)) = subst (λ (p : List ℕ). ChangesBelow p (greatest + 1) (now (g.D.Dir.history c.begin.new.dir)) (now (g.D.Dir.history c.remove.new.dir))) c.in_ok-older.ensures.path
+    (subst (λ (k : ℕ). ChangesBelow c.in_ok-older.older.path.now k (now (g.D.Dir.history c.begin.new.dir)) (now (g.D.Dir.history c.remove.new.dir))) c.in_ok-older.ensures.number (c.remove.ensures.elsewhere begun_honest)) in
+    below name (λ n lt. differs n (omega (arith, lt, small)))
+    ∙ c.in_ok-journal.ensures.elsewhere older_honest name (differs (greatest + 1) small) ∙ c.in_ok-older.ensures.same found_honest name ∙ c.in_ok-found.ensures.same honest name
+
+pub returns-in_err-journal-clause-elsewhere : goal.returns-in_err-journal-clause-elsewhere
+returns-in_err-journal-clause-elsewhere g c = λ honest name differs.
+    let greatest = c.in_ok-found.found.greatest in
+    let found_honest = c.in_ok-found.ensures.honest honest in
+    let older_honest = c.in_ok-older.ensures.honest found_honest in
+    let small : greatest + 1 < 2 ^ 32 = grind (arith, c.if-found.false, c.find.type_inv, c.in_ok-found.is) in
+    c.begin.ensures.elsewhere older_honest name (differs (greatest + 1) small) ∙ c.in_ok-older.ensures.same found_honest name ∙ c.in_ok-found.ensures.same honest name
+
+pub returns-clause-alone : goal.returns-clause-alone
+returns-clause-alone g c = λ honest n from lt.
+    let greatest = c.in_ok-found.found.greatest in
+    let found_honest = c.in_ok-found.ensures.honest honest in
+    let older_honest = c.in_ok-older.ensures.honest found_honest in
+    let begun_honest = c.in_ok-journal.ensures.honest older_honest in
+    let small : greatest + 1 < 2 ^ 32 = grind (arith, c.if-found.false, c.find.type_inv, c.in_ok-found.is) in
+    let number_is = c.in_ok-journal.ensures.number in
+    let under : n < greatest + 1 = omega (arith, lt, number_is) in
+    let gone : IsGoneBut c.args.path.now c.in_ok-older.older.files (now (g.D.Dir.history c.begin.new.dir)) n = opened_alone c.args.path.now (greatest + 1) n c.in_ok-older.older.files (now (g.D.Dir.history c.find.new.dir)) (now (g.D.Dir.history c.open.new.dir)) (now (g.D.Dir.history c.begin.new.dir)) small under (c.in_ok-older.ensures.same found_honest)
+    (c.in_ok-journal.ensures.elsewhere older_honest) (c.in_ok-older.ensures.all found_honest n from under) in
+    subst (λ (p : List ℕ). reads (now (g.D.Dir.history c.remove.new.dir)) (journal_name p n) ≡ None) c.in_ok-older.ensures.path
+    (c.in_ok-remove.ensures.gone begun_honest n (omega (arith, under, small)) (subst (λ (p : List ℕ). IsGoneBut p c.in_ok-older.older.files (now (g.D.Dir.history c.begin.new.dir)) n) (sym c.in_ok-older.ensures.path) gone))

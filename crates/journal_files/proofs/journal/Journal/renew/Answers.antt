@@ -1,20 +1,52 @@
-use Rattle.std.proofs.Common.{◌≡◌, ◌+◌, ◌<◌, ◌^◌, ap, subst, sym, ◌∙◌, arith, inr}
-use Rattle.disk_files.specs.Moments.{now}
+use Rattle.std.proofs.Common.{◌≡◌, ℕ, ◌+◌, ◌<◌, ◌^◌, List, ap, subst, sym, ◌∙◌, arith, inr}
+use Rattle.disk_files.specs.Moments.{LeavesOnly, now}
+use Rattle.journal_files.specs.Folders.{journal_name}
 use Rattle.journal_files.specs.Views.{OpenJournal, IsOpenIn}
-use Rattle.journal_files.specs.Tellings.{opening}
-use Rattle.journal_files.specs.Disks.{Keeps}
-use Rattle.journal_files.proofs.Renewing.{none_from, recovers_at, recovers_as, still_keeps, still_recovers, two_files, is_some_name}
+use Rattle.journal_files.specs.Tellings.{opening, OpensWithin}
+use Rattle.journal_files.specs.Disks.{Keeps, HasNoStray}
+use Rattle.disk_files.proofs.Moments.{started}
+use Rattle.journal_files.proofs.Beginning.{of_all}
+use Rattle.journal_files.proofs.Recovery.{recovers}
+use Rattle.journal_files.proofs.Strays.{kept_no_stray}
+use Rattle.journal_files.proofs.Renewing.{none_from, recovers_at, no_stray_at, still_keeps, still_recovers, still_no_stray, removing, removed_gone, two_files, is_some_name}
 use Rattle.journal_files.proofs.journal.Journal.renew.Goals as goal
 
+pub returns-then-self-clause-moments : goal.returns-then-self-clause-moments
+returns-then-self-clause-moments g c = λ honest t keeps means. started (g.D.Dir.history c.args.dir.now) _ (recovers c.args.self.now (now (g.D.Dir.history c.args.dir.now)) t keeps)
+
+pub returns-then-self-clause-stray : goal.returns-then-self-clause-stray
+returns-then-self-clause-stray g c = λ honest t keeps. kept_no_stray c.args.self.now (now (g.D.Dir.history c.args.dir.now)) t keeps
+
 pub returns-in_err-next-clause-fault : goal.returns-in_err-next-clause-fault
-returns-in_err-next-clause-fault g c = λ honest t keeps means fault.
+returns-in_err-next-clause-fault g c = λ honest t keeps means fault folder leaves.
+    let journal = c.args.self.now in
+    let old = now (g.D.Dir.history c.args.dir.now) in
+    let new = g.D.Dir.history c.begin.new.dir in
+    let path_is = c.deref.ensures.value ∙ ap (λ (j : OpenJournal). j.path) c.self.view_is in
+    let number_is : c.self.inside.number + 1 ≡ journal.number + 1 = ap (λ (j : OpenJournal). j.number + 1) c.self.view_is in
+    let so_far = c.begin.ensures.moments honest t (recovers_at journal old t keeps c.deref.result.now (c.self.inside.number + 1) path_is number_is)
+    (none_from journal old t keeps c.deref.result.now (c.self.inside.number + 1) path_is number_is) (of_all t c.args.chunks.now keeps.telling means) in
+    subst (λ (p : List ℕ). OpensWithin p t folder) path_is (so_far.each new.moment so_far.later (omega arith) folder leaves)
+
+pub returns-in_err-next-clause-moments : goal.returns-in_err-next-clause-moments
+returns-in_err-next-clause-moments g c = λ honest t keeps means.
     let journal = c.args.self.now in
     let old = now (g.D.Dir.history c.args.dir.now) in
     let path_is = c.deref.ensures.value ∙ ap (λ (j : OpenJournal). j.path) c.self.view_is in
     let number_is : c.self.inside.number + 1 ≡ journal.number + 1 = ap (λ (j : OpenJournal). j.number + 1) c.self.view_is in
-    recovers_as journal old t keeps c.deref.result.now (c.self.inside.number + 1) path_is number_is (now (g.D.Dir.history c.begin.new.dir))
-    (c.in_err-next.ensures.err honest t (recovers_at journal old t keeps c.deref.result.now (c.self.inside.number + 1) path_is number_is)
-    (none_from journal old t keeps c.deref.result.now (c.self.inside.number + 1) path_is number_is) means)
+    subst (λ (p : List ℕ). LeavesOnly (g.D.Dir.history c.args.dir.now) (g.D.Dir.history c.begin.new.dir) (OpensWithin p t)) path_is
+    (c.begin.ensures.moments honest t (recovers_at journal old t keeps c.deref.result.now (c.self.inside.number + 1) path_is number_is)
+    (none_from journal old t keeps c.deref.result.now (c.self.inside.number + 1) path_is number_is) (of_all t c.args.chunks.now keeps.telling means))
+
+pub returns-in_err-next-clause-stray : goal.returns-in_err-next-clause-stray
+returns-in_err-next-clause-stray g c = λ honest t keeps.
+    let journal = c.args.self.now in
+    let old = now (g.D.Dir.history c.args.dir.now) in
+    let path_is = c.deref.ensures.value ∙ ap (λ (j : OpenJournal). j.path) c.self.view_is in
+    let number_is : c.self.inside.number + 1 ≡ journal.number + 1 = ap (λ (j : OpenJournal). j.number + 1) c.self.view_is in
+    subst (λ (p : List ℕ). HasNoStray p (now (g.D.Dir.history c.begin.new.dir))) path_is
+    (c.begin.ensures.stray honest (none_from journal old t keeps c.deref.result.now (c.self.inside.number + 1) path_is number_is)
+    (no_stray_at journal old t keeps c.deref.result.now (c.self.inside.number + 1) path_is number_is))
 
 pub returns-in_err-remove-clause-fault : goal.returns-in_err-remove-clause-fault
 returns-in_err-remove-clause-fault g c = λ honest t keeps means fault.
@@ -25,10 +57,80 @@ returns-in_err-remove-clause-fault g c = λ honest t keeps means fault.
     let number_is : c.self.inside.number + 1 ≡ journal.number + 1 = ap (λ (j : OpenJournal). j.number + 1) c.self.view_is in
     let named = ap (λ (j : OpenJournal). g.D.Dir.opened c.args.dir.now j.file) c.self.view_is ∙ c.requires.open in
     let still = c.in_ok-next.ensures.others c.self.inside.file (is_some_name _ _ named) ∙ named in
+    let begun = c.in_ok-next.ensures.ok honest (none_from journal old t keeps c.deref.result.now (c.self.inside.number + 1) path_is number_is) in
     still_recovers journal next (now (g.D.Dir.history c.begin.new.dir)) (now (g.D.Dir.history c.remove.new.self)) (c.in_ok-next.ensures.path ∙ path_is) (c.in_ok-next.ensures.number ∙ number_is) keeps.last
-    old t c.args.chunks.now keeps c.in_ok-next.ensures.state means
-    (c.in_ok-next.ensures.ok honest (none_from journal old t keeps c.deref.result.now (c.self.inside.number + 1) path_is number_is))
-    (c.in_err-remove.ensures.err (c.in_ok-next.ensures.honest honest) _ still)
+    t c.args.chunks.now c.in_ok-next.ensures.state (of_all t c.args.chunks.now keeps.telling means) begun (c.in_err-remove.ensures.err (c.in_ok-next.ensures.honest honest) _ still)
+
+pub returns-in_err-remove-clause-moments : goal.returns-in_err-remove-clause-moments
+returns-in_err-remove-clause-moments g c = λ honest t keeps means.
+    let journal = c.args.self.now in
+    let next = c.in_ok-next.next in
+    let old = now (g.D.Dir.history c.args.dir.now) in
+    let path_is = c.deref.ensures.value ∙ ap (λ (j : OpenJournal). j.path) c.self.view_is in
+    let number_is : c.self.inside.number + 1 ≡ journal.number + 1 = ap (λ (j : OpenJournal). j.number + 1) c.self.view_is in
+    let named = ap (λ (j : OpenJournal). g.D.Dir.opened c.args.dir.now j.file) c.self.view_is ∙ c.requires.open in
+    let still = c.in_ok-next.ensures.others c.self.inside.file (is_some_name _ _ named) ∙ named in
+    let begun = c.in_ok-next.ensures.ok honest (none_from journal old t keeps c.deref.result.now (c.self.inside.number + 1) path_is number_is) in
+    let so_far = subst (λ (p : List ℕ). LeavesOnly (g.D.Dir.history c.args.dir.now) (g.D.Dir.history c.begin.new.dir) (OpensWithin p t)) path_is
+    (c.begin.ensures.moments honest t (recovers_at journal old t keeps c.deref.result.now (c.self.inside.number + 1) path_is number_is)
+    (none_from journal old t keeps c.deref.result.now (c.self.inside.number + 1) path_is number_is) (of_all t c.args.chunks.now keeps.telling means)) in
+    let after = c.begin.ensures.honest honest in
+    removing journal.path t (journal_name journal.path journal.number) (g.D.Dir.history c.args.dir.now) (g.D.Dir.history c.begin.new.dir) (g.D.Dir.history c.remove.new.self) c.remove.result so_far (c.remove.ensures.time after)
+    (λ disk. still_recovers journal next (now (g.D.Dir.history c.begin.new.dir)) disk (c.in_ok-next.ensures.path ∙ path_is) (c.in_ok-next.ensures.number ∙ number_is) keeps.last
+    t c.args.chunks.now c.in_ok-next.ensures.state (of_all t c.args.chunks.now keeps.telling means) begun)
+    (c.remove.ensures.ok after _ still) (c.remove.ensures.err after _ still)
+
+pub returns-in_err-remove-clause-stray : goal.returns-in_err-remove-clause-stray
+returns-in_err-remove-clause-stray g c = λ honest t keeps.
+    let journal = c.args.self.now in
+    let next = c.in_ok-next.next in
+    let old = now (g.D.Dir.history c.args.dir.now) in
+    let path_is = c.deref.ensures.value ∙ ap (λ (j : OpenJournal). j.path) c.self.view_is in
+    let number_is : c.self.inside.number + 1 ≡ journal.number + 1 = ap (λ (j : OpenJournal). j.number + 1) c.self.view_is in
+    let named = ap (λ (j : OpenJournal). g.D.Dir.opened c.args.dir.now j.file) c.self.view_is ∙ c.requires.open in
+    let still = c.in_ok-next.ensures.others c.self.inside.file (is_some_name _ _ named) ∙ named in
+    let begun = c.in_ok-next.ensures.ok honest (none_from journal old t keeps c.deref.result.now (c.self.inside.number + 1) path_is number_is) in
+    still_no_stray journal next (now (g.D.Dir.history c.begin.new.dir)) (now (g.D.Dir.history c.remove.new.self)) (c.in_ok-next.ensures.path ∙ path_is) (c.in_ok-next.ensures.number ∙ number_is) keeps.last
+    c.args.chunks.now begun (c.in_err-remove.ensures.err (c.in_ok-next.ensures.honest honest) _ still)
+
+pub returns-clause-moments : goal.returns-clause-moments
+returns-clause-moments g c = λ honest t keeps means.
+    let journal = c.args.self.now in
+    let next = c.in_ok-next.next in
+    let old = now (g.D.Dir.history c.args.dir.now) in
+    let path_is = c.deref.ensures.value ∙ ap (λ (j : OpenJournal). j.path) c.self.view_is in
+    let number_is : c.self.inside.number + 1 ≡ journal.number + 1 = ap (λ (j : OpenJournal). j.number + 1) c.self.view_is in
+    let named = ap (λ (j : OpenJournal). g.D.Dir.opened c.args.dir.now j.file) c.self.view_is ∙ c.requires.open in
+    let still = c.in_ok-next.ensures.others c.self.inside.file (is_some_name _ _ named) ∙ named in
+    let begun = c.in_ok-next.ensures.ok honest (none_from journal old t keeps c.deref.result.now (c.self.inside.number + 1) path_is number_is) in
+    let so_far = subst (λ (p : List ℕ). LeavesOnly (g.D.Dir.history c.args.dir.now) (g.D.Dir.history c.begin.new.dir) (OpensWithin p t)) path_is
+    (c.begin.ensures.moments honest t (recovers_at journal old t keeps c.deref.result.now (c.self.inside.number + 1) path_is number_is)
+    (none_from journal old t keeps c.deref.result.now (c.self.inside.number + 1) path_is number_is) (of_all t c.args.chunks.now keeps.telling means)) in
+    let after = c.begin.ensures.honest honest in
+    removing journal.path t (journal_name journal.path journal.number) (g.D.Dir.history c.args.dir.now) (g.D.Dir.history c.begin.new.dir) (g.D.Dir.history c.remove.new.self) c.remove.result so_far (c.remove.ensures.time after)
+    (λ disk. still_recovers journal next (now (g.D.Dir.history c.begin.new.dir)) disk (c.in_ok-next.ensures.path ∙ path_is) (c.in_ok-next.ensures.number ∙ number_is) keeps.last
+    t c.args.chunks.now c.in_ok-next.ensures.state (of_all t c.args.chunks.now keeps.telling means) begun)
+    (c.remove.ensures.ok after _ still) (c.remove.ensures.err after _ still)
+
+pub returns-clause-stray : goal.returns-clause-stray
+returns-clause-stray g c = λ honest t keeps.
+    let journal = c.args.self.now in
+    let next = c.in_ok-next.next in
+    let old = now (g.D.Dir.history c.args.dir.now) in
+    let path_is = c.deref.ensures.value ∙ ap (λ (j : OpenJournal). j.path) c.self.view_is in
+    let number_is : c.self.inside.number + 1 ≡ journal.number + 1 = ap (λ (j : OpenJournal). j.number + 1) c.self.view_is in
+    let named = ap (λ (j : OpenJournal). g.D.Dir.opened c.args.dir.now j.file) c.self.view_is ∙ c.requires.open in
+    let still = c.in_ok-next.ensures.others c.self.inside.file (is_some_name _ _ named) ∙ named in
+    let begun = c.in_ok-next.ensures.ok honest (none_from journal old t keeps c.deref.result.now (c.self.inside.number + 1) path_is number_is) in
+    still_no_stray journal next (now (g.D.Dir.history c.begin.new.dir)) (now (g.D.Dir.history c.remove.new.self)) (c.in_ok-next.ensures.path ∙ path_is) (c.in_ok-next.ensures.number ∙ number_is) keeps.last
+    c.args.chunks.now begun (inr (c.in_ok-remove.ensures.ok (c.in_ok-next.ensures.honest honest) _ still))
+
+pub returns-clause-gone : goal.returns-clause-gone
+returns-clause-gone g c = λ honest.
+    let journal = c.args.self.now in
+    let named = ap (λ (j : OpenJournal). g.D.Dir.opened c.args.dir.now j.file) c.self.view_is ∙ c.requires.open in
+    let still = c.in_ok-next.ensures.others c.self.inside.file (is_some_name _ _ named) ∙ named in
+    removed_gone (journal_name journal.path journal.number) (now (g.D.Dir.history c.begin.new.dir)) (now (g.D.Dir.history c.remove.new.self)) (c.in_ok-remove.ensures.ok (c.in_ok-next.ensures.honest honest) _ still)
 
 pub returns-clause-ok : goal.returns-clause-ok
 returns-clause-ok g c = λ honest t keeps.

@@ -1,0 +1,8 @@
+use Rattle.journal_files.proofs.Strays.{kept_no_stray, left_no_stray}
+use Rattle.journal_files.proofs.laws.has_no_stray.Goals as goal
+
+pub returns-clause-kept : goal.returns-clause-kept
+returns-clause-kept c = kept_no_stray
+
+pub returns-clause-left : goal.returns-clause-left
+returns-clause-left c = left_no_stray
