@@ -1,0 +1,7 @@
+pub mod Addresses
+pub mod Breaks
+pub mod Firsts
+pub mod Labels
+pub mod Matches
+pub mod Rules
+pub mod Sites

@@ -1,0 +1,195 @@
+-- The rules under which a network of relays loses no event that was acknowledged to a client. They compare patterns, and know no
+-- tags, steps or buffers' contents.
+use Rattle.std.specs.Prelude.{◌≡◌, ◌≢◌, ◌<◌, ℕ, List, Option, Some, None, slice_get, string_bytes, All, Any, IsSome, IsSomeAnd, ◌⊎◌}
+use Rattle.std.specs.Option.{option_and_then}
+use Rattle.relay_conf.specs.declared.buffer.BufferKind.{BufferKind}
+use Rattle.relay_conf.specs.declared.buffer.BufferKind.TheVariants as kind
+use Rattle.relay_conf.specs.declared.output.Output.{Output}
+use Rattle.relay_conf.specs.declared.output.Output.TheVariants as output
+use Rattle.relay_conf.specs.declared.relay.MatchRule.{MatchRule}
+use Rattle.relay_conf.specs.declared.relay.Source.{Source}
+use Rattle.relay_net.specs.Addresses.{Address}
+use Rattle.relay_net.specs.Network.{Network, entrance, address_of_client, address_of_server}
+use Rattle.relay_net.specs.Outputs.{settings_of, Keeps}
+use Rattle.relay_net.specs.declared.node.Client.{Client}
+use Rattle.relay_net.specs.declared.node.Node.{Node}
+use Rattle.tag_pattern.specs.Items.{Item}
+use Rattle.tag_pattern.specs.Patterns.{Fits, Meets}
+use Rattle.loss_rules.specs.Labels.{FitsLabel, FitsReach, IsReached, EachReach}
+use Rattle.loss_rules.specs.Sites.{rule_at, output_in_rule, EachMatch, EachOutput, EachServer, line_of, RelabelsTo}
+use Rattle.loss_rules.specs.declared.label.Label.{Label}
+use Rattle.loss_rules.specs.declared.label.Reach.{Reach}
+use Rattle.loss_rules.specs.declared.label.RelayLine.{RelayLine}
+
+-- 1. Numbers, folders and addresses are distinct.
+
+-- The relay at this place has another number than that at the other place, and another folder.
+abbrev pub IsNewTo : {A : Type 0} → Network A → List (RelayLine A) → ℕ → ℕ → Type 0
+IsNewTo {A} net lines place other =
+    ((one two : Node A) → slice_get net.relays other ≡ Some one → slice_get net.relays place ≡ Some two → one.number ≢ two.number)
+    × ((one two : RelayLine A) → slice_get lines other ≡ Some one → slice_get lines place ≡ Some two → string_bytes one.folder ≢ string_bytes two.folder)
+
+-- So it is with each relay before it.
+abbrev pub RelayIsNew : {A : Type 0} → Network A → List (RelayLine A) → ℕ → Type 0
+RelayIsNew net lines place = (before : ℕ) → before < place → IsNewTo net lines place before
+
+-- the source with this place in the relay at this place
+abbrev pub source_in : {A : Type 0} → Network A → ℕ → ℕ → Option (Source A)
+source_in net place source = option_and_then (λ node. slice_get node.relay.sources.items source) (slice_get net.relays place)
+
+-- The source is before this one: in a relay before its relay, or before it in its relay.
+abbrev pub IsBefore : (place source : ℕ) → (other_place other_source : ℕ) → Type 0
+IsBefore place source p s = (p < place) ⊎ ((p ≡ place) × (s < source))
+
+-- The source with this place in the relay at this place has another address than each source before it.
+abbrev pub SourceIsNew : {A : Type 0} → Network A → ℕ → ℕ → Type 0
+SourceIsNew {A} net place source = (p s : ℕ) → IsBefore place source p s → (one two : Source A) (first second : Node A)
+    → source_in net p s ≡ Some one → source_in net place source ≡ Some two → slice_get net.relays p ≡ Some first → slice_get net.relays place ≡ Some second
+    → one.port ≡ two.port → string_bytes first.host ≢ string_bytes second.host
+
+-- All relays have numbers, folders and addresses of their own.
+pub record AddressesAreDistinct {A : Type 0} (net : Network A) (lines : List (RelayLine A)) : Type 0 where
+  pub relays : (place : ℕ) → RelayIsNew net lines place
+  pub sources : (place source : ℕ) → SourceIsNew net place source
+
+-- 2. Servers are sources.
+
+-- Each server's address is that of a source of the plan.
+abbrev pub ServersAreSources : {A : Type 0} → Network A → Type 0
+ServersAreSources net = EachServer net (λ place scope rule server. IsSome (entrance net (address_of_server server)))
+
+-- 3. Clients are labelled.
+
+-- Each pattern of the client fits a label of the scope that its source leads into.
+abbrev pub IsLabelledClient : {A : Type 0} → Network A → List (Label A) → Client A → Type 0
+IsLabelledClient net labels client = IsSomeAnd (entrance net (address_of_client net client)) (λ at. All (FitsLabel labels at.relay at.scope) client.patterns.items)
+
+-- This is so of all clients.
+abbrev pub ClientsAreLabelled : {A : Type 0} → Network A → List (Label A) → Type 0
+ClientsAreLabelled net labels = All (IsLabelledClient net labels) net.clients
+
+-- 4. Labels are matched.
+
+-- The pattern fits a pattern of the match.
+abbrev pub FitsMatch : {A : Type 0} → List Item → MatchRule A → Type 0
+FitsMatch pattern rule = Any (Fits pattern) rule.patterns.items
+
+-- The pattern fits a pattern of some match of the scope.
+abbrev pub IsMatched : {A : Type 0} → Network A → ℕ → ℕ → List Item → Type 0
+IsMatched {A} net place scope pattern = (rule : ℕ) × (found : MatchRule A) × (rule_at net place scope rule ≡ Some found) × FitsMatch pattern found
+
+-- Each pattern of each label is.
+abbrev pub LabelsAreMatched : {A : Type 0} → Network A → List (Label A) → Type 0
+LabelsAreMatched net labels = All (λ label. All (IsMatched net label.place label.scope) label.patterns.items) labels
+
+-- 5. Reaches cover.
+
+-- The label's pattern and this pattern of the match have nothing in common, or one of them fits a reach of the match.
+abbrev pub IsCovered : {A : Type 0} → List (Reach A) → ℕ → ℕ → ℕ → List Item → List Item → Type 0
+IsCovered reaches place scope rule label pattern = (¬ Meets pattern label) ⊎ (FitsReach reaches place scope rule label ⊎ FitsReach reaches place scope rule pattern)
+
+-- The label's pattern fits no match of the scope before this one.
+abbrev pub FitsNoneBefore : {A : Type 0} → Network A → ℕ → ℕ → ℕ → List Item → Type 0
+FitsNoneBefore {A} net place scope rule label = (before : ℕ) (found : MatchRule A) → before < rule → rule_at net place scope before ≡ Some found → ¬ FitsMatch label found
+
+-- The reaches of each match, up to and with the first that the label's pattern fits, cover what the two may have in common. Where it
+-- fits none, nothing is asked for.
+abbrev pub ReachesCoverLabel : {A : Type 0} → Network A → List (Reach A) → ℕ → ℕ → List Item → Type 0
+ReachesCoverLabel {A} net reaches place scope label = IsMatched net place scope label → (rule : ℕ) (found : MatchRule A) → rule_at net place scope rule ≡ Some found
+    → FitsNoneBefore net place scope rule label → All (IsCovered reaches place scope rule label) found.patterns.items
+
+-- This is so of each pattern of each label.
+abbrev pub ReachesCover : {A : Type 0} → Network A → List (Label A) → List (Reach A) → Type 0
+ReachesCover net labels reaches = All (λ label. All (ReachesCoverLabel net reaches label.place label.scope) label.patterns.items) labels
+
+-- 6. Reached matches keep.
+
+-- One of the match's outputs keeps, or sends events on to another scope.
+abbrev pub KeepsOrRelabels : {A : Type 0} → MatchRule A → Type 0
+KeepsOrRelabels rule = Any (λ found. Keeps found ⊎ ((scope : ℕ) × RelabelsTo found scope)) rule.outputs.items
+
+-- This is so of each reached match.
+abbrev pub ReachedMatchesKeep : {A : Type 0} → Network A → List (Reach A) → Type 0
+ReachedMatchesKeep net reaches = EachMatch net (λ place scope rule found. IsReached reaches place scope rule → KeepsOrRelabels found)
+
+-- 7. Relabels are labelled.
+
+-- Each reach of the output's match fits a label of the scope that it sends events on to.
+abbrev pub IsLabelledRelabel : {A : Type 0} → List (Label A) → List (Reach A) → ℕ → ℕ → ℕ → Output A → Type 0
+IsLabelledRelabel labels reaches place scope rule found = (target : ℕ) → RelabelsTo found target → EachReach reaches place scope rule (FitsLabel labels place target)
+
+-- This is so of each output.
+abbrev pub RelabelsAreLabelled : {A : Type 0} → Network A → List (Label A) → List (Reach A) → Type 0
+RelabelsAreLabelled net labels reaches = EachOutput net (λ place scope rule output found. IsLabelledRelabel labels reaches place scope rule found)
+
+-- 8. Forwards are labelled.
+
+-- Each reach of the match fits a label of the scope that the server leads into. Where the server is no source, nothing is asked for.
+abbrev pub IsLabelledServer : {A : Type 0} → Network A → List (Label A) → List (Reach A) → ℕ → ℕ → ℕ → Address → Type 0
+IsLabelledServer net labels reaches place scope rule address = (at : _) → entrance net address ≡ Some at → EachReach reaches place scope rule (FitsLabel labels at.relay at.scope)
+
+-- This is so of each server.
+abbrev pub ForwardsAreLabelled : {A : Type 0} → Network A → List (Label A) → List (Reach A) → Type 0
+ForwardsAreLabelled net labels reaches = EachServer net (λ place scope rule server. IsLabelledServer net labels reaches place scope rule (address_of_server server))
+
+-- 9. Paths are distinct.
+
+-- the path of a buffer, if it is a file
+abbrev pub path_of : {A : Type 0} → BufferKind A → Option (List ℕ)
+path_of kind.Memory = None
+path_of (kind.File path) = Some (string_bytes path)
+
+-- the path of an output's buffer, if it has one that is a file
+abbrev pub buffer_path : {A : Type 0} → Output A → Option (List ℕ)
+buffer_path found = option_and_then (λ settings. path_of settings.kind) (settings_of found)
+
+-- the path of an output's sink, if it has one
+abbrev pub sink_path : {A : Type 0} → Output A → Option (List ℕ)
+sink_path (output.Null line) = None
+sink_path (output.Relabel target line) = None
+sink_path (output.Forward settings line) = None
+sink_path (output.File settings line) = Some (string_bytes settings.path)
+
+-- The outputs share a path of their buffers, or one of their sinks.
+abbrev pub SharePath : {A : Type 0} → Output A → Output A → Type 0
+SharePath one two = (path : List ℕ) × (((buffer_path one ≡ Some path) × (buffer_path two ≡ Some path)) ⊎ ((sink_path one ≡ Some path) × (sink_path two ≡ Some path)))
+
+-- Each other output of the relay that shares a path with the output at this place stands in a later line.
+abbrev pub IsFirstOfPath : {A : Type 0} → Network A → ℕ → ℕ → ℕ → ℕ → Output A → Type 0
+IsFirstOfPath {A} net place scope rule output found = (s r o : ℕ) (other : Output A) → output_in_rule net place s r o ≡ Some other
+    → ¬ ((s ≡ scope) × (r ≡ rule) × (o ≡ output)) → SharePath other found → line_of found < line_of other
+
+-- This is so of each output, so that no two of a relay share a path.
+abbrev pub PathsAreDistinct : {A : Type 0} → Network A → Type 0
+PathsAreDistinct net = EachOutput net (IsFirstOfPath net)
+
+-- 10. Relabels don't come back.
+
+-- A reached match of the scope sends events on to the other scope.
+abbrev pub GoesOn : {A : Type 0} → Network A → List (Reach A) → ℕ → ℕ → ℕ → Type 0
+GoesOn {A} net reaches place scope target = (rule output : ℕ) × (found : Output A) × (output_in_rule net place scope rule output ≡ Some found)
+    × IsReached reaches place scope rule × RelabelsTo found target
+
+-- A chain of such relabels, which may be empty, leads from the one scope to the other.
+pub data GoesTo {A : Type 0} (net : Network A) (reaches : List (Reach A)) (place : ℕ) : ℕ → ℕ → Type 0 where
+  here : {scope : ℕ} → GoesTo net reaches place scope scope
+  onward : {scope target last : ℕ} → GoesOn net reaches place scope target → GoesTo net reaches place target last → GoesTo net reaches place scope last
+
+-- Where the output is a relabel of a reached match, no chain leads from its target back to its scope.
+abbrev pub IsOnNoCycle : {A : Type 0} → Network A → List (Reach A) → ℕ → ℕ → ℕ → Output A → Type 0
+IsOnNoCycle net reaches place scope rule found = IsReached reaches place scope rule → (target : ℕ) → RelabelsTo found target → ¬ GoesTo net reaches place target scope
+
+-- This is so of each output.
+abbrev pub NoRelabelCycle : {A : Type 0} → Network A → List (Reach A) → Type 0
+NoRelabelCycle net reaches = EachOutput net (λ place scope rule output found. IsOnNoCycle net reaches place scope rule found)
+
+-- The rules that keep events: all but those on what is distinct, which serve that no two relays, buffers or sinks are taken for one.
+pub record AreRulesKept {A : Type 0} (net : Network A) (labels : List (Label A)) (reaches : List (Reach A)) : Type 0 where
+  pub servers : ServersAreSources net
+  pub clients : ClientsAreLabelled net labels
+  pub labels_matched : LabelsAreMatched net labels
+  pub covered : ReachesCover net labels reaches
+  pub kept : ReachedMatchesKeep net reaches
+  pub relabels : RelabelsAreLabelled net labels reaches
+  pub forwards : ForwardsAreLabelled net labels reaches
+  pub no_cycle : NoRelabelCycle net reaches

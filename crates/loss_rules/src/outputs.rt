@@ -1,0 +1,120 @@
+// The rules on a relay's own matches and outputs: reached matches keep, relabels are labelled, paths are distinct.
+ghost use Rattle.std.specs.Prelude.{◌↔◌, ◌⊎◌, ℕ, IfNone, IfSome, IsTrue, Any};
+ghost use Rattle.relay_net.specs.Outputs.{Keeps};
+ghost use Rattle.loss_rules.specs.Breaks.{IsInConf, BreaksAtMatch, BreaksAtOutput};
+ghost use Rattle.loss_rules.specs.Labels.{IsReached};
+ghost use Rattle.loss_rules.specs.Rules.{ReachedMatchesKeep, KeepsOrRelabels, RelabelsAreLabelled, IsLabelledRelabel};
+ghost use Rattle.loss_rules.specs.Sites.{RelabelsTo};
+
+use crate::answer::Place;
+use crate::fitting::{is_reached, reaches_fit_label};
+use crate::label::{Label, Reach};
+use crate::requirement::{OfOutputs, Requirement, first_place, line_unless};
+use crate::site::Site;
+use relay_conf::{MatchRule, Output};
+use relay_net::{Entrance, Net, keeps};
+use std::alloc::Allocator;
+
+/// Where a match is first found that has a reach, and neither an output that keeps nor a relabel.
+/// For each match all reaches are gone through.
+pub fn reached_matches_keep<A: Allocator + Copy>(
+    net: &Net<A>,
+    reaches: &[Reach<A>],
+) -> Option<Place>
+    ensures kept { IfNone result (ReachedMatchesKeep net.now reaches.now) }
+    ensures broken { IfSome result (IsInConf net.now (BreaksAtMatch net.now (λ place scope rule found. IsReached reaches.now place scope rule → KeepsOrRelabels found))) }
+{
+    first_place(net, &KeepsIfReached { reaches })
+}
+
+/// Where a relabel is first found with a reach of its match that fits no label of the relabel's target.
+/// For each relabel each pattern of its match's reaches is compared with those of all labels.
+pub fn relabels_are_labelled<A: Allocator + Copy>(
+    net: &Net<A>,
+    labels: &[Label<A>],
+    reaches: &[Reach<A>],
+) -> Option<Place>
+    ensures kept { IfNone result (RelabelsAreLabelled net.now labels.now reaches.now) }
+    ensures broken { IfSome result (IsInConf net.now (BreaksAtOutput net.now (λ place scope rule output found. IsLabelledRelabel labels.now reaches.now place scope rule found))) }
+{
+    first_place(net, &OfOutputs(RelabelsToLabel { labels, reaches }))
+}
+
+// The match has an output that keeps or a relabel, if it has a reach.
+#[derive(Drop)]
+struct KeepsIfReached<'a, A: Allocator> {
+    reaches: &'a [Reach<A>],
+}
+
+impl<A: Allocator> Requirement<MatchRule<A>> for KeepsIfReached<'_, A> {
+    ghost use Rattle.std.specs.Prelude.{◌≡◌};
+    ghost use Rattle.loss_rules.specs.Labels.{IsReached};
+    ghost use Rattle.loss_rules.specs.Rules.{KeepsOrRelabels};
+
+    ghost keeps = { λ asked at found. IsReached asked.reaches.now at.place at.scope at.rule → KeepsOrRelabels found };
+
+    ghost breaks = { λ asked at found line. (found.line ≡ line) × ¬ (IsReached asked.reaches.now at.place at.scope at.rule → KeepsOrRelabels found) };
+
+    fn broken_line(&self, at: Site, found: &MatchRule<A>) -> Option<usize> {
+        let kept = !is_reached(self.reaches, at) || keep_or_relabel(&found.outputs);
+        line_unless(kept, found.line)
+    }
+}
+
+// Each reach of the output's match fits a label of the scope that the output sends events on to, if it is a relabel.
+#[derive(Drop)]
+struct RelabelsToLabel<'a, A: Allocator> {
+    labels: &'a [Label<A>],
+    reaches: &'a [Reach<A>],
+}
+
+impl<A: Allocator> Requirement<Output<A>> for RelabelsToLabel<'_, A> {
+    ghost use Rattle.std.specs.Prelude.{◌≡◌};
+    ghost use Rattle.loss_rules.specs.Rules.{IsLabelledRelabel};
+    ghost use Rattle.loss_rules.specs.Sites.{line_of};
+
+    ghost keeps = { λ asked at found. IsLabelledRelabel asked.labels.now asked.reaches.now at.place at.scope at.rule found };
+
+    ghost breaks = { λ asked at found line. (line_of found ≡ line) × ¬ IsLabelledRelabel asked.labels.now asked.reaches.now at.place at.scope at.rule found };
+
+    fn broken_line(&self, at: Site, found: &Output<A>) -> Option<usize> {
+        let Output::Relabel { target, line } = found else {
+            return None;
+        };
+        let scope = Entrance {
+            relay: at.place,
+            scope: target.0,
+        };
+        let kept = reaches_fit_label(self.labels, self.reaches, at, scope);
+        line_unless(kept, *line)
+    }
+}
+
+// Whether one of the outputs keeps, or sends events on to another scope.
+fn keep_or_relabel<A: Allocator>(outputs: &[Output<A>]) -> bool
+    ensures { IsTrue result ↔ Any (λ found. Keeps found ⊎ ((scope : ℕ) × RelabelsTo found scope)) outputs.now }
+{
+    for output in outputs {
+        if keeps_or_relabels(output) {
+            return true;
+        }
+    }
+    false
+}
+
+// Whether the output keeps, or sends events on to another scope.
+fn keeps_or_relabels<A: Allocator>(output: &Output<A>) -> bool
+    ensures { IsTrue result ↔ (Keeps output.now ⊎ ((scope : ℕ) × RelabelsTo output.now scope)) }
+{
+    keeps(output) || is_relabel(output)
+}
+
+// Whether the output sends events on to another scope.
+fn is_relabel<A: Allocator>(output: &Output<A>) -> bool
+    ensures { IsTrue result ↔ ((scope : ℕ) × RelabelsTo output.now scope) }
+{
+    match output {
+        Output::Relabel { target: _, line: _ } => true,
+        _ => false,
+    }
+}

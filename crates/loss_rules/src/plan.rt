@@ -1,0 +1,186 @@
+// The rules on a plan's own lines: clients are labelled, labels are matched, reaches cover.
+ghost use Rattle.std.specs.Prelude.{◌≡◌, ◌↔◌, IfNone, IfSome, IsTrue, All, Any, IsSomeAnd, length, slice_get};
+ghost use Rattle.loss_rules.specs.Breaks.{IsInPlan, BreaksAtClient, BreaksAtLabel};
+ghost use Rattle.loss_rules.specs.Matches.{AreCovered};
+ghost use Rattle.loss_rules.specs.Rules.{ClientsAreLabelled, IsLabelledClient, LabelsAreMatched, IsMatched, FitsMatch, ReachesCover, ReachesCoverLabel, IsCovered};
+
+use crate::answer::Place;
+use crate::fitting::{all_fit_label, fits_any, fits_reach};
+use crate::label::{Label, Reach};
+use crate::requirement::{earlier, in_plan, line_unless};
+use crate::site::{Site, matches_at};
+use relay_conf::MatchRule;
+use relay_net::Net;
+use std::alloc::Allocator;
+use tag_pattern::{Plain, apart};
+
+/// The first line of a client with a pattern that fits no label of the scope that its source leads into.
+/// The lines are those of the network's clients. Each pattern of a client is compared with those of all labels.
+pub fn clients_are_labelled<A: Allocator + Copy>(
+    net: &Net<A>,
+    client_lines: &[usize],
+    labels: &[Label<A>],
+) -> Option<Place>
+    requires { length client_lines.now ≡ length net.now.clients }
+    ensures kept { IfNone result (ClientsAreLabelled net.now labels.now) }
+    ensures broken { IfSome result (IsInPlan (BreaksAtClient net.now client_lines.now (IsLabelledClient net.now labels.now))) }
+{
+    let mut first = None;
+    for (number, line) in client_lines.iter().enumerate() {
+        first = earlier(first, line_unless(is_labelled(net, labels, number), *line));
+    }
+    in_plan(first)
+}
+
+/// The first line of a label with a pattern that fits no pattern of a match of its scope.
+/// Each pattern of a label is compared with those of all matches of its scope.
+pub fn labels_are_matched<A: Allocator + Copy>(net: &Net<A>, labels: &[Label<A>]) -> Option<Place>
+    ensures kept { IfNone result (LabelsAreMatched net.now labels.now) }
+    ensures broken { IfSome result (IsInPlan (BreaksAtLabel labels.now (λ label. All (IsMatched net.now label.place label.scope) label.patterns.items))) }
+{
+    let mut first = None;
+    for label in labels {
+        first = earlier(first, line_unless(all_matched(net, label), label.line));
+    }
+    in_plan(first)
+}
+
+/// The first line of a label with a pattern that has something in common with a match, up to and with the first match that
+/// it fits, which the reaches of that match don't cover. A pattern that fits no match asks for nothing.
+/// For each pattern of a label and each pattern of a match of its scope all reaches are gone through.
+pub fn reaches_cover<A: Allocator + Copy>(
+    net: &Net<A>,
+    labels: &[Label<A>],
+    reaches: &[Reach<A>],
+) -> Option<Place>
+    ensures kept { IfNone result (ReachesCover net.now labels.now reaches.now) }
+    ensures broken { IfSome result (IsInPlan (BreaksAtLabel labels.now (λ label. All (ReachesCoverLabel net.now reaches.now label.place label.scope) label.patterns.items))) }
+{
+    let mut first = None;
+    for label in labels {
+        first = earlier(
+            first,
+            line_unless(all_covered(net, reaches, label), label.line),
+        );
+    }
+    in_plan(first)
+}
+
+// Whether each pattern of the client of this number fits a label of the scope that its source leads into.
+fn is_labelled<A: Allocator + Copy>(net: &Net<A>, labels: &[Label<A>], number: usize) -> bool
+    ensures { IsTrue result ↔ IsSomeAnd (slice_get net.now.clients number) (IsLabelledClient net.now labels.now) }
+{
+    let (Some(client), Some(host)) = (net.client(number), net.client_host(number)) else {
+        return false;
+    };
+    match net.entrance(host, client.port) {
+        Some(scope) => all_fit_label(labels, scope, &client.patterns),
+        None => false,
+    }
+}
+
+// Whether each pattern of the label fits a pattern of a match of its scope.
+fn all_matched<A: Allocator + Copy>(net: &Net<A>, label: &Label<A>) -> bool
+    ensures { IsTrue result ↔ All (IsMatched net.now label.now.place label.now.scope) label.now.patterns.items }
+{
+    let matches = matches_at(net, label.place, label.scope);
+    for pattern in &label.patterns {
+        if !is_matched(matches, pattern) {
+            return false;
+        }
+    }
+    true
+}
+
+// Whether the pattern fits a pattern of one of the matches.
+fn is_matched<A: Allocator>(matches: &[MatchRule<A>], pattern: &Plain<A>) -> bool
+    ensures { IsTrue result ↔ Any (FitsMatch pattern.now) matches.now }
+{
+    for found in matches {
+        if fits_any(pattern, &found.patterns) {
+            return true;
+        }
+    }
+    false
+}
+
+// Whether the reaches cover what each pattern of the label has in common with the matches of its scope.
+fn all_covered<A: Allocator + Copy>(net: &Net<A>, reaches: &[Reach<A>], label: &Label<A>) -> bool
+    ensures { IsTrue result ↔ All (ReachesCoverLabel net.now reaches.now label.now.place label.now.scope) label.now.patterns.items }
+{
+    let matches = matches_at(net, label.place, label.scope);
+    let at = Site {
+        place: label.place,
+        scope: label.scope,
+        rule: 0,
+        output: 0,
+    };
+    for pattern in &label.patterns {
+        if !reaches_cover_label(matches, reaches, at, pattern) {
+            return false;
+        }
+    }
+    true
+}
+
+// Whether the reaches cover what the label's pattern has in common with these matches, those of the site's scope, up to and
+// with the first that it fits.
+fn reaches_cover_label<A: Allocator>(
+    matches: &[MatchRule<A>],
+    reaches: &[Reach<A>],
+    at: Site,
+    pattern: &Plain<A>,
+) -> bool
+    ensures { IsTrue result ↔ AreCovered matches.now reaches.now at.place at.scope pattern.now }
+{
+    let mut covered = true;
+    for (rule, found) in matches.iter().enumerate() {
+        let here = Site {
+            place: at.place,
+            scope: at.scope,
+            rule,
+            output: 0,
+        };
+        covered = covered && is_match_covered(reaches, here, pattern, &found.patterns);
+        if fits_any(pattern, &found.patterns) {
+            return covered;
+        }
+    }
+    true
+}
+
+// Whether the reaches of the match at this site cover what the label's pattern has in common with each of the match's.
+fn is_match_covered<A: Allocator>(
+    reaches: &[Reach<A>],
+    at: Site,
+    label: &Plain<A>,
+    patterns: &[Plain<A>],
+) -> bool
+    ensures { IsTrue result ↔ All (IsCovered reaches.now at.place at.scope at.rule label.now) patterns.now }
+{
+    for pattern in patterns {
+        if !is_pattern_covered(reaches, at, label, pattern) {
+            return false;
+        }
+    }
+    true
+}
+
+// Whether the label's pattern and this one of the match have nothing in common, or one of them fits a reach of the match.
+fn is_pattern_covered<A: Allocator>(
+    reaches: &[Reach<A>],
+    at: Site,
+    label: &Plain<A>,
+    pattern: &Plain<A>,
+) -> bool
+    ensures { IsTrue result ↔ IsCovered reaches.now at.place at.scope at.rule label.now pattern.now }
+{
+    if apart(pattern, label) {
+        return true;
+    }
+    let label_fits = fits_reach(reaches, at, label);
+    if label_fits {
+        return true;
+    }
+    fits_reach(reaches, at, pattern)
+}
