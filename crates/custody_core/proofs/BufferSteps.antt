@@ -11,8 +11,8 @@ use Rattle.custody_store.specs.declared.chunk.Stage.TheVariants.{Staged, Queued,
 use Rattle.relay_net.specs.Network.{Network, place_of, output_at}
 use Rattle.relay_net.specs.Outputs.{is_memory, is_refusing, keeps_chunks}
 use Rattle.custody_store.specs.Buffers.{Event, Chunk, BufferState, with_chunk, events_of}
-use Rattle.custody_core.specs.World.{World, with_buffer}
-use Rattle.custody_core.specs.Steps.{OfChunk, Allowed, effect, output_named, with_named, with_stored, Stores, DropsOldest}
+use Rattle.custody_steps.specs.World.{World, with_buffer}
+use Rattle.custody_steps.specs.Steps.{OfChunk, Allowed, effect, output_named, with_named, with_stored, Stores, DropsOldest}
 use Rattle.step_lines.specs.declared.step.ChunkName.{ChunkName}
 use Rattle.step_lines.specs.declared.step.Step.TheVariants as step
 use Rattle.custody_core.proofs.Kept.{event_of, IsStored, StaysSound, chunk_stays, chunk_goes, sink_grows}

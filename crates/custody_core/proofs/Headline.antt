@@ -2,8 +2,8 @@
 use Rattle.std.proofs.Common.{◌≡◌, true, List, [], ◌∷◌, refl, arith}
 use Rattle.std.proofs.lemmas.List.Elements.{All-contains_itself}
 use Rattle.relay_net.specs.Network.{Network}
-use Rattle.custody_core.specs.World.{World, opening}
-use Rattle.custody_core.specs.Steps.{Allowed, effect, Steps}
+use Rattle.custody_steps.specs.World.{World, opening}
+use Rattle.custody_steps.specs.Steps.{Allowed, effect, Steps}
 use Rattle.custody_core.specs.Custody.{NothingIsLost}
 use Rattle.step_lines.specs.declared.step.Step.{Step}
 use Rattle.step_lines.specs.declared.step.Step.TheVariants as step

@@ -11,8 +11,8 @@ use Rattle.route_graph.specs.Ways.{HaveTag}
 use Rattle.custody_store.specs.Buffers.{Event, Chunk, BufferState, events_of, Holds}
 use Rattle.message_book.specs.declared.sender.Sender.{Sender}
 use Rattle.message_book.specs.Book.{Message, Delivery, newly_acknowledged}
-use Rattle.custody_core.specs.World.{World, with_buffer}
-use Rattle.custody_core.specs.Steps.{OfChunk}
+use Rattle.custody_steps.specs.World.{World, with_buffer}
+use Rattle.custody_steps.specs.Steps.{OfChunk}
 use Rattle.message_book.specs.declared.sender.Sender.TheVariants as sender
 use Rattle.step_lines.specs.declared.step.ChunkName.{ChunkName}
 use Rattle.custody_core.proofs.Kept.{event_of, HoldsAll, IsSound, KeepsAll, StaysSound, stays_same}

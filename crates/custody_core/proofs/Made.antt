@@ -10,8 +10,8 @@ use Rattle.relay_net.specs.Network.{Network, place_of, entrance, address_of_clie
 use Rattle.custody_store.specs.Buffers.{Event, Chunk, BufferState, with_chunk, events_of, started_again, without_oldest, appended_to}
 use Rattle.message_book.specs.Book.{Message, Delivery}
 use Rattle.message_book.specs.declared.sender.Sender.{Sender}
-use Rattle.custody_core.specs.World.{World, opening, with_buffer}
-use Rattle.custody_core.specs.Steps.{Allowed, effect, Steps, CanAppend, with_named, with_stored, with_delivery, forwarded_to, chunk_named}
+use Rattle.custody_steps.specs.World.{World, opening, with_buffer}
+use Rattle.custody_steps.specs.Steps.{Allowed, effect, Steps, CanAppend, with_named, with_stored, with_delivery, forwarded_to, chunk_named}
 use Rattle.custody_core.specs.Custody.{IsOriginOf, NothingIsMadeUp}
 use Rattle.message_book.specs.declared.sender.Sender.TheVariants as sender
 use Rattle.step_lines.specs.declared.step.ChunkName.{ChunkName}

@@ -1,8 +1,8 @@
 -- Runs, step by step.
 use Rattle.std.proofs.Common.{◌++◌, [], ◌∷◌, List, refl}
 use Rattle.relay_net.specs.Network.{Network}
-use Rattle.custody_core.specs.Steps.{Names, Allowed, Steps, effect}
-use Rattle.custody_core.specs.World.{World}
+use Rattle.custody_steps.specs.Steps.{Names, Allowed, Steps, effect}
+use Rattle.custody_steps.specs.World.{World}
 use Rattle.step_lines.specs.declared.step.Step.{Step}
 
 -- one more step at the end

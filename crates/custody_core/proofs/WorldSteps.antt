@@ -14,8 +14,8 @@ use Rattle.route_graph.specs.Ways.{HaveTag}
 use Rattle.relay_net.specs.Ways.{HasLeaf}
 use Rattle.custody_store.specs.Buffers.{Event, BufferState, events_of, appended_to, started_again, Holds}
 use Rattle.message_book.specs.Book.{Message, Delivery, ended}
-use Rattle.custody_core.specs.World.{World, with_buffer}
-use Rattle.custody_core.specs.Steps.{Allowed, effect, CanBegin, CanAppend, CanAcknowledge, OfDelivery}
+use Rattle.custody_steps.specs.World.{World, with_buffer}
+use Rattle.custody_steps.specs.Steps.{Allowed, effect, CanBegin, CanAppend, CanAcknowledge, OfDelivery}
 use Rattle.step_lines.specs.declared.step.Step.TheVariants as step
 use Rattle.custody_core.specs.Premise.{ClientsFit, patterns_of}
 use Rattle.custody_core.proofs.Kept.{event_of, StaysSound, some_and, file_stays}

@@ -1,14 +1,11 @@
 -- What a network never loses, and where what it holds came from.
 use Rattle.std.specs.Prelude.{◌≡◌, ℕ, All, Any, Contains}
-use Rattle.custody_store.specs.Buffers.{Event, Holds}
+use Rattle.custody_store.specs.Buffers.{Event}
 use Rattle.message_book.specs.Book.{Message}
 use Rattle.message_book.specs.declared.sender.Sender.{Sender}
 use Rattle.message_book.specs.declared.sender.Sender.TheVariants as sender
-use Rattle.custody_core.specs.World.{World}
-
--- The event is in a live chunk of some buffer, or in a sink.
-abbrev pub Held : World → Event → Type 0
-Held w event = (place : ℕ) × (buffer : ℕ) × Holds (w.buffers place buffer) event
+use Rattle.custody_steps.specs.Held.{Held}
+use Rattle.custody_steps.specs.World.{World}
 
 -- the sender is a client
 abbrev pub IsClient : Sender → Type 0

@@ -1,10 +1,3 @@
-pub mod Answers
 pub mod Custody
-pub mod Found
-pub mod Open
 pub mod Premise
-pub mod Restarts
 pub mod SingleFile
-pub mod Steps
-pub mod World
-pub mod WorldOf

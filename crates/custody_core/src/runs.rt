@@ -3,12 +3,11 @@ ghost use Rattle.std.specs.Prelude.{◌≡◌, true, IfOk, IfErr};
 ghost use Rattle.custody_core.specs.Custody.{NothingIsLost, NothingIsMadeUp};
 ghost use Rattle.custody_core.specs.Premise.{ClientsFit};
 ghost use Rattle.custody_core.specs.SingleFile.{is_single_file_net};
-ghost use Rattle.custody_core.specs.Steps.{Steps, IsRefusedAt};
-ghost use Rattle.custody_core.specs.World.{opening};
-ghost use Rattle.custody_core.specs.WorldOf.{world_of, net_of};
+ghost use Rattle.custody_steps.specs.Steps.{Steps, IsRefusedAt};
+ghost use Rattle.custody_steps.specs.World.{opening};
+ghost use Rattle.custody_steps.specs.WorldOf.{world_of, net_of};
 
-use crate::fault::StepFault;
-use crate::world::World;
+use custody_steps::{StepFault, World};
 use relay_net::Net;
 use std::alloc::Allocator;
 use step_lines::Step;

@@ -1,9 +1,9 @@
 use Rattle.std.proofs.Common.{◌≡◌, suc, take, drop, subst, ◌∙◌, arith}
 use Rattle.std.proofs.lemmas.List.{length-take-le, take_all}
 use Rattle.relay_net.specs.Network.{Network}
-use Rattle.custody_core.specs.Steps.{Names, Allowed, IsRefused, effect}
-use Rattle.custody_core.specs.World.{opening}
-use Rattle.custody_core.specs.WorldOf.{world_of}
+use Rattle.custody_steps.specs.Steps.{Names, Allowed, IsRefused, effect}
+use Rattle.custody_steps.specs.World.{opening}
+use Rattle.custody_steps.specs.WorldOf.{world_of}
 use Rattle.custody_core.proofs.Headline.{kept}
 use Rattle.custody_core.proofs.Made.{sourced}
 use Rattle.custody_core.proofs.StepsMore.{steps_more}

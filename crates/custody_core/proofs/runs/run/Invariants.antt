@@ -1,7 +1,7 @@
 use Rattle.std.proofs.Common.{◌≡◌, take}
-use Rattle.custody_core.specs.Steps.{Steps}
-use Rattle.custody_core.specs.World.{opening}
-use Rattle.custody_core.specs.WorldOf.{world_of, net_of}
+use Rattle.custody_steps.specs.Steps.{Steps}
+use Rattle.custody_steps.specs.World.{opening}
+use Rattle.custody_steps.specs.WorldOf.{world_of, net_of}
 use Rattle.custody_core.proofs.runs.run.Given as goal
 
 abbrev pub invariant-loop-place : goal.invariant-loop-place

@@ -1,0 +1,10 @@
+pub mod Answering
+pub mod Delivered
+pub mod Deliveries
+pub mod Given
+pub mod Keeping
+pub mod Named
+pub mod Oldest
+pub mod StartingAgain
+pub mod Views
+pub mod Ways

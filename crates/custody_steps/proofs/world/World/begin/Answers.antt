@@ -1,0 +1,45 @@
+use Rattle.std.proofs.Common.{◌++◌, ◌∷◌, [], true, refl, sym, ap, ◌∙◌}
+use Rattle.std.proofs.lemmas.Option.{slice_get_within}
+use Rattle.std.proofs.lemmas.Result.{err_from_is_err_and}
+use Rattle.message_book.specs.Book.{Delivery}
+use Rattle.relay_net.specs.Ways.{HasLoop}
+use Rattle.custody_steps.specs.WorldOf.{world_from}
+use Rattle.custody_steps.proofs.Keeping as keeping
+use Rattle.custody_steps.proofs.world.World.begin.Goals as goal
+
+pub invariant_of-self : goal.invariant_of-self
+invariant_of-self g c =
+    let w = c.args.self.now in
+    let m = c.in-Some.found.now in
+    let at = sym c.in-Some.ensures in
+    let no : ¬ HasLoop w.net.now c.in-Some-entrance.at m.tag m.entries = λ h. let yes = c.in_ok-has_loop.ensures.1 h in cc in
+    let d : Delivery = record { message = c.args.message; entrance = c.in-Some-entrance.at; appended = []; is_open = true } in
+    let known = keeping.known_of w in
+    let k = keeping.either c.begin.result c.begin.ensures.ok c.begin.ensures.err
+    (λ e. keeping.known_opened w.net.now w.places w.book c.begin.new.self known d (w.book.room ++ 0 ∷ []) (slice_get_within w.book.messages c.args.message m at)
+    (keeping.ends_of w.net.now w.book.messages c.args.message m c.in-Some-entrance.at at no) e)
+    (λ e. keeping.known_again w.net.now w.places w.book c.begin.new.self known e) in
+    record { answers = k.answers; closed = k.closed; sent = k.sent; ending = k.ending }
+
+pub returns-in_err-begin-clause-answer : goal.returns-in_err-begin-clause-answer
+returns-in_err-begin-clause-answer g c =
+    let w = c.args.self.now in
+    let at = sym c.in-Some.ensures in
+    let p = err_from_is_err_and c.from_residual-in_err-begin.result c.from_residual-in_err-begin.ensures.1 in
+    rw (p.1, p.2) (
+      slice_get_within w.book.messages c.args.message c.in-Some.found.now at,
+      rw (at, ← c.in-Some-entrance.ensures) refl,
+      ap (world_from w.places) c.in_err-begin.ensures.err,
+    )
+
+pub returns-clause-answer : goal.returns-clause-answer
+returns-clause-answer g c =
+    let w = c.args.self.now in
+    let m = c.in-Some.found.now in
+    let at = sym c.in-Some.ensures in
+    let no : ¬ HasLoop w.net.now c.in-Some-entrance.at m.tag m.entries = λ h. let yes = c.in_ok-has_loop.ensures.1 h in cc in
+    let d : Delivery = record { message = c.args.message; entrance = c.in-Some-entrance.at; appended = []; is_open = true } in (
+      slice_get_within w.book.messages c.args.message m at,
+      rw (at, ← c.in-Some-entrance.ensures) no,
+      keeping.opened_world w.places w.book c.begin.new.self d (w.book.room ++ 0 ∷ []) (w.closed c.in-Some-entrance.at.relay) c.in_ok-begin.ensures.ok ∙ rw (at, ← c.in-Some-entrance.ensures) refl,
+    )

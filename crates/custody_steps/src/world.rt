@@ -1,0 +1,139 @@
+// A network at one time, and how a step changes it.
+ghost use Rattle.std.specs.Prelude.{◌≡◌, ◌≤◌, ◌↔◌, ℕ, length, None, IfSome, IfNone, IfErr, IsTrue, OnOk, OnErr};
+ghost use Rattle.std.specs.List.{list_any};
+ghost use Rattle.custody_store.specs.Contents.{flag_at, stored_events};
+ghost use Rattle.custody_store.specs.Places.{contents_at, closed_at};
+ghost use Rattle.custody_steps.specs.Answers.{is_answer};
+ghost use Rattle.custody_steps.specs.Open.{AreOfMessages, HaveNoLoops};
+
+use crate::fault::StepFault;
+use crate::found::Found;
+use custody_store::{Event, Places, Stage};
+use message_book::Book;
+use relay_net::Net;
+use std::alloc::Allocator;
+use step_lines::{ChunkName, Step};
+
+/// A network at one time: what its buffers and sinks hold, and all that was ever sent.
+#[derive(Drop)]
+pub struct World<'n, A: Allocator> {
+    pub(crate) alloc: A,
+    pub(crate) net: &'n Net<A>,
+    pub(crate) places: Places<A>,
+    pub(crate) book: Book<A>,
+    ghost answers: { (p b s : ℕ) → flag_at (contents_at places p b).answered s ≡ list_any (is_answer p b s) book.messages },
+    ghost closed: { (p : ℕ) → closed_at places p ≤ length book.deliveries },
+    ghost sent: { AreOfMessages book.messages book.deliveries },
+    ghost ending: { HaveNoLoops net.now book.messages book.deliveries },
+}
+
+impl<'n, A: Allocator + Copy> World<'n, A> {
+    ghost use Rattle.custody_steps.specs.Found.{IsFound};
+    ghost use Rattle.custody_steps.specs.Held.{Held};
+    ghost use Rattle.custody_steps.specs.Steps.{Answers, Names, Allowed, IsRefused, chunk_named, effect, sink_named};
+    ghost use Rattle.custody_steps.specs.World.{opening};
+    ghost use Rattle.custody_steps.specs.WorldOf.{world_of, net_of};
+
+    /// The network before the first step: nothing was sent, and all buffers and sinks are empty.
+    pub fn new(alloc: A, net: &'n Net<A>) -> Self
+        ensures net { net_of result ≡ net.now }
+        ensures opening { world_of result ≡ opening }
+    {
+        World {
+            alloc,
+            net,
+            places: Places::new(alloc),
+            book: Book::new(alloc),
+        }
+    }
+
+    /// The events that were acknowledged to clients, in the order of their acknowledgement.
+    pub fn acknowledged(&self) -> &[Event<A>]
+        ensures { stored_events result.now ≡ (world_of self.now).acknowledged }
+    {
+        self.book.acknowledged()
+    }
+
+    /// Whether the event is in a live chunk of some buffer or in a sink. It looks at each of them.
+    pub fn held(&self, tag: &[u8], entry: &[u8]) -> bool
+        ensures { IsTrue result ↔ Held (world_of self.now) (record { tag = tag.now; entry = entry.now }) }
+    {
+        self.places.hold(tag, entry)
+    }
+
+    /// What is in the sink of this output, by the number of its relay and its buffer; nothing where there is none.
+    pub fn sink(&self, relay: u64, buffer: u64) -> &[Event<A>]
+        ensures { stored_events result.now ≡ sink_named (net_of self.now) (world_of self.now) relay buffer }
+    {
+        match self.net.place(relay) {
+            Some(place) => self.places.sink(place, buffer as usize),
+            None => &[],
+        }
+    }
+
+    // The live chunk of this name.
+    pub(crate) fn find(&self, name: &ChunkName) -> Option<Found>
+        ensures found { IfSome result (IsFound (net_of self.now) (world_of self.now) name.now) }
+        ensures none { IfNone result (chunk_named (net_of self.now) (world_of self.now) name.now ≡ None) }
+    {
+        let place = self.net.place(name.relay)?;
+        let buffer = name.buffer as usize;
+        let serial = name.serial as usize;
+        let look = self.places.look(place, buffer, serial)?;
+        Some(Found {
+            place,
+            buffer,
+            serial,
+            look,
+        })
+    }
+
+    // Takes a step, or says why not.
+    fn take(&mut self, step: &Step<A>) -> Result<(), StepFault>
+        ensures net { net_of self.new ≡ net_of self.old }
+        ensures answer { Answers (net_of self.old) (world_of self.old) step.now (world_of self.new) result }
+    {
+        match step {
+            Step::Send {
+                client,
+                tag,
+                entries,
+            } => self.send(*client, tag, entries),
+            Step::Begin { message } => self.begin(*message),
+            Step::Append {
+                delivery,
+                buffer,
+                serial,
+            } => self.append(*delivery, *buffer, *serial),
+            Step::Ack { delivery } => self.acknowledge(*delivery),
+            Step::Abandon { delivery } => self.abandon(*delivery),
+            Step::Foreign { message } => self.foreign(*message),
+            Step::Enqueue { chunk } => self.restage(chunk, Stage::Staged, Stage::Queued),
+            Step::Claim { chunk } => self.restage(chunk, Stage::Queued, Stage::Claimed),
+            Step::Back { chunk } => self.restage(chunk, Stage::Claimed, Stage::Queued),
+            Step::Forward { chunk, server } => self.forward(chunk, *server),
+            Step::Seen { chunk } => self.seen(chunk),
+            Step::Write { chunk } => self.write(chunk),
+            Step::Part { chunk, count } => self.part(chunk, *count),
+            Step::Purge { chunk } => self.purge(chunk),
+            Step::Done { chunk } => self.done(chunk),
+            Step::Discard { chunk } => self.discard(chunk),
+            Step::Oldest { relay, buffer } => self.drop_oldest(*relay, *buffer),
+            Step::Restart { relay } => self.restart(*relay),
+        }
+    }
+
+    /// Takes a step. It is refused as `NoSuch` where it names what isn't there, else as `NotAllowed` where
+    /// what it asks for doesn't hold. `Memory` refuses only what would be allowed, but for `begin`, `append` and `ack`,
+    /// where it may come before the way was found. A refusal changes nothing.
+    /// The time doesn't depend on how much the network holds, but for the entries that the step moves, the way of the
+    /// message, the buffers of a relay that starts again, and the serials that `oldest` passes, each once between restarts.
+    pub fn step(&mut self, step: &Step<A>) -> Result<(), StepFault>
+        ensures net { net_of self.new ≡ net_of self.old }
+        ensures ok { OnOk result (Names (net_of self.old) (world_of self.old) step.now × Allowed (net_of self.old) (world_of self.old) step.now × (world_of self.new ≡ effect (net_of self.old) (world_of self.old) step.now)) }
+        ensures refused { IfErr result (IsRefused (net_of self.old) (world_of self.old) step.now) }
+        ensures unchanged { OnErr result (world_of self.new ≡ world_of self.old) }
+    {
+        self.take(step)
+    }
+}
