@@ -1,11 +1,15 @@
 // Whole runs of a network, and what they never lose.
-ghost use Rattle.std.specs.Prelude.{◌≡◌, true, IfOk, IfErr};
+ghost use Rattle.std.specs.Prelude.{◌≡◌, true, List, IfOk, IfErr};
 ghost use Rattle.custody_core.specs.Custody.{NothingIsLost, NothingIsMadeUp};
 ghost use Rattle.custody_core.specs.Premise.{ClientsFit};
 ghost use Rattle.custody_core.specs.SingleFile.{is_single_file_net};
 ghost use Rattle.custody_steps.specs.Steps.{Steps, IsRefusedAt};
 ghost use Rattle.custody_steps.specs.World.{opening};
 ghost use Rattle.custody_steps.specs.WorldOf.{world_of, net_of};
+ghost use Rattle.loss_rules.specs.Rules.{AreRulesKept};
+ghost use Rattle.loss_rules.specs.Sites.{BuffersAreDistinct};
+ghost use Rattle.loss_rules.specs.declared.label.Label.{Label};
+ghost use Rattle.loss_rules.specs.declared.label.Reach.{Reach};
 
 use custody_steps::{StepFault, World};
 use relay_net::Net;
@@ -27,6 +31,7 @@ pub fn run<'n, A: Allocator + Copy>(
     ensures taken { IfOk result (λ w. Steps net.now opening steps.now (world_of w)) }
     ensures refused { IfErr result (λ e. IsRefusedAt net.now steps.now e.0 e.1) }
     ensures nothing_is_lost { is_single_file_net net.now.relays net.now.clients ≡ true → ClientsFit net.now → IfOk result (λ w. NothingIsLost (world_of w)) }
+    ensures labelled_nothing_is_lost { (labels : List (Label A)) (reaches : List (Reach A)) → BuffersAreDistinct net.now → AreRulesKept net.now labels reaches → IfOk result (λ w. NothingIsLost (world_of w)) }
     ensures nothing_is_made_up { IfOk result (λ w. NothingIsMadeUp (world_of w)) }
 {
     let mut world = World::new(alloc, net);

@@ -1,0 +1,121 @@
+-- What is known of a network stays known where what was safe is safe and ids keep their meaning.
+use Rattle.std.proofs.Common.{◌≡◌, ℕ, ◌+◌, ◌≤◌, true, List, Some, None, slice_get, refl, inl, inr, arith, Contains}
+use Rattle.custody_store.specs.declared.chunk.Stage.TheVariants.{Staged}
+use Rattle.custody_store.specs.Buffers.{Event, Chunk, BufferState}
+use Rattle.message_book.specs.Book.{Message, Delivery}
+use Rattle.message_book.specs.declared.sender.Sender.{Sender}
+use Rattle.message_book.specs.declared.sender.Sender.TheVariants as sender
+use Rattle.relay_net.specs.Network.{Network}
+use Rattle.custody_steps.specs.World.{World, with_buffer}
+use Rattle.custody_core.proofs.Kept.{event_of}
+use Rattle.custody_core.proofs.Safe.{Buffers, Ranking, KeepsAt, IsHeldFrom, IsSafe, IsOther, changed, at_buffer, safe_changed}
+use Rattle.custody_core.proofs.Ranked.{Labels, IsIdOf, ArePassedOn, HasId, IsKnown, IsKnownChunk, IsKnownDelivery, IsRanked}
+
+-- Buffers and ranks changed: what was safe is safe, and each id keeps its meaning and its rank.
+pub record GoesOn {A : Type 0} (net : Network A) (ranks : Ranking) (clock : ℕ) (old : Buffers) (later : Ranking) (next : ℕ) (new : Buffers) : Type 0 where
+  pub time : clock ≤ next
+  pub safe : (rank : ℕ) (event : Event) → rank ≤ clock → IsSafe net ranks old rank event → IsSafe net later new rank event
+  pub ids : (place buffer : ℕ) → KeepsAt net place buffer → (serial : ℕ) (tag : List ℕ) (entries : List (List ℕ)) → IsIdOf (ranks place buffer) clock (old place buffer) serial tag entries
+      → IsIdOf (later place buffer) next (new place buffer) serial tag entries × (later place buffer serial ≡ ranks place buffer serial)
+
+-- The one chunk has what the other has; it is staged where the other is.
+pub record IsLike (old new : Chunk) : Type 0 where
+  pub tag : new.tag ≡ old.tag
+  pub entries : new.entries ≡ old.entries
+  pub staged : new.stage ≡ Staged → old.stage ≡ Staged
+  pub still : old.stage ≡ Staged → new.stage ≡ Staged
+
+pub like_itself : (chunk : Chunk) → IsLike chunk chunk
+like_itself chunk = record { tag = refl; entries = refl; staged = λ e. e; still = λ e. e }
+
+module _ {A : Type 0} (net : Network A) (labelled : Labels) (ranks : Ranking) (clock : ℕ) (old : Buffers) (later : Ranking) (next : ℕ) (new : Buffers) (goes : GoesOn net ranks clock old later next new) where
+  passed_goes : (s : Sender) (tag : List ℕ) (entries : List (List ℕ)) → HasId net ranks clock old s tag entries → ArePassedOn net ranks clock old s tag entries → ArePassedOn net later next new s tag entries
+  passed_goes (sender.Client client) tag entries id passed counts entry inside = goes.safe 0 (event_of tag entry) (omega arith) (passed counts entry inside)
+  passed_goes (sender.Chunk place buffer serial) tag entries id passed counts entry inside =
+      let known = id counts in
+      let went = goes.ids place buffer counts serial tag entries known in
+      let less = known.ranked in
+      rw went.1 (goes.safe (ranks place buffer serial + 1) (event_of tag entry) (omega arith) (passed counts entry inside))
+
+  id_goes : (s : Sender) (tag : List ℕ) (entries : List (List ℕ)) → HasId net ranks clock old s tag entries → HasId net later next new s tag entries
+  id_goes (sender.Client client) tag entries id = id
+  id_goes (sender.Chunk place buffer serial) tag entries id = λ keeps. (goes.ids place buffer keeps serial tag entries (id keeps)).0
+
+  pub known_goes : (message : Message) → IsKnown net ranks clock old labelled message → IsKnown net later next new labelled message
+  known_goes message known = record {
+    taken = known.taken;
+    id = id_goes message.sender message.tag message.entries known.id;
+    answered = λ yes. passed_goes message.sender message.tag message.entries known.id (known.answered yes);
+  }
+
+  pub delivery_goes : (messages : List Message) (delivery : Delivery) → ((number : ℕ) (message : Message) → slice_get messages number ≡ Some message → IsKnown net ranks clock old labelled message)
+      → IsKnownDelivery net ranks clock old labelled messages delivery → IsKnownDelivery net later next new labelled messages delivery
+  delivery_goes messages delivery known d = record {
+    message = d.message;
+    there = d.there;
+    taken = d.taken;
+    appended = λ buffer inside keeps. passed_goes d.message.sender d.message.tag d.message.entries (known delivery.message d.message d.there).id (d.appended buffer inside keeps);
+  }
+
+  -- a chunk that stays, but for evidence that goes
+  pub chunk_goes : (place buffer serial : ℕ) (chunk now : Chunk) → later place buffer serial ≡ ranks place buffer serial → IsLike chunk now → (now.evidence ≡ true → chunk.evidence ≡ true)
+      → IsKnownChunk net ranks clock old labelled place buffer serial chunk → IsKnownChunk net later next new labelled place buffer serial now
+  chunk_goes place buffer serial chunk now rank_is like evidence known = record {
+    sent_on = rw like.tag known.sent_on;
+    ranked = λ keeps moved. (let less = known.ranked keeps (λ e. moved (like.still e)) in let time = goes.time in omega (arith, rank_is));
+    evident = λ keeps yes. (let h = known.evident keeps (evidence yes) in
+        let less = known.ranked keeps h.0 in (
+          λ e. h.0 (like.staged e),
+          λ entry inside.
+              rw (rank_is, like.tag) (goes.safe (ranks place buffer serial + 1) (event_of chunk.tag entry) (omega arith) (h.1 entry (rw like.entries at inside))),
+        ));
+  }
+
+-- All is known of the world with these buffers.
+pub world_goes : {A : Type 0} (net : Network A) (labelled : Labels) (ranks : Ranking) (clock : ℕ) (w : World) (later : Ranking) (next : ℕ) (new : Buffers) → GoesOn net ranks clock w.buffers later next new
+    → ((place buffer serial : ℕ) → (new place buffer).next ≤ serial → (new place buffer).chunks serial ≡ None)
+    → ((place buffer serial : ℕ) (chunk : Chunk) → (new place buffer).chunks serial ≡ Some chunk → IsKnownChunk net later next new labelled place buffer serial chunk)
+    → IsRanked net labelled ranks clock w → IsRanked net labelled later next (record w { buffers = new })
+world_goes net labelled ranks clock w later next new goes below chunks is = record {
+  below = below;
+  chunks = chunks;
+  messages = λ number message at. known_goes net labelled ranks clock w.buffers later next new goes message (is.messages number message at);
+  deliveries = λ number delivery at. delivery_goes net labelled ranks clock w.buffers later next new goes w.messages delivery is.messages (is.deliveries number delivery at);
+  acknowledged = λ event inside. goes.safe 0 event (omega arith) (is.acknowledged event inside);
+}
+
+-- One buffer changed.
+module _ {A : Type 0} (net : Network A) (labelled : Labels) (ranks : Ranking) (clock : ℕ) (w : World) (later : Ranking) (next : ℕ) (place buffer : ℕ) (change : BufferState → BufferState) where
+  -- What a change of one buffer must leave.
+  pub record Changes : Type 0 where
+    pub time : clock ≤ next
+    pub elsewhere : (p b : ℕ) → IsOther place buffer p b → (s : ℕ) → later p b s ≡ ranks p b s
+    pub sink : (event : Event) → Contains (w.buffers place buffer).sink event → Contains (change (w.buffers place buffer)).sink event
+    pub held : (rank : ℕ) (event : Event) → rank ≤ clock → KeepsAt net place buffer → IsHeldFrom (ranks place buffer) rank (w.buffers place buffer) event → IsSafe net later (changed w.buffers place buffer change) rank event
+    pub ids : KeepsAt net place buffer → (serial : ℕ) (tag : List ℕ) (entries : List (List ℕ)) → IsIdOf (ranks place buffer) clock (w.buffers place buffer) serial tag entries
+        → IsIdOf (later place buffer) next (change (w.buffers place buffer)) serial tag entries × (later place buffer serial ≡ ranks place buffer serial)
+
+  pub change_goes : Changes → GoesOn net ranks clock w.buffers later next (changed w.buffers place buffer change)
+  change_goes c = record {
+    time = c.time;
+    safe = λ rank event le safe. safe_changed net ranks later w.buffers place buffer change rank event c.elsewhere (c.sink event) (c.held rank event le) safe;
+    ids = λ p b keeps serial tag entries id. elim (at_buffer w.buffers place buffer change p b) [
+      | inl here ↦ rw here.2 (rw (here.0, here.1) (c.ids (rw (here.0, here.1) at keeps) serial tag entries (rw (here.0, here.1) at id)))
+      | inr there ↦ (let same = c.elsewhere p b there.0 serial in let less = id.ranked in let time = c.time in (record { ranked = omega (arith, same); given = rw there.1 id.given; same = λ chunk at. id.same chunk (rw there.1 at at) }, same))
+    ];
+  }
+
+  -- All is known of the world after the change, if it is of the buffer that changed.
+  pub buffer_goes : Changes → ((serial : ℕ) → (change (w.buffers place buffer)).next ≤ serial → (change (w.buffers place buffer)).chunks serial ≡ None)
+      → ((serial : ℕ) (chunk : Chunk) → (change (w.buffers place buffer)).chunks serial ≡ Some chunk → IsKnownChunk net later next (changed w.buffers place buffer change) labelled place buffer serial chunk)
+      → IsRanked net labelled ranks clock w → IsRanked net labelled later next (with_buffer w place buffer change)
+  buffer_goes c below chunks is = world_goes net labelled ranks clock w later next (changed w.buffers place buffer change) (change_goes c)
+      (λ p b serial le. elim (at_buffer w.buffers place buffer change p b) [
+        | inl here ↦ rw here.2 (below serial (rw here.2 at le))
+        | inr there ↦ rw there.1 (is.below p b serial (rw there.1 at le))
+      ])
+      (λ p b serial chunk at. elim (at_buffer w.buffers place buffer change p b) [
+        | inl here ↦ rw (here.0, here.1) (chunks serial chunk (rw here.2 at at))
+        | inr there ↦ chunk_goes net labelled ranks clock w.buffers later next (changed w.buffers place buffer change) (change_goes c) p b serial chunk chunk (c.elsewhere p b there.0 serial) (like_itself chunk) (λ e. e) (is.chunks p b serial chunk (rw there.1 at at))
+      ])
+      is
