@@ -6,9 +6,9 @@ use Rattle.custody_store.specs.declared.chunk.Stage.TheVariants.{Staged}
 use Rattle.custody_store.specs.Buffers.{Event, Chunk, BufferState, with_chunk, CanTake, chunk_with, next_after, appended_to}
 use Rattle.relay_net.specs.Network.{Network}
 use Rattle.custody_steps.specs.World.{World, with_buffer}
-use Rattle.custody_core.proofs.Kept.{event_of, at_serial}
+use Rattle.custody_core.proofs.Serials.{event_of, at_serial}
 use Rattle.custody_core.proofs.Safe.{Ranking, KeepsAt, IsHeldFrom, IsSafe, changed, safe_here}
-use Rattle.custody_core.proofs.Ranked.{Labels, IsSentOn, IsIdOf, IsRanked}
+use Rattle.custody_core.proofs.Ranked.{Labelling, IsSentOn, IsIdOf, IsRanked}
 use Rattle.custody_core.proofs.Going.{like_itself, Changes, change_goes, chunk_goes, buffer_goes}
 
 -- the buffer with this chunk, and with this serial next
@@ -16,7 +16,7 @@ abbrev put : BufferState → ℕ → Chunk → ℕ → BufferState
 put state serial new next = record (with_chunk serial (Some new) state) { next = next }
 
 -- A staged chunk with these entries and those that were there stands at the serial, and no id was of it.
-record Takes {A : Type 0} (net : Network A) (labelled : Labels) (ranks : Ranking) (clock place buffer : ℕ) (state : BufferState) (tag : List ℕ) (entries : List (List ℕ)) (serial : ℕ) (new : Chunk) (next : ℕ) : Type 0 where
+record Takes {A : Type 0} (net : Network A) (labelled : Labelling) (ranks : Ranking) (clock place buffer : ℕ) (state : BufferState) (tag : List ℕ) (entries : List (List ℕ)) (serial : ℕ) (new : Chunk) (next : ℕ) : Type 0 where
   staged : new.stage ≡ Staged
   young : KeepsAt net place buffer → new.evidence ≡ true → ⊥
   tagged : new.tag ≡ tag
@@ -28,11 +28,11 @@ record Takes {A : Type 0} (net : Network A) (labelled : Labels) (ranks : Ranking
   was : (chunk : Chunk) → state.chunks serial ≡ Some chunk → (chunk.tag ≡ new.tag) × ((entry : List ℕ) → Contains chunk.entries entry → Contains new.entries entry)
 
 -- What an append leaves.
-pub record Appended {A : Type 0} (net : Network A) (labelled : Labels) (ranks : Ranking) (clock : ℕ) (w : World) (place buffer : ℕ) (tag : List ℕ) (entries : List (List ℕ)) (change : BufferState → BufferState) : Type 0 where
+pub record Appended {A : Type 0} (net : Network A) (labelled : Labelling) (ranks : Ranking) (clock : ℕ) (w : World) (place buffer : ℕ) (tag : List ℕ) (entries : List (List ℕ)) (change : BufferState → BufferState) : Type 0 where
   pub ranked : IsRanked net labelled ranks clock (with_buffer w place buffer change)
   pub safe : KeepsAt net place buffer → (rank : ℕ) (entry : List ℕ) → Contains entries entry → IsSafe net ranks (changed w.buffers place buffer change) rank (event_of tag entry)
 
-module _ {A : Type 0} (net : Network A) (labelled : Labels) (ranks : Ranking) (clock : ℕ) (w : World) (is : IsRanked net labelled ranks clock w) (place buffer : ℕ) (tag : List ℕ) (entries : List (List ℕ)) (serial : ℕ) (new : Chunk) (next : ℕ)
+module _ {A : Type 0} (net : Network A) (labelled : Labelling) (ranks : Ranking) (clock : ℕ) (w : World) (is : IsRanked net labelled ranks clock w) (place buffer : ℕ) (tag : List ℕ) (entries : List (List ℕ)) (serial : ℕ) (new : Chunk) (next : ℕ)
     (takes : Takes net labelled ranks clock place buffer (w.buffers place buffer) tag entries serial new next) (change : BufferState → BufferState) (is_put : change (w.buffers place buffer) ≡ put (w.buffers place buffer) serial new next) where
   abbrev before : BufferState
   before = w.buffers place buffer
@@ -94,7 +94,7 @@ module _ {A : Type 0} (net : Network A) (labelled : Labels) (ranks : Ranking) (c
     ]);
   }
 
-module _ {A : Type 0} (net : Network A) (labelled : Labels) (ranks : Ranking) (clock : ℕ) (w : World) (is : IsRanked net labelled ranks clock w) (place buffer : ℕ) (tag : List ℕ) (entries : List (List ℕ)) (serial : ℕ) (sent_on : IsSentOn net labelled place buffer tag) where
+module _ {A : Type 0} (net : Network A) (labelled : Labelling) (ranks : Ranking) (clock : ℕ) (w : World) (is : IsRanked net labelled ranks clock w) (place buffer : ℕ) (tag : List ℕ) (entries : List (List ℕ)) (serial : ℕ) (sent_on : IsSentOn net labelled place buffer tag) where
   takes_at : (o : Option Chunk) → (w.buffers place buffer).chunks serial ≡ o → CanTake (w.buffers place buffer) tag serial
       → Takes net labelled ranks clock place buffer (w.buffers place buffer) tag entries serial (chunk_with o tag entries) (next_after o serial (w.buffers place buffer).next)
   takes_at None at can =

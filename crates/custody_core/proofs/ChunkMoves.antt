@@ -7,16 +7,16 @@ use Rattle.custody_store.specs.declared.chunk.Stage.TheVariants.{Staged}
 use Rattle.custody_store.specs.Buffers.{Event, Chunk, BufferState, IsInChunk, with_chunk}
 use Rattle.relay_net.specs.Network.{Network}
 use Rattle.custody_steps.specs.World.{World, with_buffer}
-use Rattle.custody_core.proofs.Kept.{event_of, at_serial}
+use Rattle.custody_core.proofs.Serials.{event_of, at_serial}
 use Rattle.custody_core.proofs.Safe.{Buffers, Ranking, KeepsAt, IsHeldFrom, IsSafe, changed, safe_below, safe_changed, safe_here}
-use Rattle.custody_core.proofs.Ranked.{Labels, IsIdOf, AreSafe, IsRanked}
+use Rattle.custody_core.proofs.Ranked.{Labelling, IsIdOf, AreSafe, IsRanked}
 use Rattle.custody_core.proofs.Going.{GoesOn, IsLike, like_itself, Changes, change_goes, chunk_goes, buffer_goes}
 
 -- a chunk has the events of one that it is like
 like_inside : (old new : Chunk) (event : Event) → IsLike old new → IsInChunk old event → IsInChunk new event
 like_inside old new event like inside = record { tag = like.tag ∙ inside.tag; entry = rw like.entries inside.entry }
 
-module _ {A : Type 0} (net : Network A) (labelled : Labels) (ranks : Ranking) (clock : ℕ) (w : World) (is : IsRanked net labelled ranks clock w) (place buffer serial : ℕ) (chunk : Chunk) (at : (w.buffers place buffer).chunks serial ≡ Some chunk) where
+module _ {A : Type 0} (net : Network A) (labelled : Labelling) (ranks : Ranking) (clock : ℕ) (w : World) (is : IsRanked net labelled ranks clock w) (place buffer serial : ℕ) (chunk : Chunk) (at : (w.buffers place buffer).chunks serial ≡ Some chunk) where
   abbrev before : BufferState
   before = w.buffers place buffer
 

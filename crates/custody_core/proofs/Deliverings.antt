@@ -16,10 +16,10 @@ use Rattle.custody_steps.specs.World.{World, with_buffer}
 use Rattle.custody_steps.specs.Steps.{Allowed, effect, Forwards, Stores, DropsOldest, HasQueued, with_stored, forwarded_to, output_named}
 use Rattle.step_lines.specs.declared.step.ChunkName.{ChunkName}
 use Rattle.step_lines.specs.declared.step.Step.TheVariants as step
-use Rattle.custody_core.proofs.Kept.{event_of, some_and}
+use Rattle.custody_core.proofs.Serials.{event_of, some_and}
 use Rattle.custody_core.proofs.Lists.{get-map, map-contains}
 use Rattle.custody_core.proofs.Safe.{Ranking, KeepsAt}
-use Rattle.custody_core.proofs.Ranked.{Labels, IsTaken, IsKnownDelivery, IsIdOf, IsRanked}
+use Rattle.custody_core.proofs.Ranked.{Labelling, IsTaken, IsKnownDelivery, IsIdOf, IsRanked}
 use Rattle.custody_core.proofs.Going.{IsLike}
 use Rattle.custody_core.proofs.ChunkMoves.{given, mark_goes, mark_ranked}
 use Rattle.custody_core.proofs.NamedMoves.{IsNamed, named, both, keeps_oldest, stored, marks}
@@ -31,7 +31,7 @@ chosen_again : (b memory : Bool) (state : BufferState) → IsAgain state memory 
 chosen_again true memory state = again
 chosen_again false memory state = as_before
 
-module _ {A : Type 0} (net : Network A) (labelled : Labels) (ranks : Ranking) (clock : ℕ) (w : World) (is : IsRanked net labelled ranks clock w) where
+module _ {A : Type 0} (net : Network A) (labelled : Labelling) (ranks : Ranking) (clock : ℕ) (w : World) (is : IsRanked net labelled ranks clock w) where
   pub oldest_gone : (relay buffer : ℕ) → Allowed net w (step.Oldest relay buffer) → IsRanked net labelled ranks clock (effect net w (step.Oldest relay buffer))
   oldest_gone relay buffer h =
       let p = some_and (place_of net relay) (λ place. IsSomeAnd (output_at net place buffer) DropsOldest × HasQueued (w.buffers place buffer)) h in
@@ -65,7 +65,7 @@ module _ {A : Type 0} (net : Network A) (labelled : Labels) (ranks : Ranking) (c
 state_here : (w : World) (place buffer : ℕ) (change : BufferState → BufferState) → (with_buffer w place buffer change).buffers place buffer ≡ change (w.buffers place buffer)
 state_here w place buffer change = rw (eq-eqb place place refl, eq-eqb buffer buffer refl) refl
 
-written_at : {A : Type 0} (net : Network A) (labelled : Labels) (ranks : Ranking) (clock : ℕ) (w : World) → IsRanked net labelled ranks clock w → (name : ChunkName) (P : Chunk → Type 0) (place : ℕ) (chunk : Chunk)
+written_at : {A : Type 0} (net : Network A) (labelled : Labelling) (ranks : Ranking) (clock : ℕ) (w : World) → IsRanked net labelled ranks clock w → (name : ChunkName) (P : Chunk → Type 0) (place : ℕ) (chunk : Chunk)
     → place_of net name.relay ≡ Some place → (w.buffers place name.buffer).chunks name.serial ≡ Some chunk → chunk.stage ≡ Claimed → P chunk → IsRanked net labelled ranks clock (effect net w (step.Write name))
 written_at net labelled ranks clock w is name P place chunk is_place at claimed holds =
     let v = with_stored net w name (λ entries. entries) in
@@ -88,13 +88,13 @@ written_at net labelled ranks clock w is name P place chunk is_place at claimed 
     ))
 
 -- All entries of a claimed chunk are stored, which is evidence.
-pub written : {A : Type 0} (net : Network A) (labelled : Labels) (ranks : Ranking) (clock : ℕ) (w : World) → IsRanked net labelled ranks clock w → (name : ChunkName) → Allowed net w (step.Write name) → IsRanked net labelled ranks clock (effect net w (step.Write name))
+pub written : {A : Type 0} (net : Network A) (labelled : Labelling) (ranks : Ranking) (clock : ℕ) (w : World) → IsRanked net labelled ranks clock w → (name : ChunkName) → Allowed net w (step.Write name) → IsRanked net labelled ranks clock (effect net w (step.Write name))
 written net labelled ranks clock w is name h =
     let n = named net w name Claimed (λ _. IsSomeAnd (output_named net name) Stores) h in
     written_at net labelled ranks clock w is name (λ _. IsSomeAnd (output_named net name) Stores) n.place n.chunk n.is_place n.is_chunk n.stage_is n.holds
 
 -- A copy of a chunk was sent to a server, if that is there.
-sent_to : {A : Type 0} (net : Network A) (labelled : Labels) (ranks : Ranking) (clock : ℕ) (v : World) → IsRanked net labelled ranks clock v → (place buffer serial : ℕ) (chunk : Chunk) (o : Option (Server A))
+sent_to : {A : Type 0} (net : Network A) (labelled : Labelling) (ranks : Ranking) (clock : ℕ) (v : World) → IsRanked net labelled ranks clock v → (place buffer serial : ℕ) (chunk : Chunk) (o : Option (Server A))
     → ((server : Server A) → o ≡ Some server → IsTaken net labelled (address_of_server server) chunk.tag)
     → (KeepsAt net place buffer → IsIdOf (ranks place buffer) clock (v.buffers place buffer) serial chunk.tag chunk.entries)
     → IsRanked net labelled ranks clock (record v { messages = forwarded_to v.messages (sender.Chunk place buffer serial) chunk o })
@@ -106,7 +106,7 @@ server_of None number server e = absurd (cc)
 server_of (Some found) number server e = (found, refl, e)
 
 -- A copy of a claimed chunk is sent to a server of its output.
-pub forwarded : {A : Type 0} (net : Network A) (labelled : Labels) (ranks : Ranking) (clock : ℕ) (w : World) → IsRanked net labelled ranks clock w → (name : ChunkName) (server : ℕ) → Allowed net w (step.Forward name server) → IsRanked net labelled ranks clock (effect net w (step.Forward name server))
+pub forwarded : {A : Type 0} (net : Network A) (labelled : Labelling) (ranks : Ranking) (clock : ℕ) (w : World) → IsRanked net labelled ranks clock w → (name : ChunkName) (server : ℕ) → Allowed net w (step.Forward name server) → IsRanked net labelled ranks clock (effect net w (step.Forward name server))
 forwarded net labelled ranks clock w is name server h =
     let n = named net w name Claimed (λ _. IsSomeAnd (output_named net name) (λ o. Forwards true o ⊎ Forwards false o)) h in
     let chunk = n.chunk in

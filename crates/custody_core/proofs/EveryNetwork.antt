@@ -8,18 +8,18 @@ use Rattle.step_lines.specs.declared.step.Step.{Step}
 use Rattle.step_lines.specs.declared.step.Step.TheVariants as step
 use Rattle.custody_core.specs.Custody.{NothingIsLost}
 use Rattle.custody_core.proofs.Safe.{Ranking, safe_held}
-use Rattle.custody_core.proofs.Ranked.{Labels, LeadOn, IsRanked}
+use Rattle.custody_core.proofs.Ranked.{Labelling, LeadOn, IsRanked}
 use Rattle.custody_core.proofs.Sendings.{sent, begun, appended, acknowledged, abandoned, never_foreign}
 use Rattle.custody_core.proofs.NamedMoves.{enqueued, claimed, given_back, seen, parted, purged, done, discarded}
 use Rattle.custody_core.proofs.Deliverings.{forwarded, written, oldest_gone, restarted}
 
 -- What every run keeps, for some ranks at some time.
-pub record IsKept {A : Type 0} (net : Network A) (labelled : Labels) (w : World) : Type 0 where
+pub record IsKept {A : Type 0} (net : Network A) (labelled : Labelling) (w : World) : Type 0 where
   pub ranks : Ranking
   pub clock : ℕ
   pub ranked : IsRanked net labelled ranks clock w
 
-module _ {A : Type 0} (net : Network A) (labelled : Labels) (leads : LeadOn net labelled) where
+module _ {A : Type 0} (net : Network A) (labelled : Labelling) (leads : LeadOn net labelled) where
   -- each step but the one that queues a chunk leaves the ranks as they were
   ranks_stay : (w : World) (kept : IsKept net labelled w) (after : World) → IsRanked net labelled kept.ranks kept.clock after → IsKept net labelled after
   ranks_stay w kept after ranked = record { ranks = kept.ranks; clock = kept.clock; ranked = ranked }

@@ -7,9 +7,9 @@ use Rattle.message_book.specs.declared.sender.Sender.{Sender}
 use Rattle.message_book.specs.declared.sender.Sender.TheVariants as sender
 use Rattle.relay_net.specs.Network.{Network}
 use Rattle.custody_steps.specs.World.{World, with_buffer}
-use Rattle.custody_core.proofs.Kept.{event_of}
+use Rattle.custody_core.proofs.Serials.{event_of}
 use Rattle.custody_core.proofs.Safe.{Buffers, Ranking, KeepsAt, IsHeldFrom, IsSafe, IsOther, changed, at_buffer, safe_changed}
-use Rattle.custody_core.proofs.Ranked.{Labels, IsIdOf, ArePassedOn, HasId, IsKnown, IsKnownChunk, IsKnownDelivery, IsRanked}
+use Rattle.custody_core.proofs.Ranked.{Labelling, IsIdOf, ArePassedOn, HasId, IsKnown, IsKnownChunk, IsKnownDelivery, IsRanked}
 
 -- Buffers and ranks changed: what was safe is safe, and each id keeps its meaning and its rank.
 pub record GoesOn {A : Type 0} (net : Network A) (ranks : Ranking) (clock : ℕ) (old : Buffers) (later : Ranking) (next : ℕ) (new : Buffers) : Type 0 where
@@ -28,7 +28,7 @@ pub record IsLike (old new : Chunk) : Type 0 where
 pub like_itself : (chunk : Chunk) → IsLike chunk chunk
 like_itself chunk = record { tag = refl; entries = refl; staged = λ e. e; still = λ e. e }
 
-module _ {A : Type 0} (net : Network A) (labelled : Labels) (ranks : Ranking) (clock : ℕ) (old : Buffers) (later : Ranking) (next : ℕ) (new : Buffers) (goes : GoesOn net ranks clock old later next new) where
+module _ {A : Type 0} (net : Network A) (labelled : Labelling) (ranks : Ranking) (clock : ℕ) (old : Buffers) (later : Ranking) (next : ℕ) (new : Buffers) (goes : GoesOn net ranks clock old later next new) where
   passed_goes : (s : Sender) (tag : List ℕ) (entries : List (List ℕ)) → HasId net ranks clock old s tag entries → ArePassedOn net ranks clock old s tag entries → ArePassedOn net later next new s tag entries
   passed_goes (sender.Client client) tag entries id passed counts entry inside = goes.safe 0 (event_of tag entry) (omega arith) (passed counts entry inside)
   passed_goes (sender.Chunk place buffer serial) tag entries id passed counts entry inside =
@@ -72,7 +72,7 @@ module _ {A : Type 0} (net : Network A) (labelled : Labels) (ranks : Ranking) (c
   }
 
 -- All is known of the world with these buffers.
-pub world_goes : {A : Type 0} (net : Network A) (labelled : Labels) (ranks : Ranking) (clock : ℕ) (w : World) (later : Ranking) (next : ℕ) (new : Buffers) → GoesOn net ranks clock w.buffers later next new
+pub world_goes : {A : Type 0} (net : Network A) (labelled : Labelling) (ranks : Ranking) (clock : ℕ) (w : World) (later : Ranking) (next : ℕ) (new : Buffers) → GoesOn net ranks clock w.buffers later next new
     → ((place buffer serial : ℕ) → (new place buffer).next ≤ serial → (new place buffer).chunks serial ≡ None)
     → ((place buffer serial : ℕ) (chunk : Chunk) → (new place buffer).chunks serial ≡ Some chunk → IsKnownChunk net later next new labelled place buffer serial chunk)
     → IsRanked net labelled ranks clock w → IsRanked net labelled later next (record w { buffers = new })
@@ -85,7 +85,7 @@ world_goes net labelled ranks clock w later next new goes below chunks is = reco
 }
 
 -- One buffer changed.
-module _ {A : Type 0} (net : Network A) (labelled : Labels) (ranks : Ranking) (clock : ℕ) (w : World) (later : Ranking) (next : ℕ) (place buffer : ℕ) (change : BufferState → BufferState) where
+module _ {A : Type 0} (net : Network A) (labelled : Labelling) (ranks : Ranking) (clock : ℕ) (w : World) (later : Ranking) (next : ℕ) (place buffer : ℕ) (change : BufferState → BufferState) where
   -- What a change of one buffer must leave.
   pub record Changes : Type 0 where
     pub time : clock ≤ next

@@ -26,9 +26,9 @@ use Rattle.loss_rules.specs.Sites.{BuffersAreDistinct}
 use Rattle.loss_rules.specs.declared.label.Label.{Label}
 use Rattle.loss_rules.specs.declared.label.Reach.{Reach}
 use Rattle.labelled_ways.specs.SafeWays.{LabelledTagsAreSafe}
-use Rattle.custody_core.proofs.Kept.{some_and, and_some}
+use Rattle.custody_core.proofs.Serials.{some_and, and_some}
 use Rattle.custody_core.proofs.Lists.{get-contains}
-use Rattle.custody_core.proofs.Ranked.{Labels, IsTaken, IsSentOn, LeadOn}
+use Rattle.custody_core.proofs.Ranked.{Labelling, IsTaken, IsSentOn, LeadOn}
 
 -- a tag of a pattern that fits a label is one of the label
 fits_labelled : {A : Type 0} (labels : List (Label A)) (place scope : ℕ) (pattern : List Item) (tag : List ℕ) → IsTagOf pattern tag → FitsLabel labels place scope pattern → IsLabelledTag labels place scope tag
@@ -52,7 +52,7 @@ site_of {A} (Some relay) buffer o e =
 
 module _ {A : Type 0} (net : Network A) (labels : List (Label A)) (reaches : List (Reach A)) (safe : LabelledTagsAreSafe A) (distinct : BuffersAreDistinct net) (rules : AreRulesKept net labels reaches) where
   -- the tags of the labels
-  abbrev pub labelled : Labels
+  abbrev pub labelled : Labelling
   labelled = λ at tag. IsLabelledTag labels at.relay at.scope tag
 
   clients_lead : (number : ℕ) (client : Client A) → slice_get net.clients number ≡ Some client → (tag : List ℕ) → HaveTag client.patterns.items tag → IsTaken net labelled (address_of_client net client) tag

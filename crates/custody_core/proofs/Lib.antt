@@ -1,13 +1,9 @@
 pub mod AppendMoves
-pub mod Appended
-pub mod BufferSteps
 pub mod ChunkMoves
 pub mod Deliverings
 pub mod EveryNetwork
 pub mod Going
 pub mod Headline
-pub mod Invariant
-pub mod Kept
 pub mod Leads
 pub mod Lists
 pub mod Made
@@ -17,8 +13,9 @@ pub mod QueueMoves
 pub mod Ranked
 pub mod Safe
 pub mod Sendings
+pub mod Serials
 pub mod Shape
 pub mod SinkMoves
+pub mod SingleLabels
 pub mod Sourced
 pub mod StepsMore
-pub mod WorldSteps

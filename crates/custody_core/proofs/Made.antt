@@ -17,7 +17,7 @@ use Rattle.message_book.specs.declared.sender.Sender.TheVariants as sender
 use Rattle.step_lines.specs.declared.step.ChunkName.{ChunkName}
 use Rattle.step_lines.specs.declared.step.Step.{Step}
 use Rattle.step_lines.specs.declared.step.Step.TheVariants as step
-use Rattle.custody_core.proofs.Kept.{event_of}
+use Rattle.custody_core.proofs.Serials.{event_of}
 use Rattle.custody_core.proofs.Lists.{get-push, get-more, get-set, get-after_set, get-contains, contains-take}
 use Rattle.custody_core.proofs.Sourced.{AllSent, IsSourced, Follows, sourced_more, chunk_changes, sink_takes, takes_sent, oldest_goes, starts_again}
 

@@ -13,10 +13,10 @@ use Rattle.custody_steps.specs.World.{World}
 use Rattle.custody_steps.specs.Steps.{Allowed, effect, OfChunk, IsAnswered, Forwards, Stores, GivesUp, DropsOldest, with_named, with_stored, output_named}
 use Rattle.step_lines.specs.declared.step.ChunkName.{ChunkName}
 use Rattle.step_lines.specs.declared.step.Step.TheVariants as step
-use Rattle.custody_core.proofs.Kept.{some_and}
+use Rattle.custody_core.proofs.Serials.{some_and}
 use Rattle.custody_core.proofs.Lists.{contains-get}
 use Rattle.custody_core.proofs.Safe.{Ranking, KeepsAt}
-use Rattle.custody_core.proofs.Ranked.{Labels, AreSafe, IsRanked}
+use Rattle.custody_core.proofs.Ranked.{Labelling, AreSafe, IsRanked}
 use Rattle.custody_core.proofs.Going.{IsLike}
 use Rattle.custody_core.proofs.ChunkMoves.{mark_ranked, gone_ranked}
 use Rattle.custody_core.proofs.QueueMoves.{ranked_at, queue_ranked}
@@ -66,7 +66,7 @@ pub both : {X : Type 0} (o : Option X) (P Q : X → Type 0) → ((x : X) → P x
 both None P Q never p q = p
 both (Some x) P Q never p q = never x p q
 
-module _ {A : Type 0} (net : Network A) (labelled : Labels) (ranks : Ranking) (clock : ℕ) (w : World) (is : IsRanked net labelled ranks clock w) (name : ChunkName) where
+module _ {A : Type 0} (net : Network A) (labelled : Labelling) (ranks : Ranking) (clock : ℕ) (w : World) (is : IsRanked net labelled ranks clock w) (name : ChunkName) where
   -- the chunk is marked
   pub marks : (stage : Stage) (P : Chunk → Type 0) (n : IsNamed net w name stage P) (mark : Chunk → Chunk) → IsLike n.chunk (mark n.chunk)
       → (KeepsAt net n.place name.buffer → (mark n.chunk).evidence ≡ true → ((mark n.chunk).stage ≢ Staged) × AreSafe net ranks clock w.buffers (ranks n.place name.buffer name.serial + 1) n.chunk.tag n.chunk.entries)

@@ -7,7 +7,7 @@ use Rattle.custody_store.specs.Buffers.{Event, Chunk, BufferState}
 use Rattle.relay_net.specs.Network.{Network}
 use Rattle.custody_steps.specs.World.{World, with_buffer}
 use Rattle.custody_core.proofs.Safe.{Ranking, IsHeldFrom, changed, safe_here}
-use Rattle.custody_core.proofs.Ranked.{Labels, IsIdOf, IsKnownChunk, IsRanked}
+use Rattle.custody_core.proofs.Ranked.{Labelling, IsIdOf, IsKnownChunk, IsRanked}
 use Rattle.custody_core.proofs.Going.{like_itself, Changes, change_goes, chunk_goes, buffer_goes}
 use Rattle.custody_core.proofs.ChunkMoves.{put, put_at, put_below}
 
@@ -29,7 +29,7 @@ module _ (ranks : Ranking) (clock place buffer serial : ℕ) where
       unless true never = absurd (never refl)
       unless false never = refl
 
-module _ {A : Type 0} (net : Network A) (labelled : Labels) (ranks : Ranking) (clock : ℕ) (w : World) (is : IsRanked net labelled ranks clock w) (place buffer serial : ℕ) (chunk : Chunk) (at : (w.buffers place buffer).chunks serial ≡ Some chunk) (staged : chunk.stage ≡ Staged) where
+module _ {A : Type 0} (net : Network A) (labelled : Labelling) (ranks : Ranking) (clock : ℕ) (w : World) (is : IsRanked net labelled ranks clock w) (place buffer serial : ℕ) (chunk : Chunk) (at : (w.buffers place buffer).chunks serial ≡ Some chunk) (staged : chunk.stage ≡ Staged) where
   abbrev later : Ranking
   later = ranked_at ranks clock place buffer serial
 

@@ -15,23 +15,23 @@ use Rattle.relay_net.specs.declared.address.Entrance.{Entrance}
 use Rattle.relay_net.specs.declared.node.Client.{Client}
 use Rattle.route_graph.specs.Ways.{HaveTag, IsLeaf}
 use Rattle.custody_steps.specs.World.{World}
-use Rattle.custody_core.proofs.Kept.{event_of}
+use Rattle.custody_core.proofs.Serials.{event_of}
 use Rattle.custody_core.proofs.Safe.{Buffers, Ranking, KeepsAt, IsSafe}
 
 -- which tags are labelled where
-abbrev pub Labels : Type 1
-Labels = Entrance → List ℕ → Type 0
+abbrev pub Labelling : Type 1
+Labelling = Entrance → List ℕ → Type 0
 
 -- The address is that of a source, in whose scope the tag is labelled.
-abbrev pub IsTaken : {A : Type 0} → Network A → Labels → Address → List ℕ → Type 0
+abbrev pub IsTaken : {A : Type 0} → Network A → Labelling → Address → List ℕ → Type 0
 IsTaken net labelled address tag = IsSomeAnd (entrance net address) (λ at. labelled at tag)
 
 -- What the buffer has under the tag is sent to such addresses alone.
-abbrev pub IsSentOn : {A : Type 0} → Network A → Labels → ℕ → ℕ → List ℕ → Type 0
+abbrev pub IsSentOn : {A : Type 0} → Network A → Labelling → ℕ → ℕ → List ℕ → Type 0
 IsSentOn net labelled place buffer tag = (o : Output _) → output_at net place buffer ≡ Some o → (number : ℕ) (server : Server _) → slice_get (servers_of o) number ≡ Some server → IsTaken net labelled (address_of_server server) tag
 
 -- Where labelled tags lead: clients send such tags, each has a leaf that keeps, and each leaf sends it to such scopes alone.
-pub record LeadOn {A : Type 0} (net : Network A) (labelled : Labels) : Type 0 where
+pub record LeadOn {A : Type 0} (net : Network A) (labelled : Labelling) : Type 0 where
   pub clients : (number : ℕ) (client : Client A) → slice_get net.clients number ≡ Some client → (tag : List ℕ) → HaveTag client.patterns.items tag → IsTaken net labelled (address_of_client net client) tag
   pub keeps : (at : Entrance) (tag : List ℕ) → labelled at tag → (buffer : ℕ) × IsLeaf (table_at net at.relay) tag at.scope buffer × KeepsAt net at.relay buffer
   pub sends : (at : Entrance) (tag : List ℕ) → labelled at tag → (buffer : ℕ) → IsLeaf (table_at net at.relay) tag at.scope buffer → IsSentOn net labelled at.relay buffer tag
@@ -67,28 +67,28 @@ module _ {A : Type 0} (net : Network A) (ranks : Ranking) (clock : ℕ) (buffers
   HasId (sender.Chunk place buffer serial) tag entries = KeepsAt net place buffer → IsIdOf (ranks place buffer) clock (buffers place buffer) serial tag entries
 
   -- A message leads to a source; its sender has its id; if it was acknowledged, its events are safe.
-  pub record IsKnown (labelled : Labels) (message : Message) : Type 0 where
+  pub record IsKnown (labelled : Labelling) (message : Message) : Type 0 where
     pub taken : IsTaken net labelled message.address message.tag
     pub id : HasId message.sender message.tag message.entries
     pub answered : message.acknowledged ≡ true → ArePassedOn message.sender message.tag message.entries
 
   -- A live chunk leads to sources. In a buffer that keeps it was queued or is staged; with evidence its events are safe
   -- elsewhere.
-  pub record IsKnownChunk (labelled : Labels) (place buffer serial : ℕ) (chunk : Chunk) : Type 0 where
+  pub record IsKnownChunk (labelled : Labelling) (place buffer serial : ℕ) (chunk : Chunk) : Type 0 where
     pub sent_on : IsSentOn net labelled place buffer chunk.tag
     pub ranked : KeepsAt net place buffer → chunk.stage ≢ Staged → ranks place buffer serial < clock
     pub evident : KeepsAt net place buffer → chunk.evidence ≡ true → (chunk.stage ≢ Staged) × AreSafe (ranks place buffer serial + 1) chunk.tag chunk.entries
 
   -- A delivery is of a message that came in where its tag is labelled; where it was appended to a buffer that keeps, the
   -- events of that are safe.
-  pub record IsKnownDelivery (labelled : Labels) (messages : List Message) (delivery : Delivery) : Type 0 where
+  pub record IsKnownDelivery (labelled : Labelling) (messages : List Message) (delivery : Delivery) : Type 0 where
     pub message : Message
     pub there : slice_get messages delivery.message ≡ Some message
     pub taken : labelled delivery.entrance message.tag
     pub appended : (buffer : ℕ) → Contains delivery.appended buffer → KeepsAt net delivery.entrance.relay buffer → ArePassedOn message.sender message.tag message.entries
 
 -- What every run keeps.
-pub record IsRanked {A : Type 0} (net : Network A) (labelled : Labels) (ranks : Ranking) (clock : ℕ) (w : World) : Type 0 where
+pub record IsRanked {A : Type 0} (net : Network A) (labelled : Labelling) (ranks : Ranking) (clock : ℕ) (w : World) : Type 0 where
   pub below : (place buffer serial : ℕ) → (w.buffers place buffer).next ≤ serial → (w.buffers place buffer).chunks serial ≡ None
   pub chunks : (place buffer serial : ℕ) (chunk : Chunk) → (w.buffers place buffer).chunks serial ≡ Some chunk → IsKnownChunk net ranks clock w.buffers labelled place buffer serial chunk
   pub messages : (number : ℕ) (message : Message) → slice_get w.messages number ≡ Some message → IsKnown net ranks clock w.buffers labelled message

@@ -8,7 +8,7 @@ use Rattle.relay_net.specs.Network.{Network, output_at}
 use Rattle.relay_net.specs.Outputs.{Keeps}
 use Rattle.custody_steps.specs.Held.{Held}
 use Rattle.custody_steps.specs.World.{World}
-use Rattle.custody_core.proofs.Kept.{and_some}
+use Rattle.custody_core.proofs.Serials.{and_some}
 
 -- the buffers of all relays, by the place of the relay and the buffer in it
 abbrev pub Buffers : Type 0

@@ -11,10 +11,10 @@ use Rattle.route_graph.specs.Ways.{HaveTag}
 use Rattle.custody_steps.specs.World.{World, with_buffer}
 use Rattle.custody_steps.specs.Steps.{Allowed, effect, CanBegin, CanAppend, CanAcknowledge, OfDelivery}
 use Rattle.step_lines.specs.declared.step.Step.TheVariants as step
-use Rattle.custody_core.proofs.Kept.{event_of, some_and}
+use Rattle.custody_core.proofs.Serials.{event_of, some_and}
 use Rattle.custody_core.proofs.Lists.{get-push, get-more, get-set, get-after_set, contains-map}
 use Rattle.custody_core.proofs.Safe.{Ranking, IsSafe}
-use Rattle.custody_core.proofs.Ranked.{Labels, LeadOn, ArePassedOn, IsKnown, IsKnownDelivery, IsRanked}
+use Rattle.custody_core.proofs.Ranked.{Labelling, LeadOn, ArePassedOn, IsKnown, IsKnownDelivery, IsRanked}
 use Rattle.custody_core.proofs.AppendMoves.{append_ranked}
 
 -- Each message of the one list is in the other, from the same sender, with its tag and its entries.
@@ -42,7 +42,7 @@ of_delivery w number P h =
     let m = some_and (slice_get w.messages d.0.message) (P d.0) d.2 in
     record { delivery = d.0; is_delivery = d.1; message = m.0; is_message = m.1; holds = m.2 }
 
-module _ {A : Type 0} (net : Network A) (labelled : Labels) (ranks : Ranking) (clock : ℕ) where
+module _ {A : Type 0} (net : Network A) (labelled : Labelling) (ranks : Ranking) (clock : ℕ) where
   -- the list of deliveries changed
   pub deliveries_ranked : (w : World) → IsRanked net labelled ranks clock w → (deliveries : List Delivery)
       → ((number : ℕ) (delivery : Delivery) → slice_get deliveries number ≡ Some delivery → IsKnownDelivery net ranks clock w.buffers labelled w.messages delivery) → IsRanked net labelled ranks clock (record w { deliveries = deliveries })
@@ -109,11 +109,11 @@ module _ {A : Type 0} (net : Network A) (labelled : Labels) (ranks : Ranking) (c
   newly_safe w (sender.Chunk place buffer serial) before tag entries passed event inside = absurd (let less = inside.1 in omega arith)
 
 -- a delivery that ended is known all the same
-pub ended_known : {A : Type 0} (net : Network A) (labelled : Labels) (ranks : Ranking) (clock : ℕ) (w : World) (delivery : Delivery) → IsKnownDelivery net ranks clock w.buffers labelled w.messages delivery
+pub ended_known : {A : Type 0} (net : Network A) (labelled : Labelling) (ranks : Ranking) (clock : ℕ) (w : World) (delivery : Delivery) → IsKnownDelivery net ranks clock w.buffers labelled w.messages delivery
     → IsKnownDelivery net ranks clock w.buffers labelled w.messages (ended delivery)
 ended_known net labelled ranks clock w delivery known = record { message = known.message; there = known.there; taken = known.taken; appended = known.appended }
 
-module _ {A : Type 0} (net : Network A) (labelled : Labels) (leads : LeadOn net labelled) (ranks : Ranking) (clock : ℕ) (w : World) (is : IsRanked net labelled ranks clock w) where
+module _ {A : Type 0} (net : Network A) (labelled : Labelling) (leads : LeadOn net labelled) (ranks : Ranking) (clock : ℕ) (w : World) (is : IsRanked net labelled ranks clock w) where
   pub sent : (client : ℕ) (tag : List ℕ) (entries : _) → Allowed net w (step.Send client tag entries) → IsRanked net labelled ranks clock (effect net w (step.Send client tag entries))
   sent client tag entries h =
       let f = some_and (slice_get net.clients client) (λ found. HaveTag found.patterns.items tag) h in

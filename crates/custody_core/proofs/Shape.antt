@@ -1,5 +1,5 @@
--- A network of one relay with one scope, one match and one file output that keeps: what its parts are, and where events go.
-use Rattle.std.proofs.Common.{◌≡◌, ℕ, zero, suc, ◌==◌, ◌&&◌, Bool, true, false, cond, List, [], ◌∷◌, Some, None, slice_get, refl, sym, ap, subst, ◌∙◌, arith, inl, inr, find, Contains, string_bytes}
+-- A network of one relay with one scope, one match and one file output that keeps: what its parts are, and where clients enter.
+use Rattle.std.proofs.Common.{◌≡◌, ℕ, zero, suc, ◌==◌, ◌&&◌, Bool, true, false, cond, List, [], ◌∷◌, Some, slice_get, refl, sym, ap, ◌∙◌, find, string_bytes}
 use Rattle.std.specs.List.{list_all, list_any}
 use Rattle.std.specs.Str.{bytes_eq}
 use Rattle.std.proofs.lemmas.Bool.{and_parts, eqb-true, eq-eqb, false≢true}
@@ -8,18 +8,12 @@ use Rattle.relay_conf.specs.declared.output.Output.{Output}
 use Rattle.relay_conf.specs.declared.output.Output.TheVariants as output
 use Rattle.relay_conf.specs.declared.output.FileSettings.{FileSettings}
 use Rattle.relay_conf.specs.declared.relay.MatchRule.{MatchRule}
-use Rattle.relay_conf.specs.declared.relay.Relay.{Relay}
 use Rattle.relay_conf.specs.declared.relay.Scope.{Scope}
 use Rattle.relay_conf.specs.declared.relay.Source.{Source}
 use Rattle.relay_net.specs.declared.node.Client.{Client}
-use Rattle.relay_net.specs.Network.{Network, place_of, place_from, entrance, address_of_client, source_at, output_at, output_of}
+use Rattle.relay_net.specs.Network.{Network, entrance, address_of_client, source_at}
 use Rattle.relay_net.specs.declared.node.Node.{Node}
 use Rattle.relay_net.specs.Outputs.{keeps_chunks}
-use Rattle.route_graph.specs.Ways.{HaveTag, IsHandedTo, IsRelabelled, IsLeaf, own, further}
-use Rattle.route_graph.specs.Table.{Table, rule_of}
-use Rattle.route_graph.specs.declared.hop.Hop.{Hop}
-use Rattle.route_graph.specs.declared.hop.Hop.TheVariants as hop
-use Rattle.relay_net.specs.Ways.{table_at, HasLeaf}
 use Rattle.custody_core.specs.SingleFile.{only, is_kept_file, has_one_file, has_one_match, is_single_file, enter_main, has_port, enters, is_single_file_net}
 
 pub record Single {A : Type 0} (nodes : List (Node A)) (clients : List (Client A)) : Type 0 where
@@ -86,25 +80,9 @@ single nodes clients h =
       enter = r.1;
     }
 
--- Places and outputs.
-module _ {A : Type 0} (net : Network A) (s : Single net.relays net.clients) where
-  pub file : Output A
-  file = output.File s.settings s.line
-
-  pub place_is : (number : ℕ) → place_of net number ≡ cond (s.node.number == number) (Some 0) None
-  place_is number = ap (λ (nodes : List (Node A)). place_from 0 nodes number) s.nodes_is
-
-  outputs_in : (relay : Relay A) (buffer : ℕ) → relay.scopes.items ≡ s.scope ∷ [] → output_of relay buffer ≡ cond (0 == buffer) (Some (output.File s.settings s.line)) None
-  outputs_in relay buffer e = rw (e, s.matches_is, s.outputs_is, s.number_is) refl
-
-  pub output_is : (buffer : ℕ) → output_at net 0 buffer ≡ cond (0 == buffer) (Some (output.File s.settings s.line)) None
-  output_is buffer = rw s.nodes_is (outputs_in s.node.relay buffer s.scopes_is)
-
-  pub output_elsewhere : (place buffer : ℕ) → output_at net (suc place) buffer ≡ None
-  output_elsewhere place buffer = rw s.nodes_is refl
-
-only_member : {X : Type 0} {x y : X} → Contains (x ∷ []) y → y ≡ x
-only_member c = let e : c.0 ≡ 0 = omega arith in sym (rw e at c.2)
+-- the one output
+abbrev pub file : {A : Type 0} (net : Network A) → Single net.relays net.clients → Output A
+file net s = output.File s.settings s.line
 
 -- Where clients enter.
 
@@ -139,50 +117,3 @@ module _ {A : Type 0} (net : Network A) (s : Single net.relays net.clients) wher
       let number : client.relay ≡ s.node.number = eqb-true client.relay s.node.number e.0 in
       let source = source_is s.node client.port s.main e.1 in
       rw s.nodes_is (rw (eq-eqb s.node.number client.relay (sym number)) (rw source.1 (ap (λ n. Some (record { relay = 0; scope = n })) source.2)))
-
-  -- Leaves and loops.
-
-  main_table : table_at net 0 ≡ (rule_of s.rule ∷ []) ∷ []
-  main_table = rw s.nodes_is (rw s.scopes_is (rw s.matches_is refl))
-
-  main_hops : (rule_of s.rule).hops ≡ hop.Buffer s.settings.number ∷ []
-  main_hops = rw s.outputs_is refl
-
-  handed_in : (tag : List ℕ) (scope : ℕ) (to : Hop) → IsHandedTo ((rule_of s.rule ∷ []) ∷ []) tag scope to → HaveTag s.rule.patterns.items tag × (to ≡ hop.Buffer s.settings.number)
-  handed_in tag zero to (taker, taken, among) = elim taken as (λ _. HaveTag s.rule.patterns.items tag × (to ≡ hop.Buffer s.settings.number)) [
-    | inl t ↦ (t.0, only_member (rw (t.1, main_hops) at among))
-    | inr t ↦ absurd t.1
-  ]
-  handed_in tag (suc scope) to (taker, taken, among) = absurd taken
-
-  handed_is : (tag : List ℕ) (scope : ℕ) (to : Hop) → IsHandedTo (table_at net 0) tag scope to → HaveTag s.rule.patterns.items tag × (to ≡ hop.Buffer s.settings.number)
-  handed_is tag scope to h = handed_in tag scope to (subst (λ (table : Table). IsHandedTo table tag scope to) main_table h)
-
-  not_relabelled : (tag : List ℕ) (scope target : ℕ) → IsRelabelled (table_at net 0) tag scope target → ⊥
-  not_relabelled tag scope target handed = let e = (handed_is tag scope _ handed).1 in cc
-
-  same_number : (buffer : ℕ) → hop.Buffer (record { 0 = buffer }) ≡ hop.Buffer s.settings.number → buffer ≡ s.settings.number.0
-  same_number buffer e = ap number_in e
-    where
-      number_in : Hop → ℕ
-      number_in (hop.Buffer number) = number.0
-      number_in (hop.Scope target) = 0
-
-  leaf_of : (tag : List ℕ) (scope buffer : ℕ) → IsLeaf (table_at net 0) tag scope buffer → HaveTag s.rule.patterns.items tag × (buffer ≡ 0)
-  leaf_of tag scope buffer (own handed) =
-      let h = handed_is tag scope _ handed in
-      (h.0, same_number buffer h.1 ∙ s.number_is)
-  leaf_of tag scope buffer (further relabelled more) = absurd (not_relabelled tag scope _ relabelled)
-
-  leaf_there : (tag : List ℕ) → HaveTag s.rule.patterns.items tag → IsLeaf (table_at net 0) tag 0 0
-  leaf_there tag has = own (subst (λ (table : Table). IsHandedTo table tag 0 (hop.Buffer (record { 0 = 0 }))) (sym main_table)
-      (rule_of s.rule, inl (has, refl), rw main_hops (0, omega arith, ap (λ (n : ℕ). hop.Buffer (record { 0 = n })) s.number_is)))
-
-  -- the one buffer is the leaf of each message with entries whose tag the match has, and no other is
-  pub has_leaf_parts : (tag : List ℕ) (entries : List (List ℕ)) (buffer : ℕ) → HasLeaf net (record { relay = 0; scope = 0 }) tag entries buffer → (¬ (entries ≡ [])) × HaveTag s.rule.patterns.items tag × (buffer ≡ 0)
-  has_leaf_parts tag entries buffer h =
-      let parts = leaf_of tag 0 buffer h.1 in
-      (h.0, parts.0, parts.1)
-
-  pub has_leaf : (tag : List ℕ) (entries : List (List ℕ)) → ¬ (entries ≡ []) → HaveTag s.rule.patterns.items tag → HasLeaf net (record { relay = 0; scope = 0 }) tag entries 0
-  has_leaf tag entries some has = (some, leaf_there tag has)

@@ -14,10 +14,10 @@ use Rattle.relay_net.specs.Network.{Network, output_at, is_in_memory}
 use Rattle.relay_net.specs.Outputs.{Keeps, IsInFile, is_memory, settings_of}
 use Rattle.custody_steps.specs.World.{World, with_buffer}
 use Rattle.custody_core.proofs.Safe.{Buffers, Ranking, KeepsAt, IsSafe, changed, safe_here}
-use Rattle.custody_core.proofs.Ranked.{Labels, IsRanked}
+use Rattle.custody_core.proofs.Ranked.{Labelling, IsRanked}
 use Rattle.custody_core.proofs.Going.{GoesOn, IsLike, like_itself, Changes, change_goes, chunk_goes, world_goes, buffer_goes}
 
-module _ {A : Type 0} (net : Network A) (labelled : Labels) (ranks : Ranking) (clock : ℕ) (w : World) (is : IsRanked net labelled ranks clock w) (place buffer : ℕ) where
+module _ {A : Type 0} (net : Network A) (labelled : Labelling) (ranks : Ranking) (clock : ℕ) (w : World) (is : IsRanked net labelled ranks clock w) (place buffer : ℕ) where
   -- More is stored in the sink of the buffer's output.
   module _ (more : BufferState → List Event) where
     abbrev fuller : BufferState → BufferState
@@ -65,7 +65,7 @@ none_by true o e = refl
 none_by false o e = e
 
 -- The oldest queued chunk goes from a buffer that doesn't keep.
-pub oldest_ranked : {A : Type 0} (net : Network A) (labelled : Labels) (ranks : Ranking) (clock : ℕ) (w : World) → IsRanked net labelled ranks clock w → (place buffer : ℕ) → (KeepsAt net place buffer → ⊥)
+pub oldest_ranked : {A : Type 0} (net : Network A) (labelled : Labelling) (ranks : Ranking) (clock : ℕ) (w : World) → IsRanked net labelled ranks clock w → (place buffer : ℕ) → (KeepsAt net place buffer → ⊥)
     → IsRanked net labelled ranks clock (with_buffer w place buffer without_oldest)
 oldest_ranked net labelled ranks clock w is place buffer lets_go =
     let state = w.buffers place buffer in
@@ -142,7 +142,7 @@ module _ (old : BufferState) where
   again_next new as_before = refl
   again_next new again = refl
 
-module _ {A : Type 0} (net : Network A) (labelled : Labels) (ranks : Ranking) (clock : ℕ) (w : World) (is : IsRanked net labelled ranks clock w) (new : Buffers)
+module _ {A : Type 0} (net : Network A) (labelled : Labelling) (ranks : Ranking) (clock : ℕ) (w : World) (is : IsRanked net labelled ranks clock w) (new : Buffers)
     (are : (place buffer : ℕ) → IsAgain (w.buffers place buffer) (is_in_memory net place buffer) (new place buffer)) where
   kept_again : (place buffer : ℕ) → KeepsAt net place buffer → IsAgain (w.buffers place buffer) false (new place buffer)
   kept_again place buffer keeps = rw (in_file net place buffer keeps) at (are place buffer)

@@ -7,7 +7,7 @@ use Rattle.std.proofs.lemmas.List.Elements.{Contains-append_cases}
 use Rattle.custody_store.specs.Buffers.{Event, Chunk, BufferState, with_chunk, CanTake, chunk_with, next_after, appended_to, events_of, is_queued, none_queued_below, without_oldest, restarted, started_again}
 use Rattle.message_book.specs.Book.{Message}
 use Rattle.custody_core.specs.Custody.{IsOriginOf}
-use Rattle.custody_core.proofs.Kept.{event_of}
+use Rattle.custody_core.proofs.Serials.{event_of}
 use Rattle.custody_core.proofs.Lists.{contains-map}
 
 -- a client sent the event, with one of these messages

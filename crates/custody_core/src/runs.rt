@@ -19,9 +19,10 @@ use step_lines::Step;
 /// Takes the steps one after another, from the network before the first step. An `Err` has the number of the
 /// first step that is refused, counted from 1, and why.
 ///
-/// After every list of steps whatever a sink holds a client sent, under that tag. In a network of one relay with one
-/// match and one file output that keeps, each event that was acknowledged to a client is then in a buffer or in the
-/// sink, with its bytes unchanged, if each pattern of a client fits a pattern of the match.
+/// After every list of steps whatever a sink holds a client sent, under that tag. In every network that obeys the rules
+/// on labels, for some labels and reaches, each event that was acknowledged to a client is then in a live chunk of a buffer
+/// or in a sink, with its bytes unchanged, and so in a network of one relay with one match and one file output that
+/// keeps, if each pattern of a client fits a pattern of the match.
 pub fn run<'n, A: Allocator + Copy>(
     alloc: A,
     net: &'n Net<A>,
