@@ -1,30 +1,22 @@
 -- Where the rules on labels hold, each labelled tag leads to an output that keeps, and on to where it is labelled.
-use Rattle.std.proofs.Common.{◌≡◌, ℕ, List, Option, Some, None, slice_get, refl, sym, ◌∙◌, All, IsSome}
+use Rattle.std.proofs.Common.{◌≡◌, ℕ, List, Option, Some, None, slice_get, refl, All, IsSome}
 use Rattle.std.proofs.lemmas.List.Elements.{All-contains}
-use Rattle.std.proofs.lemmas.Option.{option_and_then_some}
-use Rattle.std.specs.Option.{option_and_then}
 use Rattle.tag_pattern.specs.Items.{Item}
 use Rattle.tag_pattern.specs.Parts.{parts_of}
 use Rattle.tag_pattern.specs.Patterns.{IsTagOf}
 use Rattle.tag_pattern.proofs.Sets.{subset}
-use Rattle.relay_conf.specs.declared.output.Output.{Output}
-use Rattle.relay_conf.specs.declared.relay.MatchRule.{MatchRule}
-use Rattle.relay_conf.specs.declared.relay.Relay.{Relay}
-use Rattle.relay_conf.specs.declared.relay.Scope.{Scope}
-use Rattle.relay_net.specs.Index.{output_in, among_scopes}
-use Rattle.relay_net.specs.Network.{Network, relay_at, entrance, output_of, address_of_client, address_of_server}
+use Rattle.relay_net.specs.Network.{Network, relay_at, entrance, address_of_client, address_of_server}
 use Rattle.relay_net.specs.Outputs.{servers_of}
 use Rattle.relay_net.specs.Ways.{table_at}
 use Rattle.relay_net.specs.declared.address.Entrance.{Entrance}
-use Rattle.relay_net.specs.declared.index.OutputPlace.{OutputPlace}
 use Rattle.relay_net.specs.declared.node.Client.{Client}
-use Rattle.relay_net.proofs.Agreement.{places_are}
 use Rattle.route_graph.specs.Ways.{HaveTag, IsLeaf}
 use Rattle.loss_rules.specs.Labels.{FitsLabel, IsLabelledTag}
 use Rattle.loss_rules.specs.Rules.{AreRulesKept, IsLabelledClient}
 use Rattle.loss_rules.specs.Sites.{BuffersAreDistinct}
 use Rattle.loss_rules.specs.declared.label.Label.{Label}
 use Rattle.loss_rules.specs.declared.label.Reach.{Reach}
+use Rattle.labelled_ways.proofs.Sites.{site-of}
 use Rattle.labelled_ways.specs.SafeWays.{LabelledTagsAreSafe}
 use Rattle.custody_core.proofs.Serials.{some_and, and_some}
 use Rattle.custody_core.proofs.Lists.{get-contains}
@@ -35,20 +27,6 @@ fits_labelled : {A : Type 0} (labels : List (Label A)) (place scope : ℕ) (patt
 fits_labelled labels place scope pattern tag has fits =
     let one = fits.4.1 in
     (fits.0, fits.1, fits.2, fits.3, (fits.4.0, (one.0, one.1, one.2, one.3, subset one.4 (parts_of tag) has)))
-
--- the output that is found for a buffer of a relay stands in a match of it
-places_agree : {A : Type 0} (scope : Option (Scope A)) (rule output : ℕ)
-    → option_and_then (λ s. option_and_then (λ (r : MatchRule A). slice_get r.outputs.items output) (slice_get s.matches.items rule)) scope
-    ≡ option_and_then (λ (r : MatchRule A). slice_get r.outputs.items output) (option_and_then (λ s. slice_get s.matches.items rule) scope)
-places_agree None rule output = refl
-places_agree (Some s) rule output = refl
-
-site_of : {A : Type 0} (found : Option (Relay A)) (buffer : ℕ) (o : Output A) → option_and_then (λ r. output_of r buffer) found ≡ Some o
-    → (scope rule output : ℕ) × (option_and_then (λ (r : MatchRule A). slice_get r.outputs.items output) (option_and_then (λ s. slice_get s.matches.items rule) (option_and_then (λ relay. slice_get relay.scopes.items scope) found)) ≡ Some o)
-site_of None buffer o e = absurd (cc)
-site_of {A} (Some relay) buffer o e =
-    option_and_then_some (output_in relay) (among_scopes 0 relay.scopes.items buffer) o (places_are relay buffer ∙ e)
-    (λ (place : OutputPlace) at here. (place.scope, place.rule, place.output, sym (places_agree (slice_get relay.scopes.items place.scope) place.rule place.output) ∙ here))
 
 module _ {A : Type 0} (net : Network A) (labels : List (Label A)) (reaches : List (Reach A)) (safe : LabelledTagsAreSafe A) (distinct : BuffersAreDistinct net) (rules : AreRulesKept net labels reaches) where
   -- the tags of the labels
@@ -71,8 +49,8 @@ module _ {A : Type 0} (net : Network A) (labels : List (Label A)) (reaches : Lis
   servers_lead : (at : Entrance) (tag : List ℕ) → labelled at tag → (buffer : ℕ) → IsLeaf (table_at net at.relay) tag at.scope buffer → IsSentOn net labelled at.relay buffer tag
   servers_lead at tag is buffer leaf o output number server among =
       let inside = get-contains (servers_of o) server number among in
-      let site = site_of (relay_at net at.relay) buffer o output in
-      let enter = there (entrance net (address_of_server server)) (rules.servers at.relay site.0 site.1 site.2 o site.3 server inside) in
+      let site = site-of (relay_at net at.relay) o buffer output in
+      let enter = there (entrance net (address_of_server server)) (rules.servers at.relay site.scope site.rule site.output o site.there server inside) in
       and_some (entrance net (address_of_server server)) (λ to. labelled to tag) enter.0 enter.1
       ((safe net labels reaches distinct rules at.relay at.scope tag is).onward buffer leaf o server enter.0 output inside enter.1)
 

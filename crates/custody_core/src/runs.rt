@@ -20,9 +20,9 @@ use step_lines::Step;
 /// first step that is refused, counted from 1, and why.
 ///
 /// After every list of steps whatever a sink holds a client sent, under that tag. In every network that obeys the rules
-/// on labels, for some labels and reaches, each event that was acknowledged to a client is then in a live chunk of a buffer
-/// or in a sink, with its bytes unchanged, and so in a network of one relay with one match and one file output that
-/// keeps, if each pattern of a client fits a pattern of the match.
+/// on labels, for some labels and reaches, and whose relays number each output's buffer once, each event that was
+/// acknowledged to a client is then in a live chunk of a buffer or in a sink, with its bytes unchanged. So it is in a
+/// network of one relay with one match and one file output that keeps, if each pattern of a client fits one of the match.
 pub fn run<'n, A: Allocator + Copy>(
     alloc: A,
     net: &'n Net<A>,

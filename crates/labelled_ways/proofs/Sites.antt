@@ -90,7 +90,7 @@ found-site {A} relay found buffer e =
     })
 
 -- the output that is found for a buffer stands somewhere
-site-of : {A : Type 0} (relay : Option (Relay A)) (found : Output A) (buffer : ℕ) → option_and_then (λ r. output_of r buffer) relay ≡ Some found → IsSite relay found buffer
+pub site-of : {A : Type 0} (relay : Option (Relay A)) (found : Output A) (buffer : ℕ) → option_and_then (λ r. output_of r buffer) relay ≡ Some found → IsSite relay found buffer
 site-of None found buffer e = absurd (cc)
 site-of (Some relay) found buffer e = found-site relay found buffer e
 
