@@ -1,0 +1,4 @@
+pub mod Firsts
+pub mod Graphs
+pub mod Sites
+pub mod Visits

@@ -1,0 +1,162 @@
+// The relabels of a relay's reached matches, as a graph of its scopes.
+ghost use Rattle.std.specs.Prelude.{◌≡◌, ◌<◌, ◌↔◌, [], ◌++◌, length, replicate, slice_set, IfOk, OnOk, IsTrue};
+ghost use Rattle.std.specs.List.{filter_map};
+ghost use Rattle.relabel_cycles.specs.Firsts.{IsFirst};
+ghost use Rattle.relabel_cycles.specs.Graphs.{relabel_of, relabels_at, LeadsTo, IsGraphOf, IsOnCycle, IsOnCycleFrom};
+
+use crate::first::earlier;
+use crate::relabel::{Relabel, as_relabel};
+use crate::sites::{match_outputs, scope_count};
+use crate::visit::Visit;
+use loss_rules::Reach;
+use relay_conf::Output;
+use relay_net::Net;
+use std::alloc::{AllocError, Allocator};
+use std::marker::Model;
+
+/// The relabels of one scope. To contracts it is their list.
+#[derive(Drop)]
+pub(crate) struct ScopeRelabels<A: Allocator> {
+    relabels: Vec<Relabel, A>,
+}
+
+impl<A: Allocator> Model for ScopeRelabels<A> {
+    ghost use Rattle.std.specs.Prelude.{List};
+    ghost use Rattle.relabel_cycles.specs.declared.relabel.Relabel.{Relabel};
+
+    ghost Value = { List Relabel };
+
+    ghost view = { λ scope. scope.relabels.items };
+}
+
+impl<A: Allocator> ScopeRelabels<A> {
+    // The relabels, in the order in which they were added.
+    fn relabels(&self) -> &[Relabel]
+        ensures { result.now ≡ self.now }
+    {
+        &self.relabels
+    }
+
+    // Adds the relabels among these outputs.
+    fn add<B: Allocator>(&mut self, outputs: &[Output<B>]) -> Result<(), AllocError>
+        ensures { OnOk result (self.new ≡ self.old ++ filter_map relabel_of outputs.now) }
+    {
+        for output in outputs {
+            if let Some(relabel) = as_relabel(output) {
+                self.relabels.push(relabel)?;
+            }
+        }
+        Ok(())
+    }
+}
+
+/// The relabels of the reached matches of a relay. To contracts it is the list of them for each scope of the relay.
+#[derive(Drop)]
+pub(crate) struct RelabelGraph<A: Allocator> {
+    scopes: Vec<ScopeRelabels<A>, A>,
+}
+
+impl<A: Allocator> Model for RelabelGraph<A> {
+    ghost use Rattle.std.specs.Prelude.{List};
+    ghost use Rattle.relabel_cycles.specs.declared.relabel.Relabel.{Relabel};
+
+    ghost Value = { List (List Relabel) };
+
+    ghost view = { λ graph. graph.scopes.items };
+}
+
+impl<A: Allocator + Copy> RelabelGraph<A> {
+    /// The relabels of the reached matches of the relay at this place.
+    pub fn new<B: Allocator + Copy>(
+        alloc: A,
+        net: &Net<B>,
+        place: usize,
+        reaches: &[Reach<B>],
+    ) -> Result<RelabelGraph<A>, AllocError>
+        ensures { IfOk result (IsGraphOf net.now reaches.now place) }
+    {
+        let mut graph = RelabelGraph::empty(alloc, scope_count(net, place))?;
+        for reach in reaches {
+            if reach.place == place {
+                graph.add(
+                    reach.scope,
+                    match_outputs(net, place, reach.scope, reach.rule),
+                )?;
+            }
+        }
+        Ok(graph)
+    }
+
+    /// The first line of a relabel on a cycle, if there is one.
+    pub fn first_line(&self) -> Result<Option<usize>, AllocError>
+        ensures { IfOk result (IsFirst (IsOnCycle self.now)) }
+    {
+        let mut first = None;
+        for scope in 0..self.scopes.len() {
+            first = earlier(first, self.first_line_from(scope)?);
+        }
+        Ok(first)
+    }
+
+    // The first line of a relabel of the scope whose target leads back to it, if there is one.
+    fn first_line_from(&self, scope: usize) -> Result<Option<usize>, AllocError>
+        requires { scope < length self.now }
+        ensures { IfOk result (IsFirst (IsOnCycleFrom self.now scope)) }
+    {
+        let mut first = None;
+        for relabel in self.relabels(scope) {
+            if self.leads(relabel.target, scope)? {
+                first = earlier(first, Some(relabel.line));
+            }
+        }
+        Ok(first)
+    }
+
+    // Whether a chain of relabels, which may be empty, leads from the one scope to the other.
+    fn leads(&self, start: usize, last: usize) -> Result<bool, AllocError>
+        requires { last < length self.now }
+        ensures { IfOk result (λ found. IsTrue found ↔ LeadsTo self.now start last) }
+    {
+        let mut visit = Visit::begin(*self.scopes.allocator(), self.scopes.len(), start)?;
+        while let Some(scope) = visit.next() {
+            if !visit.is_marked(scope) {
+                visit.mark(scope);
+                visit.follow(self.relabels(scope))?;
+            }
+        }
+        Ok(visit.is_marked(last))
+    }
+
+    // A graph of so many scopes without relabels.
+    fn empty(alloc: A, count: usize) -> Result<RelabelGraph<A>, AllocError>
+        ensures { IfOk result (λ graph. graph ≡ replicate count []) }
+    {
+        let mut scopes = Vec::with_capacity(alloc, count)?;
+        for _ in 0..count {
+            scopes.push(ScopeRelabels {
+                relabels: Vec::new(alloc),
+            })?;
+        }
+        Ok(RelabelGraph { scopes })
+    }
+
+    // Adds the relabels among these outputs to those of the scope, if it is there.
+    fn add<B: Allocator>(&mut self, scope: usize, outputs: &[Output<B>]) -> Result<(), AllocError>
+        ensures { OnOk result (self.new ≡ slice_set self.old scope (relabels_at self.old scope ++ filter_map relabel_of outputs.now)) }
+    {
+        if let Some(found) = self.scopes.get_mut(scope) {
+            found.add(outputs)?;
+        }
+        Ok(())
+    }
+
+    // The relabels of the scope. One that isn't there has none.
+    fn relabels(&self, scope: usize) -> &[Relabel]
+        ensures { result.now ≡ relabels_at self.now scope }
+    {
+        match self.scopes.get(scope) {
+            Some(found) => found.relabels(),
+            None => &[],
+        }
+    }
+}
