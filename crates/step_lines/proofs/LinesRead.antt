@@ -1,31 +1,10 @@
 -- The lines of a text, one after another.
-use Rattle.std.proofs.Common.{◌≡◌, ℕ, zero, suc, ◌+◌, ◌<◌, List, [], ◌∷◌, ◌++◌, length, get_or, Option, Some, None, slice_get, refl, sym, ap, ◌∙◌, arith}
+use Rattle.std.proofs.Common.{◌≡◌, ℕ, List, [], ◌∷◌, ◌++◌, Option, Some, None, ap, ◌∙◌}
 use Rattle.std.specs.List.{AllZip, filter_map}
-use Rattle.std.specs.Str.Lines.{strip_carriage_return}
 use Rattle.std.proofs.lemmas.List.Elements.{filter_map-append}
 use Rattle.std.proofs.lemmas.List.{append-nil}
 use Rattle.step_lines.specs.declared.step.Step.{Step}
-use Rattle.step_lines.specs.StepLines.{Says, SayAll, lines_of}
-
--- a line that isn't the last stands without its CR
-pub lines_of_inner : (pieces : List (List ℕ)) (at : ℕ) (piece : List ℕ) → at + 1 < length pieces → piece ≡ get_or pieces at piece → slice_get (lines_of pieces) at ≡ Some (strip_carriage_return piece)
-lines_of_inner [] at piece h e = absurd (omega arith)
-lines_of_inner (x ∷ []) at piece h e = absurd (omega arith)
-lines_of_inner (x ∷ y ∷ more) zero piece h e = ap (λ p. Some (strip_carriage_return p)) (sym e)
-lines_of_inner (x ∷ y ∷ more) (suc at) piece h e = lines_of_inner (y ∷ more) at piece (omega arith) e
-
--- the last line stands as it is
-pub lines_of_last : (pieces : List (List ℕ)) (at : ℕ) (piece : List ℕ) → at + 1 ≡ length pieces → piece ≡ get_or pieces at piece → slice_get (lines_of pieces) at ≡ Some piece
-lines_of_last [] at piece h e = absurd (omega arith)
-lines_of_last (x ∷ []) zero piece h e = ap Some (sym e)
-lines_of_last (x ∷ []) (suc at) piece h e = absurd (omega arith)
-lines_of_last (x ∷ y ∷ more) zero piece h e = absurd (omega arith)
-lines_of_last (x ∷ y ∷ more) (suc at) piece h e = lines_of_last (y ∷ more) at piece (omega arith) e
-
-pub length-lines_of : (pieces : List (List ℕ)) → length (lines_of pieces) ≡ length pieces
-length-lines_of [] = refl
-length-lines_of (x ∷ []) = refl
-length-lines_of (x ∷ y ∷ more) = ap suc (length-lines_of (y ∷ more))
+use Rattle.step_lines.specs.StepLines.{Says, SayAll}
 
 kept_more : {X : Type 0} (each : List (Option X)) (next : Option X) (all : List X) → filter_map (λ s. s) each ≡ all → filter_map (λ s. s) (each ++ next ∷ []) ≡ all ++ filter_map (λ s. s) (next ∷ [])
 kept_more each next all e = filter_map-append (λ s. s) each (next ∷ []) ∙ ap (λ front. front ++ filter_map (λ s. s) (next ∷ [])) e

@@ -2,9 +2,9 @@
 use Rattle.std.specs.Prelude.{◌≡◌, ℕ, ◌+◌, ◌≤◌, ◌==◌, ◌||◌, not, Bool, ⊤, List, [], ◌∷◌, ◌++◌, length, filter, Option, Some, None, Ok, slice_get, codes}
 use Rattle.std.specs.Str.{IsUtf8}
 use Rattle.std.specs.List.{AllZip, filter_map, slice_split}
-use Rattle.std.specs.Str.Lines.{strip_carriage_return}
 use Rattle.conf_values.specs.Numbers.{number_of}
 use Rattle.hex.specs.Hex.{decode_of}
+use Rattle.text_lines.specs.Lines.{text_lines}
 use Rattle.step_lines.specs.Texts.{texts_of}
 use Rattle.step_lines.specs.declared.step.ChunkName.{ChunkName}
 use Rattle.step_lines.specs.declared.lines.Line.{Line}
@@ -126,16 +126,6 @@ pub record SayAll {A : Type 0} (lines : List (List ℕ)) (steps : List (Step A))
   pub each : List (Option (Step A))
   pub says : AllZip Says lines each
   pub steps_are : filter_map (λ s. s) each ≡ steps
-
--- the lines of a text that was cut at each LF: a CR before an LF is dropped
-abbrev pub lines_of : List (List ℕ) → List (List ℕ)
-lines_of [] = []
-lines_of (last ∷ []) = last ∷ []
-lines_of (line ∷ next ∷ more) = strip_carriage_return line ∷ lines_of (next ∷ more)
-
--- the lines of a text
-abbrev pub text_lines : List ℕ → List (List ℕ)
-text_lines text = lines_of (slice_split (λ b. b == 10) text)
 
 -- Of the text's lines the one of this number, counted from 1, says neither a step nor nothing, and each line
 -- before it says one: it is the first such line.

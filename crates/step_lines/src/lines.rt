@@ -1,10 +1,9 @@
 // Steps as lines of a text.
-ghost use Rattle.std.specs.Prelude.{◌≡◌, [], ◌∷◌, ℕ, codes, map, not, length, List, ◌==◌, IfOk, IfErr, IfSome, IfNone, IsTrue, ◌↔◌, ◌<◌, slice_get, Some};
+ghost use Rattle.std.specs.Prelude.{◌≡◌, [], ◌∷◌, ℕ, codes, map, not, length, List, ◌==◌, IfOk, IfErr, IfSome, IfNone, IsTrue, ◌↔◌};
 ghost use Rattle.std.specs.List.{AllZip, slice_split, filter};
-ghost use Rattle.std.specs.Str.Lines.{strip_carriage_return};
 ghost use Rattle.step_lines.specs.Texts.{texts_of};
 ghost use Rattle.step_lines.specs.declared.step.ChunkName.{ChunkName as TheName};
-ghost use Rattle.step_lines.specs.StepLines.{Spells, IsNumber, AreNameParts, IsChunkName, IsStepOf, NoStep, IsNoneOf, number_words, chunk_words, counted_words, SaysNothing, IsSaid, words_of, lines_of, is_blank as blank};
+ghost use Rattle.step_lines.specs.StepLines.{Spells, IsNumber, AreNameParts, IsChunkName, IsStepOf, NoStep, IsNoneOf, number_words, chunk_words, counted_words, SaysNothing, IsSaid, words_of, is_blank as blank};
 
 use crate::step::{ChunkName, Step};
 use conf_values::whole_number;
@@ -12,6 +11,7 @@ use hex::FromHexError;
 use std::alloc::{AllocError, Allocator};
 use std::str::from_utf8;
 use tag_pattern::{Tag, TagError};
+use text_lines::lines;
 use thiserror::Error;
 
 /// Why a text is no list of steps.
@@ -62,15 +62,11 @@ fn words<'t, A: Allocator + Copy>(alloc: A, line: &'t [u8]) -> Result<Words<'t, 
         .collect(alloc)
 }
 
-// The parts of a text between marks.
-fn pieces<'t, A: Allocator + Copy>(
-    alloc: A,
-    text: &'t [u8],
-    mark: u8,
-) -> Result<Words<'t, A>, AllocError>
-    ensures { IfOk result (λ parts. map (λ part. part.now) parts.items ≡ slice_split (λ byte. byte == mark) text.now) }
+// The parts of a word between slashes.
+fn name_parts<'t, A: Allocator + Copy>(alloc: A, word: &'t [u8]) -> Result<Words<'t, A>, AllocError>
+    ensures { IfOk result (λ parts. map (λ part. part.now) parts.items ≡ slice_split (λ byte. byte == 47) word.now) }
 {
-    text.split(|byte| *byte == mark).collect(alloc)
+    word.split(|byte| *byte == b'/').collect(alloc)
 }
 
 // The chunk that the word names.
@@ -78,7 +74,7 @@ fn chunk_name<A: Allocator + Copy>(alloc: A, word: &[u8]) -> Result<Option<Chunk
     ensures name { IfOk result (λ found. IfSome found (IsChunkName word.now)) }
     ensures none { IfOk result (λ found. IfNone found ((name : TheName) → ¬ (IsChunkName word.now name))) }
 {
-    let parts = pieces(alloc, word, b'/')?;
+    let parts = name_parts(alloc, word)?;
     Ok(name_of(parts.as_slice()))
 }
 
@@ -395,30 +391,9 @@ fn says_nothing(words: &[&[u8]]) -> bool
     }
 }
 
-// The line without a CR at its end.
-fn without_return(line: &[u8]) -> &[u8]
-    ensures { result.now ≡ strip_carriage_return line.now }
-{
-    match line.split_last() {
-        Some((last, front)) if *last == b'\r' => front,
-        _ => line,
-    }
-}
-
-// The line at this place of a text that was cut at each LF.
-fn line_at<'t>(lines: &[&'t [u8]], at: usize) -> &'t [u8]
-    requires { at < length lines.now }
-    ensures { slice_get (lines_of (map (λ line. line.now) lines.now)) at ≡ Some result.now }
-{
-    if at + 1 < lines.len() {
-        without_return(lines[at])
-    } else {
-        lines[at]
-    }
-}
-
 impl<A: Allocator + Copy> Step<A> {
-    ghost use Rattle.step_lines.specs.StepLines.{SayAll, IsBadLine, text_lines};
+    ghost use Rattle.text_lines.specs.Lines.{text_lines};
+    ghost use Rattle.step_lines.specs.StepLines.{SayAll, IsBadLine};
 
     /// Reads steps, one a line: the word of the step and its fields, parted by spaces and tabs. Lines end with
     /// LF, a CR before it is dropped. Empty lines and lines that begin with `#` say nothing. `BadLine` is the
@@ -431,10 +406,10 @@ impl<A: Allocator + Copy> Step<A> {
         ensures steps { IfOk result (λ steps. SayAll (text_lines text.now) steps.items) }
         ensures bad_line { IfErr result (λ e. IsBadLine A text.now e) }
     {
-        let lines = pieces(alloc, text, b'\n')?;
+        let lines = lines(alloc, text)?;
         let mut steps = Vec::new(alloc);
-        for at in 0..lines.len() {
-            match read_line(alloc, line_at(lines.as_slice(), at))? {
+        for (at, line) in lines.iter().enumerate() {
+            match read_line(alloc, line)? {
                 Line::Step(step) => {
                     steps.reserve(1)?;
                     steps.push_reserved(step);
