@@ -1,0 +1,6 @@
+pub mod Counting
+pub mod Found
+pub mod LinesRead
+pub mod Saying
+pub mod Texts
+pub mod Words

@@ -1,0 +1,20 @@
+use Rattle.std.proofs.Common.{◌≡◌, ◌∙◌, length, sym, ap, refl, slice_get, Some, arith}
+use Rattle.plan_lines.specs.Plans.{texts, IsRelayOfText}
+use Rattle.plan_lines.proofs.Texts.{text_there}
+use Rattle.plan_lines.proofs.draft.Draft.add_relay.Goals as goal
+
+pub returns-clause-adds : goal.returns-clause-adds
+returns-clause-adds g c = λ conf. record {
+  node = record { number = c.in-Some.number; host = c.in_ok-host.host; relay = c.in_ok-relay.relay };
+  entry = record { folder = c.in_ok-folder.folder; line = c.args.line };
+  number_is = sym c.in-Some.ensures;
+  host_is = c.in_ok-host.ensures.ok;
+  text = c.index-confs-len.result.items;
+  text_is =
+      let same : c.len.result ≡ length c.args.self.now.relays.items = omega arith in
+      ap (slice_get (texts c.args.confs.now)) (sym same) ∙ text_there c.args.confs.now c.len.result c.index-confs-len.result (omega arith) c.index-confs-len.is;
+  relay_is = rw c.deref.ensures.value at c.in_ok-relay.ensures.relay;
+  folder_is = c.in_ok-folder.ensures.ok;
+  line_is = refl;
+  after_is = rw (c.in_ok-push.ensures.items, c.in_ok-push-2.ensures.items) refl;
+}

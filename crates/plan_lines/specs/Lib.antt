@@ -1,0 +1,6 @@
+pub mod Forms
+pub mod Views
+pub mod Plans
+pub mod Faults
+pub mod Printed
+pub mod Drafts
