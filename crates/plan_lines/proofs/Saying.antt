@@ -1,7 +1,7 @@
 -- What holds of each plan that lines say.
 use Rattle.std.proofs.Common.{◌≡◌, ◌∙◌, ℕ, ◌+◌, ◌==◌, ◌&&◌, Bool, true, false, List, [], ◌∷◌, ◌++◌, length, Option, Some, None, refl, sym, ap, subst, arith}
 use Rattle.std.specs.Prelude.{is_some}
-use Rattle.std.specs.List.{filter_map, list_all}
+use Rattle.std.specs.List.{filter_map}
 use Rattle.std.specs.Option.{option_map_or, option_or}
 use Rattle.std.proofs.lemmas.List.{length-append}
 use Rattle.std.proofs.lemmas.List.Elements.{filter_map-append}
@@ -14,7 +14,7 @@ use Rattle.plan_lines.specs.declared.error.PlanError.{PlanError}
 use Rattle.plan_lines.specs.declared.error.PlanError.TheVariants as error
 use Rattle.plan_lines.specs.Faults.{IsRefusedLine, IsRefusal}
 use Rattle.plan_lines.specs.Forms.{LineForm, nothing, a_relay, a_client, a_label, a_reach, no_form, line_form, conf_named}
-use Rattle.plan_lines.specs.Plans.{network, Adds, Say, none, one_more}
+use Rattle.plan_lines.specs.Plans.{Adds, Say, none, one_more}
 use Rattle.plan_lines.proofs.Counting.{confs_in, names_counted}
 
 -- What each line keeps, each plan that lines say has.

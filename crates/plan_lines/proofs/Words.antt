@@ -1,5 +1,5 @@
 -- Fields that are patterns, or not.
-use Rattle.std.proofs.Common.{◌≡◌, ℕ, zero, suc, ◌<◌, List, [], ◌∷◌, length, map, get_or, ◌⊎◌, inl, inr, arith}
+use Rattle.std.proofs.Common.{ℕ, zero, suc, ◌<◌, List, [], ◌∷◌, length, map, get_or, ◌⊎◌, inl, inr, arith}
 use Rattle.std.specs.Borrow.{Bor}
 use Rattle.tag_pattern.specs.Grammar.{AnyByRecursion}
 use Rattle.plan_lines.specs.declared.error.PlanError.{PlanError}

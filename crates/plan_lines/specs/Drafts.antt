@@ -2,7 +2,7 @@
 use Rattle.std.specs.Prelude.{ℕ, ◌<◌}
 use Rattle.loss_rules.specs.Breaks.{Subject}
 use Rattle.plan_lines.specs.declared.draft.Draft.{Draft}
-use Rattle.plan_lines.specs.Forms.{LineForm, nothing, a_relay, a_client, a_label, a_reach, no_form}
+use Rattle.plan_lines.specs.Forms.{LineForm, a_relay}
 use Rattle.plan_lines.specs.Plans.{network}
 
 -- the plan that it is

@@ -1,10 +1,9 @@
 -- Why a plan's text is refused.
-use Rattle.std.specs.Prelude.{◌≡◌, ◌⊎◌, ℕ, ◌+◌, List, [], ◌∷◌, ◌++◌, length, slice_get, Some, None}
+use Rattle.std.specs.Prelude.{◌≡◌, ◌⊎◌, ℕ, ◌+◌, List, ◌∷◌, ◌++◌, length, slice_get, Some, None}
 use Rattle.std.specs.Option.{option_and_then}
 use Rattle.conf_text.specs.Grammar.{IsConfiguration}
 use Rattle.conf_text.specs.Grammar.{HasFault as HasTextFault}
 use Rattle.conf_text.specs.Trees.{Tree}
-use Rattle.conf_text.specs.declared.fault.ConfFault.{ConfFault}
 use Rattle.conf_values.specs.Numbers.{number_of}
 use Rattle.relay_faults.specs.Faults.{IsRefusal as IsRelayRefusal}
 use Rattle.relay_faults.specs.declared.fault.RelayError.TheVariants as relay_error
@@ -17,7 +16,7 @@ use Rattle.loss_rules.specs.Sites.{rule_at}
 use Rattle.text_lines.specs.Lines.{text_lines}
 use Rattle.plan_lines.specs.declared.error.PlanError.{PlanError}
 use Rattle.plan_lines.specs.declared.error.PlanError.TheVariants as error
-use Rattle.plan_lines.specs.Forms.{LineForm, nothing, a_relay, a_client, a_label, a_reach, no_form, line_form, relay_number}
+use Rattle.plan_lines.specs.Forms.{LineForm, a_relay, a_client, a_label, a_reach, no_form, line_form, relay_number}
 use Rattle.plan_lines.specs.Plans.{Say, place_of, scope_at}
 
 -- a field that should be a number is none: a relay's number, a port or an index

@@ -1,5 +1,5 @@
 -- What a value is without where it lies in memory.
-use Rattle.std.specs.Prelude.{ℕ, List, map}
+use Rattle.std.specs.Prelude.{map}
 use Rattle.plan_lines.specs.declared.form.Form.{Form}
 use Rattle.plan_lines.specs.declared.form.Form.TheVariants as forms
 use Rattle.plan_lines.specs.Forms.{LineForm, nothing, a_relay, a_client, a_label, a_reach, no_form}

@@ -1,5 +1,4 @@
-use Rattle.std.proofs.Common.{◌++◌, [], ℕ, List, refl, append_assoc}
-use Rattle.std.specs.Borrow.{Bor}
+use Rattle.std.proofs.Common.{◌++◌, [], refl, append_assoc}
 use Rattle.std.proofs.lemmas.List.{drop_all, append-nil}
 use Rattle.relay_faults.proofs.Drops.{drop_here}
 use Rattle.plan_lines.proofs.Words.{no_word, fault_among}

@@ -1,4 +1,4 @@
-use Rattle.std.proofs.Common.{◌≡◌, ◌∙◌, ℕ, List, Some, sym, ap, refl}
+use Rattle.std.proofs.Common.{◌∙◌, Some, sym, ap, refl}
 use Rattle.conf_values.specs.Numbers.{number_of}
 use Rattle.relay_net.specs.Network.{node_of}
 use Rattle.plan_lines.proofs.Found.{source_found}

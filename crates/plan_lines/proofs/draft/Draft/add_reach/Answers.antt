@@ -1,4 +1,4 @@
-use Rattle.std.proofs.Common.{◌≡◌, ◌∙◌, ℕ, Some, IsSome, sym, ap, subst, refl}
+use Rattle.std.proofs.Common.{◌∙◌, ℕ, Some, IsSome, sym, ap, subst, refl}
 use Rattle.conf_values.specs.Numbers.{number_of}
 use Rattle.loss_rules.specs.Sites.{rule_at}
 use Rattle.plan_lines.specs.Drafts.{draft_of}

@@ -1,5 +1,5 @@
-use Rattle.std.proofs.Common.{◌≡◌, ◌∙◌, length, sym, ap, refl, slice_get, Some, arith}
-use Rattle.plan_lines.specs.Plans.{texts, IsRelayOfText}
+use Rattle.std.proofs.Common.{◌≡◌, ◌∙◌, length, sym, ap, refl, slice_get, arith}
+use Rattle.plan_lines.specs.Plans.{texts}
 use Rattle.plan_lines.proofs.Texts.{text_there}
 use Rattle.plan_lines.proofs.draft.Draft.add_relay.Goals as goal
 
