@@ -8,6 +8,7 @@ mod label;
 mod outputs;
 mod paths;
 mod plan;
+mod printed;
 mod requirement;
 mod servers;
 mod site;
