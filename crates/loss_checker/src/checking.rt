@@ -1,0 +1,72 @@
+// The checker's answer.
+ghost use Rattle.std.specs.Prelude.{◌+◌, IfOk, IfErr, IfSome, IfNone, OnOk};
+ghost use Rattle.loss_rules.specs.Breaks.{IsKept, IsBrokenAt, IsAnswer, rule_number};
+ghost use Rattle.loss_checker.specs.Kept.{AreKeptBefore};
+
+use loss_rules::{
+    Answer, Place, Rule, addresses_are_distinct, clients_are_labelled, forwards_are_labelled,
+    labels_are_matched, paths_are_distinct, reached_matches_keep, reaches_cover,
+    relabels_are_labelled, servers_are_sources,
+};
+use plan_lines::Plan;
+use relabel_cycles::first_cycle;
+use std::alloc::{AllocError, Allocator};
+
+/// Whether each rule holds of the plan; or else the first rule that is broken, in the order of `Rule`, and where it is
+/// broken first: by lines of the plan, or by relays in the order of the plan and then by lines of their configurations.
+///
+/// The patterns of lines and matches are compared pair by pair, so the time grows as the square of the plan's length.
+/// Memory is needed to look for a cycle of relabels alone. The only error is want of it.
+pub fn check<A: Allocator + Copy>(alloc: A, plan: &Plan<A>) -> Result<Answer, AllocError>
+    ensures { IfOk result (IsAnswer plan.now) }
+{
+    if let Err(answer) = keep_all_but_the_last(plan) {
+        return Ok(answer);
+    }
+    let cycle = first_cycle(alloc, plan.net(), plan.reaches())?;
+    match keep(plan, Rule::NoRelabelCycle, cycle) {
+        Ok(()) => Ok(Answer::Yes),
+        Err(answer) => Ok(answer),
+    }
+}
+
+// Whether the rules before the last one hold. An `Err` is the answer where one doesn't.
+fn keep_all_but_the_last<A: Allocator + Copy>(plan: &Plan<A>) -> Result<(), Answer>
+    ensures kept { OnOk result (AreKeptBefore plan.now 10) }
+    ensures broken { IfErr result (IsAnswer plan.now) }
+{
+    let net = plan.net();
+    let labels = plan.labels();
+    let reaches = plan.reaches();
+    let addresses = addresses_are_distinct(net, plan.relay_lines());
+    keep(plan, Rule::AddressesAreDistinct, addresses)?;
+    keep(plan, Rule::ServersAreSources, servers_are_sources(net))?;
+    let clients = clients_are_labelled(net, plan.client_lines(), labels);
+    keep(plan, Rule::ClientsAreLabelled, clients)?;
+    let matched = labels_are_matched(net, labels);
+    keep(plan, Rule::LabelsAreMatched, matched)?;
+    let covered = reaches_cover(net, labels, reaches);
+    keep(plan, Rule::ReachesCover, covered)?;
+    let kept = reached_matches_keep(net, reaches);
+    keep(plan, Rule::ReachedMatchesKeep, kept)?;
+    let relabels = relabels_are_labelled(net, labels, reaches);
+    keep(plan, Rule::RelabelsAreLabelled, relabels)?;
+    let forwards = forwards_are_labelled(net, labels, reaches);
+    keep(plan, Rule::ForwardsAreLabelled, forwards)?;
+    keep(plan, Rule::PathsAreDistinct, paths_are_distinct(net))
+}
+
+// Goes on where the rule holds, of which this is the first place where it is broken, if it is. An `Err` is the answer
+// where it doesn't hold and those before it do.
+fn keep<A: Allocator>(plan: &Plan<A>, rule: Rule, broken: Option<Place>) -> Result<(), Answer>
+    requires before { AreKeptBefore plan.now (rule_number rule) }
+    requires holds { IfNone broken (IsKept plan.now rule) }
+    requires breaks { IfSome broken (IsBrokenAt plan.now rule) }
+    ensures kept { OnOk result (AreKeptBefore plan.now (rule_number rule + 1)) }
+    ensures answer { IfErr result (IsAnswer plan.now) }
+{
+    match broken {
+        None => Ok(()),
+        Some(place) => Err(Answer::No { rule, place }),
+    }
+}
