@@ -6,3 +6,5 @@ pub mod WordLists
 pub mod HexReadings
 pub mod FaultLaws
 pub mod Listings
+pub mod Fates
+pub mod NetworkSteps

@@ -4,3 +4,6 @@ pub mod Output
 pub mod Decoding
 pub mod Words
 pub mod Laws
+pub mod Networks
+pub mod Replays
+pub mod Texts

@@ -9,16 +9,11 @@ ghost use Rattle.relaynet.specs.Decoding.{IsHeld, StopsAt, HidesOnly, Lists, IsL
 use crate::hex_text::{HexFault, HexText};
 use crate::lines::put_message;
 use crate::output::{OutputFault, put_all, put_last};
+use crate::reading::{MOST_READS, PIECE};
 use crate::status::Status;
 use event_modes::{Feed, FeedError, ModeFault, Next};
 use std::alloc::{AllocError, Allocator};
 use std::io::{ErrorKind, Read, Write};
-
-// A reader that hasn't ended then is one that fails.
-const MOST_READS: u32 = 16_777_216;
-
-// So a message of full size, twice as long in hex, takes but few reads.
-const PIECE: usize = 65_536;
 
 /// Lists the messages of a hex text: the lines of each as soon as it is whole.
 pub fn run_decode<A: Allocator + Copy, R: Read, W: Write>(

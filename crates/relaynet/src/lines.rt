@@ -90,8 +90,8 @@ fn put_answer_line<A: Allocator + Copy>(
     lines.extend_from_slice(b"\n")
 }
 
-// Adds the bytes in hex.
-fn put_hex<A: Allocator>(lines: &mut Vec<u8, A>, bytes: &[u8]) -> Result<(), AllocError>
+/// Adds the bytes in hex. An `Err` adds none.
+pub fn put_hex<A: Allocator>(lines: &mut Vec<u8, A>, bytes: &[u8]) -> Result<(), AllocError>
     ensures ok { OnOk result (lines.new.items ≡ lines.old.items ++ encode_lower bytes.now) }
     ensures err { OnErr result (lines.new.items ≡ lines.old.items) }
 {

@@ -2,16 +2,25 @@
 #![tactic(auto)]
 
 mod decode;
+mod folder;
 mod hex_text;
 mod laws;
 mod lines;
+mod network;
+#[cfg(test)]
+mod network_tests;
+mod opening;
 mod output;
+mod reading;
+mod replay;
 mod status;
 #[cfg(test)]
 mod tests;
 mod words;
 
 use decode::run_decode;
+use folder::Folder;
+use network::{run_check, run_replay};
 use status::Status;
 use std::io::ErrorKind;
 use std::process::ExitCode;
@@ -27,9 +36,19 @@ fn usage(rt: &impl Eprint) -> Status {
 
 // Does what the words ask for.
 fn run(rt: &HostRuntime, words: &[String]) -> Status {
+    let folder = Folder::new(rt);
+    let out = &mut io::writer(rt);
     match read_word(words) {
-        Some(Word::Decode) => run_decode(rt.alloc(), &mut rt.stdin(), &mut io::writer(rt)),
-        Some(Word::Check(_) | Word::Replay(..) | Word::Relay(..)) | None => usage(rt),
+        Some(Word::Decode) => run_decode(rt.alloc(), &mut rt.stdin(), out),
+        Some(Word::Check(net)) => run_check(rt.alloc(), &mut folder.text(net), &folder, out),
+        Some(Word::Replay(net, steps)) => run_replay(
+            rt.alloc(),
+            &mut folder.text(net),
+            &mut folder.text(steps),
+            &folder,
+            out,
+        ),
+        Some(Word::Relay(..)) | None => usage(rt),
     }
 }
 

@@ -39,7 +39,7 @@ pub fn put_all<W: Write>(out: &mut W, bytes: &[u8]) -> Result<(), OutputFault>
 pub fn put_last<W: Write>(out: &mut W, line: &[u8], status: Status) -> Status
     ensures { (unseen : List ℕ)
         × TakesPart (W.contents out.old) (W.contents out.new) line.now unseen
-        × (((result ≡ status) × (unseen ≡ [])) ⊎ (result ≡ Usage)) }
+        × (((result ≡ status) × (unseen ≡ [])) ⊎ ((result ≡ Usage) × (0 < length unseen))) }
 {
     match put_all(out, line) {
         Ok(()) => status,

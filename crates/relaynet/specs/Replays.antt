@@ -1,0 +1,102 @@
+-- What is printed of steps that are taken in a network.
+use Rattle.std.specs.Prelude.{◌≡◌, ◌==◌, ℕ, List, ◌++◌, codes, decimal, length, map, flat_map, cond, not, count_by, All, Bool, IsTrue, ◌↔◌, ◌⊎◌}
+use Rattle.hex.specs.Hex.{encode_lower}
+use Rattle.custody_steps.specs.Held.{Held}
+use Rattle.custody_steps.specs.Steps.{Steps, IsRefusedAt}
+use Rattle.custody_steps.specs.World.{World, opening}
+use Rattle.custody_steps.specs.declared.fault.StepFault.{StepFault}
+use Rattle.custody_steps.specs.declared.fault.StepFault.TheVariants as refusal
+use Rattle.custody_store.specs.Buffers.{Event}
+use Rattle.relay_net.specs.Network.{Network}
+use Rattle.step_lines.specs.StepLines.{SayAll, IsRefusedLine}
+use Rattle.step_lines.specs.declared.step.Step.{Step}
+use Rattle.text_lines.specs.Lines.{text_lines}
+use Rattle.relaynet.specs.declared.status.Status.{Status}
+use Rattle.relaynet.specs.declared.status.Status.TheVariants.{Done, No, Usage}
+use Rattle.relaynet.specs.Listing.{line}
+
+-- an acknowledged event, and whether a buffer or a sink has it
+pub record Fate : Type 0 where
+  pub event : Event
+  pub is_held : Bool
+
+-- These are the events of the world that were acknowledged to clients, in that order, each with what became of it.
+pub record AreFates (w : World) (fates : List Fate) : Type 0 where
+  pub events : map (λ fate. fate.event) fates ≡ w.acknowledged
+  pub held : All (λ fate. IsTrue fate.is_held ↔ Held w fate.event) fates
+
+-- how many of the events are lost
+abbrev pub lost_among : List Fate → ℕ
+lost_among fates = count_by (λ fate. not fate.is_held) fates
+
+-- the line of an event: what became of it, its tag, and its entry in hex
+abbrev pub fate_line : Fate → List ℕ
+fate_line fate = line (cond fate.is_held (codes "held ") (codes "lost ") ++ fate.event.tag ++ codes " " ++ encode_lower fate.event.entry)
+
+-- the last line: how many steps were taken, how many events acknowledged, and how many of these are lost
+abbrev pub summary_line : ℕ → ℕ → ℕ → List ℕ
+summary_line steps acknowledged lost = line (codes "steps " ++ decimal steps ++ codes " acknowledged " ++ decimal acknowledged ++ codes " lost " ++ decimal lost)
+
+-- the status where so many events are lost
+abbrev pub lost_status : ℕ → Status
+lost_status lost = cond (lost == 0) Done No
+
+-- These lines are those of the world's acknowledged events, one each, and so many of them are lost.
+pub record AreListed (w : World) (lines : List ℕ) (lost : ℕ) : Type 0 where
+  pub fates : List Fate
+  pub are_fates : AreFates w fates
+  pub lines_are : lines ≡ flat_map fate_line fates
+  pub lost_is : lost ≡ lost_among fates
+
+-- The listing of a world after so many steps: a line for each event that was acknowledged, and the last line.
+pub record IsWorldListing (w : World) (steps : ℕ) (written : List ℕ) (status : Status) : Type 0 where
+  pub lines : List ℕ
+  pub lost : ℕ
+  pub listed : AreListed w lines lost
+  pub written_is : written ≡ lines ++ summary_line steps (length w.acknowledged) lost
+  pub is_status : status ≡ lost_status lost
+
+-- the code of a refusal; want of memory is none
+abbrev pub IsCodeOf : StepFault → List ℕ → Type 0
+IsCodeOf refusal.NoSuch code = code ≡ codes "S1"
+IsCodeOf refusal.NotAllowed code = code ≡ codes "S2"
+IsCodeOf refusal.Memory code = ⊥
+
+-- The line of a step that is refused: which one, counted from 1, and why.
+pub record IsRefusalLine (number : ℕ) (fault : StepFault) (written : List ℕ) (status : Status) : Type 0 where
+  pub code : List ℕ
+  pub code_is : IsCodeOf fault code
+  pub lines : written ≡ line (codes "refused step " ++ decimal number ++ codes " " ++ code)
+  pub is_status : status ≡ No
+
+-- The steps of the text were all taken, and this is listed of what they lead to.
+pub record AreTaken {A : Type 0} (net : Network A) (text written : List ℕ) (status : Status) : Type 0 where
+  pub steps : List (Step A)
+  pub read : SayAll (text_lines text) steps
+  pub world : World
+  pub taken : Steps net opening steps world
+  pub listed : IsWorldListing world (length steps) written status
+
+-- A step of the text is refused, and this is its line.
+pub record IsRefusal {A : Type 0} (net : Network A) (text written : List ℕ) (status : Status) : Type 0 where
+  pub steps : List (Step A)
+  pub read : SayAll (text_lines text) steps
+  pub number : ℕ
+  pub fault : StepFault
+  pub refused : IsRefusedAt net steps number fault
+  pub listed : IsRefusalLine number fault written status
+
+-- The line of a text whose line of this number, counted from 1, is of no step's form.
+pub record IsBadLineSaid (number : ℕ) (written : List ℕ) (status : Status) : Type 0 where
+  pub lines : written ≡ line (codes "fault S3 line " ++ decimal number)
+  pub is_status : status ≡ Usage
+
+-- A line of the text is of no step's form, and this is said of the first one.
+pub record IsBadText (A : Type 0) (text written : List ℕ) (status : Status) : Type 0 where
+  pub number : ℕ
+  pub refused : IsRefusedLine A text number
+  pub said : IsBadLineSaid number written status
+
+-- the listing of the steps that a text says
+abbrev pub IsReplayed : {A : Type 0} → Network A → List ℕ → List ℕ → Status → Type 0
+IsReplayed {A} net text written status = AreTaken net text written status ⊎ (IsRefusal net text written status ⊎ IsBadText A text written status)
