@@ -11,7 +11,7 @@ pub enum Rule {
     ClientsAreLabelled,
     /// Each label fits a pattern of some match of its scope.
     LabelsAreMatched,
-    /// Of each match, up to the first that a label fits, the reaches cover what label and match may have in common.
+    /// Of each match, up to and with the first that a label fits, the reaches cover what label and match may have in common.
     ReachesCover,
     /// Each reached match has an output that keeps, or a relabel.
     ReachedMatchesKeep,
