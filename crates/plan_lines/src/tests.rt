@@ -1,8 +1,6 @@
 use super::*;
-use conf_text::{ConfFault, FaultKind};
 use relay_conf::{RelayFault, RelayFaultKind};
 use std::alloc::Global;
-use std::process::Abort;
 use std::test::Fail;
 
 // A relay that forwards to the other one.
@@ -94,109 +92,6 @@ fn configurations_are_named(rt: HostRuntime) -> Result<(), Fail> {
     let names = conf_names(rt.alloc(), text)?;
     assert_eq!(rt; names.as_slice(), ["a.conf", "b.conf", "e.conf"].as_slice());
     Ok(())
-}
-
-// What is refused: the line alone, and the line behind a good relay's.
-#[test]
-fn faults_are_found(rt: HostRuntime) -> Result<(), Fail> {
-    let rows: [(&[u8], PlanError); 8] = [
-        (b"jump", PlanError::BadLine(1)),
-        (b"relay 1 h e", PlanError::BadLine(1)),
-        (b"relay 1 h e c d", PlanError::BadLine(1)),
-        (b"\n# caf\xe9", PlanError::BadLine(2)),
-        (b"client 1 24224 **", PlanError::NoSuch(1)),
-        (b"label 1 . **", PlanError::NoSuch(1)),
-        (b"reach 1 . 0 **", PlanError::NoSuch(1)),
-        (b"label x . a*", PlanError::BadNumber(1)),
-    ];
-    for (text, fault) in rows {
-        is_refused(&rt, rt.alloc(), text, &[], fault)?;
-    }
-    let relays: [(&[u8], PlanError); 4] = [
-        (b"relay 1 h e/f c", PlanError::BadLine(1)),
-        (b"relay 4294967296 h e c", PlanError::BadNumber(1)),
-        (b"relay -1 h e c", PlanError::BadNumber(1)),
-        (b"client 1 24224 **\nrelay 1 h e c", PlanError::NoSuch(1)),
-    ];
-    for (text, fault) in relays {
-        is_refused(&rt, rt.alloc(), text, &[EDGE], fault)?;
-    }
-    let behind: [(&[u8], PlanError); 16] = [
-        (
-            b"relay 1 h e c\nclient 1 24224 a*",
-            PlanError::BadPattern(2),
-        ),
-        (b"relay 1 h e c\nlabel 7 . **", PlanError::NoSuch(2)),
-        (b"relay 1 h e c\nreach 1 . 9 **", PlanError::NoSuch(2)),
-        (b"relay 1 h e c\nclient 1 24224", PlanError::BadLine(2)),
-        (b"relay 1 h e c\nclient 1 24225 **", PlanError::NoSuch(2)),
-        (b"relay 1 h e c\nclient 1 65536 **", PlanError::NoSuch(2)),
-        (b"relay 1 h e c\nclient 1 89760 **", PlanError::NoSuch(2)),
-        (
-            b"relay 1 h e c\nclient 1 18446744073709551616 **",
-            PlanError::BadNumber(2),
-        ),
-        (
-            b"relay 1 h e c\nclient 4294967297 24224 **",
-            PlanError::BadNumber(2),
-        ),
-        (b"relay 1 h e c\nlabel 1 @B a*", PlanError::NoSuch(2)),
-        (b"relay 1 h e c\nlabel 1 . a {b", PlanError::BadPattern(2)),
-        (b"relay 1 h e c\nlabel 1 .", PlanError::BadLine(2)),
-        (b"relay 1 h e c\nreach 1 . x a*", PlanError::BadNumber(2)),
-        (b"relay 1 h e c\nreach 1 @B 0 **", PlanError::NoSuch(2)),
-        (b"relay 1 h e c\nreach 1 . 0 }", PlanError::BadPattern(2)),
-        (b"relay 1 h e c\n\xff", PlanError::BadLine(2)),
-    ];
-    for (text, fault) in behind {
-        is_refused(&rt, rt.alloc(), text, &[EDGE], fault)?;
-    }
-    Ok(())
-}
-
-// A fault of a configuration is that of its relay's line, with its own line.
-#[test]
-fn configurations_have_their_own_faults(rt: HostRuntime) -> Result<(), Fail> {
-    let port = b"<source>\n  @type forward\n  port 0\n</source>\n";
-    let relay = RelayFault {
-        kind: RelayFaultKind::BadValue,
-        line: 3,
-    };
-    is_refused(
-        &rt,
-        rt.alloc(),
-        b"relay 1 h e c",
-        &[port],
-        PlanError::BadRelay(1, relay),
-    )?;
-    let text = ConfFault {
-        kind: FaultKind::OpenSection,
-        line: 1,
-    };
-    is_refused(
-        &rt,
-        rt.alloc(),
-        b"\nrelay 1 h e c",
-        &[b"<source>"],
-        PlanError::BadText(2, text),
-    )
-}
-
-// The text is refused with this fault.
-fn is_refused(
-    rt: &impl Abort,
-    alloc: Global,
-    net: &[u8],
-    texts: &[&[u8]],
-    fault: PlanError,
-) -> Result<(), Fail> {
-    match read(alloc, net, texts)? {
-        Ok(_) => Err("not refused".into()),
-        Err(found) => {
-            assert_eq!(rt; found, fault);
-            Ok(())
-        }
-    }
 }
 
 // What a fault prints.
