@@ -81,7 +81,7 @@ IsStopOf A net named (stop.Unread fault) = Unit {0}
 -- what a fault of the plan stops with: want of memory is none of the plan's
 abbrev pub StopsWith : PlanError → Stop → Type 0
 StopsWith fault (stop.Plan other) = (other ≡ fault) × (fault ≢ refusal.Memory)
-StopsWith fault (stop.Unread unread) = Unit {0}
+StopsWith fault (stop.Unread reason) = Unit {0}
 
 -- the line of a text that isn't read
 abbrev pub unread_line : ReadFault → List ℕ

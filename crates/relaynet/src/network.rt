@@ -19,12 +19,12 @@ use std::io::{ErrorKind, Read, Write};
 pub fn run_check<A: Allocator + Copy, R: Read, O: Open, W: Write>(
     alloc: A,
     net: &mut R,
-    open: &O,
+    files: &O,
     out: &mut W,
 ) -> Status
-    ensures { PrintsCheck A (R.remaining net.old) (O.text_of open.now) (W.contents out.old) (W.contents out.new) result }
+    ensures { PrintsCheck A (R.remaining net.old) (O.text_of files.now) (W.contents out.old) (W.contents out.new) result }
 {
-    match read_checked(alloc, net, open) {
+    match read_checked(alloc, net, files) {
         Ok(checked) => put_last(out, checked.line.as_bytes(), status_of(checked.answer)),
         Err(stop) => print_stop(alloc, stop, out),
     }
@@ -36,12 +36,12 @@ pub fn run_replay<A: Allocator + Copy, R: Read, S: Read, O: Open, W: Write>(
     alloc: A,
     net: &mut R,
     steps: &mut S,
-    open: &O,
+    files: &O,
     out: &mut W,
 ) -> Status
-    ensures { PrintsReplay A (R.remaining net.old) (O.text_of open.now) (S.remaining steps.old) (W.contents out.old) (W.contents out.new) result }
+    ensures { PrintsReplay A (R.remaining net.old) (O.text_of files.now) (S.remaining steps.old) (W.contents out.old) (W.contents out.new) result }
 {
-    let checked = match read_checked(alloc, net, open) {
+    let checked = match read_checked(alloc, net, files) {
         Ok(checked) => checked,
         Err(stop) => return print_stop(alloc, stop, out),
     };
@@ -98,13 +98,13 @@ struct Checked<A: Allocator> {
 fn read_checked<A: Allocator + Copy, R: Read, O: Open>(
     alloc: A,
     net: &mut R,
-    open: &O,
+    files: &O,
 ) -> Result<Checked<A>, Stop>
-    ensures answered { IfOk result (λ checked. IsAnswered A (R.remaining net.old) (O.text_of open.now) checked.plan checked.answer) }
+    ensures answered { IfOk result (λ checked. IsAnswered A (R.remaining net.old) (O.text_of files.now) checked.plan checked.answer) }
     ensures line { IfOk result (λ checked. string_bytes checked.line ≡ answer_line checked.answer) }
-    ensures stop { IfErr result (IsStopOf A (R.remaining net.old) (O.text_of open.now)) }
+    ensures stop { IfErr result (IsStopOf A (R.remaining net.old) (O.text_of files.now)) }
 {
-    let plan = read_plan(alloc, net, open)?;
+    let plan = read_plan(alloc, net, files)?;
     let answer = check(alloc, &plan)?;
     let line = format!(in alloc; "{answer}\n")?;
     Ok(Checked { plan, answer, line })
@@ -114,14 +114,14 @@ fn read_checked<A: Allocator + Copy, R: Read, O: Open>(
 fn read_plan<A: Allocator + Copy, R: Read, O: Open>(
     alloc: A,
     net: &mut R,
-    open: &O,
+    files: &O,
 ) -> Result<Plan<A>, Stop>
-    ensures plan { IfOk result (IsPlanRead (R.remaining net.old) (O.text_of open.now)) }
-    ensures stop { IfErr result (IsStopOf A (R.remaining net.old) (O.text_of open.now)) }
+    ensures plan { IfOk result (IsPlanRead (R.remaining net.old) (O.text_of files.now)) }
+    ensures stop { IfErr result (IsStopOf A (R.remaining net.old) (O.text_of files.now)) }
 {
     let text = read_whole(alloc, net)?;
     let names = conf_names(alloc, &text)?;
-    let confs = read_confs(alloc, &names, open)?;
+    let confs = read_confs(alloc, &names, files)?;
     match Plan::read(alloc, &text, &confs) {
         Ok(plan) => Ok(plan),
         Err(fault) => Err(stop_of(fault)),
@@ -142,14 +142,14 @@ fn stop_of(fault: PlanError) -> Stop
 fn read_confs<A: Allocator + Copy, O: Open>(
     alloc: A,
     names: &[&str],
-    open: &O,
+    files: &O,
 ) -> Result<Vec<Vec<u8, A>, A>, ReadFault>
     ensures count { IfOk result (λ confs. length confs.items ≡ length names.now) }
-    ensures texts { IfOk result (λ confs. AllZip (λ name conf. IsTextOf (O.text_of open.now name) conf) (map (λ name. name.now) names.now) (texts_of confs.items)) }
+    ensures texts { IfOk result (λ confs. AllZip (λ name conf. IsTextOf (O.text_of files.now name) conf) (map (λ name. name.now) names.now) (texts_of confs.items)) }
 {
     let mut confs = Vec::new(alloc);
     for name in names {
-        let conf = read_conf(alloc, name, open)?;
+        let conf = read_conf(alloc, name, files)?;
         confs.push(conf)?;
     }
     Ok(confs)
@@ -159,11 +159,11 @@ fn read_confs<A: Allocator + Copy, O: Open>(
 fn read_conf<A: Allocator + Copy, O: Open>(
     alloc: A,
     name: &str,
-    open: &O,
+    files: &O,
 ) -> Result<Vec<u8, A>, ReadFault>
-    ensures { IfOk result (λ conf. IsTextOf (O.text_of open.now name.now) conf.items) }
+    ensures { IfOk result (λ conf. IsTextOf (O.text_of files.now name.now) conf.items) }
 {
-    match open.open(name) {
+    match files.open(name) {
         Ok(mut reader) => read_whole(alloc, &mut reader),
         Err(e) if e.kind() == ErrorKind::OutOfMemory => Err(ReadFault::Memory),
         Err(_) => Err(ReadFault::Read),

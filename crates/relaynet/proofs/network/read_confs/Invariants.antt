@@ -7,5 +7,5 @@ use Rattle.relaynet.proofs.network.read_confs.Given as goal
 abbrev pub invariant-loop-name : goal.invariant-loop-name
 invariant-loop-name g l = record {
   count : length l.confs.items ≡ l.name-index;
-  texts : AllZip (λ name conf. IsTextOf (g.O.Open.text_of l.open name) conf) (map (λ name. name.now) (take l.name-index l.names)) (texts_of l.confs.items);
+  texts : AllZip (λ name conf. IsTextOf (g.O.Open.text_of l.files name) conf) (map (λ name. name.now) (take l.name-index l.names)) (texts_of l.confs.items);
 }

@@ -7,7 +7,7 @@ use Rattle.relaynet.proofs.network.run_replay.Goals as goal
 
 pub returns-in-Err : goal.returns-in-Err
 returns-in-Err g c =
-    stopped_replay g.row.A.Denot (g.R.Read.remaining c.args.net.now) (g.O.Open.text_of c.args.open.now) (g.S.Read.remaining c.args.steps.now)
+    stopped_replay g.row.A.Denot (g.R.Read.remaining c.args.net.now) (g.O.Open.text_of c.args.files.now) (g.S.Read.remaining c.args.steps.now)
     (g.W.Write.contents c.args.out.now) (g.W.Write.contents c.print_stop.new.out)
     c.in-Err.stop c.print_stop.result c.in-Err.ensures.stop c.print_stop.ensures
 
@@ -19,7 +19,7 @@ returns-in-Ok-replay_read g c =
     let said = c.in-Ok-replay_read.said in
     let replayed = subst (λ (l : List ℕ). AreReplayed checked.plan.net steps l said.status) (sym c.deref.ensures.value) c.in-Ok-replay_read.ensures in
     let printed = subst (λ (m : Status). IsPrinted (out c.put_all.new.out) (out c.put_last.new.out) c.deref.result.now m c.put_last.result) c.joined.ensures c.put_last.ensures in
-    whole_replay g.row.A.Denot (g.R.Read.remaining c.args.net.now) (g.O.Open.text_of c.args.open.now) steps
+    whole_replay g.row.A.Denot (g.R.Read.remaining c.args.net.now) (g.O.Open.text_of c.args.files.now) steps
     (out c.args.out.now) (out c.put_all.new.out) (out c.put_last.new.out)
     checked.plan checked.answer c.as_bytes.result.now c.deref.result.now said.status c.put_last.result
     c.in-Ok.ensures.answered (c.as_bytes.ensures.value ∙ c.in-Ok.ensures.line) c.in_default.ensures.ok replayed printed
@@ -28,7 +28,7 @@ pub returns : goal.returns
 returns g c =
     let out = g.W.Write.contents in
     let checked = c.in-Ok.checked in
-    unread_replay g.row.A.Denot (g.R.Read.remaining c.args.net.now) (g.O.Open.text_of c.args.open.now) (g.S.Read.remaining c.args.steps.now)
+    unread_replay g.row.A.Denot (g.R.Read.remaining c.args.net.now) (g.O.Open.text_of c.args.files.now) (g.S.Read.remaining c.args.steps.now)
     (out c.args.out.now) (out c.put_all.new.out) (out c.put_last-in-Err-replay_read.new.out)
     checked.plan checked.answer c.as_bytes.result.now c.as_bytes-in-Err-replay_read.result.now c.in-Err-replay_read.fault c.put_last-in-Err-replay_read.result
     c.in-Ok.ensures.answered (c.as_bytes.ensures.value ∙ c.in-Ok.ensures.line) c.in_default.ensures.ok
