@@ -3,7 +3,10 @@ use Rattle.std.proofs.Common.{◌≡◌, ◌<◌, ◌+◌, ℕ, List, [], ◌∷
 use Rattle.std.specs.Prelude.{Some, slice_get, ◌⊎◌}
 use Rattle.std.proofs.Common.{inl, inr}
 use Rattle.std.proofs.lemmas.Bool.{cases_lt}
-use Rattle.loss_rules.specs.Breaks.{Subject, IsKept, rule_number}
+use Rattle.loss_rules.specs.Breaks.{Subject, IsKept, IsAnswer, rule_number}
+use Rattle.loss_rules.specs.Rules.{AreRulesKept}
+use Rattle.loss_rules.specs.declared.answer.Answer.{Answer}
+use Rattle.loss_rules.specs.declared.answer.Answer.TheVariants as answer
 use Rattle.relay_net.specs.Network.{Network}
 use Rattle.loss_rules.specs.declared.label.Label.{Label}
 use Rattle.loss_rules.specs.declared.label.Reach.{Reach}
@@ -77,3 +80,17 @@ in_plan {A} plan net labels reaches n l r P h =
     subst (λ (x : List (Reach A)). P (record plan { net = plan.net; labels = plan.labels; reaches = x })) r
     (subst (λ (x : List (Label A)). P (record plan { net = plan.net; labels = x; reaches = reaches })) l
     (subst (λ (x : Network A). P (record plan { net = x; labels = labels; reaches = reaches })) n h))
+
+-- a yes means that the rules hold that keep events
+pub rules_kept : {A : Type 0} (s : Subject A) (found : Answer) → IsAnswer s found → found ≡ answer.Yes → AreRulesKept s.net s.labels s.reaches
+rules_kept s answer.Yes each is = record {
+  servers = each rule.ServersAreSources;
+  clients = each rule.ClientsAreLabelled;
+  labels_matched = each rule.LabelsAreMatched;
+  covered = each rule.ReachesCover;
+  kept = each rule.ReachedMatchesKeep;
+  relabels = each rule.RelabelsAreLabelled;
+  forwards = each rule.ForwardsAreLabelled;
+  no_cycle = each rule.NoRelabelCycle;
+}
+rules_kept s (answer.No broken at) of is = absurd (cc)

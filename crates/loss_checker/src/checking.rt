@@ -1,6 +1,7 @@
 // The checker's answer.
-ghost use Rattle.std.specs.Prelude.{◌+◌, IfOk, IfErr, IfSome, IfNone, OnOk};
+ghost use Rattle.std.specs.Prelude.{◌≡◌, ◌+◌, IfOk, IfErr, IfSome, IfNone, OnOk};
 ghost use Rattle.loss_rules.specs.Breaks.{IsKept, IsBrokenAt, IsAnswer, rule_number};
+ghost use Rattle.loss_rules.specs.Rules.{AreRulesKept};
 ghost use Rattle.loss_checker.specs.Kept.{AreKeptBefore};
 
 use loss_rules::{
@@ -18,7 +19,9 @@ use std::alloc::{AllocError, Allocator};
 /// The patterns of lines and matches are compared pair by pair, so the time grows as the square of the plan's length.
 /// Memory is needed to look for a cycle of relabels alone. The only error is want of it.
 pub fn check<A: Allocator + Copy>(alloc: A, plan: &Plan<A>) -> Result<Answer, AllocError>
-    ensures { IfOk result (IsAnswer plan.now) }
+    ensures answer { IfOk result (IsAnswer plan.now) }
+    // A yes means that the rules hold under which nothing is lost.
+    ensures rules_kept { IfOk result (λ answer. answer ≡ Answer.Yes → AreRulesKept plan.now.net plan.now.labels plan.now.reaches) }
 {
     if let Err(answer) = keep_all_but_the_last(plan) {
         return Ok(answer);

@@ -19,7 +19,7 @@ use Rattle.plan_lines.proofs.Counting.{confs_in, names_counted}
 
 -- What each line keeps, each plan that lines say has.
 
-abbrev Kept : (A : Type 0) → (Subject A → Type 0) → Type 0
+abbrev pub Kept : (A : Type 0) → (Subject A → Type 0) → Type 0
 Kept A P = (confs : List (List ℕ)) (line : ℕ) (form : LineForm) (before after : Subject A) → Adds confs line form before after → P before → P after
 
 -- each relay has its line

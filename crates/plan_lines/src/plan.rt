@@ -1,6 +1,7 @@
 // Plans.
 ghost use Rattle.std.specs.Prelude.{◌≡◌, true, length, IfOk, IfErr};
 ghost use Rattle.relay_net.specs.Network.{all_enter};
+ghost use Rattle.loss_rules.specs.Sites.{BuffersAreDistinct};
 ghost use Rattle.plan_lines.specs.declared.error.PlanError.TheVariants.{Memory};
 ghost use Rattle.plan_lines.specs.Drafts.{draft_of};
 ghost use Rattle.plan_lines.specs.Faults.{IsRefusal};
@@ -29,12 +30,13 @@ pub struct Plan<A: Allocator> {
 impl<A: Allocator> Model for Plan<A> {
     ghost use Rattle.std.specs.Prelude.{◌≡◌, length};
     ghost use Rattle.loss_rules.specs.Breaks.{Subject};
+    ghost use Rattle.loss_rules.specs.Sites.{BuffersAreDistinct};
 
     ghost Value = { Subject A };
 
     ghost view = { λ plan. record { net = plan.net; relay_lines = plan.relay_lines.items; client_lines = plan.client_lines.items; labels = plan.labels.items; reaches = plan.reaches.items } };
 
-    ghost invariant = { λ plan. (length plan.relay_lines.items ≡ length plan.net.relays) × (length plan.client_lines.items ≡ length plan.net.clients) };
+    ghost invariant = { λ plan. (length plan.relay_lines.items ≡ length plan.net.relays) × (length plan.client_lines.items ≡ length plan.net.clients) × BuffersAreDistinct plan.net };
 }
 
 impl<A: Allocator + Copy> Plan<A> {
@@ -68,9 +70,10 @@ impl<A: Allocator + Copy> Plan<A> {
         plan_of(alloc, draft)
     }
 
-    /// The network: its relays and its clients, in the order of their lines.
+    /// The network: its relays and its clients, in the order of their lines. No two outputs of a relay share a buffer.
     pub fn net(&self) -> &Net<A>
-        ensures { result.now ≡ self.now.net }
+        ensures net { result.now ≡ self.now.net }
+        ensures distinct { BuffersAreDistinct self.now.net }
     {
         &self.net
     }
@@ -106,11 +109,12 @@ impl<A: Allocator + Copy> Plan<A> {
     }
 }
 
-// The plan that was read, each of whose clients sends to a source.
+// The plan that was read: each of its clients sends to a source, and no two outputs of a relay share a buffer.
 fn plan_of<A: Allocator + Copy>(alloc: A, draft: Draft<A>) -> Result<Plan<A>, PlanError>
     requires enter { all_enter draft.relays.items draft.clients.items ≡ true }
     requires relay_lines { length draft.relay_lines.items ≡ length draft.relays.items }
     requires client_lines { length draft.client_lines.items ≡ length draft.clients.items }
+    requires distinct { BuffersAreDistinct (draft_of draft).net }
     ensures plan { IfOk result (λ plan. plan ≡ draft_of draft) }
     ensures memory { IfErr result (λ e. e ≡ Memory) }
 {

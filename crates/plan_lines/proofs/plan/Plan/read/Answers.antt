@@ -10,6 +10,7 @@ use Rattle.plan_lines.specs.Forms.{line_form, conf_named, confs_named}
 use Rattle.plan_lines.specs.Plans.{Adds, Say, none, one_more, texts, IsPlanOf}
 use Rattle.plan_lines.proofs.Counting.{has_its_conf}
 use Rattle.plan_lines.proofs.LinesRead.{bytes_of, split_at, take_next, if_ok, if_err}
+use Rattle.plan_lines.proofs.OwnBuffers.{distinct_said}
 use Rattle.plan_lines.proofs.Saying.{sources_said, relay_lines_said, client_lines_said, confs_said, is_refusal}
 use Rattle.plan_lines.proofs.Words.{no_word}
 use Rattle.plan_lines.proofs.plan.Plan.read.Goals as goal
@@ -57,6 +58,7 @@ plan_of-requires g c = record {
   enter = sources_said c.loop-at.invariant;
   relay_lines = relay_lines_said c.loop-at.invariant;
   client_lines = client_lines_said c.loop-at.invariant;
+  distinct = distinct_said c.loop-at.invariant;
 }
 
 pub returns-clause-plan : goal.returns-clause-plan

@@ -1,0 +1,66 @@
+-- In the network of a plan no two outputs of a relay share a buffer.
+use Rattle.std.proofs.Common.{◌≡◌, ℕ, ◌+◌, List, length, Option, Some, None, slice_get, refl, sym, subst}
+use Rattle.std.specs.Prelude.{All, option_map}
+use Rattle.std.specs.Option.{option_and_then}
+use Rattle.std.proofs.lemmas.List.Elements.{All-push, All-nil}
+use Rattle.std.proofs.lemmas.Option.{slice_get_within, get_or_from_slice_get}
+use Rattle.loss_rules.specs.Breaks.{Subject}
+use Rattle.loss_rules.specs.Sites.{BuffersAreDistinct}
+use Rattle.relay_conf.specs.Buffers.{buffer_number, HaveOwnBuffers}
+use Rattle.relay_conf.specs.declared.output.Output.{Output}
+use Rattle.relay_conf.specs.declared.output.Output.TheVariants as output
+use Rattle.relay_conf.proofs.OwnBuffers.{own_buffers}
+use Rattle.relay_net.specs.Network.{Network}
+use Rattle.relay_net.specs.Outputs.{number_of}
+use Rattle.relay_net.specs.declared.node.Node.{Node}
+use Rattle.plan_lines.specs.Forms.{LineForm, nothing, a_relay, a_client, a_label, a_reach, no_form, line_form}
+use Rattle.plan_lines.specs.Plans.{Adds, Say, none, one_more}
+use Rattle.plan_lines.proofs.Saying.{Kept}
+
+-- each relay's outputs have buffers of their own
+abbrev HaveOwn : {A : Type 0} → List (Node A) → Type 0
+HaveOwn nodes = All (λ node. HaveOwnBuffers node.relay) nodes
+
+abbrev HasOwnBuffers : {A : Type 0} → Subject A → Type 0
+HasOwnBuffers plan = HaveOwn plan.net.relays
+
+-- a relay's number of an output's buffer is the network's
+same_number : {A : Type 0} (found : Output A) (buffer : ℕ) → number_of found ≡ Some buffer → buffer_number found ≡ Some buffer
+same_number (output.Null line) buffer e = e
+same_number (output.Relabel target line) buffer e = e
+same_number (output.Forward settings line) buffer e = e
+same_number (output.File settings line) buffer e = e
+
+at_place : {A : Type 0} (nodes : List (Node A)) (place : ℕ) (node : Node A) → HaveOwn nodes → slice_get nodes place ≡ Some node → HaveOwnBuffers node.relay
+at_place nodes place node own at =
+    subst (λ (n : Node _). HaveOwnBuffers n.relay) (get_or_from_slice_get nodes place node node at) (own place node (slice_get_within nodes place node at))
+
+-- the output with this place in a match of a scope of the relay, where there is one
+abbrev within : {A : Type 0} → Option (Node A) → ℕ → ℕ → ℕ → Option (Output A)
+within node scope rule output = option_and_then (λ found. slice_get found.outputs.items output) (option_and_then (λ found. slice_get found.matches.items rule)
+    (option_and_then (λ relay. slice_get relay.scopes.items scope) (option_map (λ node. node.relay) node)))
+
+-- so are the network's
+distinct : {A : Type 0} (net : Network A) → HaveOwn net.relays → BuffersAreDistinct net
+distinct {A} net own place scope rule output found at s r o other there buffer number same = by (slice_get net.relays place) refl at there
+  where
+    by : (node : Option (Node A)) → slice_get net.relays place ≡ node → within node scope rule output ≡ Some found → within node s r o ≡ Some other → (s ≡ scope) × (r ≡ rule) × (o ≡ output)
+    by None is at there = absurd (cc)
+    by (Some node) is at there =
+        at_place net.relays place node own is scope rule output found at s r o other there buffer (same_number found buffer number) (same_number other buffer same)
+
+own_buffers_kept : {A : Type 0} → Kept A HasOwnBuffers
+own_buffers_kept confs line nothing before after h e = subst HasOwnBuffers (sym h) e
+own_buffers_kept confs line (a_relay number host folder conf) before after h e =
+    subst HasOwnBuffers (sym h.after_is) (All-push (λ node. HaveOwnBuffers node.relay) before.net.relays h.node e (own_buffers h.relay_is.elements h.node.relay h.relay_is.described))
+own_buffers_kept confs line (a_client number port patterns) before after h e = subst HasOwnBuffers (sym h.after_is) e
+own_buffers_kept confs line (a_label number scope patterns) before after h e = subst HasOwnBuffers (sym h.after_is) e
+own_buffers_kept confs line (a_reach number scope index patterns) before after h e = subst HasOwnBuffers (sym h.after_is) e
+own_buffers_kept confs line no_form before after h e = absurd h
+
+own_buffers_said : {A : Type 0} {confs lines : List (List ℕ)} {plan : Subject A} → Say confs lines plan → HasOwnBuffers plan
+own_buffers_said {A} none = All-nil (λ (node : Node A). HaveOwnBuffers node.relay)
+own_buffers_said {A} {confs} (one_more {lines} {before} {after} line said adds) = own_buffers_kept confs (length lines + 1) (line_form line) before after adds (own_buffers_said said)
+
+pub distinct_said : {A : Type 0} {confs lines : List (List ℕ)} {plan : Subject A} → Say confs lines plan → BuffersAreDistinct plan.net
+distinct_said {plan = plan} said = distinct plan.net (own_buffers_said said)
