@@ -1,16 +1,19 @@
 -- What became of the events so far, while they are listed one after another.
-use Rattle.std.proofs.Common.{◌≡◌, ◌<◌, ◌≤◌, ◌+◌, ℕ, List, [], ◌∷◌, ◌++◌, length, map, take, get_or, Bool, true, false, cond, not, refl, sym, ap, ◌∙◌, subst, arith, add-one, append-nil}
-use Rattle.std.specs.Prelude.{All, IsTrue, ◌↔◌, flat_map, count_by}
+use Rattle.std.proofs.Common.{inl, Result, Ok, Err, ◌≡◌, ◌<◌, ◌≤◌, ◌+◌, ℕ, List, [], ◌∷◌, ◌++◌, length, map, take, get_or, Bool, true, false, cond, not, refl, sym, ap, ◌∙◌, subst, arith, add-one, append-nil}
+use Rattle.std.specs.Prelude.{All, IfOk, IsTrue, ◌↔◌, flat_map}
 use Rattle.std.proofs.lemmas.Grind.{flat_map-append}
 use Rattle.std.proofs.lemmas.List.{map-append}
-use Rattle.std.proofs.lemmas.List.Elements.{All-append, All-cons, All-nil}
-use Rattle.std.proofs.lemmas.List.Sums.{sum_by-append}
+use Rattle.std.proofs.lemmas.List.Elements.{All-append, All-cons, All-head, All-nil, All-tail}
+use Rattle.std.proofs.lemmas.List.Sums.{sum_by-append, sum_by-cons}
 use Rattle.std.proofs.Math.Seq.{take-suc, take-length}
 use Rattle.custody_steps.specs.Held.{Held}
 use Rattle.custody_steps.specs.World.{World}
+use Rattle.custody_store.specs.Buffers.{Event}
 use Rattle.custody_store.specs.Contents.{event_of, stored_events}
 use Rattle.custody_store.specs.declared.event.Event.{Event as Stored}
-use Rattle.relaynet.specs.Replays.{Fate, AreFates, AreListed, lost_among, fate_line}
+use Rattle.custody_core.specs.Custody.{NothingIsLost}
+use Rattle.relaynet.specs.Replays.{Fate, AreListed, IsWorldListing, SaysNoLoss, lost_among, lost_status, fate_line, held_line, summary_line}
+use Rattle.relaynet.specs.declared.status.Status.{Status}
 
 -- the lines of the first n events
 pub record AreListedTo {A : Type 0} (w : World) (events : List (Stored A)) (n : ℕ) (lines : List ℕ) (lost : ℕ) : Type 0 where
@@ -71,3 +74,43 @@ listed_all w events lines lost told so_far = record {
   lines_are = so_far.lines_are;
   lost_is = so_far.lost_is;
 }
+
+-- Where nothing is lost, each event is listed as held.
+
+said_held : (event : Event) (is_held : Bool) → IsTrue is_held → fate_line (record { event = event; is_held = is_held }) ≡ held_line event
+said_held event is_held e = ap (λ b. fate_line (record { event = event; is_held = b })) e
+
+-- the lines of events that are held, of which none is lost
+record AreHeld (fates : List Fate) : Type 0 where
+  lines : flat_map fate_line fates ≡ flat_map held_line (map (λ fate. fate.event) fates)
+  lost : lost_among fates ≡ 0
+
+all_held : (w : World) (fates : List Fate) → All (λ fate. IsTrue fate.is_held ↔ Held w fate.event) fates → All (Held w) (map (λ fate. fate.event) fates) → AreHeld fates
+all_held w [] told kept = record { lines = refl; lost = refl }
+all_held w (fate ∷ fates) told kept =
+    let one : IsTrue fate.is_held = (All-head (λ f. IsTrue f.is_held ↔ Held w f.event) fate fates told).1 (All-head (Held w) fate.event (map (λ f. f.event) fates) kept) in
+    let rest = all_held w fates (All-tail (λ f. IsTrue f.is_held ↔ Held w f.event) fate fates told) (All-tail (Held w) fate.event (map (λ f. f.event) fates) kept) in
+    record {
+      lines = λ i. said_held fate.event fate.is_held one i ++ rest.lines i;
+      lost = sum_by-cons (λ (f : Fate). cond (not f.is_held) 1 0) fate fates ∙ ap (λ b. cond (not b) 1 0 + lost_among fates) one ∙ ap (λ n. 0 + n) rest.lost;
+    }
+
+no_loss : (w : World) (steps : ℕ) (written : List ℕ) (status : Status) → IsWorldListing w steps written status → NothingIsLost w → SaysNoLoss written status
+no_loss w steps written status h kept =
+    let fates = h.listed.fates in
+    let events = h.listed.are_fates.events in
+    let held = all_held w fates h.listed.are_fates.held (subst (All (Held w)) (sym events) kept) in
+    let lost : h.lost ≡ 0 = h.listed.lost_is ∙ held.lost in
+    inl (record {
+      events = w.acknowledged;
+      steps = steps;
+      written_is = h.written_is ∙ ap (λ l. l ++ summary_line steps (length w.acknowledged) h.lost) (h.listed.lines_are ∙ held.lines ∙ ap (flat_map held_line) events)
+          ∙ ap (λ n. flat_map held_line w.acknowledged ++ summary_line steps (length w.acknowledged) n) lost;
+      is_status = h.is_status ∙ ap lost_status lost;
+    })
+
+-- what is listed of a world that has lost nothing says of no event that it is lost
+pub listed_no_loss : {S E : Type 0} (listed : Result S E) (lines : S → List ℕ) (status : S → Status) (w : World) (steps : ℕ) → IfOk listed (λ said. IsWorldListing w steps (lines said) (status said)) → NothingIsLost w
+    → IfOk listed (λ said. SaysNoLoss (lines said) (status said))
+listed_no_loss (Ok said) lines status w steps is kept = no_loss w steps (lines said) (status said) is kept
+listed_no_loss (Err e) lines status w steps is kept = tt

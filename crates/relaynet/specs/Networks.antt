@@ -21,7 +21,7 @@ use Rattle.relaynet.specs.declared.status.Status.TheVariants.{Done, No, Usage}
 use Rattle.relaynet.specs.Decoding.{memory_line, read_line}
 use Rattle.relaynet.specs.Listing.{line}
 use Rattle.relaynet.specs.Output.{TakesPart, IsPrinted}
-use Rattle.relaynet.specs.Replays.{IsReplayed}
+use Rattle.relaynet.specs.Replays.{IsReplayed, SaysNoLoss}
 use Rattle.relaynet.specs.Texts.{IsTextOf}
 
 -- What is read.
@@ -173,3 +173,16 @@ pub record PrintsLines (A : Type 0) (net : Option (List ℕ)) (named : List ℕ 
 -- all that `replay` does to a writer, and its status
 abbrev pub PrintsReplay : (A : Type 0) → Option (List ℕ) → (List ℕ → Option (List ℕ)) → Option (List ℕ) → Option (List ℕ) → Option (List ℕ) → Status → Type 0
 PrintsReplay A net named steps old new status = PrintsLines A net named steps old new status ⊎ EndsAtAnswer A net named old new status
+
+-- Behind a yes nothing is lost.
+
+-- Where the first of these lines is `yes`, those behind it say of no event that it is lost, or why the steps aren't read.
+abbrev pub SayNoLossUnderYes : List ℕ → Status → Type 0
+SayNoLossUnderYes lines status = (behind : List ℕ) → lines ≡ answer_line answer.Yes ++ behind → SaysNoLoss behind status ⊎ IsStopLine behind status
+
+-- Such lines are printed; a writer that failed has a beginning of such.
+pub record PrintsNoLossUnderYes (old new : Option (List ℕ)) (status : Status) : Type 0 where
+  pub lines : List ℕ
+  pub meant : Status
+  pub no_loss : SayNoLossUnderYes lines meant
+  pub printed : IsPrinted old new lines meant status

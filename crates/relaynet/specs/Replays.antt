@@ -1,5 +1,5 @@
 -- What is printed of steps that are taken in a network.
-use Rattle.std.specs.Prelude.{◌≡◌, ◌==◌, ℕ, List, ◌++◌, codes, decimal, length, map, flat_map, cond, not, count_by, All, Bool, IsTrue, ◌↔◌, ◌⊎◌}
+use Rattle.std.specs.Prelude.{◌≡◌, ◌==◌, ℕ, List, ◌++◌, codes, decimal, length, map, flat_map, cond, not, count_by, All, Bool, true, IsTrue, ◌↔◌, ◌⊎◌}
 use Rattle.hex.specs.Hex.{encode_lower}
 use Rattle.custody_steps.specs.Held.{Held}
 use Rattle.custody_steps.specs.Steps.{Steps, IsRefusedAt}
@@ -56,6 +56,17 @@ pub record IsWorldListing (w : World) (steps : ℕ) (written : List ℕ) (status
   pub written_is : written ≡ lines ++ summary_line steps (length w.acknowledged) lost
   pub is_status : status ≡ lost_status lost
 
+-- the line of an event that a buffer or a sink has
+abbrev pub held_line : Event → List ℕ
+held_line event = fate_line (record { event = event; is_held = true })
+
+-- The listing of a world that has lost nothing: each event's line says that it is held, and the last line that none is lost.
+pub record IsHeldListing (written : List ℕ) (status : Status) : Type 0 where
+  pub events : List Event
+  pub steps : ℕ
+  pub written_is : written ≡ flat_map held_line events ++ summary_line steps (length events) 0
+  pub is_status : status ≡ Done
+
 -- the code of a refusal; want of memory is none
 abbrev pub IsCodeOf : StepFault → List ℕ → Type 0
 IsCodeOf refusal.NoSuch code = code ≡ codes "S1"
@@ -100,3 +111,8 @@ pub record IsBadText (A : Type 0) (text written : List ℕ) (status : Status) : 
 -- the listing of the steps that a text says
 abbrev pub IsReplayed : {A : Type 0} → Network A → List ℕ → List ℕ → Status → Type 0
 IsReplayed {A} net text written status = AreTaken net text written status ⊎ (IsRefusal net text written status ⊎ IsBadText A text written status)
+
+-- What is listed says of no event that it is lost: each is held, or one line says that a step is refused, or that a line is of no step's form.
+abbrev pub SaysNoLoss : List ℕ → Status → Type 0
+SaysNoLoss written status = IsHeldListing written status
+    ⊎ (((number : ℕ) × (fault : StepFault) × IsRefusalLine number fault written status) ⊎ ((number : ℕ) × IsBadLineSaid number written status))

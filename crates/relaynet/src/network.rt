@@ -1,8 +1,10 @@
 //! The words `check` and `replay`: what the checker says of a plan, and what becomes of the events that steps send.
 ghost use Rattle.std.specs.Prelude.{◌≡◌, length, map, string_bytes, IfOk, IfErr};
 ghost use Rattle.std.specs.List.{AllZip};
+ghost use Rattle.loss_rules.specs.Rules.{AreRulesKept};
 ghost use Rattle.plan_lines.specs.Plans.{texts as texts_of};
-ghost use Rattle.relaynet.specs.Networks.{answer_line, answer_status, joined_status, unread_line as unread_line_of, AreReplayed, IsAnswered, IsPlanRead, IsStopOf, PrintsCheck, PrintsReplay, PrintsStop, StopsWith};
+ghost use Rattle.relaynet.specs.Networks.{answer_line, answer_status, joined_status, unread_line as unread_line_of, AreReplayed, IsAnswered, IsPlanRead, IsStopOf, PrintsCheck, PrintsNoLossUnderYes, PrintsReplay, PrintsStop, StopsWith};
+ghost use Rattle.relaynet.specs.Replays.{SaysNoLoss};
 ghost use Rattle.relaynet.specs.Texts.{IsTextOf};
 
 use crate::opening::Open;
@@ -31,7 +33,8 @@ pub fn run_check<A: Allocator + Copy, R: Read, O: Open, W: Write>(
 }
 
 /// Prints what `run_check` does. Where that is an answer, it takes the steps that `steps` gives in the plan's network, and prints
-/// what becomes of the events that were acknowledged, or why a step isn't taken; nothing of the steps is read before.
+/// what becomes of the events that were acknowledged, or why a step isn't taken; nothing of the steps is read before. Behind
+/// a yes it never prints that an event is lost.
 pub fn run_replay<A: Allocator + Copy, R: Read, S: Read, O: Open, W: Write>(
     alloc: A,
     net: &mut R,
@@ -39,7 +42,9 @@ pub fn run_replay<A: Allocator + Copy, R: Read, S: Read, O: Open, W: Write>(
     files: &O,
     out: &mut W,
 ) -> Status
-    ensures { PrintsReplay A (R.remaining net.old) (O.text_of files.now) (S.remaining steps.old) (W.contents out.old) (W.contents out.new) result }
+    ensures replayed { PrintsReplay A (R.remaining net.old) (O.text_of files.now) (S.remaining steps.old) (W.contents out.old) (W.contents out.new) result }
+    // Where the first line is `yes`, each event that was acknowledged is printed as held.
+    ensures nothing_is_lost { PrintsNoLossUnderYes (W.contents out.old) (W.contents out.new) result }
 {
     let checked = match read_checked(alloc, net, files) {
         Ok(checked) => checked,
@@ -101,6 +106,7 @@ fn read_checked<A: Allocator + Copy, R: Read, O: Open>(
     files: &O,
 ) -> Result<Checked<A>, Stop>
     ensures answered { IfOk result (λ checked. IsAnswered A (R.remaining net.old) (O.text_of files.now) checked.plan checked.answer) }
+    ensures rules_kept { IfOk result (λ checked. checked.answer ≡ Answer.Yes → AreRulesKept checked.plan.net checked.plan.labels checked.plan.reaches) }
     ensures line { IfOk result (λ checked. string_bytes checked.line ≡ answer_line checked.answer) }
     ensures stop { IfErr result (IsStopOf A (R.remaining net.old) (O.text_of files.now)) }
 {
@@ -176,7 +182,8 @@ fn replay_read<A: Allocator + Copy, S: Read>(
     plan: &Plan<A>,
     steps: &mut S,
 ) -> Result<Said<A>, ReadFault>
-    ensures { IfOk result (λ said. AreReplayed plan.now.net (S.remaining steps.old) said.lines.items said.status) }
+    ensures replayed { IfOk result (λ said. AreReplayed plan.now.net (S.remaining steps.old) said.lines.items said.status) }
+    ensures nothing_is_lost { AreRulesKept plan.now.net plan.now.labels plan.now.reaches → IfOk result (λ said. SaysNoLoss said.lines.items said.status) }
 {
     let text = read_whole(alloc, steps)?;
     let said = replay(alloc, plan.net(), &text)?;

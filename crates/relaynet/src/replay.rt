@@ -1,8 +1,12 @@
 //! The listing of steps that are taken in a network.
-ghost use Rattle.std.specs.Prelude.{◌≡◌, ◌++◌, string_bytes, IfOk, IfSome, OnOk};
+ghost use Rattle.std.specs.Prelude.{◌≡◌, ◌++◌, List, string_bytes, IfOk, IfSome, OnOk};
 ghost use Rattle.custody_steps.specs.WorldOf.{world_of};
 ghost use Rattle.custody_store.specs.Contents.{event_of};
-ghost use Rattle.relaynet.specs.Replays.{fate_line, lost_status, summary_line, AreListed, IsBadLineSaid, IsCodeOf, IsRefusalLine, IsWorldListing, IsReplayed};
+ghost use Rattle.loss_rules.specs.Rules.{AreRulesKept};
+ghost use Rattle.loss_rules.specs.Sites.{BuffersAreDistinct};
+ghost use Rattle.loss_rules.specs.declared.label.Label.{Label};
+ghost use Rattle.loss_rules.specs.declared.label.Reach.{Reach};
+ghost use Rattle.relaynet.specs.Replays.{fate_line, lost_status, summary_line, AreListed, IsBadLineSaid, IsCodeOf, IsRefusalLine, IsWorldListing, IsReplayed, SaysNoLoss};
 
 use crate::lines::put_hex;
 use crate::status::Status;
@@ -18,13 +22,14 @@ pub struct Said<A: Allocator> {
 
 /// Takes the steps of the text, one after another, in the network before its first step, and lists what becomes of
 /// the events that they acknowledge; or which step is refused first; or which line is of no step's form. The only
-/// error is want of memory.
+/// error is want of memory. In a network that keeps the rules for some labels and reaches none of the events is lost.
 pub fn replay<A: Allocator + Copy>(
     alloc: A,
     net: &Net<A>,
     text: &[u8],
 ) -> Result<Said<A>, AllocError>
-    ensures { IfOk result (λ said. IsReplayed net.now text.now said.lines.items said.status) }
+    ensures replayed { IfOk result (λ said. IsReplayed net.now text.now said.lines.items said.status) }
+    ensures nothing_is_lost { (labels : List (Label A)) (reaches : List (Reach A)) → BuffersAreDistinct net.now → AreRulesKept net.now labels reaches → IfOk result (λ said. SaysNoLoss said.lines.items said.status) }
 {
     let steps = match Step::read_all(alloc, text) {
         Ok(steps) => steps,

@@ -1,13 +1,25 @@
-use Rattle.std.proofs.Common.{inl, inr, subst}
+use Rattle.std.proofs.Common.{inr, subst}
 use Rattle.step_lines.specs.StepLines.{IsBadLine}
-use Rattle.relaynet.specs.Replays.{IsBadLineSaid, IsReplayed}
+use Rattle.relaynet.specs.Replays.{IsBadLineSaid, IsReplayed, SaysNoLoss}
 use Rattle.std.proofs.lemmas.Result.{IfOk-weaker}
+use Rattle.relaynet.proofs.Fates.{listed_no_loss}
 use Rattle.relaynet.proofs.replay.replay.Goals as goal
 
-pub returns-in-Err-BadLine : goal.returns-in-Err-BadLine
-returns-in-Err-BadLine g c =
+pub returns-in-Err-BadLine-clause-replayed : goal.returns-in-Err-BadLine-clause-replayed
+returns-in-Err-BadLine-clause-replayed g c =
     let bad = subst (IsBadLine g.row.A.Denot c.args.text.now) c.in-Err-BadLine.field-0-is c.in-Err-BadLine.ensures.bad_line in
     IfOk-weaker c.list_bad_line.result
     (λ said. IsBadLineSaid c.in-Err-BadLine.line said.lines.items said.status) (λ said. IsReplayed c.args.net.now c.args.text.now said.lines.items said.status)
     (λ said is. inr (inr (record { number = c.in-Err-BadLine.line; refused = bad; said = is })))
     c.list_bad_line.ensures
+
+pub returns-in-Err-BadLine-clause-nothing_is_lost : goal.returns-in-Err-BadLine-clause-nothing_is_lost
+returns-in-Err-BadLine-clause-nothing_is_lost g c =
+    λ labels reaches distinct rules. IfOk-weaker c.list_bad_line.result
+    (λ said. IsBadLineSaid c.in-Err-BadLine.line said.lines.items said.status) (λ said. SaysNoLoss said.lines.items said.status)
+    (λ said is. inr (inr (c.in-Err-BadLine.line, is)))
+    c.list_bad_line.ensures
+
+pub returns-in-Ok-run-clause-nothing_is_lost : goal.returns-in-Ok-run-clause-nothing_is_lost
+returns-in-Ok-run-clause-nothing_is_lost g c =
+    λ labels reaches distinct rules. listed_no_loss c.list_world.result (λ said. said.lines.items) (λ said. said.status) _ _ c.list_world.ensures (c.in-Ok-run.ensures.labelled_nothing_is_lost labels reaches distinct rules)
