@@ -13,8 +13,8 @@ use Rattle.relay_conf.proofs.OwnBuffers.{own_buffers}
 use Rattle.relay_net.specs.Network.{Network}
 use Rattle.relay_net.specs.Outputs.{number_of}
 use Rattle.relay_net.specs.declared.node.Node.{Node}
-use Rattle.plan_lines.specs.Forms.{LineForm, nothing, a_relay, a_client, a_label, a_reach, no_form, line_form}
-use Rattle.plan_lines.specs.Plans.{Adds, Say, none, one_more}
+use Rattle.plan_lines.specs.Forms.{nothing, a_relay, a_client, a_label, a_reach, no_form, line_form}
+use Rattle.plan_lines.specs.Plans.{Say, none, one_more}
 use Rattle.plan_lines.proofs.Saying.{Kept}
 
 -- each relay's outputs have buffers of their own
