@@ -10,10 +10,12 @@ use Rattle.std.specs.Ordering.{nat_cmp, eq_by_cmp}
 use Rattle.std.specs.Cmp.{nat_cmp_total, eq_by_cmp_equiv}
 
 module _ {X : Type 0} where
+  -- the two ways to look a key up in a list of entries are one
   find_is : (es : List (ℕ × X)) (q : ℕ) → map.find nat_cmp q es ≡ lookup (is_at (nat_cmp q)) es
   find_is [] q = refl
   find_is (e ∷ es) q = ap (cond (is_at (nat_cmp q) e.0) (Some e.1)) (find_is es q)
 
+  -- what the map has at a key is what the tree has there
   get_is : (es : List (ℕ × X)) (q : ℕ) → map.get (map.from_entries {R = nat_cmp} es) q ≡ lookup (is_at (nat_cmp q)) es
   get_is es q = map.get-from_entries nat_cmp_total es q ∙ find_is es q
 
@@ -21,6 +23,7 @@ module _ {X : Type 0} where
   pub held_at : (es : List (ℕ × X)) (m : FinMap nat_cmp X) (q : ℕ) (o : Option X) → map.from_entries es ≡ m → o ≡ lookup (is_at (nat_cmp q)) es → map.get m q ≡ o
   held_at es m q o view tree = ap (λ n. map.get n q) (sym view) ∙ get_is es q ∙ sym tree
 
+  -- a tree with another value at one key, or none there
   changed_at : (old new : List (ℕ × X)) (k : ℕ) (w : Option X) (m : FinMap nat_cmp X)
       → ((q : ℕ) → lookup (is_at (nat_cmp q)) new ≡ cond (is_at (nat_cmp k) q) w (lookup (is_at (nat_cmp q)) old))
       → ((q : ℕ) → map.get m q ≡ cond (eq_by_cmp nat_cmp q k) w (map.get (map.from_entries {R = nat_cmp} old) q))
@@ -41,6 +44,7 @@ module _ {X : Type 0} where
       → map.from_entries {R = nat_cmp} new ≡ map.remove (map.from_entries old) k
   taken_at old new k tree = changed_at old new k None _ tree (map.get-remove nat_cmp_total (map.from_entries old) k)
 
+  -- a key that differs from all others isn't found among them
   no_key : (k : ℕ) (es : List (ℕ × X)) → AllByRecursion (λ q. eq_by_cmp nat_cmp k q ≡ false) (keys_of es) → lookup (is_at (nat_cmp k)) es ≡ None
   no_key k [] apart = refl
   no_key k (e ∷ es) apart = ap (λ b. cond b (Some e.1) (lookup (is_at (nat_cmp k)) es)) apart.0 ∙ no_key k es apart.1

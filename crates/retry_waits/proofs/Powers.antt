@@ -16,6 +16,7 @@ power_of_one : (e : ℕ) → 1 ^ e ≡ 1
 power_of_one zero = pow-zero 1
 power_of_one (suc e) = pow-suc 1 e ∙ ap (λ n. n * 1) (power_of_one e)
 
+-- a base of two or more passes every u64 from the 64th power on
 power_past : (b e : ℕ) → 2 ≤ b → 64 ≤ e → 2 ^ 64 ≤ b ^ e
 power_past b e two far = le_trans (pow-le-pow_left two 64) (pow-le-pow_right {n = b} (omega arith) far)
 
@@ -33,15 +34,18 @@ far_power (suc (suc b)) e =
     let q = power_past (suc (suc b)) (64 + e) two (omega arith) in
     both_cut _ _ (omega (arith, p)) (omega (arith, q))
 
+-- powers past the 64th needn't be told apart
 same_power : (b e : ℕ) → min (b ^ min e 64) greatest ≡ min (b ^ e) greatest
 same_power b e = ⊎_elim
     (λ far. ap (λ n. min (b ^ n) greatest) (min-eq_right (le_of_lt far)) ∙ far_power b (e - 64) ∙ ap (λ n. min (b ^ n) greatest) (omega arith))
     (λ near. ap (λ n. min (b ^ n) greatest) (min-eq_left near))
     (cases_lt 64 e)
 
+-- what is past the greatest stays so when it is multiplied
 times : (w n : ℕ) → greatest ≤ n → greatest ≤ suc w * n
 times w n h = let more = mul-le-mul_right {m = 1} {n = suc w} n (omega arith) in omega (arith, h, more)
 
+-- a factor may be cut before the product is
 same_product : (w p : ℕ) → min (w * min p greatest) greatest ≡ min (w * p) greatest
 same_product zero p = ap (λ n. min n greatest) (zero-mul (min p greatest) ∙ sym (zero-mul p))
 same_product (suc w) p = ⊎_elim

@@ -10,6 +10,7 @@ const GREATEST_POWER: u64 = 64;
 /// How many seconds a chunk waits after so many failures, one or more: the first wait times the
 /// base to the power of the failures before the last, at most the longest interval, and
 /// 18,446,744,073,709,551,615 where it would be more. It takes at most 64 turns.
+#[tactic(auto, using(crate::proofs::Powers::cut_product, crate::proofs::Powers::cut_within))]
 pub fn retry_after(settings: &RetrySettings, failures: u64) -> u64
     requires { 1 ≤ failures }
     ensures { result ≡ wait_after settings.now failures }
