@@ -1,0 +1,3 @@
+pub mod Passing
+pub mod Named
+pub mod Marks

@@ -1,0 +1,13 @@
+//! The audit of a buffer's book: whether what is left of the deliveries accounts for each append, once.
+#![tactic(auto)]
+
+mod auditing;
+mod fault;
+mod line;
+
+pub use auditing::audit;
+pub use fault::{AckFault, AuditError};
+pub use line::{Leaf, Line, Part, Stub};
+
+#[cfg(test)]
+mod tests;
