@@ -1,1 +1,2 @@
 pub mod Acknowledged
+pub mod Held

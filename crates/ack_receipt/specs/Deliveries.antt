@@ -1,8 +1,8 @@
 -- A message on its way to the buffers that have to store it.
-use Rattle.std.specs.Prelude.{ℕ, ◌≡◌, List, All, Any}
+use Rattle.std.specs.Prelude.{ℕ, ◌≡◌, List, All, Any, Contains}
 use Rattle.event_modes.specs.Message.{Parts}
-use Rattle.ack_receipt.specs.declared.receipt.Leaf.{Leaf}
-use Rattle.ack_receipt.specs.declared.receipt.Part.{Part}
+use Rattle.book_audit.specs.declared.line.Leaf.{Leaf}
+use Rattle.book_audit.specs.declared.line.Part.{Part}
 
 -- an append that is stored: of which delivery, in which buffer, in which chunk, and its line in the buffer's book
 pub record Appended : Type 0 where
@@ -25,6 +25,15 @@ IsReceiptOf number leaf receipt = (receipt.delivery ≡ number) × (receipt.leaf
 -- one of the appends stored this delivery in this buffer
 pub record IsReceived (number : ℕ) (receipts : List Appended) (leaf : Leaf) : Type 0 where
   pub one : Any (IsReceiptOf number leaf) receipts
+
+-- the append stored this delivery in one of the buffers that it goes to
+pub record IsFor (d : OpenDelivery) (receipt : Appended) : Type 0 where
+  pub number : receipt.delivery ≡ d.number
+  pub leaf : Contains d.leaves receipt.leaf
+
+-- the delivery holds a receipt of this one's buffer
+abbrev pub IsAdded : OpenDelivery → Appended → Type 0
+IsAdded d receipt = IsReceived d.number d.receipts receipt.leaf
 
 -- the delivery holds a receipt of each of its leaves
 abbrev pub HasEachReceipt : OpenDelivery → Type 0

@@ -1,4 +1,4 @@
 pub mod Deliveries
 pub mod Reservations
 pub mod Drawing
-pub mod Printed
+pub mod Holding

@@ -2,7 +2,7 @@
 use Rattle.std.specs.Prelude.{ℕ, List, [], length, Option, Some, None}
 use Rattle.event_modes.specs.Message.{Parts}
 use Rattle.event_modes.specs.Acknowledgement.{acknowledgement_of}
-use Rattle.ack_receipt.specs.declared.receipt.Leaf.{Leaf}
+use Rattle.book_audit.specs.declared.line.Leaf.{Leaf}
 use Rattle.ack_receipt.specs.Deliveries.{OpenDelivery}
 
 -- what an answer is for: a message's tag, how many entries it has, and the item that is to be repeated

@@ -1,14 +1,14 @@
 //! A message on its way to the buffers that have to store it.
 
-ghost use Rattle.std.specs.Prelude.{◌≡◌, ◌≤◌, ◌+◌, ◌++◌, ◌↔◌, [], Some, None, map, IsTrue, IsOk, IfOk, IfErr, OnOk, OnErr, All, vec_len, vec_capacity};
+ghost use Rattle.std.specs.Prelude.{◌≡◌, ◌≤◌, ◌+◌, ◌++◌, ◌↔◌, [], ◌∷◌, Some, None, map, Contains, IsTrue, IsOk, IfOk, IfErr, OnOk, OnErr, All, vec_len, vec_capacity};
 ghost use Rattle.event_modes.specs.Reading.{meaning};
-ghost use Rattle.ack_receipt.specs.Deliveries.{HasEachReceipt, IsReceived, part_of};
+ghost use Rattle.ack_receipt.specs.Deliveries.{HasEachReceipt, IsAdded, IsFor, IsReceived, part_of};
 ghost use Rattle.ack_receipt.specs.Reservations.{asked_of, answer_of};
 
-use crate::fault::AckFault;
 use crate::number::DeliveryNo;
-use crate::receipt::{Leaf, Part, Receipt};
+use crate::receipt::Receipt;
 use crate::reserved::Reserved;
+use book_audit::{AckFault, Leaf, Part, Stub};
 use event_modes::Message;
 use std::alloc::{AllocError, AllocFailed, Allocator};
 use std::marker::Model;
@@ -19,7 +19,7 @@ pub struct Delivery<A: Allocator> {
     number: DeliveryNo,
     message: Message<A>,
     leaves: Vec<Leaf, A>,
-    receipts: Vec<Receipt, A>,
+    receipts: Vec<Receipt<A>, A>,
     // Empty, with room for each receipt's part.
     parts: Vec<Part, A>,
 }
@@ -28,21 +28,15 @@ impl<A: Allocator> Model for Delivery<A> {
     ghost use Rattle.std.specs.Prelude.{◌≡◌, ◌≤◌, [], vec_len, vec_capacity};
     ghost use Rattle.event_modes.specs.Reading.{meaning};
     ghost use Rattle.ack_receipt.specs.Deliveries.{OpenDelivery};
+    ghost use Rattle.ack_receipt.specs.Holding.{IsHeld};
 
     ghost Value = { OpenDelivery };
 
     ghost view = { λ d. record { number = d.number; message = meaning d.message; leaves = d.leaves.items; receipts = d.receipts.items } };
 
-    // Each leaf's receipt and part have room.
-    ghost invariant = { λ d. (vec_len d.receipts ≤ vec_len d.leaves) × (vec_len d.leaves ≤ vec_capacity d.receipts)
+    // The receipts are of this delivery, each of another leaf, so that each leaf's receipt and part have room.
+    ghost invariant = { λ d. ∥ IsHeld d.number d.leaves.items d.receipts.items ∥₁ × (vec_len d.receipts ≤ vec_len d.leaves) × (vec_len d.leaves ≤ vec_capacity d.receipts)
         × (vec_len d.leaves ≤ vec_capacity d.parts) × (d.parts.items ≡ []) };
-}
-
-/// What is left of a delivery: its number, and a part of each receipt that it held. It is plain data.
-#[derive(Drop)]
-pub struct Stub<A: Allocator> {
-    pub delivery: u64,
-    pub parts: Vec<Part, A>,
 }
 
 /// What a delivery would have been, had there been memory.
@@ -85,6 +79,31 @@ impl<A: Allocator + Copy> Delivery<A> {
 }
 
 impl<A: Allocator> Delivery<A> {
+    /// Adds a receipt behind the others. It takes no memory.
+    ///
+    /// The errors hand both back as they were. `AckFault::Stranger` comes exactly where the receipt is of another
+    /// delivery, or of a buffer that this one doesn't go to; `AckFault::Double` exactly where it isn't a stranger and
+    /// a receipt of its buffer was added already.
+    pub fn add(
+        mut self,
+        receipt: Receipt<A>,
+    ) -> Result<Delivery<A>, (AckFault, Delivery<A>, Receipt<A>)>
+        ensures when { IsOk result ↔ (IsFor self receipt × ¬ IsAdded self receipt) }
+        ensures added { IfOk result (λ delivery. delivery ≡ record self { receipts = self.receipts ++ receipt ∷ [] }) }
+        ensures stranger { IfErr result (λ refused. (refused.0 ≡ AckFault.Stranger) ↔ (¬ IsFor self receipt)) }
+        ensures double { IfErr result (λ refused. (refused.0 ≡ AckFault.Double) ↔ (IsFor self receipt × IsAdded self receipt)) }
+        ensures back { IfErr result (λ refused. (refused.1 ≡ self) × (refused.2 ≡ receipt)) }
+    {
+        if !self.is_for(&receipt) {
+            return Err((AckFault::Stranger, self, receipt));
+        }
+        if has_receipt(&self.receipts, self.number.get(), receipt.leaf()) {
+            return Err((AckFault::Double, self, receipt));
+        }
+        self.receipts.push_reserved(receipt);
+        Ok(self)
+    }
+
     /// Answers the message, where each leaf has given a receipt, into the empty room that was made for it.
     /// It takes no memory.
     ///
@@ -94,7 +113,7 @@ impl<A: Allocator> Delivery<A> {
         requires empty { reserved.old.filled ≡ None }
         requires made { reserved.old.asked ≡ asked_of self.message }
         ensures when { IsOk result ↔ HasEachReceipt self }
-        ensures stub { IfOk result (λ stub. (stub.delivery ≡ self.number) × (stub.parts.items ≡ map part_of self.receipts)) }
+        ensures stub { IfOk result (λ stub. (stub.delivery ≡ self.number) × (stub.parts ≡ map part_of self.receipts)) }
         ensures answer { OnOk result (reserved.new ≡ record reserved.old { filled = Some (answer_of self) }) }
         ensures missing { IfErr result (λ refused. (refused.0 ≡ AckFault.Missing) × (refused.1 ≡ self)) }
         ensures kept { OnErr result (reserved.new ≡ reserved.old) }
@@ -110,10 +129,17 @@ impl<A: Allocator> Delivery<A> {
     /// Ends the delivery without an answer. It takes no memory.
     pub fn abandon(self) -> Stub<A>
         ensures number { result.delivery ≡ self.number }
-        ensures parts { result.parts.items ≡ map part_of self.receipts }
+        ensures parts { result.parts ≡ map part_of self.receipts }
     {
         let (stub, _) = self.end();
         stub
+    }
+
+    // Whether the receipt is of this delivery and of one of its leaves.
+    fn is_for(&self, receipt: &Receipt<A>) -> bool
+        ensures { IsTrue result ↔ IsFor self.now receipt.now }
+    {
+        receipt.delivery() == self.number.get() && has_leaf(&self.leaves, receipt.leaf())
     }
 
     fn has_each_receipt(&self) -> bool
@@ -125,7 +151,7 @@ impl<A: Allocator> Delivery<A> {
     // What is left, and the leaves.
     fn end(self) -> (Stub<A>, Vec<Leaf, A>)
         ensures number { result.0.delivery ≡ self.number }
-        ensures parts { result.0.parts.items ≡ map part_of self.receipts }
+        ensures parts { result.0.parts ≡ map part_of self.receipts }
         ensures leaves { result.1.items ≡ self.leaves }
     {
         let Delivery {
@@ -147,7 +173,7 @@ impl<A: Allocator> Delivery<A> {
 fn room_for<A: Allocator + Copy>(
     alloc: A,
     count: usize,
-) -> Result<(Vec<Receipt, A>, Vec<Part, A>), AllocError>
+) -> Result<(Vec<Receipt<A>, A>, Vec<Part, A>), AllocError>
     ensures { IfOk result (λ lists. (lists.0.items ≡ []) × (lists.1.items ≡ []) × (count ≤ vec_capacity lists.0) × (count ≤ vec_capacity lists.1)) }
 {
     let parts = Vec::with_capacity(alloc, count)?;
@@ -157,7 +183,7 @@ fn room_for<A: Allocator + Copy>(
 }
 
 // Whether each of the leaves has one.
-fn have_receipts(leaves: &[Leaf], number: u64, receipts: &[Receipt]) -> bool
+fn have_receipts<A: Allocator>(leaves: &[Leaf], number: u64, receipts: &[Receipt<A>]) -> bool
     ensures { IsTrue result ↔ All (IsReceived number receipts.now) leaves.now }
 {
     leaves
@@ -165,14 +191,20 @@ fn have_receipts(leaves: &[Leaf], number: u64, receipts: &[Receipt]) -> bool
         .all(|leaf| has_receipt(receipts, number, *leaf))
 }
 
-fn has_receipt(receipts: &[Receipt], number: u64, leaf: Leaf) -> bool
+fn has_receipt<A: Allocator>(receipts: &[Receipt<A>], number: u64, leaf: Leaf) -> bool
     ensures { IsTrue result ↔ IsReceived number receipts.now leaf }
 {
     receipts.iter().any(|receipt| receipt.is_of(number, leaf))
 }
 
+fn has_leaf(leaves: &[Leaf], leaf: Leaf) -> bool
+    ensures { IsTrue result ↔ Contains leaves.now leaf }
+{
+    leaves.iter().any(|other| *other == leaf)
+}
+
 // Adds the parts of the receipts.
-fn spend<A: Allocator>(receipts: Vec<Receipt, A>, mut parts: Vec<Part, A>) -> Vec<Part, A>
+fn spend<A: Allocator>(receipts: Vec<Receipt<A>, A>, mut parts: Vec<Part, A>) -> Vec<Part, A>
     requires { vec_len parts + vec_len receipts ≤ vec_capacity parts }
     ensures { result.items ≡ parts.items ++ map part_of receipts.items }
 {

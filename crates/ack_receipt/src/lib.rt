@@ -4,16 +4,15 @@
 
 mod delivery;
 mod evidence;
-mod fault;
 mod number;
 mod receipt;
 mod reserved;
 
-pub use delivery::{Delivery, Stub, Unbegun};
+pub use book_audit::{AckFault, Leaf, Part, Stub};
+pub use delivery::{Delivery, Unbegun};
 pub use evidence::{Evidence, Shown};
-pub use fault::AckFault;
 pub use number::{DeliveryNo, Numbers};
-pub use receipt::{Leaf, Part, Receipt};
+pub use receipt::Receipt;
 pub use reserved::Reserved;
 
 #[cfg(test)]

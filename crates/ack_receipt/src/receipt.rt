@@ -1,46 +1,68 @@
 //! What a buffer gives for an append that it has stored.
 
-ghost use Rattle.std.specs.Prelude.{◌≡◌, ◌↔◌, IsTrue};
+ghost use Rattle.std.specs.Prelude.{◌≡◌, ◌↔◌, [], ◌∷◌, IsTrue};
 ghost use Rattle.ack_receipt.specs.Deliveries.{IsReceiptOf, part_of};
 
+use book_audit::{Leaf, Part, Stub};
+use std::alloc::Allocator;
 use std::marker::Model;
-
-/// A buffer that a delivery goes to: the relay's number, and the buffer's number in that relay.
-#[derive(Clone, Copy, Debug, PartialEq, Eq)]
-pub struct Leaf {
-    pub relay: u32,
-    pub buffer: u32,
-}
 
 /// That a buffer has stored a delivery: the delivery's number, the buffer, the chunk's serial, and the line of the
 /// buffer's book of appends.
 ///
-/// It can be neither copied nor dropped. Contracts see an `Appended`.
-pub struct Receipt {
+/// It can be neither copied nor dropped: a delivery takes it, or `spend` ends it. Contracts see an `Appended`.
+pub struct Receipt<A: Allocator> {
     delivery: u64,
     leaf: Leaf,
     serial: u64,
     line: u64,
+    // Empty, with room for what is left of this receipt.
+    room: Vec<Part, A>,
 }
 
-impl Model for Receipt {
+impl<A: Allocator> Model for Receipt<A> {
+    ghost use Rattle.std.specs.Prelude.{◌≡◌, ◌<◌, [], vec_capacity};
     ghost use Rattle.ack_receipt.specs.Deliveries.{Appended};
 
     ghost Value = { Appended };
 
     ghost view = { λ r. record { delivery = r.delivery; leaf = r.leaf; serial = r.serial; line = r.line } };
+
+    ghost invariant = { λ r. (r.room.items ≡ []) × (0 < vec_capacity r.room) };
 }
 
-/// What is left of a receipt: the buffer, the chunk's serial, and the line of the buffer's book.
-#[derive(Clone, Copy, Debug, PartialEq, Eq)]
-pub struct Part {
-    pub relay: u32,
-    pub buffer: u32,
-    pub serial: u64,
-    pub line: u64,
-}
+impl<A: Allocator> Receipt<A> {
+    /// Ends a receipt that no delivery takes. What is left has the number of the delivery that it is of, and its part
+    /// alone. It takes no memory.
+    pub fn spend(self) -> Stub<A>
+        ensures number { result.delivery ≡ self.delivery }
+        ensures part { result.parts ≡ part_of self ∷ [] }
+    {
+        let Receipt {
+            delivery,
+            leaf,
+            serial,
+            line,
+            room: mut parts,
+        } = self;
+        parts.push_reserved(part_at(leaf, serial, line));
+        Stub { delivery, parts }
+    }
 
-impl Receipt {
+    /// The buffer that stored the delivery.
+    pub(crate) fn leaf(&self) -> Leaf
+        ensures { result ≡ self.now.leaf }
+    {
+        self.leaf
+    }
+
+    /// The number of the delivery that is stored.
+    pub(crate) fn delivery(&self) -> u64
+        ensures { result ≡ self.now.delivery }
+    {
+        self.delivery
+    }
+
     /// Whether it is for this delivery and this leaf.
     pub(crate) fn is_of(&self, delivery: u64, leaf: Leaf) -> bool
         ensures { IsTrue result ↔ IsReceiptOf delivery leaf self.now }
@@ -48,7 +70,7 @@ impl Receipt {
         self.delivery == delivery && self.leaf == leaf
     }
 
-    /// Ends the receipt.
+    /// Ends the receipt of a delivery that ends.
     pub(crate) fn into_part(self) -> Part
         ensures { result ≡ part_of self }
     {
@@ -57,12 +79,39 @@ impl Receipt {
             leaf,
             serial,
             line,
+            room: _,
         } = self;
-        Part {
-            relay: leaf.relay,
-            buffer: leaf.buffer,
-            serial,
-            line,
-        }
+        part_at(leaf, serial, line)
     }
+}
+
+// The part for this line of the buffer's book.
+fn part_at(leaf: Leaf, serial: u64, line: u64) -> Part
+    ensures { result ≡ record { relay = leaf.relay; buffer = leaf.buffer; serial = serial; line = line } }
+{
+    Part {
+        relay: leaf.relay,
+        buffer: leaf.buffer,
+        serial,
+        line,
+    }
+}
+
+/// A receipt with its room, as a buffer makes it.
+#[cfg(test)]
+pub(crate) fn made_receipt<A: Allocator + Copy>(
+    alloc: A,
+    delivery: u64,
+    leaf: Leaf,
+    serial: u64,
+    line: u64,
+) -> Result<Receipt<A>, std::alloc::AllocError> {
+    let room = Vec::with_capacity(alloc, 1)?;
+    Ok(Receipt {
+        delivery,
+        leaf,
+        serial,
+        line,
+        room,
+    })
 }

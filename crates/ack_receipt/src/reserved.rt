@@ -4,7 +4,7 @@ ghost use Rattle.std.specs.Prelude.{◌≡◌, Some, None, length, IfOk, MatchOp
 ghost use Rattle.event_modes.specs.Reading.{meaning};
 ghost use Rattle.ack_receipt.specs.Reservations.{asked_of, answer_to};
 
-use crate::receipt::Leaf;
+use book_audit::Leaf;
 use event_modes::{Message, put_ack};
 use std::alloc::{AllocError, Allocator};
 use std::marker::Model;

@@ -1,6 +1,10 @@
 //! Worked messages, and what no clause says.
 
+ghost use Rattle.std.specs.Prelude.{◌≡◌, IfOk};
+ghost use Rattle.event_modes.specs.Reading.{meaning};
+
 use super::*;
+use crate::receipt::made_receipt;
 use event_modes::{ChunkId, Message, Read, read};
 use std::alloc::Global;
 use std::test::Fail;
@@ -104,4 +108,99 @@ fn evidence(rt: HostRuntime) {
         };
         assert_eq!(rt; found, shows, "{bytes:?}");
     }
+}
+
+/// The buffer that a delivery goes to.
+const LEAF: Leaf = Leaf {
+    relay: 1,
+    buffer: 0,
+};
+
+// The number of the stub's delivery, and the lines of its parts.
+fn is_left(stub: &Stub<Global>, delivery: u64, lines: &[u64]) -> bool {
+    stub.delivery == delivery
+        && stub.parts.len() == lines.len()
+        && stub
+            .parts
+            .iter()
+            .zip(lines)
+            .all(|(part, line)| part.line == *line)
+}
+
+// The message's delivery of number 0 to one buffer, named twice, which has given a receipt.
+fn added(alloc: Global, message: Message<Global>) -> Result<Delivery<Global>, Fail>
+    ensures { IfOk result (λ delivery. delivery.message ≡ meaning message) }
+{
+    let number = Numbers::new().draw().ok_or("no number")?;
+    let leaves = vec![in alloc; LEAF, LEAF]?;
+    let receipt = made_receipt(alloc, 0, LEAF, 5, 6)?;
+    let Ok(delivery) = Delivery::begin(alloc, number, message, leaves) else {
+        receipt.spend();
+        return Err("no memory")?;
+    };
+    match delivery.add(receipt) {
+        Ok(delivery) => Ok(delivery),
+        Err((fault, delivery, receipt)) => {
+            delivery.abandon();
+            receipt.spend();
+            Err(fault)?
+        }
+    }
+}
+
+// What such a delivery prints when it is given a receipt of this delivery and buffer, whose line is 7.
+fn refused(alloc: Global, number: u64, leaf: Leaf) -> Result<String<Global>, Fail> {
+    let message = message_of(alloc, ASKS)?;
+    let receipt = made_receipt(alloc, number, leaf, 5, 7)?;
+    let delivery = match added(alloc, message) {
+        Ok(delivery) => delivery,
+        Err(fail) => {
+            receipt.spend();
+            return Err(fail);
+        }
+    };
+    match delivery.add(receipt) {
+        Ok(delivery) => {
+            delivery.abandon();
+            Err("added")?
+        }
+        Err((fault, delivery, receipt)) => {
+            let whole = is_left(&delivery.abandon(), 0, &[6]);
+            let spent = is_left(&receipt.spend(), number, &[7]);
+            if whole && spent {
+                Ok(format!(in alloc; "{fault}")?)
+            } else {
+                Err("changed")?
+            }
+        }
+    }
+}
+
+// A second receipt of one buffer is refused, and so are receipts of another delivery or buffer.
+#[test]
+fn adds(rt: HostRuntime) -> Result<(), Fail> {
+    let elsewhere = Leaf {
+        relay: 1,
+        buffer: 1,
+    };
+    for (number, leaf, printed) in [(0, LEAF, "A2"), (1, LEAF, "A1"), (0, elsewhere, "A1")] {
+        assert_eq!(rt; refused(rt.alloc(), number, leaf)?.as_str(), printed);
+    }
+    Ok(())
+}
+
+// What is stored is answered, also where its buffer is named twice.
+#[test]
+fn stored(rt: HostRuntime) -> Result<(), Fail> {
+    let message = message_of(rt.alloc(), ASKS)?;
+    let mut reserved = Reserved::for_message(rt.alloc(), &message)?;
+    match added(rt.alloc(), message)?.acknowledge(&mut reserved) {
+        Ok(stub) => assert!(rt; is_left(&stub, 0, &[6])),
+        Err((fault, delivery)) => {
+            delivery.abandon();
+            return Err(fault)?;
+        }
+    }
+    assert_eq!(rt; reserved.answer(), Some(ANSWER));
+    Ok(())
 }
