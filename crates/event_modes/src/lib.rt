@@ -25,6 +25,3 @@ pub use laws::{means_one, never_both, reads_one_way};
 pub use message::{Entries, Message, Read};
 pub use packed::put_packed;
 pub use reading::read;
-
-#[cfg(test)]
-mod tests;

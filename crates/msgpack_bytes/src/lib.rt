@@ -23,6 +23,3 @@ pub use laws::{
 pub use names::last_value;
 pub use scanner::scan;
 pub use writer::{put_array, put_bin, put_bool, put_map, put_str, put_uint};
-
-#[cfg(test)]
-mod tests;

@@ -1,6 +1,9 @@
 //! Messages from outside, and what no clause says.
 
-use super::*;
+use event_modes::{
+    AckRead, ChunkId, Entries, Feed, FeedError, ModeFault, Next, Read, put_ack, put_packed, read,
+    read_ack,
+};
 use std::alloc::{AllocError, Global};
 use std::test::Fail;
 
