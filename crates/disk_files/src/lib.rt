@@ -9,8 +9,6 @@ mod memory;
 mod memory_file;
 mod past;
 mod real;
-#[cfg(test)]
-mod tests;
 
 pub use dir::{Dir, DirError, FileName, FileNo};
 pub use fuse::Fuse;

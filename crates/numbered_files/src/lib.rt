@@ -9,6 +9,3 @@ mod laws;
 pub use family::Family;
 pub use folder::{numbers, read_file};
 pub use laws::names_differ;
-
-#[cfg(test)]
-mod tests;

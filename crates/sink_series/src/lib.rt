@@ -16,6 +16,3 @@ pub use fault::SeriesFault;
 pub use laws::{cuts_whole, holds_one, made_adds_nothing, safe_is_content, safe_over_stop};
 pub use series::Series;
 pub use stored::Stored;
-
-#[cfg(test)]
-mod tests;

@@ -1,7 +1,10 @@
-use super::*;
 use disk_files::{Dir, Fuse, Keep, MemoryDir};
 use event_modes::Entries;
 use numbered_files::read_file;
+use sink_series::{
+    Series, SeriesFault, Stored, cuts_whole, holds_one, made_adds_nothing, safe_is_content,
+    safe_over_stop,
+};
 use std::alloc::Global;
 use std::test::Fail;
 

@@ -1,4 +1,4 @@
-use super::*;
+use disk_files::{Dir, DirError, Fuse, Keep, MemoryDir, RealDir};
 use std::alloc::Global;
 use std::fs;
 use std::rt::Files;

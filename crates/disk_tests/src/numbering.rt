@@ -1,5 +1,5 @@
-use super::*;
 use disk_files::{Dir, DirError, FileNo, Fuse, MemoryDir};
+use numbered_files::{Family, names_differ, numbers, read_file};
 use std::alloc::{AllocError, Global};
 
 fn sinks() -> Family<'static> {
