@@ -9,8 +9,6 @@ mod digest;
 mod laws;
 mod read;
 mod server;
-#[cfg(test)]
-mod tests;
 mod write;
 
 pub use answers::{HandshakeFault, HeloError, Ping};

@@ -22,6 +22,3 @@ pub use past::{AskedSoFar, TakenSoFar};
 pub use replies::Heard;
 pub use security::Security;
 pub use server::{ServerSession, Unanswered};
-
-#[cfg(test)]
-mod tests;

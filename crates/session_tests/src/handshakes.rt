@@ -1,5 +1,5 @@
 // What no clause says: vectors from outside, printed text, and that the calls succeed.
-use super::*;
+use auth_handshake::{Client, HandshakeFault, HeloError, Ping, Server, digest_hex};
 use std::test::Fail;
 
 // SHA-512 of "abc" (FIPS 180-4, example B.1), which is here parted into a salt, a host name and a key.

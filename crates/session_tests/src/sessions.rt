@@ -4,10 +4,12 @@ ghost use Rattle.std.specs.Prelude.{◌≡◌, length, IfOk, IsSome};
 ghost use Rattle.ack_receipt.specs.Reservations.{asked_of};
 ghost use Rattle.event_modes.specs.Reading.{meaning};
 
-use super::*;
 use ack_receipt::{Delivery, Numbers, Reserved};
 use auth_handshake::HandshakeFault;
 use event_modes::{ChunkId, Entries, Message, ModeFault};
+use forward_core::{
+    ClientSession, Demand, Heard, Security, ServerSession, SessionError, SessionFault,
+};
 use msgpack_bytes::MsgFault;
 use std::alloc::Global;
 use std::test::Fail;
