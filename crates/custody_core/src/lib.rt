@@ -9,6 +9,3 @@ pub use custody_steps::{
 };
 pub use runs::run;
 pub use single_file::is_single_file_net;
-
-#[cfg(test)]
-mod tests;

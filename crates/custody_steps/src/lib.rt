@@ -16,6 +16,3 @@ pub use fault::StepFault;
 pub use relay_net::{Client, Net, Node};
 pub use step_lines::{ChunkName, Step, StepsError};
 pub use world::World;
-
-#[cfg(test)]
-mod tests;

@@ -10,6 +10,3 @@ pub use buffer::Buffer;
 pub use chunk::{Copied, Look, Stage};
 pub use event::{Event, copy_events, copy_texts};
 pub use places::Places;
-
-#[cfg(test)]
-mod tests;

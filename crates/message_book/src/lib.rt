@@ -10,6 +10,3 @@ pub use book::Book;
 pub use delivery::Delivery;
 pub use message::Message;
 pub use sender::Sender;
-
-#[cfg(test)]
-mod tests;

@@ -1,4 +1,4 @@
-use super::*;
+use custody_steps::StepFault;
 use std::test::Fail;
 
 // What a fault prints.

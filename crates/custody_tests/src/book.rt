@@ -1,4 +1,4 @@
-use super::*;
+use message_book::{Book, Sender};
 use relay_net::{Address, Entrance};
 use std::alloc::Global;
 use std::test::Fail;

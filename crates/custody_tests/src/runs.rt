@@ -1,4 +1,4 @@
-use super::*;
+use custody_core::{ChunkName, Client, Net, Node, Step, StepFault, is_single_file_net, run};
 use relay_conf::{
     BufferKind, BufferNo, BufferSettings, DEFAULT_BIND, DEFAULT_FILE_CHUNK_LIMIT,
     DEFAULT_FILE_TOTAL_LIMIT, DEFAULT_FLUSH_INTERVAL, DEFAULT_FLUSH_THREADS, DEFAULT_RETRY_BASE,

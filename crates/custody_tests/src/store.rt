@@ -1,4 +1,4 @@
-use super::*;
+use custody_store::{Buffer, Look, Stage};
 use std::alloc::Global;
 use std::test::Fail;
 use tag_pattern::Tag;
