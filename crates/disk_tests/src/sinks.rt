@@ -15,10 +15,7 @@ fn opened<D: Dir>(alloc: Global, dir: D) -> Result<Series<D, Global>, SeriesFaul
 where
     D: Drop,
 {
-    match Series::open(alloc, dir, b"out") {
-        Ok(series) => Ok(series),
-        Err((fault, _dir)) => Err(fault),
-    }
+    Series::open(alloc, dir, b"out").map_err(|(fault, _)| fault)
 }
 
 // One entry under a tag, written.
