@@ -10,6 +10,3 @@ mod tags;
 pub use chunk::{Chunk, Stage};
 pub use chunks::{Chunks, Ready};
 pub use limits::{AppendFault, Limits};
-
-#[cfg(test)]
-mod tests;

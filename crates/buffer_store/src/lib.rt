@@ -5,8 +5,6 @@ mod buffer;
 mod fault;
 mod laws;
 mod telling;
-#[cfg(test)]
-mod tests;
 
 pub use buffer::{Appended, Buffer};
 pub use fault::BufferFault;

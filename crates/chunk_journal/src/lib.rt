@@ -16,6 +16,3 @@ pub use laws::{
 pub use record::Record;
 pub use replaying::{Replayed, replay};
 pub use writing::put_record;
-
-#[cfg(test)]
-mod tests;

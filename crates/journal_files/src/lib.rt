@@ -8,8 +8,6 @@ mod older;
 mod opening;
 mod pieces;
 mod spelling;
-#[cfg(test)]
-mod tests;
 
 pub use error::{OpenError, RenewError};
 pub use journal::Journal;

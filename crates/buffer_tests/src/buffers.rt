@@ -1,5 +1,5 @@
-use super::*;
 use buffer_state::{Limits, Stage};
+use buffer_store::{Buffer, BufferFault};
 use disk_files::{Dir, Fuse, Keep, MemoryDir};
 use event_modes::Entries;
 use std::alloc::{AllocError, Global};

@@ -1,7 +1,7 @@
 //! Journals to the byte, and each record that can't stand where it does.
 
-use super::*;
 use buffer_state::Stage;
+use chunk_journal::{Record, ReplayError, put_record, replay};
 use event_modes::Entries;
 use std::alloc::{AllocError, Global};
 use std::test::Fail;

@@ -1,4 +1,4 @@
-use super::*;
+use buffer_state::{AppendFault, Chunks, Limits, Stage};
 use event_modes::Entries;
 use std::alloc::{AllocError, Global};
 

@@ -1,10 +1,10 @@
 //! Journals over a folder in memory, over stops and over a device that fails.
 
-use super::*;
 use buffer_state::Stage;
 use chunk_journal::Record;
 use disk_files::{Dir, Fuse, Keep, MemoryDir};
 use event_modes::Entries;
+use journal_files::{Journal, OpenError, opens_one_way, recovers_all};
 use std::alloc::Global;
 use std::test::Fail;
 

@@ -1,0 +1,11 @@
+//! Tests of a buffer: its chunks, its journal's records and files, and all of it over a folder.
+#![tactic(auto)]
+
+#[cfg(test)]
+mod buffers;
+#[cfg(test)]
+mod chunks;
+#[cfg(test)]
+mod generations;
+#[cfg(test)]
+mod records;
