@@ -16,6 +16,3 @@ pub use laws::{
     each_text_has_one_reading, lines_are_read, quotes_keep_values, written_elements_are_read,
 };
 pub use reading::read;
-
-#[cfg(test)]
-mod tests;

@@ -10,6 +10,3 @@ pub use amount::{seconds, size};
 pub use laws::values_are_digits_times_units;
 pub use number::{port, whole_number};
 pub use word::{boolean, has_slash, is_host_name, is_label_name, is_path};
-
-#[cfg(test)]
-mod tests;

@@ -22,6 +22,3 @@ pub use defaults::{
 pub use output::{BufferNo, FileSettings, ForwardSettings, Output, Server};
 pub use relay::{MatchRule, Relay, Scope, ScopeNo, Security, Source};
 pub use relay_faults::{MOST_FLUSH_THREADS, RelayError, RelayFault, RelayFaultKind};
-
-#[cfg(test)]
-mod tests;

@@ -16,6 +16,3 @@ pub use examine::has_files;
 pub use fault::{RelayError, RelayFault, RelayFaultKind};
 pub use form::{MOST_FLUSH_THREADS, OutputType, is_flush_mode, is_overflow, output_type, threads};
 pub use patterns::words;
-
-#[cfg(test)]
-mod tests;

@@ -12,6 +12,3 @@ pub use hop::Hop;
 pub use laws::{taker_is_unique, walk_is_no_loop, walk_is_unique, walk_reaches_leaves};
 pub use routes::Routes;
 pub use way::Way;
-
-#[cfg(test)]
-mod tests;

@@ -20,6 +20,3 @@ pub use laws::{common_tag_meets, fits_is_subset, parts_are_unique, slots_are_uni
 pub use pattern::{Pattern, PatternError};
 pub use plain::Plain;
 pub use tag::{Tag, TagError};
-
-#[cfg(test)]
-mod tests;

@@ -1,8 +1,8 @@
-use super::*;
 use relay_conf::{
     BufferKind, BufferNo, BufferSettings, FileSettings, FlushMode, MatchRule, Output,
     OverflowAction, Relay, RetrySettings, Scope, ScopeNo,
 };
+use route_graph::{Routes, Way};
 use std::alloc::Global;
 use std::process::Abort;
 use std::test::Fail;

@@ -1,4 +1,4 @@
-use super::*;
+use conf_values::{boolean, has_slash, is_host_name, is_label_name, is_path, port, seconds, size};
 
 // Texts, and the size and the time of each.
 const AMOUNTS: [(&str, Option<u64>, Option<u64>); 34] = [

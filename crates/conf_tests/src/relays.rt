@@ -1,4 +1,4 @@
-use super::*;
+use relay_conf::{BufferKind, FileSettings, ForwardSettings, MatchRule, Output, Relay, RelayError};
 use std::alloc::Global;
 use std::process::Abort;
 use std::test::Fail;

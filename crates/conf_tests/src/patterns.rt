@@ -1,7 +1,7 @@
-use super::*;
 use std::alloc::Global;
 use std::process::Abort;
 use std::test::Fail;
+use tag_pattern::{Pattern, PatternError, PatternItem, Plain, Tag, TagError, apart, fits, matches};
 
 fn one(rt: &(impl Abort + AllocGlobal), text: &str) -> Result<Plain<Global>, Fail> {
     let mut plains = Pattern::read(rt.alloc(), text)?;

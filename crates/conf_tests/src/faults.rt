@@ -1,4 +1,4 @@
-use super::*;
+use relay_faults::examine_elements;
 use std::alloc::Global;
 use std::process::Abort;
 use std::test::Fail;

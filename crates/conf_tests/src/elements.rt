@@ -1,4 +1,4 @@
-use super::*;
+use conf_text::{Element, read};
 use std::alloc::{AllocError, Allocator, Global};
 use std::fmt::Write;
 use std::test::Fail;

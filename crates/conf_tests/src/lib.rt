@@ -1,0 +1,15 @@
+//! Tests of configurations: their text and values, a relay that is read from one, tag patterns, and ways.
+#![tactic(auto)]
+
+#[cfg(test)]
+mod elements;
+#[cfg(test)]
+mod faults;
+#[cfg(test)]
+mod patterns;
+#[cfg(test)]
+mod relays;
+#[cfg(test)]
+mod values;
+#[cfg(test)]
+mod ways;
