@@ -49,7 +49,7 @@ pub struct RetrySettings {
     pub exponential_backoff_base: u64,
     /// The longest wait, in seconds, if there is one.
     pub max_interval: Option<u64>,
-    /// After how many failures a chunk is given up, if ever.
+    /// How many failures a chunk may have before it is given up at the next, if there is a limit.
     pub max_times: Option<u64>,
     /// How long after its first failure a chunk is given up, in seconds.
     pub timeout: u64,
