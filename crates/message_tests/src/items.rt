@@ -54,6 +54,63 @@ fn scans_from_inside(rt: HostRuntime) {
     assert_eq!(rt; scan(bytes, 5), NEED);
 }
 
+// What a scanner answers to the last of these pieces.
+fn last_of(pieces: &[&[u8]]) -> Taken {
+    let mut scanner = Scanner::new();
+    let mut last = Taken::Need;
+    for piece in pieces {
+        last = scanner.take(piece);
+    }
+    last
+}
+
+#[test]
+fn scans_in_pieces(rt: HostRuntime) {
+    let rows: [(&[&[u8]], Taken); 14] = [
+        (&[b""], Taken::Need),
+        (&[b"", b"\xc0\xc0"], Taken::End(1)),
+        (&[b"\xc0", b"\xc0"], Taken::End(0)),
+        (&[b"\xc1"], Taken::Bad(MsgFault::Reserved)),
+        (&[b"\xc1", b"\x90"], Taken::Bad(MsgFault::Reserved)),
+        (&[b"\xdd"], Taken::Need),
+        (&[b"\xdd", b"\xff"], Taken::Bad(MsgFault::TooLong)),
+        (&[b"\xda\x00", b"\x03ab", b"c\xc1"], Taken::End(1)),
+        (&[b"\x92\xa1", b"", b"k\xa3", b"abcd"], Taken::End(3)),
+        (
+            &[b"\xdc\x00", b"\x01", b"\xc1"],
+            Taken::Bad(MsgFault::Reserved),
+        ),
+        (&[b"\xc6\x00\x00", b"\x00", b"\x02a", b"bc"], Taken::End(1)),
+        (&[b"\x92\xc0", b"\xc0", b"\xc1"], Taken::End(0)),
+        (&[b"\xdf\x00\x7f\xff", b"\xfd"], Taken::Need),
+        (
+            &[b"\xdf\x00\x7f\xff", b"\xfe"],
+            Taken::Bad(MsgFault::TooLong),
+        ),
+    ];
+    for (pieces, want) in rows {
+        assert_eq!(rt; last_of(pieces), want, "of {pieces:?}");
+    }
+}
+
+// What a scanner answers to bytes that come one by one: how many times more is asked for, and the answer then.
+fn one_by_one(bytes: &[u8]) -> (usize, Taken) {
+    let mut scanner = Scanner::new();
+    for (i, byte) in bytes.iter().enumerate() {
+        let answer = scanner.take(&[*byte]);
+        if answer != Taken::Need {
+            return (i, answer);
+        }
+    }
+    (bytes.len(), Taken::Need)
+}
+
+#[test]
+fn scans_byte_by_byte(rt: HostRuntime) {
+    let message = b"\x93\xa3app\xce\x00\x00\x00\x01\x81\xa1k\xa1v";
+    assert_eq!(rt; one_by_one(message), (14, Taken::End(1)));
+}
+
 // So many arrays of one item, one in another, and then these bytes.
 fn nested(rt: &HostRuntime, depth: usize, rest: &[u8]) -> Result<Vec<u8>, Fail> {
     let mut bytes = Vec::new(rt.alloc());

@@ -12,6 +12,8 @@ pub mod StepFacts
 pub mod Scanned
 pub mod Turns
 pub mod States
+pub mod Alike
+pub mod Standing
 pub mod Spelled
 pub mod Lawful
 pub mod Rows

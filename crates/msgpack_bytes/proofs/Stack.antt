@@ -2,17 +2,8 @@
 use Rattle.std.proofs.Common.{ℕ, zero, suc, ◌≡◌, ◌+◌, ◌-◌, ◌<◌, ◌≤◌, List, [], length, refl, ap, sym, ◌∙◌, Ok, Err, arith, length-set, add-one, slice_set, slice_index}
 use Rattle.std.proofs.lemmas.Grind.{common_steps}
 use Rattle.msgpack_bytes.specs.Run.{Missing, Reserved, Deep, front_of, then_, many, run}
+use Rattle.msgpack_bytes.specs.Pieces.{owed, finish}
 use Rattle.msgpack_bytes.proofs.Runs.{Answer}
-
--- the items that are missing on the levels below k
-abbrev pub owed : List ℕ → ℕ → ℕ
-owed counts zero = 0
-owed counts (suc k) = slice_index counts k + owed counts k
-
--- what is behind the missing items of the levels below k, of which the innermost has items of that depth
-abbrev pub finish : List ℕ → ℕ → ℕ → List ℕ → Answer
-finish counts depth zero bytes = Ok bytes
-finish counts depth (suc k) bytes = then_ (many (run depth) (slice_index counts k) bytes) (owed counts k) (finish counts (suc depth) k)
 
 pub run_empty : (depth : ℕ) → run depth [] ≡ Err (Missing 1)
 unfolding run front_of

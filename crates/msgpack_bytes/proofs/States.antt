@@ -9,19 +9,11 @@ use Rattle.msgpack_bytes.specs.Answers.{IsScanned}
 use Rattle.msgpack_bytes.proofs.Slices.{slice_rest, slice_on, slice_length, at_most, not_at_most}
 use Rattle.msgpack_bytes.proofs.Opened.{missing_open}
 use Rattle.msgpack_bytes.proofs.Scanned.{one_answer}
-use Rattle.msgpack_bytes.proofs.Stack.{owed, finish_start, at_pop, owed_at_pop, owed_at_item}
+use Rattle.msgpack_bytes.specs.Pieces.{owed, State}
+use Rattle.msgpack_bytes.proofs.Stack.{finish_start, at_pop, owed_at_pop, owed_at_item}
 use Rattle.msgpack_bytes.specs.Steps.{step_of}
 use Rattle.msgpack_bytes.proofs.StepFacts.{told}
-use Rattle.msgpack_bytes.proofs.Turns.{Reads, ended, turn_wrong, turn_deep, turn_lacks, turn_lacks_long, turn_whole, turn_whole_long, turn_opens, turn_opens_long, owed_opens}
-
--- the bytes up to i are read, on so many levels items are missing, and so many bytes may be added to the least end
-pub record State (bytes : List ℕ) (at i : ℕ) (missing : List ℕ) (levels room : ℕ) : Type 0 where
-  pub here : (depth : ℕ) → depth + levels ≡ 65 → Reads (slice_range bytes at i) missing depth levels
-  pub size : length missing ≡ 65
-  pub few : levels ≤ 65
-  pub above : at ≤ i
-  pub within : i ≤ length bytes
-  pub spent : room + (i - at) + owed missing levels ≡ longest
+use Rattle.msgpack_bytes.proofs.Turns.{ended, turn_wrong, turn_deep, turn_lacks, turn_lacks_long, turn_whole, turn_whole_long, turn_opens, turn_opens_long, owed_opens}
 
 pub state_start : (bytes : List ℕ) (at : ℕ) (missing : List ℕ) → at ≤ length bytes → length missing ≡ 65 → slice_index missing 0 ≡ 1 → State bytes at at missing 1 16777215
 state_start bytes at missing h size one =

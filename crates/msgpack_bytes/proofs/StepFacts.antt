@@ -54,7 +54,7 @@ dropped : (first n : ℕ) (rest : List ℕ) → drop n rest ≡ drop (1 + n) (fi
 dropped first n rest = (let same : 1 + n ≡ suc n = omega arith in rw same refl)
 
 -- a scalar of one byte and so much more
-scalar_says : (may_open : Bool) (first n size : ℕ) (rest : List ℕ) → size ≡ 1 + n → behind_first (shape_of first) rest ≡ content n rest → flat (shape_of first) rest ≡ behind none (content n rest) → Says may_open (scalar_step size rest) (first ∷ rest)
+scalar_says : (may_open : Bool) (first n size : ℕ) (rest : List ℕ) → size ≡ 1 + n → behind_first (shape_of first) rest ≡ content n rest → flat (shape_of first) rest ≡ behind none (content n rest) → Says may_open (scalar_step size (length rest)) (first ∷ rest)
 unfolding front_of run
 scalar_says may_open first n size rest e f g =
     elim (nat_lt (length rest + 1) size) as (λ b. nat_lt (length rest + 1) size ≡ b → Says may_open (cond b (step.Lacks size) (step.Whole size)) (first ∷ rest)) [
@@ -67,7 +67,7 @@ scalar_says may_open first n size rest e f g =
           record { some = omega arith; there = omega arith; front = f ∙ content_there n rest there ∙ ap Whole behind_it })
     ] refl
 
-container_says : (first width items : ℕ) (rest : List ℕ) → behind_first (shape_of first) rest ≡ counted width items rest → Says true (container_step width items rest) (first ∷ rest)
+container_says : (first width items : ℕ) (rest : List ℕ) → behind_first (shape_of first) rest ≡ counted width items rest → Says true (container_step width items (length rest)) (first ∷ rest)
 unfolding front_of
 container_says first width items rest f =
     elim (nat_lt (length rest) width) as (λ b. nat_lt (length rest) width ≡ b → Says true (cond b (step.Lacks (1 + width + items)) (step.Opens items (1 + width))) (first ∷ rest)) [
@@ -77,7 +77,7 @@ container_says first width items rest f =
           (record { some = omega arith; there = omega arith; front = f ∙ counted_there width items rest enough ∙ ap (Opens items) (dropped first width rest) }, refl))
     ] refl
 
-by_shape : (may_open : Bool) (first : ℕ) (rest : List ℕ) (s : Shape) → shape_of first ≡ s → Says may_open (step_by may_open s rest) (first ∷ rest)
+by_shape : (may_open : Bool) (first : ℕ) (rest : List ℕ) (s : Shape) → shape_of first ≡ s → Says may_open (step_by may_open s (length rest) rest) (first ∷ rest)
 unfolding front_of
 by_shape may_open first rest (Fixed kind n) q = scalar_says may_open first n (1 + n) rest refl (rw q refl) (rw q refl)
 by_shape may_open first rest (Sized kind width extra) q =

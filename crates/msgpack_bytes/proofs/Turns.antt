@@ -8,7 +8,8 @@ use Rattle.msgpack_bytes.specs.Run.{Missing, Reserved, Deep, then_, many, run}
 use Rattle.msgpack_bytes.proofs.Items.{all_item, run_container}
 use Rattle.msgpack_bytes.proofs.Opened.{Within, Shortest, shortest_beyond, shortest_item}
 use Rattle.msgpack_bytes.proofs.Faults.{run_never, run_no_deeper}
-use Rattle.msgpack_bytes.proofs.Stack.{owed, finish, finish_done, finish_lacking, at_item, at_opens, owed_at_item, owed_at_opens}
+use Rattle.msgpack_bytes.specs.Pieces.{owed, finish, Reads}
+use Rattle.msgpack_bytes.proofs.Stack.{finish_done, finish_lacking, at_item, at_opens, owed_at_item, owed_at_opens}
 use Rattle.msgpack_bytes.proofs.StepFacts.{IsWhole, IsOpening, IsLacking, BeginsContainer, BeginsWrong, whole_front, opening_front, run_whole, run_lacks}
 use Rattle.msgpack_bytes.proofs.Scanned.{reserved_right, deep_right, long_right}
 
@@ -18,10 +19,6 @@ shortest_more bytes front back s e = record { long = s.long; rest = s.rest ++ ba
 
 split : (front rest : List ℕ) (s : ℕ) → front ++ rest ≡ (front ++ take s rest) ++ drop s rest
 split front rest s = ap (λ (xs : List ℕ). front ++ xs) (sym (take-append-drop s rest)) ∙ sym (append_assoc front (take s rest) (drop s rest))
-
--- what the stack still owes, of the bytes behind those that are read
-abbrev pub Reads : List ℕ → List ℕ → ℕ → ℕ → Type 0
-Reads front missing depth levels = (back : List ℕ) → run deepest (front ++ back) ≡ finish missing depth levels back
 
 -- so many bytes are missing at the least
 owing : (front missing : List ℕ) (depth levels n : ℕ) → Reads front missing depth levels → owed missing levels ≡ suc n → run deepest front ≡ Err (Missing (owed missing levels))

@@ -8,5 +8,7 @@ pub mod Answers
 pub mod Run
 pub mod Reads
 pub mod Steps
+pub mod Pieces
+pub mod Going
 pub mod Spelling
 pub mod Laws

@@ -1,5 +1,5 @@
 -- What the parts of `scan` compute, for the proofs of this crate.
-use Rattle.std.specs.Prelude.{ℕ, ◌+◌, ◌^◌, ◌<◌, ◌≤◌, List, [], ◌∷◌, length, Bool, nat_lt, if◌then◌else◌}
+use Rattle.std.specs.Prelude.{ℕ, ◌≡◌, ◌+◌, ◌^◌, ◌<◌, ◌≤◌, List, [], ◌∷◌, length, drop, slice_index, Bool, nat_lt, if◌then◌else◌}
 use Rattle.msgpack_bytes.specs.declared.format.Shape.{Shape}
 use Rattle.msgpack_bytes.specs.declared.format.Shape.TheVariants.{Fixed, Sized, Holds, Counted, Never}
 use Rattle.msgpack_bytes.specs.declared.format.Step.{Step}
@@ -7,26 +7,26 @@ use Rattle.msgpack_bytes.specs.declared.format.Step.TheVariants as step
 use Rattle.msgpack_bytes.specs.Format.{items_in, shape_of}
 use Rattle.msgpack_bytes.specs.Run.{number}
 
--- a scalar of so many bytes, of which one and `rest` are there
-abbrev pub scalar_step : ℕ → List ℕ → Step
-scalar_step size rest = if nat_lt (length rest + 1) size then step.Lacks size else step.Whole size
+-- a scalar of so many bytes, of which one and `left` more are there
+abbrev pub scalar_step : ℕ → ℕ → Step
+scalar_step size left = if nat_lt (left + 1) size then step.Lacks size else step.Whole size
 
--- a container of so many items, whose count has so many bytes
-abbrev pub container_step : ℕ → ℕ → List ℕ → Step
-container_step width items rest = if nat_lt (length rest) width then step.Lacks (1 + width + items) else step.Opens items (1 + width)
+-- a container of so many items, whose count has so many bytes, of which `left` are there
+abbrev pub container_step : ℕ → ℕ → ℕ → Step
+container_step width items left = if nat_lt left width then step.Lacks (1 + width + items) else step.Opens items (1 + width)
 
--- behind a first byte of this shape
-abbrev pub step_by : Bool → Shape → List ℕ → Step
-step_by may_open (Fixed kind n) rest = scalar_step (1 + n) rest
-step_by may_open (Sized kind width extra) rest = scalar_step (1 + width + (number width rest + extra)) rest
-step_by may_open (Holds container n) rest = if may_open then step.Opens (items_in container n) 1 else step.Deep
-step_by may_open (Counted container width) rest = if may_open then container_step width (items_in container (number width rest)) rest else step.Deep
-step_by may_open Never rest = step.Wrong
+-- behind a first byte of this shape, where `left` bytes are there, the first of which are these
+abbrev pub step_by : Bool → Shape → ℕ → List ℕ → Step
+step_by may_open (Fixed kind n) left rest = scalar_step (1 + n) left
+step_by may_open (Sized kind width extra) left rest = scalar_step (1 + width + (number width rest + extra)) left
+step_by may_open (Holds container n) left rest = if may_open then step.Opens (items_in container n) 1 else step.Deep
+step_by may_open (Counted container width) left rest = if may_open then container_step width (items_in container (number width rest)) left else step.Deep
+step_by may_open Never left rest = step.Wrong
 
 -- at the front of the bytes, where a container may or may not stand
 abbrev pub step_of : Bool → List ℕ → Step
 step_of may_open [] = step.Lacks 1
-step_of may_open (first ∷ rest) = step_by may_open (shape_of first) rest
+step_of may_open (first ∷ rest) = step_by may_open (shape_of first) (length rest) rest
 
 -- what keeps a step's numbers small
 abbrev pub IsSmall : Step → Type 0
@@ -35,3 +35,13 @@ IsSmall (step.Opens items size) = (items < 2 ^ 33) × (size ≤ 5)
 IsSmall (step.Lacks size) = Unit {0}
 IsSmall step.Deep = Unit {0}
 IsSmall step.Wrong = Unit {0}
+
+-- the first n bytes are the same, where those that are missing count as 0
+abbrev pub BeginsSame : ℕ → List ℕ → List ℕ → Type 0
+BeginsSame n xs ys = (k : ℕ) → k < n → slice_index xs k ≡ slice_index ys k
+
+-- these bytes stand where the next item begins: `came` of them in earlier pieces, of which `front` has the first, and the others in the piece
+pub record IsNext (front : List ℕ) (came : ℕ) (piece : List ℕ) (at : ℕ) (all : List ℕ) : Type 0 where
+  pub fresh : came ≡ 0 → all ≡ drop at piece
+  pub size : 0 < came → length all ≡ came + length piece
+  pub begins : 0 < came → BeginsSame 5 front all

@@ -41,6 +41,17 @@ pub enum Scan {
     Bad(MsgFault),
 }
 
+/// Where an item ends whose bytes come in pieces.
+#[derive(Clone, Copy, Debug, Drop, PartialEq, Eq)]
+pub enum Taken {
+    /// The index in this piece behind the item's last byte; 0 where it ended in an earlier one.
+    End(usize),
+    /// The bytes so far are a proper beginning of an item, within the limits.
+    Need,
+    /// They are none, whatever follows.
+    Bad(MsgFault),
+}
+
 /// What stands at the front of an item; the numbers are indices into the bytes that were read.
 #[derive(Clone, Copy, Debug, Drop, PartialEq, Eq)]
 pub enum Head {

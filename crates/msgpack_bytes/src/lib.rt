@@ -9,10 +9,11 @@ mod laws;
 mod names;
 mod number;
 mod scanner;
+mod steps;
 mod table;
 mod writer;
 
-pub use answers::{Head, MsgFault, Scan};
+pub use answers::{Head, MsgFault, Scan, Taken};
 pub use front::{
     after_text, array_of, is_item, is_text, map_of, next_bool, next_item, next_text, text_of,
 };
@@ -21,5 +22,5 @@ pub use laws::{
     long_only, open_for_zeros, parts, prefix_free, read_by_recursion, spelled_shortest,
 };
 pub use names::last_value;
-pub use scanner::scan;
+pub use scanner::{Scanner, scan};
 pub use writer::{put_array, put_bin, put_bool, put_map, put_str, put_uint};

@@ -4,9 +4,9 @@ ghost use Rattle.msgpack_bytes.specs.Format.{big_endian};
 ghost use Rattle.msgpack_bytes.specs.Kinds.{twos_complement};
 ghost use Rattle.msgpack_bytes.specs.Run.{number};
 
-// The byte at `at`, and 0 where there is none.
+/// The byte at `at`, and 0 where there is none.
 #[inline(always)]
-fn byte(bytes: &[u8], at: usize) -> u32
+pub fn byte(bytes: &[u8], at: usize) -> u32
     ensures value { result ≡ slice_index bytes.now at }
     ensures small { result < 256 }
 {

@@ -1,21 +1,27 @@
 // Where an item ends.
-ghost use Rattle.std.specs.Prelude.{ℕ, ◌≡◌, ◌+◌, ◌-◌, ◌*◌, ◌<◌, ◌≤◌, length, drop, nat_lt, if◌then◌else◌, ◌^◌};
+ghost use Rattle.std.specs.Prelude.{ℕ, List, [], ◌≡◌, ◌+◌, ◌++◌, ◌↔◌, ◌<◌, ◌≤◌, length};
 ghost use Rattle.msgpack_bytes.specs.declared.answers.Scan.{Scan};
+ghost use Rattle.msgpack_bytes.specs.declared.answers.Taken.{Taken};
+ghost use Rattle.msgpack_bytes.specs.Item.{IsOpen};
 ghost use Rattle.msgpack_bytes.specs.Answers.{IsScanned};
-ghost use Rattle.msgpack_bytes.specs.Format.{items_in};
-ghost use Rattle.msgpack_bytes.specs.Reads.{IsFit};
-ghost use Rattle.msgpack_bytes.specs.Steps.{IsSmall, step_by, step_of};
+ghost use Rattle.msgpack_bytes.specs.Pieces.{IsAfter, IsTaken};
+ghost use Rattle.msgpack_bytes.specs.Steps.{BeginsSame};
+ghost use Rattle.msgpack_bytes.specs.Going.{Stands, Goes};
 
-use crate::answers::{MsgFault, Scan};
-use crate::format::{Container, Shape, Step};
-use crate::number::number_at;
-use crate::table::shape;
+use crate::answers::{MsgFault, Scan, Taken};
+use crate::format::Step;
+use crate::number::byte;
+use crate::steps::next_step;
+use std::marker::Model;
 
 /// The greatest length of an item, in bytes.
 const LONGEST: usize = 16_777_216;
 
 /// How many containers may stand one in another.
 const DEEPEST: usize = 64;
+
+/// How many bytes the header of an item has at most.
+const HEADER: usize = 5;
 
 /// Where the item at `at` ends, if one stands there, or can once more bytes are there.
 ///
@@ -26,110 +32,171 @@ pub fn scan(bytes: &[u8], at: usize) -> Scan
     ensures right { IsScanned bytes.now at result }
     ensures only { (other : Scan) → IsScanned bytes.now at other → other ≡ result }
 {
+    match Scanner::new().take(bytes.split_at(at).1) {
+        Taken::End(n) => Scan::End(at + n),
+        Taken::Need => Scan::Need,
+        Taken::Bad(fault) => Scan::Bad(fault),
+    }
+}
+
+/// A scan of one item whose bytes come in pieces: each piece is looked at once, whatever its size.
+///
+/// It keeps how many items are missing on each level, and the first bytes of what is cut; it takes no memory.
+/// `IsAfter` ties it to the bytes that it was given so far, one piece after another.
+#[derive(Drop)]
+pub struct Scanner {
     // How many items each level still lacks; a fixed stack, so that no input asks for memory.
-    let mut missing = [0u32; DEEPEST + 1];
-    missing[0] = 1;
-    let mut levels = 1;
-    // How far the least end may still move on, where each missing item takes one byte.
-    let mut room = LONGEST - 1;
-    let mut i = at;
+    missing: [u32; DEEPEST + 1],
+    place: Place,
+    // The first bytes of the item that is cut, and 0 for those that haven't come.
+    front: [u8; HEADER],
+    // What is answered from now on.
+    over: Option<Taken>,
+}
+
+impl Model for Scanner {
+    ghost use Rattle.msgpack_bytes.specs.Pieces.{Scanning, HasSeen};
+
+    ghost Value = { Scanning };
+
+    ghost view = { λ s. record { missing = s.missing; place = s.place; front = s.front; over = s.over } };
+
+    ghost invariant = { λ s. HasSeen (record { missing = s.missing; place = s.place; front = s.front; over = s.over }) };
+}
+
+impl Scanner {
+    /// No byte came yet.
+    pub fn new() -> Scanner
+        ensures { IsAfter result [] }
+    {
+        let mut missing = [0; DEEPEST + 1];
+        missing[0] = 1;
+        Scanner {
+            missing,
+            place: Place {
+                levels: 1,
+                room: LONGEST - 1,
+                came: 0,
+            },
+            front: [0; HEADER],
+            over: None,
+        }
+    }
+
+    /// Takes the next piece, and answers as `scan` does of all bytes so far, with the end counted from the piece's
+    /// first byte: 0 where the item ended before it. So `End` and `Bad` stay, whatever follows.
+    pub fn take(&mut self, piece: &[u8]) -> Taken
+        ensures right { (seen : List ℕ) → IsAfter self.old seen → IsTaken seen piece.now result }
+        ensures only { (seen : List ℕ) → IsAfter self.old seen → (other : Taken) → IsTaken seen piece.now other → other ≡ result }
+        ensures after { (seen : List ℕ) → IsAfter self.old seen → IsAfter self.new (seen ++ piece.now) }
+        // So more is asked for exactly where all bytes so far are open.
+        ensures need { (seen : List ℕ) → IsAfter self.old seen → (result ≡ Taken.Need) ↔ IsOpen (seen ++ piece.now) }
+    {
+        if let Some(answer) = self.over {
+            return answer;
+        }
+        fill(&mut self.front, self.place.came, piece);
+        match go_on(&mut self.missing, &self.front, piece, self.place) {
+            Went::Ended(n) => {
+                self.over = Some(Taken::End(0));
+                Taken::End(n)
+            }
+            Went::Bad(fault) => {
+                self.over = Some(Taken::Bad(fault));
+                Taken::Bad(fault)
+            }
+            Went::Cut(place, at) => {
+                let (_, rest) = piece.split_at(at);
+                self.front = kept(&self.front, place.came, rest);
+                self.place = Place {
+                    came: place.came + rest.len(),
+                    ..place
+                };
+                Taken::Need
+            }
+        }
+    }
+}
+
+/// What a scan goes on from.
+#[derive(Clone, Copy, Debug, Drop, PartialEq, Eq)]
+pub struct Place {
+    /// On how many levels items may be missing.
+    pub levels: usize,
+    /// How far the least end may still move on, where each missing item takes one byte.
+    pub room: usize,
+    /// How many bytes of the next item came in earlier pieces; it is cut where there are any.
+    pub came: usize,
+}
+
+/// How far a scan went in a piece.
+enum Went {
+    /// The item ends here.
+    Ended(usize),
+    /// No item begins so.
+    Bad(MsgFault),
+    /// The piece ends inside the scalar or the header that begins here, or in an earlier piece.
+    Cut(Place, usize),
+}
+
+// Puts the bytes that follow behind those that came of an item's front.
+fn fill(front: &mut [u8; HEADER], came: usize, follow: &[u8])
+    ensures { (part : List ℕ) → length part ≡ came → BeginsSame 5 front.old part → BeginsSame 5 front.new (part ++ follow.now) }
+{
+    for k in came..HEADER {
+        front[k] = byte(follow, k - came) as u8;
+    }
+}
+
+// The first bytes of what is cut, of which `came` bytes stood in earlier pieces and these in the last.
+fn kept(front: &[u8; HEADER], came: usize, rest: &[u8]) -> [u8; HEADER]
+    ensures { (all : List ℕ) → (came ≡ 0 → all ≡ rest.now) → (0 < came → BeginsSame 5 front.now all) → BeginsSame 5 result all }
+{
+    if came > 0 {
+        return *front;
+    }
+    let mut fresh = [0; HEADER];
+    fill(&mut fresh, 0, rest);
+    fresh
+}
+
+// Goes over the items of the piece.
+fn go_on(missing: &mut [u32; DEEPEST + 1], front: &[u8; HEADER], piece: &[u8], place: Place) -> Went
+    requires { (seen : List ℕ) × Stands seen piece.now front.now missing.old place 0 }
+    ensures { (seen : List ℕ) → Stands seen piece.now front.now missing.old place 0 → Goes seen piece.now front.now missing.new result }
+{
+    let mut levels = place.levels;
+    let mut room = place.room;
+    let mut came = place.came;
+    let mut at = 0;
     while levels > 0 {
         let left = missing[levels - 1];
         if left == 0 {
             levels -= 1;
         } else {
-            missing[levels - 1] = left - 1;
-            match step(bytes, i, levels <= DEEPEST) {
-                Step::Wrong => return Scan::Bad(MsgFault::Reserved),
-                Step::Deep => return Scan::Bad(MsgFault::TooDeep),
-                Step::Lacks(size) if size - 1 <= room => return Scan::Need,
+            match next_step(front, came, piece, at, levels <= DEEPEST) {
+                Step::Wrong => return Went::Bad(MsgFault::Reserved),
+                Step::Deep => return Went::Bad(MsgFault::TooDeep),
+                Step::Lacks(size) if size - 1 <= room => {
+                    return Went::Cut(Place { levels, room, came }, at);
+                }
                 Step::Whole(size) if size - 1 <= room => {
+                    missing[levels - 1] = left - 1;
                     room -= size - 1;
-                    i += size;
+                    at += size - came;
+                    came = 0;
                 }
                 Step::Opens { items, size } if size - 1 + items as usize <= room => {
-                    room -= size - 1 + items as usize;
+                    missing[levels - 1] = left - 1;
                     missing[levels] = items as u32;
                     levels += 1;
-                    i += size;
+                    room -= size - 1 + items as usize;
+                    at += size - came;
+                    came = 0;
                 }
-                _ => return Scan::Bad(MsgFault::TooLong),
+                _ => return Went::Bad(MsgFault::TooLong),
             }
         }
     }
-    Scan::End(i)
-}
-
-// The step at `at`; `may_open` says whether a container may stand there.
-#[inline(always)]
-fn step(bytes: &[u8], at: usize, may_open: bool) -> Step
-    requires { at ≤ length bytes.now }
-    ensures is { result ≡ step_of may_open (drop at bytes.now) }
-    ensures small { IsSmall result }
-{
-    match bytes.get(at) {
-        None => Step::Lacks(1),
-        Some(first) => step_behind(bytes, at + 1, shape(*first), may_open),
-    }
-}
-
-// The step behind a first byte of this shape.
-#[inline(always)]
-fn step_behind(bytes: &[u8], start: usize, shape: Shape, may_open: bool) -> Step
-    requires start { start ≤ length bytes.now }
-    requires fit { (first : ℕ) × IsFit first shape }
-    ensures is { result ≡ step_by may_open shape (drop start bytes.now) }
-    ensures small { IsSmall result }
-{
-    let left = bytes.len() - start;
-    match shape {
-        Shape::Fixed { size, .. } => scalar(1 + size, left),
-        Shape::Sized { width, extra, .. } => {
-            scalar(
-                1 + width + (number_at(bytes, start, width) as usize + extra),
-                left,
-            )
-        }
-        Shape::Holds { .. } | Shape::Counted { .. } if !may_open => Step::Deep,
-        Shape::Holds { container, count } => Step::Opens {
-            items: items(container, count),
-            size: 1,
-        },
-        Shape::Counted { container, width } => {
-            let items = items(container, number_at(bytes, start, width));
-            if left < width {
-                Step::Lacks(1 + width + items as usize)
-            } else {
-                Step::Opens {
-                    items,
-                    size: 1 + width,
-                }
-            }
-        }
-        Shape::Never => Step::Wrong,
-    }
-}
-
-// A scalar of `size` bytes, of which the first and `left` more are there.
-#[inline(always)]
-fn scalar(size: usize, left: usize) -> Step
-    requires { left < 2 ^ 63 }
-    ensures { result ≡ if nat_lt (left + 1) size then Step.Lacks size else Step.Whole size }
-{
-    if left + 1 < size {
-        Step::Lacks(size)
-    } else {
-        Step::Whole(size)
-    }
-}
-
-// How many items so many entries are.
-#[inline(always)]
-fn items(container: Container, count: u32) -> u64
-    ensures { result ≡ items_in container count }
-{
-    match container {
-        Container::Array => u64::from(count),
-        Container::Map => 2 * u64::from(count),
-    }
+    Went::Ended(at)
 }

@@ -1,9 +1,0 @@
-use Rattle.std.proofs.Common.{◌+◌, ◌-◌, ◌*◌, length}
-use Rattle.msgpack_bytes.proofs.States.{State}
-use Rattle.msgpack_bytes.proofs.scanner.scan.Given as goal
-
-abbrev pub invariant-loop-levels : goal.invariant-loop-levels
-invariant-loop-levels l = State l.bytes l.at l.i l.missing l.levels l.room
-
-abbrev pub decreases-loop-levels : goal.decreases-loop-levels
-decreases-loop-levels l = 2 * (length l.bytes - l.i) + l.levels
