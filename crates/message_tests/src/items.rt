@@ -1,6 +1,7 @@
 // What no clause says: vectors from outside, printed text, and that the calls succeed.
 use msgpack_bytes::{
-    Head, MsgFault, Scan, head, put_array, put_bin, put_bool, put_map, put_str, put_uint, scan,
+    Head, MsgFault, Scan, Scanner, Taken, head, put_array, put_bin, put_bool, put_map, put_str,
+    put_uint, scan,
 };
 use std::test::Fail;
 
