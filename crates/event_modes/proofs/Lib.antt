@@ -16,3 +16,4 @@ pub mod Only
 pub mod Texts
 pub mod Written
 pub mod Again
+pub mod Aheads

@@ -9,6 +9,7 @@ pub mod Rows
 pub mod Reading
 pub mod Places
 pub mod Pairs
+pub mod Ahead
 pub mod Feeding
 pub mod Printed
 pub mod Lasts

@@ -4,9 +4,10 @@ ghost use Rattle.std.specs.Prelude.{◌≡◌, ◌≤◌, [], ◌++◌, length, 
 ghost use Rattle.event_modes.specs.declared.fault.ModeFault.{ModeFault};
 ghost use Rattle.event_modes.specs.Feeding.{Takes};
 
+use crate::ahead::Ahead;
 use crate::fault::{FeedError, ModeFault};
 use crate::message::{Message, Read};
-use crate::reading::read;
+use crate::reading::read_on;
 use std::alloc::{AllocError, Allocator};
 use std::marker::Model;
 
@@ -20,17 +21,19 @@ pub struct Feed<A: Allocator> {
     // Where the unread bytes begin: taking one off moves none of them.
     start: usize,
     fault: Option<ModeFault>,
+    ahead: Ahead,
 }
 
 impl<A: Allocator> Model for Feed<A> {
     ghost use Rattle.std.specs.Prelude.{drop, ◌≤◌, vec_len};
     ghost use Rattle.event_modes.specs.Feeding.{Feeding, IsRemembered};
+    ghost use Rattle.event_modes.specs.Ahead.{IsGiven};
 
     ghost Value = { Feeding };
 
     ghost view = { λ f. record { held = drop f.start f.bytes.items; fault = f.fault } };
 
-    ghost invariant = { λ f. (f.start ≤ vec_len f.bytes) × IsRemembered (drop f.start f.bytes.items) f.fault };
+    ghost invariant = { λ f. (f.start ≤ vec_len f.bytes) × IsRemembered (drop f.start f.bytes.items) f.fault × IsGiven f.ahead (drop f.start f.bytes.items) };
 }
 
 /// What a stream has next.
@@ -55,6 +58,7 @@ impl<A: Allocator + Copy> Feed<A> {
             bytes: Vec::new(alloc),
             start: 0,
             fault: None,
+            ahead: Ahead::new(),
         }
     }
 
@@ -85,13 +89,15 @@ impl<A: Allocator + Copy> Feed<A> {
             return Ok(Next::Bad(fault));
         }
         let (_, unread) = self.bytes.split_at(self.start);
-        match read(*self.bytes.allocator(), unread)? {
+        match read_on(*self.bytes.allocator(), &mut self.ahead, unread)? {
             Read::Message(message, n) => {
                 self.start += n;
+                self.ahead = Ahead::new();
                 Ok(Next::Message(message))
             }
             Read::Heartbeat(n) => {
                 self.start += n;
+                self.ahead = Ahead::new();
                 Ok(Next::Heartbeat)
             }
             Read::Need => Ok(Next::Need),

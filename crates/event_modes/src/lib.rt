@@ -2,6 +2,7 @@
 #![tactic(auto)]
 
 mod acks;
+mod ahead;
 mod chunk_id;
 mod entries;
 mod entry;

@@ -5,17 +5,19 @@ ghost use Rattle.msgpack_bytes.specs.Item.{IsTextItem};
 ghost use Rattle.msgpack_bytes.specs.Kinds.{IsNil};
 ghost use Rattle.event_modes.specs.Message.{IsTag, IsMessage};
 ghost use Rattle.event_modes.specs.Faults.{ItemFault};
+ghost use Rattle.event_modes.specs.Ahead.{IsGiven};
 ghost use Rattle.event_modes.specs.Places.{Finds};
 ghost use Rattle.event_modes.specs.Pairs.{bytes_of};
 ghost use Rattle.event_modes.specs.Reading.{Answer, meaning, answer_of, Answers, AnswersItem};
 
+use crate::ahead::Ahead;
 use crate::entries::entries_of;
 use crate::fault::{FeedError, ModeFault};
 use crate::item::is_nil;
 use crate::message::{Message, Read};
 use crate::option::ack_of;
 use crate::places::places_of;
-use msgpack_bytes::{Scan, scan, text_of};
+use msgpack_bytes::{Scan, text_of};
 use std::alloc::{AllocError, Allocator};
 
 /// The most bytes of a tag.
@@ -28,13 +30,20 @@ pub fn read<A: Allocator + Copy>(alloc: A, bytes: &[u8]) -> Result<Read<A>, Allo
     ensures right { IfOk result (λ found. Answers bytes.now (answer_of found)) }
     ensures only { (other : Answer) → Answers bytes.now other → IfOk result (λ found. other ≡ answer_of found) }
 {
-    read_front(alloc, bytes)
+    read_on(alloc, &mut Ahead::new(), bytes)
 }
 
-fn read_front<A: Allocator + Copy>(alloc: A, bytes: &[u8]) -> Result<Read<A>, AllocError>
-    ensures { IfOk result (λ found. Answers bytes.now (answer_of found)) }
+/// Reads the same of bytes of which some were scanned before. What was scanned is kept, with an `Err` too.
+pub(crate) fn read_on<A: Allocator + Copy>(
+    alloc: A,
+    ahead: &mut Ahead,
+    bytes: &[u8],
+) -> Result<Read<A>, AllocError>
+    requires { IsGiven ahead.old bytes.now }
+    ensures right { IfOk result (λ found. Answers bytes.now (answer_of found)) }
+    ensures given { IsGiven ahead.new bytes.now }
 {
-    match scan(bytes, 0) {
+    match ahead.scan(bytes) {
         Scan::End(end) => read_item(alloc, bytes.split_at(end).0),
         Scan::Need => Ok(Read::Need),
         Scan::Bad(fault) => Ok(Read::Bad(ModeFault::Bytes(fault))),

@@ -1,0 +1,50 @@
+//! How far unread bytes were scanned.
+
+ghost use Rattle.std.specs.Prelude.{ℕ, List, ◌≡◌};
+ghost use Rattle.msgpack_bytes.specs.Answers.{IsScanned};
+ghost use Rattle.event_modes.specs.Ahead.{IsGiven};
+
+use msgpack_bytes::{Scan, Scanner, Taken};
+
+/// A scan of unread bytes, of which more can come: it goes on where it stopped, so each byte is looked at once.
+#[derive(Drop)]
+pub(crate) struct Ahead {
+    scanner: Scanner,
+    // How many of the bytes it was given; no item ends in them.
+    given: usize,
+}
+
+impl Ahead {
+    /// Nothing was scanned yet.
+    pub(crate) fn new() -> Ahead
+        ensures { (unread : List ℕ) → IsGiven result unread }
+    {
+        Ahead {
+            scanner: Scanner::new(),
+            given: 0,
+        }
+    }
+
+    /// Where the item ends that the unread bytes begin with. Where it ends or never can, the next scan begins anew.
+    pub(crate) fn scan(&mut self, unread: &[u8]) -> Scan
+        requires { IsGiven self.old unread.now }
+        ensures right { IsScanned unread.now 0 result }
+        ensures given { IsGiven self.new unread.now }
+    {
+        match self.scanner.take(unread.split_at(self.given).1) {
+            Taken::End(n) => {
+                let end = self.given + n;
+                *self = Ahead::new();
+                Scan::End(end)
+            }
+            Taken::Need => {
+                self.given = unread.len();
+                Scan::Need
+            }
+            Taken::Bad(fault) => {
+                *self = Ahead::new();
+                Scan::Bad(fault)
+            }
+        }
+    }
+}
