@@ -1,5 +1,5 @@
 -- Scanning on in unread bytes.
-use Rattle.std.proofs.Common.{ℕ, ◌≡◌, ◌+◌, ◌-◌, ◌<◌, ◌≤◌, List, [], ◌++◌, length, take, drop, slice_range, nat_lt, true, false, refl, ap, sym, subst, ◌∙◌, arith, append_assoc}
+use Rattle.std.proofs.Common.{ℕ, ◌≡◌, ◌+◌, ◌-◌, ◌≤◌, List, [], ◌++◌, length, take, drop, nat_lt, true, false, refl, ap, sym, subst, ◌∙◌, arith}
 use Rattle.std.proofs.lemmas.List.{take-append-drop, take-append-le, length-take-le, take_all, length-append}
 use Rattle.msgpack_bytes.specs.declared.answers.Scan.TheVariants as scan
 use Rattle.msgpack_bytes.specs.declared.answers.Taken.TheVariants as taken

@@ -194,6 +194,31 @@ fn other_answers(rt: HostRuntime) -> Result<(), Fail> {
     Ok(())
 }
 
+// How many times a feed asks for more where these bytes come one by one, if a message comes then.
+fn asked_for(rt: &HostRuntime, bytes: &[u8]) -> Result<Option<usize>, Fail> {
+    let mut feed = Feed::new(rt.alloc());
+    for (i, byte) in bytes.iter().enumerate() {
+        feed.feed(&[*byte])?;
+        match feed.next()? {
+            Next::Need => {}
+            Next::Message(_) => return Ok(Some(i)),
+            _ => return Ok(None),
+        }
+    }
+    Ok(None)
+}
+
+// A million bytes one by one: each is looked at once.
+#[test]
+fn fed_for_long(rt: HostRuntime) -> Result<(), Fail> {
+    let mut bytes = vec![in rt.alloc();
+        0x93, 0xa1, b'a', 0, 0x81, 0xa1, b'k', 0xdb, 0, 0x0f, 0x42, 0x40,
+    ]?;
+    bytes.resize(1_000_012, b'v')?;
+    assert_eq!(rt; asked_for(&rt, &bytes)?, Some(1_000_011));
+    Ok(())
+}
+
 // Byte by byte a feed wants more until the last byte has come.
 #[test]
 fn fed_slowly(rt: HostRuntime) -> Result<(), Fail> {

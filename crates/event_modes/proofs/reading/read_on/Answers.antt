@@ -1,4 +1,4 @@
-use Rattle.std.proofs.Common.{ℕ, ◌≡◌, ◌-◌, ◌≤◌, ◌∙◌, List, [], ◌∷◌, ◌++◌, length, take, drop, Result, Ok, Err, refl, ap, sym, subst, arith, inr}
+use Rattle.std.proofs.Common.{ℕ, ◌≡◌, ◌-◌, ◌∙◌, List, ◌++◌, length, take, drop, Result, Ok, Err, ap, sym, subst, arith, inr}
 use Rattle.std.specs.Prelude.{IfOk}
 use Rattle.std.proofs.lemmas.List.{take-append-drop, length-take-le}
 use Rattle.msgpack_bytes.specs.declared.answers.Scan.TheVariants as scan

@@ -1,4 +1,3 @@
-use Rattle.std.proofs.Common.{refl}
 use Rattle.event_modes.proofs.Aheads.{scanned_end, scanned_need, scanned_bad, given_all}
 use Rattle.event_modes.proofs.ahead.Ahead.scan.Goals as goal
 
