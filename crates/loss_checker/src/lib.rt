@@ -6,6 +6,3 @@ mod checking;
 pub use checking::check;
 pub use loss_rules::{Answer, Place, Rule};
 pub use plan_lines::{Plan, PlanError, conf_names};
-
-#[cfg(test)]
-mod tests;

@@ -11,6 +11,3 @@ pub use error::PlanError;
 pub use loss_rules::{Label, Reach, RelayLine};
 pub use names::conf_names;
 pub use plan::Plan;
-
-#[cfg(test)]
-mod tests;

@@ -9,6 +9,3 @@ mod sites;
 mod visit;
 
 pub use cycle::first_cycle;
-
-#[cfg(test)]
-mod tests;

@@ -14,6 +14,3 @@ pub use entering::enter;
 pub use net::{Net, Refused};
 pub use node::{Client, Node};
 pub use output::{buffer_number, is_in_memory, keeps, keeps_chunks, server, settings};
-
-#[cfg(test)]
-mod tests;

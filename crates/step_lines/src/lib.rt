@@ -8,6 +8,3 @@ mod step;
 pub use laws::each_line_says_one_thing;
 pub use lines::StepsError;
 pub use step::{ChunkName, Step};
-
-#[cfg(test)]
-mod tests;

@@ -52,6 +52,3 @@ fn without_return(line: &[u8]) -> &[u8]
         _ => line,
     }
 }
-
-#[cfg(test)]
-mod tests;

@@ -1,5 +1,5 @@
-use super::*;
 use std::test::Fail;
+use text_lines::lines;
 
 // One CR before an LF is dropped, a second one and one at the end of the text stay.
 #[test]

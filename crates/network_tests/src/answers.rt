@@ -1,4 +1,4 @@
-use crate::{Plan, check, conf_names};
+use loss_checker::{Plan, check, conf_names};
 use std::alloc::Global;
 use std::test::Fail;
 

@@ -1,5 +1,5 @@
-use super::*;
 use loss_rules::{Place, Reach};
+use relabel_cycles::first_cycle;
 use relay_conf::{MatchRule, Output, Relay, Scope, ScopeNo};
 use relay_net::{Net, Node, enter};
 use std::alloc::Global;

@@ -1,7 +1,9 @@
-use super::*;
 use relay_conf::{
     BufferKind, BufferNo, BufferSettings, FileSettings, FlushMode, ForwardSettings, MatchRule,
     Output, OverflowAction, Relay, RetrySettings, Scope, ScopeNo, Server, Source,
+};
+use relay_net::{
+    Address, Client, Entrance, Net, Node, buffer_number, enter, keeps, server, settings,
 };
 use route_graph::Way;
 use std::alloc::Global;

@@ -1,5 +1,5 @@
-use super::*;
 use std::test::Fail;
+use step_lines::{ChunkName, Step, StepsError};
 
 // Steps as lines: each line's step, in order.
 #[test]

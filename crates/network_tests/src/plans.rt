@@ -1,4 +1,4 @@
-use super::*;
+use plan_lines::{Plan, PlanError, conf_names};
 use relay_conf::{RelayFault, RelayFaultKind};
 use std::alloc::Global;
 use std::test::Fail;
