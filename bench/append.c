@@ -1,6 +1,6 @@
 // Beside bench/buffers: a bare loop of write and fdatasync of the same bytes, a bare read of a file in pieces, and a bare copy:
 // the file read whole into memory, written to another and synced.
-// append write FILE COUNT BYTES | append read FILE | append copy FILE OTHER
+// append write FILE COUNT BYTES [EACH: one fdatasync for so many writes] | append read FILE | append copy FILE OTHER
 #include <fcntl.h>
 #include <stdio.h>
 #include <stdlib.h>
@@ -8,13 +8,14 @@
 #include <unistd.h>
 
 int main(int words, char **word) {
-  if (words == 5 && strcmp(word[1], "write") == 0) {
+  if ((words == 5 || words == 6) && strcmp(word[1], "write") == 0) {
     int file = open(word[2], O_WRONLY | O_CREAT | O_APPEND, 0644);
     size_t count = strtoul(word[3], 0, 10), bytes = strtoul(word[4], 0, 10);
+    size_t each = words == 6 ? strtoul(word[5], 0, 10) : 1;
     char *record = calloc(1, bytes);
-    if (file < 0 || !record) return 1;
+    if (file < 0 || !record || !each) return 1;
     for (size_t i = 0; i < count; i++)
-      if (write(file, record, bytes) != (ssize_t)bytes || fdatasync(file)) return 1;
+      if (write(file, record, bytes) != (ssize_t)bytes || (i % each == each - 1 && fdatasync(file))) return 1;
     return 0;
   }
   if (words == 3 && strcmp(word[1], "read") == 0) {

@@ -1,2 +1,2 @@
-pub mod Acknowledged
 pub mod Held
+pub mod Redeem

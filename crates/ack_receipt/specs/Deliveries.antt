@@ -1,5 +1,5 @@
 -- A message on its way to the buffers that have to store it.
-use Rattle.std.specs.Prelude.{ℕ, ◌≡◌, List, All, Any, Contains}
+use Rattle.std.specs.Prelude.{ℕ, ◌≡◌, List, All, Any, Contains, Option, None, Some}
 use Rattle.event_modes.specs.Message.{Parts}
 use Rattle.book_audit.specs.declared.line.Leaf.{Leaf}
 use Rattle.book_audit.specs.declared.line.Part.{Part}
@@ -11,10 +11,19 @@ pub record Appended : Type 0 where
   pub serial : ℕ
   pub line : ℕ
 
--- a delivery that is neither acknowledged nor abandoned
+-- an append that waits for its sync: of which delivery, in which buffer, in which chunk, of how many entries, and its place among the buffer's appends
+pub record Pended : Type 0 where
+  pub delivery : ℕ
+  pub leaf : Leaf
+  pub serial : ℕ
+  pub count : ℕ
+  pub place : ℕ
+
+-- a delivery that is neither acknowledged nor abandoned; the tag is that which its entries are appended under
 pub record OpenDelivery : Type 0 where
   pub number : ℕ
   pub message : Parts
+  pub tag : List ℕ
   pub leaves : List Leaf
   pub receipts : List Appended
 
@@ -42,3 +51,8 @@ HasEachReceipt d = All (IsReceived d.number d.receipts) d.leaves
 -- what a receipt leaves behind
 abbrev pub part_of : Appended → Part
 part_of a = record { relay = a.leaf.relay; buffer = a.leaf.buffer; serial = a.serial; line = a.line }
+
+-- the tag that a message's entries are appended under: this one, or its own
+abbrev pub tag_or : Parts → Option (List ℕ) → List ℕ
+tag_or message None = message.tag
+tag_or message (Some tag) = tag

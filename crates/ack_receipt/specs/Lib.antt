@@ -2,3 +2,5 @@ pub mod Deliveries
 pub mod Reservations
 pub mod Drawing
 pub mod Holding
+pub mod Terms
+pub mod Redeeming

@@ -20,14 +20,15 @@ abbrev pub answer_to : Option (List ℕ) → List ℕ
 answer_to None = []
 answer_to (Some item) = acknowledgement_of item
 
--- an answer, and the buffers that store what it acknowledges
+-- an answer, the tag under which what it acknowledges is stored, and the buffers that store it
 pub record Answer : Type 0 where
   pub bytes : List ℕ
+  pub tag : List ℕ
   pub leaves : List Leaf
 
 -- the answer to a delivery
 abbrev pub answer_of : OpenDelivery → Answer
-answer_of d = record { bytes = answer_to d.message.ack; leaves = d.leaves }
+answer_of d = record { bytes = answer_to d.message.ack; tag = d.tag; leaves = d.leaves }
 
 -- what the room is for, and the answer once it is there
 pub record Reservation : Type 0 where

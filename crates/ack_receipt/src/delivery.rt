@@ -1,15 +1,15 @@
 //! A message on its way to the buffers that have to store it.
 
-ghost use Rattle.std.specs.Prelude.{◌≡◌, ◌≤◌, ◌+◌, ◌++◌, ◌↔◌, [], ◌∷◌, Some, None, map, Contains, IsTrue, IsOk, IfOk, IfErr, OnOk, OnErr, All, vec_len, vec_capacity};
+ghost use Rattle.std.specs.Prelude.{◌≡◌, ◌≤◌, ◌+◌, ◌++◌, ◌↔◌, [], ◌∷◌, Some, None, map, option_map, Contains, IsTrue, IsOk, IfOk, IfErr, OnOk, OnErr, All, vec_len, vec_capacity};
 ghost use Rattle.event_modes.specs.Reading.{meaning};
-ghost use Rattle.ack_receipt.specs.Deliveries.{HasEachReceipt, IsAdded, IsFor, IsReceived, part_of};
+ghost use Rattle.ack_receipt.specs.Deliveries.{HasEachReceipt, IsAdded, IsFor, IsReceived, part_of, tag_or};
 ghost use Rattle.ack_receipt.specs.Reservations.{asked_of, answer_of};
 
 use crate::number::DeliveryNo;
 use crate::receipt::Receipt;
 use crate::reserved::Reserved;
 use book_audit::{AckFault, Leaf, Part, Stub};
-use event_modes::Message;
+use event_modes::{Entries, Message};
 use std::alloc::{AllocError, AllocFailed, Allocator};
 use std::marker::Model;
 
@@ -18,6 +18,8 @@ use std::marker::Model;
 pub struct Delivery<A: Allocator> {
     number: DeliveryNo,
     message: Message<A>,
+    // None is the message's own.
+    tag: Option<Vec<u8, A>>,
     leaves: Vec<Leaf, A>,
     receipts: Vec<Receipt<A>, A>,
     // Empty, with room for each receipt's part.
@@ -25,14 +27,14 @@ pub struct Delivery<A: Allocator> {
 }
 
 impl<A: Allocator> Model for Delivery<A> {
-    ghost use Rattle.std.specs.Prelude.{◌≡◌, ◌≤◌, [], vec_len, vec_capacity};
+    ghost use Rattle.std.specs.Prelude.{◌≡◌, ◌≤◌, [], vec_len, vec_capacity, option_map};
     ghost use Rattle.event_modes.specs.Reading.{meaning};
-    ghost use Rattle.ack_receipt.specs.Deliveries.{OpenDelivery};
+    ghost use Rattle.ack_receipt.specs.Deliveries.{OpenDelivery, tag_or};
     ghost use Rattle.ack_receipt.specs.Holding.{IsHeld};
 
     ghost Value = { OpenDelivery };
 
-    ghost view = { λ d. record { number = d.number; message = meaning d.message; leaves = d.leaves.items; receipts = d.receipts.items } };
+    ghost view = { λ d. record { number = d.number; message = meaning d.message; tag = tag_or (meaning d.message) (option_map (λ tag. tag.items) d.tag); leaves = d.leaves.items; receipts = d.receipts.items } };
 
     // The receipts are of this delivery, each of another leaf, so that each leaf's receipt and part have room.
     ghost invariant = { λ d. ∥ IsHeld d.number d.leaves.items d.receipts.items ∥₁ × (vec_len d.receipts ≤ vec_len d.leaves) × (vec_len d.leaves ≤ vec_capacity d.receipts)
@@ -48,7 +50,7 @@ pub struct Unbegun<A: Allocator> {
 }
 
 impl<A: Allocator + Copy> Delivery<A> {
-    /// Opens the delivery of a message to these leaves, with room for a receipt and a part of each.
+    /// Opens the delivery of a message to these leaves, with room for a receipt and a part of each. Its entries are appended under the message's tag.
     ///
     /// The error is want of memory, and hands everything back.
     pub fn begin(
@@ -57,10 +59,26 @@ impl<A: Allocator + Copy> Delivery<A> {
         message: Message<A>,
         leaves: Vec<Leaf, A>,
     ) -> Result<Delivery<A>, AllocFailed<Unbegun<A>>>
-        ensures opens { IfOk result (λ d. d ≡ record { number = number; message = meaning message; leaves = leaves.items; receipts = [] }) }
+        ensures opens { IfOk result (λ d. d ≡ record { number = number; message = meaning message; tag = (meaning message).tag; leaves = leaves.items; receipts = [] }) }
         ensures back { IfErr result (λ failed. failed.value ≡ record { number = number; message = message; leaves = leaves }) }
     {
-        let Ok((receipts, parts)) = room_for(alloc, leaves.len()) else {
+        begin_under(alloc, number, message, None, leaves)
+    }
+
+    /// The same, with entries that are appended under this tag in place of the message's own. The message stays the one that is answered.
+    ///
+    /// The error is want of memory, and hands everything but the tag back.
+    pub fn begin_as(
+        alloc: A,
+        number: DeliveryNo,
+        message: Message<A>,
+        tag: &[u8],
+        leaves: Vec<Leaf, A>,
+    ) -> Result<Delivery<A>, AllocFailed<Unbegun<A>>>
+        ensures opens { IfOk result (λ d. d ≡ record { number = number; message = meaning message; tag = tag.now; leaves = leaves.items; receipts = [] }) }
+        ensures back { IfErr result (λ failed. failed.value ≡ record { number = number; message = message; leaves = leaves }) }
+    {
+        let Ok(tag) = Vec::from_slice(alloc, tag) else {
             let value = Unbegun {
                 number,
                 message,
@@ -68,14 +86,37 @@ impl<A: Allocator + Copy> Delivery<A> {
             };
             return Err(AllocFailed { value });
         };
-        Ok(Delivery {
+        begin_under(alloc, number, message, Some(tag), leaves)
+    }
+}
+
+// Opens a delivery whose entries are appended under this tag, or the message's own.
+fn begin_under<A: Allocator + Copy>(
+    alloc: A,
+    number: DeliveryNo,
+    message: Message<A>,
+    tag: Option<Vec<u8, A>>,
+    leaves: Vec<Leaf, A>,
+) -> Result<Delivery<A>, AllocFailed<Unbegun<A>>>
+    ensures opens { IfOk result (λ d. d ≡ record { number = number; message = meaning message; tag = tag_or (meaning message) (option_map (λ tag. tag.items) tag); leaves = leaves.items; receipts = [] }) }
+    ensures back { IfErr result (λ failed. failed.value ≡ record { number = number; message = message; leaves = leaves }) }
+{
+    let Ok((receipts, parts)) = room_for(alloc, leaves.len()) else {
+        let value = Unbegun {
             number,
             message,
             leaves,
-            receipts,
-            parts,
-        })
-    }
+        };
+        return Err(AllocFailed { value });
+    };
+    Ok(Delivery {
+        number,
+        message,
+        tag,
+        leaves,
+        receipts,
+        parts,
+    })
 }
 
 impl<A: Allocator> Delivery<A> {
@@ -121,8 +162,8 @@ impl<A: Allocator> Delivery<A> {
         if !self.has_each_receipt() {
             return Err((AckFault::Missing, self));
         }
-        let (stub, leaves) = self.end();
-        reserved.fill(leaves);
+        let (stub, tag, leaves) = self.end();
+        reserved.fill(tag, leaves);
         Ok(stub)
     }
 
@@ -131,7 +172,7 @@ impl<A: Allocator> Delivery<A> {
         ensures number { result.delivery ≡ self.number }
         ensures parts { result.parts ≡ map part_of self.receipts }
     {
-        let (stub, _) = self.end();
+        let (stub, _, _) = self.end();
         stub
     }
 
@@ -148,24 +189,59 @@ impl<A: Allocator> Delivery<A> {
         have_receipts(&self.leaves, self.number.get(), &self.receipts)
     }
 
-    // What is left, and the leaves.
-    fn end(self) -> (Stub<A>, Vec<Leaf, A>)
+    /// The number of the delivery.
+    pub fn number(&self) -> u64
+        ensures { result ≡ self.now.number }
+    {
+        self.number.get()
+    }
+
+    /// The content of the tag that its entries are appended under.
+    pub fn tag(&self) -> &[u8]
+        ensures { result.now ≡ self.now.tag }
+    {
+        match &self.tag {
+            Some(tag) => tag,
+            None => &self.message.tag,
+        }
+    }
+
+    /// The message's entries.
+    pub fn entries(&self) -> &Entries<A>
+        ensures { result.now ≡ self.now.message.entries }
+    {
+        &self.message.entries
+    }
+
+    // What is left, the tag, and the leaves.
+    fn end(self) -> (Stub<A>, Vec<u8, A>, Vec<Leaf, A>)
         ensures number { result.0.delivery ≡ self.number }
         ensures parts { result.0.parts ≡ map part_of self.receipts }
-        ensures leaves { result.1.items ≡ self.leaves }
+        ensures tag { result.1.items ≡ self.tag }
+        ensures leaves { result.2.items ≡ self.leaves }
     {
         let Delivery {
             number,
-            message: _,
+            message,
+            tag,
             leaves,
             receipts,
             parts,
         } = self;
+        let Message {
+            tag: own,
+            entries: _,
+            ack: _,
+        } = message;
+        let tag = match tag {
+            Some(tag) => tag,
+            None => own,
+        };
         let stub = Stub {
             delivery: number.get(),
             parts: spend(receipts, parts),
         };
-        (stub, leaves)
+        (stub, tag, leaves)
     }
 }
 

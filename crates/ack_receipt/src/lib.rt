@@ -3,17 +3,19 @@
 #![tactic(auto)]
 
 mod delivery;
-mod evidence;
+mod fault;
 mod number;
+mod pending;
 mod receipt;
 mod reserved;
+mod shared;
 
-pub use book_audit::{AckFault, Leaf, Part, Stub};
+pub use book_audit::{AckFault, AuditError, Leaf, Part, Stub};
+pub use buffer_book::{Basis, Claim, Closed, Evidence, PurgeFault, Takes};
 pub use delivery::{Delivery, Unbegun};
-pub use evidence::{Evidence, Shown};
+pub use fault::RedeemFault;
 pub use number::{DeliveryNo, Numbers};
+pub use pending::Pending;
 pub use receipt::Receipt;
 pub use reserved::Reserved;
-
-#[cfg(test)]
-mod tests;
+pub use shared::SharedBuffer;

@@ -13,7 +13,7 @@ use std::marker::Model;
 const HEAD_LEN: usize = 5;
 
 /// Room for the answer to one message. Contracts see what it is for (the message's tag, how many entries it has,
-/// and the item that is to be repeated) and, once it is filled, the answer's bytes and the leaves that store the message.
+/// and the item that is to be repeated) and, once it is filled, the answer's bytes, the tag under which the message is stored, and the leaves that store it.
 #[derive(Drop)]
 pub struct Reserved<A: Allocator> {
     tag: Vec<u8, A>,
@@ -21,7 +21,14 @@ pub struct Reserved<A: Allocator> {
     ack: Option<Vec<u8, A>>,
     answer: Vec<u8, A>,
     // None while the room is empty.
-    leaves: Option<Vec<Leaf, A>>,
+    stored: Option<StoredAs<A>>,
+}
+
+/// Under which tag and in which buffers a message is stored.
+#[derive(Drop)]
+struct StoredAs<A: Allocator> {
+    tag: Vec<u8, A>,
+    leaves: Vec<Leaf, A>,
 }
 
 impl<A: Allocator> Model for Reserved<A> {
@@ -32,11 +39,11 @@ impl<A: Allocator> Model for Reserved<A> {
 
     ghost view = { λ r. record {
       asked = record { tag = r.tag.items; count = r.count; ack = option_map (λ item. item.items) r.ack };
-      filled = option_map (λ leaves. record { bytes = r.answer.items; leaves = leaves.items }) r.leaves;
+      filled = option_map (λ stored. record { bytes = r.answer.items; tag = stored.tag.items; leaves = stored.leaves.items }) r.stored;
     } };
 
     // While it is empty, there is room for the whole answer.
-    ghost invariant = { λ r. r.leaves ≡ None → (r.answer.items ≡ [])
+    ghost invariant = { λ r. r.stored ≡ None → (r.answer.items ≡ [])
         × (length (answer_to (option_map (λ item. item.items) r.ack)) ≤ vec_capacity r.answer) };
 }
 
@@ -56,7 +63,7 @@ impl<A: Allocator + Copy> Reserved<A> {
             count: message.entries.count(),
             ack,
             answer,
-            leaves: None,
+            stored: None,
         })
     }
 }
@@ -67,7 +74,7 @@ impl<A: Allocator> Reserved<A> {
         ensures { MatchOption result (self.now.filled ≡ None)
             (λ bytes. option_map (λ answer. answer.bytes) self.now.filled ≡ Some bytes.now) }
     {
-        match &self.leaves {
+        match &self.stored {
             Some(_) => Some(&self.answer),
             None => None,
         }
@@ -78,22 +85,33 @@ impl<A: Allocator> Reserved<A> {
         ensures { MatchOption result (self.now.filled ≡ None)
             (λ leaves. option_map (λ answer. answer.leaves) self.now.filled ≡ Some leaves.now) }
     {
-        match &self.leaves {
-            Some(leaves) => Some(leaves),
+        match &self.stored {
+            Some(stored) => Some(&stored.leaves),
             None => None,
         }
     }
 
-    /// Writes the answer to a message that these buffers store.
-    pub(crate) fn fill(&mut self, leaves: Vec<Leaf, A>)
+    /// The tag under which the message is stored; `None` while the room is empty.
+    pub fn tag(&self) -> Option<&[u8]>
+        ensures { MatchOption result (self.now.filled ≡ None)
+            (λ tag. option_map (λ answer. answer.tag) self.now.filled ≡ Some tag.now) }
+    {
+        match &self.stored {
+            Some(stored) => Some(&stored.tag),
+            None => None,
+        }
+    }
+
+    /// Writes the answer to a message that these buffers store under this tag.
+    pub(crate) fn fill(&mut self, tag: Vec<u8, A>, leaves: Vec<Leaf, A>)
         requires { self.old.filled ≡ None }
-        ensures { self.new ≡ record self.old { filled = Some (record { bytes = answer_to self.old.asked.ack; leaves = leaves.items }) } }
+        ensures { self.new ≡ record self.old { filled = Some (record { bytes = answer_to self.old.asked.ack; tag = tag.items; leaves = leaves.items }) } }
     {
         if let Some(item) = &self.ack {
             // There is room.
             let _ = put_ack(&mut self.answer, item);
         }
-        self.leaves = Some(leaves);
+        self.stored = Some(StoredAs { tag, leaves });
     }
 }
 

@@ -1,3 +1,3 @@
 pub mod Passing
 pub mod Named
-pub mod Marks
+pub mod Again

@@ -1,4 +1,4 @@
 pub mod Stubs
 pub mod Audits
-pub mod Marking
 pub mod Printed
+pub mod Naming

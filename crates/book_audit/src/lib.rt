@@ -4,10 +4,12 @@
 mod auditing;
 mod fault;
 mod line;
+mod pages;
 
 pub use auditing::audit;
 pub use fault::{AckFault, AuditError};
 pub use line::{Leaf, Line, Part, Stub};
+pub use pages::OpenLines;
 
 #[cfg(test)]
 mod tests;

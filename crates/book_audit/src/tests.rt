@@ -50,7 +50,11 @@ fn audited(alloc: Global, named: &[(u64, u64)]) -> Result<String<Global>, Fail> 
     for (delivery, line) in named {
         stubs.push(stub_of(alloc, *delivery, *line)?)?;
     }
-    match audit(alloc, LEAF, &LINES, &stubs) {
+    let mut book = OpenLines::new(alloc);
+    book.reserve(2)?;
+    book.write_reserved(LINES[0]);
+    book.write_reserved(LINES[1]);
+    match audit(alloc, LEAF, &book, &stubs) {
         Ok(()) => Ok(String::new(alloc)),
         Err(AuditError::Fault(fault)) => Ok(format!(in alloc; "{fault}")?),
         Err(AuditError::Memory) => Err("no memory")?,

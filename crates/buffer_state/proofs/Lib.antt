@@ -4,3 +4,4 @@ pub mod Tables
 pub mod Slots
 pub mod Steps
 pub mod Rooms
+pub mod Alike

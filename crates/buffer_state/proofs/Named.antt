@@ -1,5 +1,5 @@
--- Lists that are kept by tags.
-use Rattle.std.proofs.Common.{◌≡◌, ◌≢◌, ℕ, Bool, true, false, cond, List, [], ◌∷◌, ◌++◌, Option, Some, None, refl, sym, ap, ◌∙◌, IsSome}
+-- Sets that are kept by tags.
+use Rattle.std.proofs.Common.{◌≡◌, ℕ, Bool, true, false, cond, List, [], ◌∷◌, ◌++◌, Some, None, refl, sym, ap, ◌∙◌}
 use Rattle.std.specs.Prelude.{Vec}
 use Rattle.std.specs.Option.{option_map_or}
 use Rattle.std.specs.Str.{bytes_eq}
@@ -8,9 +8,9 @@ use Rattle.std.specs.declared.cmp.Ordering.{Ordering}
 use Rattle.std.specs.declared.cmp.Ordering.TheVariants.{Less, Equal, Greater}
 use Rattle.std.specs.Cmp.Lexicographic.{slice_cmp}
 use Rattle.std.specs.BTreeMap.{is_at, insert_entry}
+use Rattle.std.specs.BTreeSet.{BTreeSet}
 use Rattle.std.specs.Map.{lookup, set_value, remove_entry}
 use Rattle.std.proofs.lemmas.Map.Text.{is_eq-slice_cmp}
-use Rattle.std.proofs.lemmas.Option.{same_Some}
 use Rattle.std.proofs.lemmas.Bool.{true≢false}
 use Rattle.std.proofs.lemmas.Slice.Eq.{bytes_eq-Decides}
 
@@ -86,51 +86,51 @@ module _ {A X : Type 0} where
       by Greater at true is d same none rest = rw (is, sym same ∙ off_tag other key.items e.0 (ap is_eq at) is) refl
       by Greater at false is d same none rest = rw is (rest none ∙ rw same refl)
 
--- what lists have at a tag
-abbrev pub serials : {A : Type 0} → List (Vec ℕ A × Vec ℕ A) → List ℕ → List ℕ
-serials es tag = option_map_or (λ v. v.items) (lookup (named tag) es) []
+-- what sets have at a tag
+abbrev pub serials : {A : Type 0} → List (Vec ℕ A × BTreeSet ℕ) → List ℕ → List ℕ
+serials es tag = option_map_or (λ v. v.keys) (lookup (named tag) es) []
 
 module _ {A : Type 0} where
-  pub set_serials : (es es' : List (Vec ℕ A × Vec ℕ A)) (tag other : List ℕ) (v w : Vec ℕ A) (how : List ℕ → List ℕ)
-      → lookup (named tag) es ≡ Some v → es' ≡ set_value (named tag) es w → w.items ≡ how v.items
+  pub set_serials : (es es' : List (Vec ℕ A × BTreeSet ℕ)) (tag other : List ℕ) (v w : BTreeSet ℕ) (how : List ℕ → List ℕ)
+      → lookup (named tag) es ≡ Some v → es' ≡ set_value (named tag) es w → w.keys ≡ how v.keys
       → serials es' other ≡ cond (bytes_eq other tag) (how (serials es other)) (serials es other)
   set_serials es es' tag other v w how found new items =
       rw (new, named_set es tag other v w found) (by (bytes_eq other tag) refl)
     where
       by : (d : Bool) → bytes_eq other tag ≡ d
-          → option_map_or (λ v. v.items) (cond d (Some w) (lookup (named other) es)) [] ≡ cond d (how (serials es other)) (serials es other)
+          → option_map_or (λ v. v.keys) (cond d (Some w) (lookup (named other) es)) [] ≡ cond d (how (serials es other)) (serials es other)
       by true same = rw (same_tag other tag same, found) items
       by false same = refl
 
-  pub gone_serials : (es es' : List (Vec ℕ A × Vec ℕ A)) (tag other : List ℕ) → es' ≡ remove_entry (named tag) es → lookup (named tag) es' ≡ None → serials es tag ≡ []
+  pub gone_serials : (es es' : List (Vec ℕ A × BTreeSet ℕ)) (tag other : List ℕ) → es' ≡ remove_entry (named tag) es → lookup (named tag) es' ≡ None → serials es tag ≡ []
       → serials es' other ≡ serials es other
   gone_serials es es' tag other new none empty = by (bytes_eq other tag) refl
     where
       by : (d : Bool) → bytes_eq other tag ≡ d → serials es' other ≡ serials es other
       by true same = rw (same_tag other tag same, none) (sym empty)
-      by false same = rw new (ap (λ o. option_map_or (λ v. v.items) o []) (named_removed es tag other same))
+      by false same = rw new (ap (λ o. option_map_or (λ v. v.keys) o []) (named_removed es tag other same))
 
-  pub inserted_serials : (es es' : List (Vec ℕ A × Vec ℕ A)) (key : Vec ℕ A) (tag other : List ℕ) (v : Vec ℕ A) (serial : ℕ) → key.items ≡ tag → lookup (named tag) es ≡ None
-      → es' ≡ insert_entry (λ x y. slice_cmp nat_cmp x.items y.items) es key v → v.items ≡ serial ∷ []
+  pub inserted_serials : (es es' : List (Vec ℕ A × BTreeSet ℕ)) (key : Vec ℕ A) (tag other : List ℕ) (v : BTreeSet ℕ) (serial : ℕ) → key.items ≡ tag → lookup (named tag) es ≡ None
+      → es' ≡ insert_entry (λ x y. slice_cmp nat_cmp x.items y.items) es key v → v.keys ≡ serial ∷ []
       → serials es' other ≡ cond (bytes_eq other tag) (serials es other ++ serial ∷ []) (serials es other)
   inserted_serials es es' key tag other v serial is none new items =
       rw (new, named_inserted es key other v (rw is none), is) (by (bytes_eq other tag) refl)
     where
       by : (d : Bool) → bytes_eq other tag ≡ d
-          → option_map_or (λ v. v.items) (cond d (Some v) (lookup (named other) es)) [] ≡ cond d (serials es other ++ serial ∷ []) (serials es other)
+          → option_map_or (λ v. v.keys) (cond d (Some v) (lookup (named other) es)) [] ≡ cond d (serials es other ++ serial ∷ []) (serials es other)
       by true same = rw (same_tag other tag same, none) items
       by false same = refl
 
-  pub same_serials : (es es' : List (Vec ℕ A × Vec ℕ A)) (tag other : List ℕ) (v w : Vec ℕ A)
-      → lookup (named tag) es ≡ Some v → es' ≡ set_value (named tag) es w → w.items ≡ v.items → serials es' other ≡ serials es other
+  pub same_serials : (es es' : List (Vec ℕ A × BTreeSet ℕ)) (tag other : List ℕ) (v w : BTreeSet ℕ)
+      → lookup (named tag) es ≡ Some v → es' ≡ set_value (named tag) es w → w.keys ≡ v.keys → serials es' other ≡ serials es other
   same_serials es es' tag other v w found new items = set_serials es es' tag other v w (λ xs. xs) found new items ∙ by (bytes_eq other tag)
     where
       by : (d : Bool) → cond d (serials es other) (serials es other) ≡ serials es other
       by true = refl
       by false = refl
 
-  pub set_empty : (es es' : List (Vec ℕ A × Vec ℕ A)) (tag : List ℕ) (v w : Vec ℕ A)
-      → lookup (named tag) es ≡ Some v → es' ≡ set_value (named tag) es w → w.items ≡ [] → serials es' tag ≡ []
+  pub set_empty : (es es' : List (Vec ℕ A × BTreeSet ℕ)) (tag : List ℕ) (v w : BTreeSet ℕ)
+      → lookup (named tag) es ≡ Some v → es' ≡ set_value (named tag) es w → w.keys ≡ [] → serials es' tag ≡ []
   set_empty es es' tag v w found new items = set_serials es es' tag tag v w (λ xs. []) found new items ∙ by (bytes_eq tag tag) (itself tag)
     where
       by : (d : Bool) → d ≡ true → cond d [] (serials es tag) ≡ []

@@ -1,30 +1,27 @@
 -- Room that was made for a step on a staged chunk, and the newest chunk taken back.
-use Rattle.std.proofs.Common.{◌≡◌, ℕ, ◌<◌, ◌≤◌, ◌+◌, Bool, true, false, cond, List, [], ◌∷◌, ◌++◌, length, Option, Some, None, refl, sym, ap, subst, ◌∙◌, arith}
-use Rattle.std.specs.Prelude.{filter, IfSome, IsSomeAnd, nat_lt, nat_eq}
-use Rattle.std.specs.Option.{option_map_or}
+use Rattle.std.proofs.Common.{◌≡◌, ℕ, ◌<◌, ◌+◌, Bool, true, false, cond, List, [], ◌∷◌, ◌++◌, Option, Some, None, refl, sym, ap, subst, ◌∙◌, arith}
+use Rattle.std.specs.Prelude.{filter, IsSomeAnd, nat_lt}
 use Rattle.std.specs.Ordering.{nat_cmp}
 use Rattle.std.specs.declared.cmp.Ordering.TheVariants.{Less, Equal, Greater}
-use Rattle.std.specs.declared.cmp.Ordering.{Ordering}
 use Rattle.std.specs.Cmp.{nat_cmp_is}
 use Rattle.std.specs.BTreeMap.{is_at}
 use Rattle.std.specs.BTreeSet.{BTreeSet, contains}
 use Rattle.std.specs.List.{AllByRecursion}
 use Rattle.std.specs.List.Sorted.{IsStrictlySortedBy}
-use Rattle.std.specs.Map.{lookup, set_value, remove_entry, keys_of}
+use Rattle.std.specs.Map.{remove_entry, keys_of}
 use Rattle.std.specs.declared.collections.VecDeque.{VecDeque}
-use Rattle.std.specs.VecDeque.{deque_len, deque_capacity}
 use Rattle.std.proofs.lemmas.Bool.{true≢false, ltb-true, ltb-false}
 use Rattle.std.proofs.lemmas.List.{map-append}
 use Rattle.buffer_state.specs.declared.chunk.Stage.{Stage}
-use Rattle.buffer_state.specs.declared.chunk.Stage.TheVariants.{Staged, Queued, Claimed}
-use Rattle.buffer_state.specs.State.{State, Chunk, chunk_at, is_queued, is_staged}
+use Rattle.buffer_state.specs.declared.chunk.Stage.TheVariants.{Staged, Queued}
+use Rattle.buffer_state.specs.State.{State, Chunk, chunk_at, is_queued}
 use Rattle.std.proofs.lemmas.Option.{same_Some}
 use Rattle.buffer_state.specs.Steps.{first_of, with_chunk, added, appended, taken_back}
-use Rattle.buffer_state.specs.Slots.{Slot, Slots, slot_at, changed_at, chunks_in, joined, AreBelow}
-use Rattle.buffer_state.specs.Views.{passes_at, is_waiting, is_claimed, claims, state_of, IsFree, IsTogether, IsSound, IsReady}
+use Rattle.buffer_state.specs.Slots.{Slot, Slots, slot_at, chunks_in, AreBelow}
+use Rattle.buffer_state.specs.Views.{passes_at, is_waiting, state_of, IsFree, IsSound, IsReady}
 use Rattle.buffer_state.proofs.Serials.{at_same, at_itself, if_some, filter_same, kept, removed_last}
 use Rattle.buffer_state.proofs.Slots.{removed_chunks, passes_itself, passes_removed, if_removed, all_map}
-use Rattle.buffer_state.proofs.Steps.{claims_removed, below_at, rising_removed, found_in, rising_kept, changed_is, parts, sound_room, sound_same, sound_waiting}
+use Rattle.buffer_state.proofs.Steps.{claims_removed, rising_removed, found_in, rising_kept, parts}
 
 less : (x y : ℕ) → nat_cmp x y ≡ Less → x < y
 less x y e = by (nat_lt x y) refl (nat_lt y x) refl
@@ -50,7 +47,6 @@ sound_waits slots waiting new order next sound waits listed = record {
   room = sound.room;
   waits = waits;
   listed = listed;
-  together = sound.together;
 }
 
 -- the serials that wait, as the chunks have them
@@ -67,7 +63,6 @@ module _ {A : Type 0} (slots : Slots) (waiting : BTreeSet ℕ) (order : VecDeque
     room = (let r = ready.room in omega (arith, r));
     waits = λ q. found_in (λ (slot : Slot). is_waiting slot.chunk.stage) slots q ready.rising;
     listed = rising_kept (λ (slot : Slot). is_waiting slot.chunk.stage) slots ready.rising;
-    together = ready.together;
   }
 
   pub waits_with : (q : ℕ) → contains nat_cmp waiting q ≡ cond (is_at (nat_cmp s) q) true (contains nat_cmp (waiting_in slots) q)
@@ -124,7 +119,6 @@ module _ {A : Type 0} (slots : Slots) (waiting : BTreeSet ℕ) (order : VecDeque
     room = (let h = claims_removed slots s in let r = sound.room in omega (arith, h, r));
     waits = λ q. sound.waits q ∙ sym (passes_removed is_waiting slots s q sound.rising ∙ unpassed is_waiting (ap is_waiting staged) q);
     listed = sound.listed;
-    together = λ q. if_removed IsTogether slots s q sound.rising (sound.together q);
   }
     where
       earlier : (q : ℕ) → IsFree slots next q → (b : Bool) → nat_lt q s ≡ b → q < s

@@ -1,11 +1,15 @@
 -- Entries by rising serial, and what passes a test among them.
-use Rattle.std.proofs.Common.{◌≡◌, ℕ, ◌<◌, ◌≤◌, ◌==◌, ◌-◌, length, slice_get, arith, not, Bool, true, false, cond, List, [], ◌∷◌, ◌++◌, Option, Some, None, option_map, refl, sym, ap, subst, ◌∙◌, IsSome}
-use Rattle.std.specs.Prelude.{filter, map, Result, Ok, Err, OnErr, OnOk, is_err, IfSome, IsSomeAnd}
+use Rattle.std.proofs.Common.{◌≡◌, ℕ, ◌<◌, ◌==◌, ◌-◌, length, slice_get, arith, Bool, true, false, cond, List, [], ◌∷◌, ◌++◌, Option, Some, None, option_map, refl, sym, ap, subst, ◌∙◌, IsSome}
+use Rattle.std.specs.Prelude.{filter, Result, Ok, Err, OnErr, OnOk, is_err, IfSome, IsSomeAnd}
+use Rattle.std.specs.Borrow.{Bor}
+use Rattle.std.specs.Option.{option_copied}
 use Rattle.std.specs.Ordering.{nat_cmp, is_eq}
 use Rattle.std.specs.declared.cmp.Ordering.{Ordering}
 use Rattle.std.specs.declared.cmp.Ordering.TheVariants.{Less, Equal, Greater}
 use Rattle.std.specs.Cmp.{nat_cmp_is}
 use Rattle.std.specs.BTreeMap.{is_at, insert_entry}
+use Rattle.std.specs.BTreeSet.{insert_key}
+use Rattle.std.specs.Set.{remove_key}
 use Rattle.std.specs.List.{AllByRecursion, last_or}
 use Rattle.std.specs.List.Sorted.{IsStrictlySortedBy}
 use Rattle.std.specs.Map.{lookup, set_value, remove_entry, keys_of}
@@ -183,6 +187,25 @@ module _ {X : Type 0} where
         by false at false off rest = rw off rest
         by false at true on rest = rw (on, apart s e.0 at) (ap (λ r. e.0 ∷ r) rest)
 
+-- a key above all others comes to the end
+pub key_last : (xs : List ℕ) (s : ℕ) → AreBelow s xs → insert_key nat_cmp xs s ≡ xs ++ s ∷ []
+key_last [] s h = refl
+key_last (x ∷ xs) s h = rw (sym (nat_cmp_is s x Greater h.0)) (ap (λ r. x ∷ r) (key_last xs s h.1))
+
+none_above : (xs : List ℕ) (s : ℕ) → AllByRecursion (λ q. nat_cmp s q ≡ Less) xs → without s xs ≡ xs
+none_above [] s h = refl
+none_above (x ∷ xs) s h = rw (apart s x (ap is_eq h.0)) (ap (λ r. x ∷ r) (none_above xs s h.1))
+
+-- of rising keys one goes
+pub key_gone : (xs : List ℕ) (s : ℕ) → IsStrictlySortedBy nat_cmp xs → remove_key (is_at (nat_cmp s)) xs ≡ without s xs
+unfolding IsStrictlySortedBy
+key_gone [] s rising = refl
+key_gone (x ∷ xs) s rising = by (is_at (nat_cmp s) x) refl (key_gone xs s rising.1)
+  where
+    by : (b : Bool) → is_at (nat_cmp s) x ≡ b → remove_key (is_at (nat_cmp s)) xs ≡ without s xs → cond b xs (x ∷ remove_key (is_at (nat_cmp s)) xs) ≡ without s (x ∷ xs)
+    by true at rest = sym (without_head x s xs (at_same s x at) (none_above xs x rising.0))
+    by false at rest = rw (apart s x at) (ap (λ r. x ∷ r) rest)
+
 last_of : (x : ℕ) (xs : List ℕ) → slice_get (x ∷ xs) (length xs) ≡ last_or (Some x) xs
 last_of x [] = refl
 last_of x (y ∷ ys) = last_of y ys
@@ -190,3 +213,9 @@ last_of x (y ∷ ys) = last_of y ys
 pub last_is : (xs : List ℕ) → slice_get xs (length xs - 1) ≡ last_or None xs
 last_is [] = refl
 last_is (x ∷ xs) = (let e : length (x ∷ xs) - 1 ≡ length xs = omega arith in rw e (last_of x xs))
+
+-- the last of a set's keys, as the set gives it
+pub last_key : (xs : List ℕ) (o : Option (Bor ℕ)) → (0 < length xs → IsSome o) → IfSome o (λ k. slice_get xs (length xs - 1) ≡ Some k.now) → option_copied o ≡ last_or None xs
+last_key xs (Some k) some last = sym last ∙ last_is xs
+last_key [] None some last = refl
+last_key (x ∷ xs) None some last = absurd (cc (some (omega arith)))

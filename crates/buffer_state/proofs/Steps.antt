@@ -1,6 +1,6 @@
 -- What each step does to the fields, and to the state that they stand for.
-use Rattle.std.proofs.Common.{◌≡◌, ◌⊎◌, inl, inr, ℕ, ◌<◌, ◌≤◌, ◌+◌, ◌^◌, ◌==◌, ◌&&◌, ◌||◌, not, Bool, true, false, cond, List, [], ◌∷◌, ◌++◌, length, Option, Some, None, option_map, refl, sym, ap, subst, ◌∙◌, arith}
-use Rattle.std.specs.Prelude.{filter, map, sum_by, unwrap_or, IfSome, IsSomeAnd, nat_eq, nat_le}
+use Rattle.std.proofs.Common.{◌≡◌, ◌⊎◌, inl, inr, ℕ, ◌<◌, ◌≤◌, ◌+◌, ◌&&◌, ◌||◌, Bool, true, false, cond, List, [], ◌∷◌, ◌++◌, length, Option, Some, None, option_map, refl, sym, ap, subst, ◌∙◌, arith}
+use Rattle.std.specs.Prelude.{filter, unwrap_or, IfSome, IsSomeAnd, nat_eq, nat_le}
 use Rattle.std.specs.Option.{option_map_or}
 use Rattle.std.specs.Ordering.{nat_cmp, is_eq}
 use Rattle.std.specs.declared.cmp.Ordering.TheVariants.{Less}
@@ -27,12 +27,12 @@ use Rattle.buffer_state.proofs.Named.{same_tag}
 use Rattle.std.proofs.lemmas.Bool.{true≢false, eq-eqb, eqb-true}
 use Rattle.buffer_state.specs.declared.chunk.Stage.{Stage}
 use Rattle.buffer_state.specs.declared.chunk.Stage.TheVariants.{Staged, Queued, Claimed}
-use Rattle.buffer_state.specs.State.{State, Chunk, chunk_at, size, size_at, is_queued, is_staged, staged_of, newest_staged, queued_rising, IsStagedOf}
-use Rattle.buffer_state.specs.Steps.{added, appended, restaged, queued_last, claimed, removed, settled, without, first_of, place_within, greatest_size, last_serial, CanAppend}
-use Rattle.buffer_state.specs.Slots.{Slot, Slots, slot_at, slot_size, changed_at, chunks_in, put, grown, joined, fresh, staged_in, AreBelow}
-use Rattle.buffer_state.specs.Views.{passes_at, is_waiting, is_claimed, claims, state_of, IsFree, IsTogether, IsEndOf, IsSound}
-use Rattle.buffer_state.proofs.Serials.{at_same, at_itself, at_above, apart, if_some, some_and, lookup_above, filter_same, set_itself, kept, kept_is, at_below}
-use Rattle.buffer_state.proofs.Slots.{lookup_chunks, set_chunks, removed_chunks, set_at, removed_at, passes_itself, passes_set, passes_same, passes_removed, passes_last, if_set, if_removed, if_last, last_at, Without, all_map, all_last, all_both, without_free, without_rest, distinct_rest, distinct_last, filter_without}
+use Rattle.buffer_state.specs.State.{State, Chunk, chunk_at, size, size_at, is_queued, is_staged, staged_of, newest_staged, queued_rising, IsAt, IsStagedOf}
+use Rattle.buffer_state.specs.Steps.{appended, restaged, queued_last, claimed, removed, settled, without, place_within, greatest_size, last_serial, CanAppend}
+use Rattle.buffer_state.specs.Slots.{Slot, Slots, slot_at, slot_size, changed_at, chunks_in, put, grown, roomed, fresh, staged_in, AreBelow}
+use Rattle.buffer_state.specs.Views.{passes_at, is_waiting, is_claimed, claims, state_of, IsFree, IsEndOf, IsSound}
+use Rattle.buffer_state.proofs.Serials.{at_same, at_itself, at_above, apart, if_some, some_and, lookup_above, filter_same, set_itself, kept, kept_is}
+use Rattle.buffer_state.proofs.Slots.{lookup_chunks, set_chunks, removed_chunks, set_at, passes_itself, passes_set, passes_same, passes_removed, passes_last, if_set, if_removed, last_at, Without, all_map, all_last, all_both, without_free, without_rest, distinct_rest, distinct_last, filter_without}
 
 -- how a claim counts
 abbrev pub one : Slot → ℕ
@@ -99,7 +99,6 @@ module _ {A : Type 0} (slots : Slots) (waiting : BTreeSet ℕ) (order : VecDeque
     room = sound.room;
     waits = sound.waits;
     listed = sound.listed;
-    together = sound.together;
   }
 
   -- the queue gets more room
@@ -112,12 +111,11 @@ module _ {A : Type 0} (slots : Slots) (waiting : BTreeSet ℕ) (order : VecDeque
     room = (let r = sound.room in omega (arith, r, len, cap));
     waits = sound.waits;
     listed = sound.listed;
-    together = sound.together;
   }
 
   -- a chunk changes and stays in its stage
-  pub sound_same : (s : ℕ) (v w : Slot) → slot_at slots s ≡ Some v → w.chunk.stage ≡ v.chunk.stage → IsTogether w → IsSound (set_value (is_at (nat_cmp s)) slots w) waiting order next
-  sound_same s v w at same tight = record {
+  pub sound_same : (s : ℕ) (v w : Slot) → slot_at slots s ≡ Some v → w.chunk.stage ≡ v.chunk.stage → IsSound (set_value (is_at (nat_cmp s)) slots w) waiting order next
+  sound_same s v w at same = record {
     rising = rw (keys-set_value (is_at (nat_cmp s)) slots w) sound.rising;
     below = rw (keys-set_value (is_at (nat_cmp s)) slots w) sound.below;
     distinct = sound.distinct;
@@ -130,7 +128,6 @@ module _ {A : Type 0} (slots : Slots) (waiting : BTreeSet ℕ) (order : VecDeque
         );
     waits = λ q. sound.waits q ∙ sym (passes_same is_waiting slots s q v w at (ap is_waiting same));
     listed = sound.listed;
-    together = λ q. if_set IsTogether slots s q v w at (λ e. tight) (sound.together q);
   }
 
   queued_there : (s : ℕ) (v : Slot) → slot_at slots s ≡ Some v → IfSome (slot_at (set_value (is_at (nat_cmp s)) slots (put Queued v)) s) (λ slot. slot.chunk.stage ≡ Queued)
@@ -160,15 +157,14 @@ module _ {A : Type 0} (slots : Slots) (waiting : BTreeSet ℕ) (order : VecDeque
             );
         waits = λ q. sound.waits q ∙ sym (passes_same is_waiting slots s q v (put Claimed v) at (ap is_waiting (sym was)));
         listed = sound.listed;
-        together = λ q. if_set IsTogether slots s q v (put Claimed v) at (λ e off. if_some (slot_at slots s) IsTogether v (sound.together s) at (ap is_staged was)) (sound.together q);
       }
 
   -- A chunk that wasn't in the queue comes to its end.
-  pub sound_queue : (s : ℕ) (v : Slot) (wait : BTreeSet ℕ) (new : VecDeque ℕ A) → slot_at slots s ≡ Some v → is_queued v.chunk.stage ≡ false → v.apart ≡ 0 → new.items ≡ order.items ++ s ∷ []
+  pub sound_queue : (s : ℕ) (v : Slot) (wait : BTreeSet ℕ) (new : VecDeque ℕ A) → slot_at slots s ≡ Some v → is_queued v.chunk.stage ≡ false → new.items ≡ order.items ++ s ∷ []
       → deque_len new + claims slots ≤ deque_capacity new + one v
       → ((q : ℕ) → contains nat_cmp wait q ≡ cond (is_at (nat_cmp s) q) true (contains nat_cmp waiting q)) → IsStrictlySortedBy nat_cmp wait.keys
       → IsSound (set_value (is_at (nat_cmp s)) slots (put Queued v)) wait new next
-  sound_queue s v wait new at off tight items fits waits listed =
+  sound_queue s v wait new at off items fits waits listed =
       let beside = without_free slots next s v order.items at off sound.free in
       record {
         rising = rw (keys-set_value (is_at (nat_cmp s)) slots (put Queued v)) sound.rising;
@@ -182,7 +178,6 @@ module _ {A : Type 0} (slots : Slots) (waiting : BTreeSet ℕ) (order : VecDeque
             );
         waits = λ q. waits q ∙ ap (cond (is_at (nat_cmp s) q) true) (sound.waits q) ∙ sym (passes_set is_waiting slots s q v (put Queued v) at);
         listed = listed;
-        together = λ q. if_set IsTogether slots s q v (put Queued v) at (λ e off. tight) (sound.together q);
       }
 
   -- a chunk goes
@@ -197,7 +192,6 @@ module _ {A : Type 0} (slots : Slots) (waiting : BTreeSet ℕ) (order : VecDeque
     room = (let h = claims_removed slots s in let r = sound.room in omega (arith, h, r));
     waits = λ q. waits q ∙ ap (cond (is_at (nat_cmp s) q) false) (sound.waits q) ∙ sym (passes_removed is_waiting slots s q sound.rising);
     listed = listed;
-    together = λ q. if_removed IsTogether slots s q sound.rising (sound.together q);
   }
 
   -- a new chunk comes
@@ -210,7 +204,6 @@ module _ {A : Type 0} (slots : Slots) (waiting : BTreeSet ℕ) (order : VecDeque
     room = (let h = claims_last slots s w (ap is_claimed staged) in let r = sound.room in omega (arith, h, r));
     waits = λ q. sound.waits q ∙ sym (passes_last is_waiting slots s q w (ap is_waiting staged));
     listed = sound.listed;
-    together = λ q. if_last IsTogether slots s q w (λ off. absurd (true≢false (sym (ap is_staged staged) ∙ off))) (sound.together q);
   }
     where
       free_last : (q : ℕ) → q < next → IfSome (slot_at slots q) (λ slot. slot.chunk.stage ≡ Queued) → IfSome (slot_at (slots ++ (s, w) ∷ []) q) (λ slot. slot.chunk.stage ≡ Queued)
@@ -324,9 +317,14 @@ slot_there slots s P h = by (slot_at slots s) refl (rw (← lookup_chunks slots 
     by None at h = absurd h
     by (Some v) at h = (v, at, h)
 
--- the view where the entries of a chunk are put together
-pub join_view : (slots : Slots) (next s : ℕ) (v : Slot) (xs : List ℕ) → slot_at slots s ≡ Some v → state_of (set_value (is_at (nat_cmp s)) slots (joined v)) xs next ≡ state_of slots xs next
-join_view slots next s v xs at = same_view slots next s v at (joined v) xs refl ∙ ap (λ c. parts c next (filter (passes_at is_queued slots) xs))
+-- the slot of a chunk that a state has in this stage
+pub found_at : (slots : Slots) (xs : List ℕ) (next s : ℕ) (state : State) (stage : Stage) → state_of slots xs next ≡ state → IsAt stage state s
+    → (v : Slot) × (slot_at slots s ≡ Some v) × (v.chunk.stage ≡ stage)
+found_at slots xs next s state stage is h = slot_there slots s (λ chunk. chunk.stage ≡ stage) (subst (λ (there : State). IsAt stage there s) (sym is) h)
+
+-- the view where a chunk gets room
+pub room_view : (slots : Slots) (next s more : ℕ) (v : Slot) (xs : List ℕ) → slot_at slots s ≡ Some v → state_of (set_value (is_at (nat_cmp s)) slots (roomed more v)) xs next ≡ state_of slots xs next
+room_view slots next s more v xs at = same_view slots next s v at (roomed more v) xs refl ∙ ap (λ c. parts c next (filter (passes_at is_queued slots) xs))
     (set_itself (is_at (nat_cmp s)) (chunks_in slots) v.chunk (lookup_chunks slots s ∙ ap (option_map (λ (slot : Slot). slot.chunk)) at))
 
 -- no chunks
@@ -340,7 +338,6 @@ sound_new slots waiting order none keys items len = rw none (record {
   room = omega (arith, len);
   waits = λ q. rw keys refl;
   listed = rw keys sorted_nil;
-  together = λ q. tt;
 })
   where
     sorted_nil : IsStrictlySortedBy nat_cmp []
@@ -360,7 +357,6 @@ sound_end slots waiting order new next sound end len cap = record {
   room = (let r = sound.room in omega (arith, r, len, cap));
   waits = sound.waits;
   listed = sound.listed;
-  together = sound.together;
 }
 
 -- a chunk that a state has claimed is one claim
@@ -498,23 +494,23 @@ claim_ended slots waiting order next sound s v xs at was end same =
     ∙ ap (λ (queue : List ℕ). claimed (parts (chunks_in slots) next queue)) (sym same)
 
 -- a chunk grows
-pub grow_sound : {A : Type 0} (slots between new : Slots) (waiting : BTreeSet ℕ) (order : VecDeque ℕ A) (next s : ℕ) (v : Slot) (piece : List (List ℕ)) → slot_at slots s ≡ Some v → v.chunk.stage ≡ Staged
-    → between ≡ changed_at s joined slots → new ≡ changed_at s (grown piece) between → IsSound slots waiting order next → IsSound new waiting order next
-grow_sound slots between new waiting order next s v piece at staged first second sound =
-    let is : between ≡ set_value (is_at (nat_cmp s)) slots (joined v) = first ∙ changed_is slots s joined v at in
-    let mid : IsSound between waiting order next = rw is (sound_same slots waiting order next sound s v (joined v) at refl (λ off. refl)) in
-    let there : slot_at between s ≡ Some (joined v) = changed_there slots between s joined v at first in
-    rw (second ∙ changed_is between s (grown piece) (joined v) there)
-    (sound_same between waiting order next mid s (joined v) (grown piece (joined v)) there refl (λ off. absurd (true≢false (sym (ap is_staged staged) ∙ off))))
+pub grow_sound : {A : Type 0} (slots between new : Slots) (waiting : BTreeSet ℕ) (order : VecDeque ℕ A) (next s more : ℕ) (v : Slot) (piece : List (List ℕ)) → slot_at slots s ≡ Some v
+    → between ≡ changed_at s (roomed more) slots → new ≡ changed_at s (grown piece) between → IsSound slots waiting order next → IsSound new waiting order next
+grow_sound slots between new waiting order next s more v piece at first second sound =
+    let is : between ≡ set_value (is_at (nat_cmp s)) slots (roomed more v) = first ∙ changed_is slots s (roomed more) v at in
+    let mid : IsSound between waiting order next = rw is (sound_same slots waiting order next sound s v (roomed more v) at refl) in
+    let there : slot_at between s ≡ Some (roomed more v) = changed_there slots between s (roomed more) v at first in
+    rw (second ∙ changed_is between s (grown piece) (roomed more v) there)
+    (sound_same between waiting order next mid s (roomed more v) (grown piece (roomed more v)) there refl)
 
-pub grow_view : (slots between new : Slots) (xs : List ℕ) (next s : ℕ) (v : Slot) (tag : List ℕ) (piece : List (List ℕ)) → slot_at slots s ≡ Some v
-    → between ≡ changed_at s joined slots → new ≡ changed_at s (grown piece) between → state_of new xs next ≡ appended s tag piece (state_of slots xs next)
-grow_view slots between new xs next s v tag piece at first second =
-    let there : slot_at between s ≡ Some (joined v) = changed_there slots between s joined v at first in
-    ap (λ (t : Slots). state_of t xs next) (second ∙ changed_is between s (grown piece) (joined v) there)
-    ∙ grown_view between next s (joined v) there xs tag piece (grown piece (joined v)) refl
-    ∙ ap (λ (t : Slots). appended s tag piece (state_of t xs next)) (first ∙ changed_is slots s joined v at)
-    ∙ ap (appended s tag piece) (join_view slots next s v xs at)
+pub grow_view : (slots between new : Slots) (xs : List ℕ) (next s more : ℕ) (v : Slot) (tag : List ℕ) (piece : List (List ℕ)) → slot_at slots s ≡ Some v
+    → between ≡ changed_at s (roomed more) slots → new ≡ changed_at s (grown piece) between → state_of new xs next ≡ appended s tag piece (state_of slots xs next)
+grow_view slots between new xs next s more v tag piece at first second =
+    let there : slot_at between s ≡ Some (roomed more v) = changed_there slots between s (roomed more) v at first in
+    ap (λ (t : Slots). state_of t xs next) (second ∙ changed_is between s (grown piece) (roomed more v) there)
+    ∙ grown_view between next s (roomed more v) there xs tag piece (grown piece (roomed more v)) refl
+    ∙ ap (λ (t : Slots). appended s tag piece (state_of t xs next)) (first ∙ changed_is slots s (roomed more) v at)
+    ∙ ap (appended s tag piece) (room_view slots next s more v xs at)
 
 -- the set of waiting serials, with the same serials
 pub sound_waiting : {A : Type 0} (slots : Slots) (waiting new : BTreeSet ℕ) (order : VecDeque ℕ A) (next : ℕ) → new.keys ≡ waiting.keys → IsSound slots waiting order next → IsSound slots new order next
@@ -526,7 +522,6 @@ sound_waiting slots waiting new order next same sound = record {
   room = sound.room;
   waits = λ q. ap (list_any (is_at (nat_cmp q))) same ∙ sound.waits q;
   listed = rw same sound.listed;
-  together = sound.together;
 }
 
 -- a serial that passes is that of a chunk
@@ -574,7 +569,6 @@ sound_settled slots waiting order new next sound items len cap = record {
   room = (let h = waiting_claims slots waiting order next sound in omega (arith, h, len, cap));
   waits = sound.waits;
   listed = sound.listed;
-  together = sound.together;
 }
 
 -- what is settled stays when it is filtered again

@@ -1,12 +1,12 @@
 -- What a change of one chunk does to the table.
-use Rattle.std.proofs.Common.{◌≡◌, ℕ, ◌+◌, ◌-◌, ◌*◌, ◌<◌, ◌≤◌, ◌^◌, Bool, true, false, cond, List, [], ◌∷◌, ◌++◌, length, Option, Some, None, option_map, refl, sym, ap, ◌∙◌, length-append, arith, All, rules}
-use Rattle.std.specs.Prelude.{map, filter, sum_by, unwrap_or, ◌&&◌}
+use Rattle.std.proofs.Common.{◌≡◌, ℕ, ◌+◌, ◌<◌, ◌≤◌, ◌^◌, Bool, true, false, cond, List, [], ◌∷◌, ◌++◌, length, Some, option_map, refl, sym, ap, subst, ◌∙◌, length-append, arith}
+use Rattle.std.specs.Prelude.{unwrap_or, ◌&&◌}
 use Rattle.std.specs.Str.{bytes_eq}
 use Rattle.std.specs.Ordering.{nat_cmp}
-use Rattle.std.specs.BTreeMap.{is_at, insert_entry}
+use Rattle.std.specs.BTreeMap.{is_at}
 use Rattle.std.specs.List.{concat}
 use Rattle.std.specs.List.Sorted.{IsStrictlySortedBy}
-use Rattle.std.specs.Map.{lookup, set_value, remove_entry, keys_of, values_of}
+use Rattle.std.specs.Map.{set_value, remove_entry, keys_of, values_of}
 use Rattle.std.proofs.lemmas.Map.{keys-set_value, length-set_value}
 use Rattle.std.proofs.lemmas.Map.Entries.{sum_by-set_value, sum_by-remove_entry, length-values_of}
 use Rattle.std.proofs.lemmas.List.Sums.{sum_by-le, sum_by-append}
@@ -19,7 +19,7 @@ use Rattle.buffer_state.specs.declared.tags.TagIndex.{TagIndex}
 use Rattle.buffer_state.specs.Tags.{serials_at}
 use Rattle.buffer_state.specs.declared.chunk.Stage.{Stage}
 use Rattle.buffer_state.specs.State.{Chunk, is_staged, size}
-use Rattle.buffer_state.specs.Slots.{Slot, Slots, grown, put, slot_at, slot_size, slots_size, staged_in, is_staged_of}
+use Rattle.buffer_state.specs.Slots.{Slot, Slots, grown, put, slot_at, slot_size, slots_size, staged_in, AreBelow}
 use Rattle.buffer_state.specs.Steps.{greatest_size, without}
 use Rattle.buffer_state.specs.Tables.{IsTable}
 use Rattle.buffer_state.proofs.Serials.{if_some, kept, kept_append, kept_is, kept_set, kept_goes, kept_other, kept_leaves}
@@ -54,6 +54,19 @@ module _ (slots : Slots) (s : ℕ) (v w : Slot) (at : slot_at slots s ≡ Some v
     indexed = index;
   }
 
+below_kept : (g : Slot → Bool) (slots : Slots) (s : ℕ) → AreBelow s (keys_of slots) → AreBelow s (kept g slots)
+unfolding kept
+below_kept g [] s h = tt
+below_kept g (e ∷ es) s h = by (g e.1) (below_kept g es s h.1)
+  where
+    by : (b : Bool) → AreBelow s (kept g es) → AreBelow s (cond b (e.0 ∷ kept g es) (kept g es))
+    by true rest = (h.0, rest)
+    by false rest = rest
+
+-- a serial above all others is above those of a tag
+pub below_staged : {A : Type 0} (slots : Slots) (tags : TagIndex A) (total s : ℕ) (tag : List ℕ) → IsTable slots tags total → AreBelow s (keys_of slots) → AreBelow s (serials_at tags tag)
+below_staged slots tags total s tag t h = subst (AreBelow s) (sym (t.indexed tag ∙ staged_is slots tag)) (below_kept (passes tag) slots s h)
+
 -- a chunk goes
 pub gone_fits : {A : Type 0} (slots slots' : Slots) (s : ℕ) (v : Slot) (tags tags' : TagIndex A) (total total' : ℕ) → IsTable slots tags total → slot_at slots s ≡ Some v
     → slots' ≡ remove_entry (is_at (nat_cmp s)) slots → IsStrictlySortedBy nat_cmp (keys_of slots') → length slots' + 1 ≡ length slots → total' + slot_size v ≡ total
@@ -87,7 +100,7 @@ total_small slots tags total t =
 pub small_at : {A : Type 0} (slots : Slots) (tags : TagIndex A) (total : ℕ) (s : ℕ) (v : Slot) → IsTable slots tags total → slot_at slots s ≡ Some v → slot_size v ≤ greatest_size
 small_at slots tags total s v t at = if_some _ (λ slot. slot_size slot ≤ greatest_size) v (IfSome-lookup_from_All (λ slot. slot_size slot ≤ greatest_size) (is_at (nat_cmp s)) slots t.small) at
 
--- the entries of a chunk are put together, or nothing changes
+-- a chunk gets room
 pub same_fits : {A : Type 0} (slots : Slots) (tags : TagIndex A) (total s : ℕ) (v w : Slot) → slot_at slots s ≡ Some v → IsTable slots tags total → w.chunk ≡ v.chunk
     → IsTable (set_value (is_at (nat_cmp s)) slots w) tags total
 same_fits slots tags total s v w at t same = set_fits slots s v w at tags tags total total t

@@ -4,3 +4,4 @@ pub mod Slots
 pub mod Tags
 pub mod Tables
 pub mod Views
+pub mod Shown

@@ -1,5 +1,5 @@
 -- What the contracts of a chunk in memory see.
-use Rattle.std.specs.Prelude.{ℕ, ◌<◌, ◌&&◌, Bool, List, ◌++◌, map, filter, sum_by, length, Option, bytes_eq}
+use Rattle.std.specs.Prelude.{ℕ, ◌<◌, ◌&&◌, Bool, List, ◌++◌, map, filter, sum_by, Option, bytes_eq}
 use Rattle.std.specs.List.{AllByRecursion}
 use Rattle.std.specs.Option.{option_map_or}
 use Rattle.std.specs.Map.{lookup, set_value, keys_of, values_of}
@@ -9,22 +9,22 @@ use Rattle.buffer_state.specs.declared.chunk.Stage.{Stage}
 use Rattle.buffer_state.specs.declared.chunk.Stage.TheVariants.{Staged}
 use Rattle.buffer_state.specs.State.{Chunk, Numbered, size, is_staged}
 
--- A chunk, and how many of its last entries lie apart from the others.
+-- A chunk, and how many bytes more find room in it.
 pub record Slot : Type 0 where
   pub chunk : Chunk
-  pub apart : ℕ
+  pub room : ℕ
 
--- its entries lie together
-abbrev pub joined : Slot → Slot
-joined slot = record { chunk = slot.chunk; apart = 0 }
+-- with room for so many bytes
+abbrev pub roomed : ℕ → Slot → Slot
+roomed more slot = record slot { room = more }
 
--- with these entries behind the others, apart from them
+-- with these entries behind the others, and no more room that is known of
 abbrev pub grown : List (List ℕ) → Slot → Slot
-grown piece slot = record { chunk = record slot.chunk { entries = slot.chunk.entries ++ piece }; apart = length piece }
+grown entries slot = record { chunk = record slot.chunk { entries = slot.chunk.entries ++ entries }; room = 0 }
 
 -- in this stage
 abbrev pub put : Stage → Slot → Slot
-put stage slot = record { chunk = record slot.chunk { stage = stage }; apart = slot.apart }
+put stage slot = record slot { chunk = record slot.chunk { stage = stage } }
 
 -- slots by serial
 abbrev pub Slots : Type 0
@@ -34,6 +34,10 @@ Slots = List (ℕ × Slot)
 abbrev pub slot_at : Slots → ℕ → Option Slot
 slot_at slots serial = lookup (is_at (nat_cmp serial)) slots
 
+-- how many bytes more find room in the slot of this serial; 0 where there is none
+abbrev pub room_at : Slots → ℕ → ℕ
+room_at slots serial = option_map_or (λ slot. slot.room) (slot_at slots serial) 0
+
 -- the slots with the one of this serial changed
 abbrev pub changed_at : ℕ → (Slot → Slot) → Slots → Slots
 changed_at serial change slots = option_map_or (λ slot. set_value (is_at (nat_cmp serial)) slots (change slot)) (slot_at slots serial) slots
@@ -42,9 +46,9 @@ changed_at serial change slots = option_map_or (λ slot. set_value (is_at (nat_c
 abbrev pub chunks_in : Slots → List Numbered
 chunks_in slots = map (λ numbered. (numbered.0, numbered.1.chunk)) slots
 
--- a staged chunk of these entries, which lie together
+-- a staged chunk of these entries
 abbrev pub fresh : List ℕ → List (List ℕ) → Slot
-fresh tag entries = record { chunk = record { tag = tag; entries = entries; stage = Staged }; apart = 0 }
+fresh tag entries = record { chunk = record { tag = tag; entries = entries; stage = Staged }; room = 0 }
 
 -- how many bytes of entries a slot has
 abbrev pub slot_size : Slot → ℕ

@@ -1,5 +1,5 @@
 -- What a buffer holds: its live chunks, the serial that comes next, and the order in which queued chunks are taken.
-use Rattle.std.specs.Prelude.{ℕ, ◌≡◌, ◌==◌, ◌&&◌, Bool, cond, List, [], ◌∷◌, filter, length, sum_by, Option, None, Some, option_map, IsSomeAnd, bytes_eq}
+use Rattle.std.specs.Prelude.{ℕ, ◌≡◌, ◌&&◌, Bool, List, [], filter, length, sum_by, Option, None, IsSomeAnd, bytes_eq}
 use Rattle.std.specs.Option.{option_map_or}
 use Rattle.std.specs.List.{concat, last_or}
 use Rattle.std.specs.Map.{lookup, keys_of, values_of}
@@ -24,10 +24,11 @@ pub record State : Type 0 where
   pub next : ℕ  -- the serial of the next new chunk
   pub queue : List ℕ  -- the queued serials, in the order in which they are claimed
 
--- A buffer at one time, and the serial of a chunk of it for which a step has been made ready.
+-- A buffer at one time, and the serial of a chunk of it for which a step has been made ready, with room for so many bytes.
 pub record Readied : Type 0 where
   pub state : State
   pub serial : ℕ
+  pub room : ℕ
 
 -- the live chunk of this serial
 abbrev pub chunk_at : State → ℕ → Option Chunk

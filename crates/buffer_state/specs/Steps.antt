@@ -1,5 +1,5 @@
 -- The steps of a buffer: the condition of each, and the state that it leads to.
-use Rattle.std.specs.Prelude.{ℕ, ◌≡◌, ◌+◌, ◌-◌, ◌^◌, ◌<◌, ◌≤◌, ◌⊎◌, ◌==◌, ◌&&◌, not, min, Bool, cond, nat_le, nat_lt, List, [], ◌∷◌, ◌++◌, filter, map, Option, None, Some, Result, Ok, Err}
+use Rattle.std.specs.Prelude.{ℕ, ◌+◌, ◌-◌, ◌^◌, ◌<◌, ◌≤◌, ◌⊎◌, ◌==◌, ◌&&◌, not, min, cond, nat_le, nat_lt, List, [], ◌∷◌, ◌++◌, filter, map, Option, None, Some, Result, Ok, Err}
 use Rattle.std.specs.Option.{option_map_or}
 use Rattle.std.specs.Map.{set_value, remove_entry}
 use Rattle.std.specs.Ordering.{nat_cmp}
@@ -9,7 +9,7 @@ use Rattle.buffer_state.specs.declared.chunk.Stage.TheVariants.{Staged, Queued, 
 use Rattle.buffer_state.specs.declared.limits.Limits.{Limits}
 use Rattle.buffer_state.specs.declared.limits.AppendFault.{AppendFault}
 use Rattle.buffer_state.specs.declared.limits.AppendFault.TheVariants.{TooLarge, Full, LastSerial}
-use Rattle.buffer_state.specs.State.{Chunk, Numbered, State, chunk_at, is_queued, size, size_at, total_size, IsStagedOf, newest_staged, queued_rising}
+use Rattle.buffer_state.specs.State.{Chunk, Numbered, State, chunk_at, size, size_at, total_size, IsStagedOf, newest_staged, queued_rising}
 
 -- how many bytes of entries a chunk has at most, whatever the settings are
 abbrev pub greatest_size : ℕ

@@ -1,5 +1,5 @@
 -- The index from tags to serials.
-use Rattle.std.specs.Prelude.{ℕ, List, [], Vec}
+use Rattle.std.specs.Prelude.{ℕ, List, []}
 use Rattle.std.specs.Option.{option_map_or}
 use Rattle.std.specs.Ordering.{nat_cmp}
 use Rattle.std.specs.Cmp.Lexicographic.{slice_cmp}
@@ -8,4 +8,4 @@ use Rattle.buffer_state.specs.declared.tags.TagIndex.{TagIndex}
 
 -- the serials that the index has at this tag
 abbrev pub serials_at : {A : Type 0} → TagIndex A → List ℕ → List ℕ
-serials_at index tag = option_map_or (λ serials. serials.items) (get_by (λ key. slice_cmp nat_cmp tag key.items) index.lists) []
+serials_at index tag = option_map_or (λ serials. serials.keys) (get_by (λ key. slice_cmp nat_cmp tag key.items) index.sets) []

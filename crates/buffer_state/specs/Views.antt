@@ -12,7 +12,7 @@ use Rattle.std.specs.VecDeque.{deque_len, deque_capacity}
 use Rattle.buffer_state.specs.declared.chunk.Stage.{Stage}
 use Rattle.buffer_state.specs.declared.chunk.Stage.TheVariants.{Staged, Queued, Claimed}
 use Rattle.buffer_state.specs.State.{State, is_staged, is_queued}
-use Rattle.buffer_state.specs.Slots.{Slot, Slots, slot_at, chunks_in, AreBelow}
+use Rattle.buffer_state.specs.Slots.{Slots, slot_at, chunks_in, AreBelow}
 
 -- whether the chunk is being delivered
 abbrev pub is_claimed : Stage → Bool
@@ -40,10 +40,6 @@ state_of slots order next = record { chunks = chunks_in slots; next = next; queu
 abbrev pub IsFree : Slots → ℕ → ℕ → Type 0
 IsFree slots next serial = (serial < next) × IfSome (slot_at slots serial) (λ slot. slot.chunk.stage ≡ Queued)
 
--- The entries of a chunk that isn't staged lie together.
-abbrev pub IsTogether : Slot → Type 0
-IsTogether slot = is_staged slot.chunk.stage ≡ false → slot.apart ≡ 0
-
 -- what holds of these fields
 pub record IsSound {A : Type 0} (slots : Slots) (waiting : BTreeSet ℕ) (order : VecDeque ℕ A) (next : ℕ) : Type 0 where
   pub rising : IsStrictlySortedBy nat_cmp (keys_of slots)
@@ -53,13 +49,12 @@ pub record IsSound {A : Type 0} (slots : Slots) (waiting : BTreeSet ℕ) (order 
   pub room : deque_len order + claims slots ≤ deque_capacity order
   pub waits : (serial : ℕ) → contains nat_cmp waiting serial ≡ passes_at is_waiting slots serial
   pub listed : IsStrictlySortedBy nat_cmp waiting.keys
-  pub together : (serial : ℕ) → IfSome (slot_at slots serial) IsTogether
 
 -- the first list is the end of the second
 abbrev pub IsEndOf : List ℕ → List ℕ → Type 0
 IsEndOf end all = (before : List ℕ) × (all ≡ before ++ end)
 
--- what holds of these fields where there is room for a step on the chunk of this serial, which is staged and whose entries lie together; it is among the waiting ones already
+-- what holds of these fields where there is room for a step on the chunk of this serial, which is staged; it is among the waiting ones already
 pub record IsReady {A : Type 0} (slots : Slots) (waiting : BTreeSet ℕ) (order : VecDeque ℕ A) (next serial : ℕ) : Type 0 where
   pub rising : IsStrictlySortedBy nat_cmp (keys_of slots)
   pub below : AreBelow next (keys_of slots)
@@ -68,5 +63,4 @@ pub record IsReady {A : Type 0} (slots : Slots) (waiting : BTreeSet ℕ) (order 
   pub room : deque_len order + claims slots + 1 ≤ deque_capacity order
   pub waits : (other : ℕ) → contains nat_cmp waiting other ≡ cond (is_at (nat_cmp serial) other) true (passes_at is_waiting slots other)
   pub listed : IsStrictlySortedBy nat_cmp waiting.keys
-  pub together : (other : ℕ) → IfSome (slot_at slots other) IsTogether
-  pub ready : IsSomeAnd (slot_at slots serial) (λ slot. (slot.chunk.stage ≡ Staged) × (slot.apart ≡ 0))
+  pub ready : IsSomeAnd (slot_at slots serial) (λ slot. slot.chunk.stage ≡ Staged)

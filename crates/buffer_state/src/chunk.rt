@@ -1,10 +1,10 @@
 //! Live chunks.
 
-ghost use Rattle.std.specs.Prelude.{◌≡◌, ◌++◌, ◌+◌, ◌≤◌, ◌<◌, ◌^◌, length, OnOk, OnErr, IfOk};
+ghost use Rattle.std.specs.Prelude.{◌≡◌, ◌++◌, ◌+◌, ◌≤◌, ◌↔◌, length, IsTrue, OnOk, OnErr, IfOk};
+ghost use Rattle.std.specs.List.{concat, AllByRecursion};
+ghost use Rattle.event_modes.specs.Rows.{IsStored};
 ghost use Rattle.buffer_state.specs.State.{size, is_staged, is_queued};
-ghost use Rattle.buffer_state.specs.Steps.{greatest_size};
-ghost use Rattle.buffer_state.specs.Slots.{joined, grown, put};
-ghost use Rattle.buffer_state.specs.declared.chunk.Stage.TheVariants.{Staged};
+ghost use Rattle.buffer_state.specs.Slots.{fresh, roomed, grown, put};
 
 use event_modes::Entries;
 use std::alloc::{AllocError, Allocator};
@@ -22,25 +22,30 @@ pub enum Stage {
 }
 
 /// A live chunk: stored entries of one tag.
-/// The last entries of a staged chunk may lie apart from the others, since they must not fail to get there.
 #[derive(Drop)]
 pub struct Chunk<A: Allocator> {
     tag: Vec<u8, A>,
-    head: Entries<A>,
-    tail: Entries<A>,
+    // the entries, one after another, and how many they are
+    bytes: Vec<u8, A>,
+    count: usize,
+    // how many bytes more find room
+    room: usize,
     stage: Stage,
 }
 
 impl<A: Allocator> Model for Chunk<A> {
-    ghost use Rattle.std.specs.Prelude.{◌++◌, length};
+    ghost use Rattle.std.specs.Prelude.{◌+◌, ◌≤◌, vec_len, vec_capacity};
+    ghost use Rattle.event_modes.specs.Rows.{items_of, AreStored};
     ghost use Rattle.buffer_state.specs.Slots.{Slot};
 
     ghost Value = { Slot };
 
     ghost view = { λ c. record {
-      chunk = record { tag = c.tag.items; entries = c.head ++ c.tail; stage = c.stage };
-      apart = length c.tail;
+      chunk = record { tag = c.tag.items; entries = items_of c.count c.bytes.items; stage = c.stage };
+      room = c.room;
     } };
+
+    ghost invariant = { λ c. AreStored c.count c.bytes.items × (vec_len c.bytes + c.room ≤ vec_capacity c.bytes) };
 }
 
 impl<A: Allocator> Chunk<A> {
@@ -74,60 +79,70 @@ impl<A: Allocator> Chunk<A> {
 
     /// How many bytes its entries have.
     pub fn size(&self) -> usize
-        requires small { size self.now.chunk.entries ≤ greatest_size }
         ensures { result ≡ size self.now.chunk.entries }
     {
-        self.head.as_bytes().len() + self.tail.as_bytes().len()
+        self.bytes.len()
     }
 
-    /// Its entries, which lie together, as those of a queued or claimed chunk do.
-    pub fn entries(&self) -> &Entries<A>
-        requires together { self.now.apart ≡ 0 }
-        ensures { result.now ≡ self.now.chunk.entries }
+    /// How many entries it has.
+    pub fn count(&self) -> usize
+        ensures { result ≡ length self.now.chunk.entries }
     {
-        &self.head
+        self.count
+    }
+
+    /// Its entries, one after another.
+    pub fn as_bytes(&self) -> &[u8]
+        ensures all { result.now ≡ concat self.now.chunk.entries }
+        ensures stored { AllByRecursion IsStored self.now.chunk.entries }
+    {
+        self.bytes.as_slice()
+    }
+
+    /// Whether it has this tag and these entries.
+    pub fn has<B: Allocator>(&self, tag: &[u8], entries: &Entries<B>) -> bool
+        ensures { IsTrue result ↔ ((self.now.chunk.tag ≡ tag.now) × (self.now.chunk.entries ≡ entries.now)) }
+    {
+        self.tag() == tag && self.has_entries(entries)
+    }
+
+    fn has_entries<B: Allocator>(&self, entries: &Entries<B>) -> bool
+        ensures { IsTrue result ↔ (self.now.chunk.entries ≡ entries.now) }
+    {
+        self.count() == entries.count() && self.as_bytes() == entries.as_bytes()
     }
 
     /// A copy of its entries.
     pub fn copied(&self, alloc: A) -> Result<Entries<A>, AllocError>
         ensures { IfOk result (λ entries. entries ≡ self.now.chunk.entries) }
     {
-        let mut entries = Entries::new(alloc);
-        entries.append(&self.head)?;
-        entries.append(&self.tail)?;
+        let Some(entries) = Entries::read(alloc, self.as_bytes(), self.count())? else {
+            unreachable!();
+        };
         Ok(entries)
     }
-}
 
-impl<A: Allocator + Copy> Chunk<A> {
-    /// A staged chunk of these entries.
-    pub(crate) fn new(alloc: A, tag: Vec<u8, A>, entries: Entries<A>) -> Self
-        ensures { result ≡ record { chunk = record { tag = tag.items; entries = entries; stage = Staged }; apart = 0 } }
-    {
-        Chunk {
-            tag,
-            head: entries,
-            tail: Entries::new(alloc),
-            stage: Stage::Staged,
-        }
-    }
-
-    /// Puts the entries together. An `Err` changes nothing.
-    pub(crate) fn join(&mut self, alloc: A) -> Result<(), AllocError>
-        ensures ok { OnOk result (self.new ≡ joined self.old) }
+    /// Makes room for so many bytes more. An `Err` changes nothing.
+    pub(crate) fn reserve(&mut self, more: usize) -> Result<(), AllocError>
+        ensures ok { OnOk result (self.new ≡ roomed more self.old) }
         ensures err { OnErr result (self.new ≡ self.old) }
     {
-        self.head.append(&self.tail)?;
-        self.tail = Entries::new(alloc);
+        self.bytes.reserve(more)?;
+        self.room = more;
         Ok(())
     }
 
-    /// Adds entries apart from the others.
-    pub(crate) fn grow(&mut self, piece: Entries<A>)
-        requires together { self.old.apart ≡ 0 }
-        ensures { self.new ≡ grown piece self.old }
+    /// Adds entries behind the others, for which there is room.
+    pub(crate) fn grow<B: Allocator>(&mut self, entries: &Entries<B>)
+        requires room { size entries.now ≤ self.old.room }
+        ensures { self.new ≡ grown entries.now self.old }
     {
-        self.tail = piece;
+        let added = self.bytes.extend_from_slice(entries.as_bytes());
+        if added.is_err() {
+            unreachable!();
+        }
+        self.count += entries.count();
+        self.room = 0;
     }
 
     /// Puts it into another stage.
@@ -135,5 +150,26 @@ impl<A: Allocator + Copy> Chunk<A> {
         ensures { self.new ≡ put stage self.old }
     {
         self.stage = stage;
+    }
+}
+
+impl<A: Allocator + Copy> Chunk<A> {
+    /// A staged chunk of these entries.
+    pub(crate) fn new<B: Allocator>(
+        alloc: A,
+        tag: &[u8],
+        entries: &Entries<B>,
+    ) -> Result<Self, AllocError>
+        ensures { IfOk result (λ chunk. chunk ≡ fresh tag.now entries.now) }
+    {
+        let tag = Vec::from_slice(alloc, tag)?;
+        let bytes = Vec::from_slice(alloc, entries.as_bytes())?;
+        Ok(Chunk {
+            tag,
+            bytes,
+            count: entries.count(),
+            room: 0,
+            stage: Stage::Staged,
+        })
     }
 }

@@ -10,8 +10,8 @@ ghost use Rattle.std.specs.BTreeSet.{contains};
 ghost use Rattle.std.specs.VecDeque.{deque_len, deque_capacity};
 ghost use Rattle.buffer_state.specs.State.{State, empty, chunk_at, size, size_at, total_size, is_queued, IsAt, IsStagedOf};
 ghost use Rattle.buffer_state.specs.Steps.{CanAppend, planned, appended, queued_last, claimed, removed, settled, taken_back, oldest, first_of, greatest_size, place_within};
-ghost use Rattle.buffer_state.specs.Slots.{changed_at, chunks_in, joined, slot_size, AreBelow};
-ghost use Rattle.buffer_state.specs.Views.{passes_at, IsTogether, IsEndOf};
+ghost use Rattle.buffer_state.specs.Slots.{changed_at, chunks_in, roomed, slot_size, AreBelow};
+ghost use Rattle.buffer_state.specs.Views.{passes_at, IsEndOf};
 ghost use Rattle.buffer_state.specs.declared.chunk.Stage.TheVariants.{Staged, Queued, Claimed};
 
 use crate::chunk::{Chunk, Stage};
@@ -68,11 +68,10 @@ impl<A: Allocator + Copy> Chunks<A> {
         self.next
     }
 
-    /// The live chunk of this serial. The entries of one that isn't staged lie together.
+    /// The live chunk of this serial.
     pub fn chunk(&self, serial: u64) -> Option<&Chunk<A>>
         ensures value { option_map (λ chunk. chunk.now.chunk) result ≡ chunk_at self.now serial }
         ensures small { IfSome result (λ chunk. size chunk.now.chunk.entries ≤ greatest_size) }
-        ensures together { IfSome result (λ chunk. IsTogether chunk.now) }
     {
         self.table.get(serial)
     }
@@ -162,19 +161,19 @@ impl<A: Allocator + Copy> Chunks<A> {
         ensures err { OnErr result (self.new ≡ self.old) }
     {
         self.queue.reserve(self.waiting.len() + 1)?;
-        self.table.join(serial)?;
         let _ = self.waiting.insert(serial)?;
         self.table.put(serial, Stage::Queued);
         self.queue.push_back_reserved(serial);
         Ok(())
     }
 
-    /// Makes all the room for a step on the staged chunk of this serial.
+    /// Makes all the room for a step on the staged chunk of this serial: to queue it, or to append so many bytes of entries to it.
     ///
     /// The error is want of memory, and hands the chunks back.
-    pub fn ready(self, serial: u64) -> Result<Ready<A>, Chunks<A>>
+    pub fn ready(self, serial: u64, more: usize) -> Result<Ready<A>, Chunks<A>>
         requires { IsAt Staged self serial }
         ensures ok { IfOk result (λ ready. (ready.state ≡ self) × (ready.serial ≡ serial)) }
+        ensures room { IfOk result (λ ready. ready.room ≡ more) }
         ensures err { IfErr result (λ chunks. chunks ≡ self) }
     {
         let Chunks {
@@ -184,7 +183,7 @@ impl<A: Allocator + Copy> Chunks<A> {
             mut queue,
             next,
         } = self;
-        if make_room(&mut table, &mut waiting, &mut queue, serial).is_err() {
+        if make_room(&mut table, &mut waiting, &mut queue, serial, more).is_err() {
             return Err(Chunks {
                 alloc,
                 table,
@@ -212,6 +211,14 @@ impl<A: Allocator + Copy> Chunks<A> {
     {
         self.table.remove(serial);
         self.next = serial;
+    }
+
+    /// The first of the queue.
+    pub fn first(&self) -> Option<u64>
+        ensures first { result ≡ first_of self.now.queue }
+        ensures queued { IfSome result (IsAt Queued self.now) }
+    {
+        next_queued(&self.table, &self.queue)
     }
 
     /// Claims the first of the queue, and gives its serial.
@@ -313,10 +320,8 @@ impl<A: Allocator + Copy> Chunks<A> {
         ensures ok { OnOk result (self.new ≡ appended serial tag.now entries.now self.old) }
         ensures err { OnErr result (self.new ≡ self.old) }
     {
-        let mut piece = Entries::new(self.alloc);
-        piece.append(entries)?;
-        self.table.join(serial)?;
-        self.table.grow(serial, piece);
+        self.table.reserve(serial, entries.as_bytes().len())?;
+        self.table.grow(serial, entries);
         Ok(())
     }
 }
@@ -338,9 +343,10 @@ impl<A: Allocator> Model for Ready<A> {
 
     ghost Value = { Readied };
 
+    ghost use Rattle.buffer_state.specs.Slots.{room_at};
     ghost use Rattle.buffer_state.specs.Views.{state_of, IsReady};
 
-    ghost view = { λ r. record { state = state_of r.table r.queue.items r.next; serial = r.serial } };
+    ghost view = { λ r. record { state = state_of r.table r.queue.items r.next; serial = r.serial; room = room_at r.table r.serial } };
 
     ghost invariant = { λ r. IsReady r.table r.waiting r.queue r.next r.serial };
 }
@@ -369,10 +375,11 @@ impl<A: Allocator + Copy> Ready<A> {
         }
     }
 
-    /// Appends entries to the chunk.
-    pub fn append(self, piece: Entries<A>) -> Chunks<A>
-        requires { size_at self.state self.serial + size piece ≤ greatest_size }
-        ensures { (tag : List ℕ) → result ≡ appended self.serial tag piece self.state }
+    /// Appends entries to the chunk, for which room was made.
+    pub fn append<B: Allocator>(self, entries: &Entries<B>) -> Chunks<A>
+        requires room { size entries.now ≤ self.room }
+        requires small { size_at self.state self.serial + size entries.now ≤ greatest_size }
+        ensures { (tag : List ℕ) → result ≡ appended self.serial tag entries.now self.state }
     {
         let Ready {
             alloc,
@@ -382,7 +389,7 @@ impl<A: Allocator + Copy> Ready<A> {
             next,
             serial,
         } = self;
-        table.grow(serial, piece);
+        table.grow(serial, entries);
         let _ = waiting.remove(&serial);
         Chunks {
             alloc,
@@ -422,9 +429,10 @@ fn make_room<A: Allocator + Copy>(
     waiting: &mut BTreeSet<u64, A>,
     queue: &mut VecDeque<u64, A>,
     serial: u64,
+    more: usize,
 ) -> Result<(), AllocError>
-    ensures table { (table.new ≡ table.old) ⊎ (table.new ≡ changed_at serial joined table.old) }
-    ensures joined { OnOk result (table.new ≡ changed_at serial joined table.old) }
+    ensures table { (table.new ≡ table.old) ⊎ (table.new ≡ changed_at serial (roomed more) table.old) }
+    ensures roomed { OnOk result (table.new ≡ changed_at serial (roomed more) table.old) }
     ensures waits { OnOk result ((other : ℕ) → contains nat_cmp waiting.new other ≡ cond (is_at (nat_cmp serial) other) true (contains nat_cmp waiting.old other)) }
     ensures listed { IsStrictlySortedBy nat_cmp waiting.old.keys → IsStrictlySortedBy nat_cmp waiting.new.keys }
     ensures refused { OnErr result (waiting.new.keys ≡ waiting.old.keys) }
@@ -434,7 +442,7 @@ fn make_room<A: Allocator + Copy>(
     ensures room { OnOk result (deque_len queue.new + length waiting.old.keys + 1 ≤ deque_capacity queue.new) }
 {
     queue.reserve(waiting.len() + 1)?;
-    table.join(serial)?;
+    table.reserve(serial, more)?;
     let _ = waiting.insert(serial)?;
     Ok(())
 }
@@ -458,6 +466,18 @@ fn pop_queued<A: Allocator + Copy>(table: &Table<A>, queue: &mut VecDeque<u64, A
     while let Some(serial) = queue.pop_front() {
         if is_queued(table, serial) {
             return Some(serial);
+        }
+    }
+    None
+}
+
+// The first queued serial, behind those of chunks that are gone.
+fn next_queued<A: Allocator + Copy>(table: &Table<A>, queue: &VecDeque<u64, A>) -> Option<u64>
+    ensures { result ≡ first_of (filter (passes_at is_queued table.now) queue.now.items) }
+{
+    for serial in queue {
+        if is_queued(table, *serial) {
+            return Some(*serial);
         }
     }
     None

@@ -4,9 +4,11 @@
 mod chunk;
 mod chunks;
 mod limits;
+mod live;
 mod table;
 mod tags;
 
 pub use chunk::{Chunk, Stage};
 pub use chunks::{Chunks, Ready};
 pub use limits::{AppendFault, Limits};
+pub use live::{ChunkFacts, LiveChunks, LiveIter};

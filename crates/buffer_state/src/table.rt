@@ -7,7 +7,7 @@ ghost use Rattle.std.specs.Ordering.{nat_cmp};
 ghost use Rattle.std.specs.BTreeMap.{is_at};
 ghost use Rattle.buffer_state.specs.State.{size, is_staged};
 ghost use Rattle.buffer_state.specs.Steps.{greatest_size};
-ghost use Rattle.buffer_state.specs.Slots.{Slot, slot_at, changed_at, joined, grown, put, fresh, slot_size, slots_size, staged_in, AreBelow};
+ghost use Rattle.buffer_state.specs.Slots.{Slot, slot_at, changed_at, roomed, grown, put, fresh, slot_size, slots_size, staged_in, AreBelow};
 
 use crate::chunk::{Chunk, Stage};
 use crate::tags::TagIndex;
@@ -94,10 +94,7 @@ impl<A: Allocator + Copy> Table<A> {
         ensures ok { OnOk result (self.new ≡ self.old ++ (serial, fresh tag.now entries.now) ∷ []) }
         ensures err { OnErr result (self.new ≡ self.old) }
     {
-        let key = Vec::from_slice(self.alloc, tag)?;
-        let mut held = Entries::new(self.alloc);
-        held.append(entries)?;
-        let chunk = Chunk::new(self.alloc, key, held);
+        let chunk = Chunk::new(self.alloc, tag, entries)?;
         let _ = self.chunks.insert(serial, chunk)?;
         if self.tags.add(self.alloc, tag, serial).is_err() {
             let _ = self.chunks.remove(&serial);
@@ -122,35 +119,33 @@ impl<A: Allocator + Copy> Table<A> {
         }
     }
 
-    /// Puts the entries of a chunk together. An `Err` changes nothing.
-    pub fn join(&mut self, serial: u64) -> Result<(), AllocError>
-        ensures ok { OnOk result (self.new ≡ changed_at serial joined self.old) }
+    /// Makes room in a chunk for so many bytes more. An `Err` changes nothing.
+    pub fn reserve(&mut self, serial: u64, more: usize) -> Result<(), AllocError>
+        ensures ok { OnOk result (self.new ≡ changed_at serial (roomed more) self.old) }
         ensures err { OnErr result (self.new ≡ self.old) }
     {
         let Some(chunk) = self.chunks.get_mut(&serial) else {
             return Ok(());
         };
-        chunk.join(self.alloc)?;
+        chunk.reserve(more)?;
         Ok(())
     }
 
-    /// Adds entries to a chunk, apart from the others.
-    pub fn grow(&mut self, serial: u64, piece: Entries<A>)
-        requires ready { IsSomeAnd (slot_at self.old serial) (λ slot. (slot.apart ≡ 0) × (size slot.chunk.entries + size piece ≤ greatest_size)) }
-        ensures { self.new ≡ changed_at serial (grown piece) self.old }
+    /// Adds entries to a chunk that has room for them.
+    pub fn grow<B: Allocator>(&mut self, serial: u64, entries: &Entries<B>)
+        requires ready { IsSomeAnd (slot_at self.old serial) (λ slot. (size entries.now ≤ slot.room) × (slot_size slot + size entries.now ≤ greatest_size)) }
+        ensures { self.new ≡ changed_at serial (grown entries.now) self.old }
     {
-        let added = piece.as_bytes().len();
         let Some(chunk) = self.chunks.get_mut(&serial) else {
             return;
         };
-        chunk.grow(piece);
-        self.total += added as u128;
+        chunk.grow(entries);
+        self.total += entries.as_bytes().len() as u128;
     }
 
     /// Puts a chunk into another stage than staged.
     pub fn put(&mut self, serial: u64, stage: Stage)
-        requires ready { IsSomeAnd (slot_at self.old serial) (λ slot. slot.apart ≡ 0) }
-        requires stage { is_staged stage ≡ false }
+        requires { is_staged stage ≡ false }
         ensures { self.new ≡ changed_at serial (put stage) self.old }
     {
         let Some(chunk) = self.chunks.get_mut(&serial) else {

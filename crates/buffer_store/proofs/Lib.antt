@@ -1,3 +1,6 @@
 pub mod Claims
 pub mod ShortTags
-pub mod Tellings
+pub mod Logs
+pub mod Told
+pub mod Plans
+pub mod Lasting

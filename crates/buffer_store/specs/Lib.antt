@@ -1,3 +1,6 @@
 pub mod Buffers
+pub mod Durability
+pub mod Calls
 pub mod Refusals
 pub mod Laws
+pub mod Logs

@@ -3,9 +3,15 @@
 
 mod buffer;
 mod fault;
+mod growing;
 mod laws;
-mod telling;
+mod log;
+mod opening;
+mod renewal;
+mod settings;
+mod writing;
 
 pub use buffer::{Appended, Buffer};
 pub use fault::BufferFault;
-pub use laws::recovers_what_is_sure;
+pub use laws::{queued_lasts, recovers_what_is_sure};
+pub use settings::{RENEWED_PAST_IN_FILES, RENEWED_PAST_IN_MEMORY, Settings};

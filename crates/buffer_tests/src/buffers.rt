@@ -1,5 +1,5 @@
 use buffer_state::{Limits, Stage};
-use buffer_store::{Buffer, BufferFault};
+use buffer_store::{Buffer, BufferFault, RENEWED_PAST_IN_MEMORY, Settings};
 use disk_files::{Dir, Fuse, Keep, MemoryDir};
 use event_modes::Entries;
 use std::alloc::{AllocError, Global};
@@ -22,12 +22,19 @@ fn entries(alloc: Global, count: usize) -> Result<Entries<Global>, AllocError> {
     Ok(entries)
 }
 
+fn settings(limits: Limits) -> Settings {
+    Settings {
+        limits,
+        renewed_past: RENEWED_PAST_IN_MEMORY,
+    }
+}
+
 fn open<D: Dir + Drop>(
     alloc: Global,
     dir: D,
     limits: Limits,
 ) -> Result<Buffer<D, Global>, BufferFault> {
-    match Buffer::open(alloc, dir, b"buf", limits) {
+    match Buffer::open(alloc, dir, b"buf", settings(limits)) {
         Ok(buffer) => Ok(buffer),
         Err((fault, _dir)) => Err(fault),
     }
@@ -49,11 +56,11 @@ fn append<D: Dir>(
 // What a buffer leaves whose first append fails after so many calls of the folder; none where it doesn't.
 fn torn_at(alloc: Global, passes: u64) -> Result<Option<MemoryDir<Global>>, BufferFault> {
     let fuse = Fuse::once(MemoryDir::new(alloc), passes);
-    let Ok(mut buffer) = Buffer::open(alloc, fuse, b"buf", WIDE) else {
+    let Ok(mut buffer) = Buffer::open(alloc, fuse, b"buf", settings(WIDE)) else {
         return Ok(None);
     };
     let first = append(alloc, &mut buffer, 1);
-    if first != Err(BufferFault::Fault) || buffer.chunks().next() != 0 {
+    if first != Err(BufferFault::Fault) || buffer.chunks().next_serial() != 0 {
         return Ok(None);
     }
     if append(alloc, &mut buffer, 1) != Err(BufferFault::Failed) {
@@ -92,7 +99,7 @@ fn steps_and_opening_again(rt: HostRuntime) -> Result<(), BufferFault> {
     assert!(rt; buffer.claim() == Some(0) && buffer.claim().is_none());
     let mut buffer = open(alloc, buffer.into_dir().stop(Keep::Least), WIDE)?;
     assert!(rt; buffer.chunks().stage(0) == Some(Stage::Queued));
-    assert!(rt; buffer.chunks().next() == 1);
+    assert!(rt; buffer.chunks().next_serial() == 1);
     assert!(rt; buffer.claim() == Some(0));
     buffer.purge(0)?;
     assert!(rt; buffer.chunks().stage(0).is_none());
@@ -113,7 +120,7 @@ fn oldest_goes_first(rt: HostRuntime) -> Result<(), BufferFault> {
     assert!(rt; buffer.drop_oldest() == Ok(0) && buffer.drop_oldest() == Ok(1));
     assert!(rt; buffer.drop_oldest() == Err(BufferFault::Gone));
     let buffer = open(alloc, buffer.into_dir().stop(Keep::Greatest), WIDE)?;
-    assert!(rt; buffer.chunks().next() == 2 && buffer.chunks().stage(1).is_none());
+    assert!(rt; buffer.chunks().next_serial() == 2 && buffer.chunks().stage(1).is_none());
     Ok(())
 }
 
@@ -125,7 +132,9 @@ fn renewed(rt: HostRuntime) -> Result<(), BufferFault> {
     buffer.enqueue(0)?;
     assert!(rt; !buffer.wants_renewal());
     buffer.renew()?;
-    assert!(rt; buffer.chunks().stage(0) == Some(Stage::Queued) && buffer.chunks().next() == 1);
+    assert!(rt;
+        buffer.chunks().stage(0) == Some(Stage::Queued) && buffer.chunks().next_serial() == 1
+    );
     let mut dir = buffer.into_dir();
     let names = dir.list(alloc)?;
     assert!(rt; names.len() == 1);
@@ -155,9 +164,9 @@ fn limits(rt: HostRuntime) -> Result<(), BufferFault> {
 fn sync_that_fails(rt: HostRuntime) -> Result<(), BufferFault> {
     let alloc = rt.alloc();
     let mut least = torn(alloc, Keep::Least)?;
-    assert!(rt; least.chunks().next() == 0 && append(alloc, &mut least, 1) == Ok(0));
+    assert!(rt; least.chunks().next_serial() == 0 && append(alloc, &mut least, 1) == Ok(0));
     let greatest = torn(alloc, Keep::Greatest)?;
-    assert!(rt; greatest.chunks().next() == 1);
+    assert!(rt; greatest.chunks().next_serial() == 1);
     assert!(rt; greatest.chunks().stage(0) == Some(Stage::Staged));
     Ok(())
 }

@@ -130,7 +130,7 @@ fn ready(
     let Some(Stage::Staged) = chunks.stage(serial) else {
         return Err(AllocError);
     };
-    let Ok(ready) = chunks.ready(serial) else {
+    let Ok(ready) = chunks.ready(serial, 0) else {
         return Err(AllocError);
     };
     match piece {

@@ -143,7 +143,7 @@ fn a_renewed_journal_stands_alone(rt: HostRuntime) -> Result<(), Fail> {
     append(alloc, &mut dir)?;
     let opened = Journal::open(alloc, &mut dir, PATH)?;
     let mut journal = opened.journal;
-    assert!(rt; !journal.wants_renewal(0));
+    assert!(rt; !journal.wants_renewal(0, 268_435_456));
     journal.renew(&mut dir, &opened.chunks)?;
     assert_eq!(rt;
         generations(alloc, &mut dir)?.as_slice(),

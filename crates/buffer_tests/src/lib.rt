@@ -8,4 +8,12 @@ mod chunks;
 #[cfg(test)]
 mod generations;
 #[cfg(test)]
+mod outlines;
+#[cfg(test)]
 mod records;
+#[cfg(test)]
+mod shown;
+#[cfg(test)]
+mod stages;
+#[cfg(test)]
+mod stops;

@@ -6,11 +6,13 @@
 //!     buffer_trial fill FOLDER COUNT SIZE    appends so many entries of so many bytes
 //!     buffer_trial churn FOLDER COUNT SIZE   appends so many, and queues, claims and purges each at once
 //!     buffer_trial open FOLDER               prints how many bytes of entries the live chunks have
+//!     buffer_trial stage FOLDER COUNT SIZE EACH      stages so many entries of so many bytes, with one sync for each so many
+//!     buffer_trial queue COUNT               stages so many chunks of one tag in memory, and queues them
 #![tactic(auto)]
 
 use buffer_state::Limits;
-use buffer_store::Buffer;
-use disk_files::RealDir;
+use buffer_store::{Buffer, RENEWED_PAST_IN_FILES, Settings};
+use disk_files::{Dir, MemoryDir, RealDir};
 use event_modes::Entries;
 use std::alloc::Global;
 use std::process::ExitCode;
@@ -46,12 +48,23 @@ fn entry_of(rt: &HostRuntime, number: u64) -> io::Result<Entries<Global>> {
 
 // The buffer in the folder.
 fn open<'a>(rt: &'a HostRuntime, folder: &str) -> io::Result<Buffer<Folder<'a>, Global>> {
-    let limits = Limits {
-        chunk: 8_388_608,
-        total: 536_870_912,
+    let settings = Settings {
+        limits: Limits {
+            chunk: 8_388_608,
+            total: 536_870_912,
+        },
+        renewed_past: RENEWED_PAST_IN_FILES,
     };
-    let dir = RealDir::new(rt, rt.alloc(), folder)?;
-    match Buffer::open(rt.alloc(), dir, b"trial", limits) {
+    open_with(rt, RealDir::new(rt, rt.alloc(), folder)?, settings)
+}
+
+// The buffer in this folder.
+fn open_with<D: Dir + Drop>(
+    rt: &HostRuntime,
+    dir: D,
+    settings: Settings,
+) -> io::Result<Buffer<D, Global>> {
+    match Buffer::open(rt.alloc(), dir, b"trial", settings) {
         Ok(buffer) => Ok(buffer),
         Err((fault, _)) => {
             println!(rt; "fault {fault}")?;
@@ -61,10 +74,16 @@ fn open<'a>(rt: &'a HostRuntime, folder: &str) -> io::Result<Buffer<Folder<'a>, 
 }
 
 // The numbers of all entries in live chunks.
-fn numbers(rt: &HostRuntime, buffer: &Buffer<Folder<'_>, Global>) -> io::Result<Vec<u64>> {
+fn numbers(rt: &HostRuntime, buffer: &mut Buffer<Folder<'_>, Global>) -> io::Result<Vec<u64>> {
+    let mut serials = Vec::new(rt.alloc());
+    for facts in buffer.chunks().iter() {
+        serials.push(facts.serial)?;
+    }
     let mut numbers = Vec::new(rt.alloc());
-    for (_, chunk) in buffer.chunks().live() {
-        let entries = chunk.copied(rt.alloc())?;
+    for serial in &serials {
+        let Ok(entries) = buffer.body(*serial) else {
+            return Err(io::ErrorKind::Other.into());
+        };
         numbers_in(entries.as_bytes(), &mut numbers)?;
     }
     Ok(numbers)
@@ -97,7 +116,7 @@ fn append(
 
 fn append_all(rt: &HostRuntime, folder: &str) -> io::Result<u8> {
     let mut buffer = open(rt, folder)?;
-    let first = match numbers(rt, &buffer)?.iter().max() {
+    let first = match numbers(rt, &mut buffer)?.iter().max() {
         Some(last) => last.saturating_add(1),
         None => 0,
     };
@@ -110,8 +129,8 @@ fn append_all(rt: &HostRuntime, folder: &str) -> io::Result<u8> {
 }
 
 fn list(rt: &HostRuntime, folder: &str) -> io::Result<u8> {
-    let buffer = open(rt, folder)?;
-    for number in &numbers(rt, &buffer)? {
+    let mut buffer = open(rt, folder)?;
+    for number in &numbers(rt, &mut buffer)? {
         println!(rt; "{number}")?;
     }
     Ok(0)
@@ -165,12 +184,60 @@ fn churn(rt: &HostRuntime, folder: &str, count: u32, size: u32) -> io::Result<u8
     Ok(0)
 }
 
+// Stages entries, and gives the serial of their chunk, if the buffer took them.
+fn stage<D: Dir>(buffer: &mut Buffer<D, Global>, entries: &Entries<Global>) -> Option<u64> {
+    if entries.count() == 0 {
+        return None;
+    }
+    match buffer.stage(b"trial", entries) {
+        Ok(appended) => Some(appended.serial),
+        Err(_) => None,
+    }
+}
+
+fn stage_all(rt: &HostRuntime, folder: &str, counts: [u32; 3]) -> io::Result<u8> {
+    let [count, size, each] = counts;
+    let mut buffer = open(rt, folder)?;
+    let entries = sized_entry(rt, size)?;
+    let each = each.max(1);
+    for number in 0..count {
+        if stage(&mut buffer, &entries).is_none() {
+            return Ok(1);
+        }
+        if number % each == each - 1 && buffer.sync().is_err() {
+            return Ok(1);
+        }
+    }
+    Ok(0)
+}
+
+// Stages so many entries, each in a chunk of its own, and queues the chunks.
+fn queue_all(rt: &HostRuntime, count: u32) -> io::Result<u8> {
+    let settings = Settings {
+        limits: Limits {
+            chunk: ENTRY_LEN as u64,
+            total: u64::MAX,
+        },
+        renewed_past: u64::MAX,
+    };
+    let mut buffer = open_with(rt, MemoryDir::new(rt.alloc()), settings)?;
+    let entries = entry_of(rt, 0)?;
+    for _ in 0..count {
+        if stage(&mut buffer, &entries).is_none() {
+            return Ok(1);
+        }
+    }
+    for serial in 0..u64::from(count) {
+        if buffer.enqueue(serial).is_err() {
+            return Ok(1);
+        }
+    }
+    Ok(0)
+}
+
 fn open_again(rt: &HostRuntime, folder: &str) -> io::Result<u8> {
     let buffer = open(rt, folder)?;
-    let mut total = 0u64;
-    for (_, chunk) in buffer.chunks().live() {
-        total = total.saturating_add(chunk.size() as u64);
-    }
+    let total = buffer.chunks().total();
     println!(rt; "{total}")?;
     Ok(0)
 }
@@ -181,6 +248,16 @@ fn answer(rt: &HostRuntime) -> io::Result<u8> {
         [_, word, folder] if word.as_str() == "append" => append_all(rt, folder),
         [_, word, folder] if word.as_str() == "list" => list(rt, folder),
         [_, word, folder] if word.as_str() == "open" => open_again(rt, folder),
+        [_, word, count] if word.as_str() == "queue" => match count.parse() {
+            Ok(count) => queue_all(rt, count),
+            Err(_) => Ok(2),
+        },
+        [_, word, folder, count, size, each] if word.as_str() == "stage" => {
+            match (count.parse(), size.parse(), each.parse()) {
+                (Ok(count), Ok(size), Ok(each)) => stage_all(rt, folder, [count, size, each]),
+                _ => Ok(2),
+            }
+        }
         [_, word, folder, count, size] => match (count.parse(), size.parse()) {
             (Ok(count), Ok(size)) if word.as_str() == "fill" => fill(rt, folder, count, size),
             (Ok(count), Ok(size)) if word.as_str() == "churn" => churn(rt, folder, count, size),

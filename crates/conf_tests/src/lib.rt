@@ -1,4 +1,4 @@
-//! Tests of configurations: their text and values, a relay that is read from one, tag patterns, and ways.
+//! Tests of configurations: their text and values, a relay that is read from one, and tag patterns.
 #![tactic(auto)]
 
 #[cfg(test)]
@@ -11,5 +11,3 @@ mod patterns;
 mod relays;
 #[cfg(test)]
 mod values;
-#[cfg(test)]
-mod ways;

@@ -1,7 +1,9 @@
 use std::alloc::Global;
 use std::process::Abort;
 use std::test::Fail;
-use tag_pattern::{Pattern, PatternError, PatternItem, Plain, Tag, TagError, apart, fits, matches};
+use tag_pattern::{
+    Pattern, PatternError, PatternItem, Plain, Prefix, Tag, TagError, apart, fits, matches,
+};
 
 fn one(rt: &(impl Abort + AllocGlobal), text: &str) -> Result<Plain<Global>, Fail> {
     let mut plains = Pattern::read(rt.alloc(), text)?;
@@ -160,6 +162,30 @@ fn lengths_of_tags(rt: HostRuntime) -> Result<(), Fail> {
     Ok(())
 }
 
+// What is no prefix, and what tags have in front.
+#[test]
+fn prefixes_of_tags(rt: HostRuntime) -> Result<(), Fail> {
+    let alloc = rt.alloc();
+    let long = [b'a'; 65];
+    let wrong: [&[u8]; 3] = [b"a*", b"", &long];
+    for text in wrong {
+        let found = match Prefix::read(alloc, text) {
+            Ok(_) => panic!(rt; "a prefix"),
+            Err(fault) => format!(in alloc; "{fault}")?,
+        };
+        assert!(rt; found.as_str() == "P5");
+    }
+    let tag = Tag::read(alloc, b"a")?;
+    let prefixed = tag.prefixed(alloc, &Prefix::read(alloc, b"x.y")?)?;
+    assert_eq!(rt; prefixed.as_bytes(), b"x.y.a".as_slice());
+    let longest = Tag::read(alloc, &[b'.'; 1_024])?;
+    match longest.prefixed(alloc, &Prefix::read(alloc, b"x")?) {
+        Ok(_) => panic!(rt; "too long"),
+        Err(fault) => assert!(rt; format!(in alloc; "{fault}")?.as_str() == "P1"),
+    }
+    Ok(())
+}
+
 // Two patterns, whether the first fits the second, and whether they are apart.
 static PAIRS: [(&str, &str, bool, bool); 12] = [
     ("a.*", "a.**", true, false),
@@ -176,13 +202,25 @@ static PAIRS: [(&str, &str, bool, bool); 12] = [
     ("**", "**.**", true, false),
 ];
 
+// Whether the first pattern fits the second, and whether they are apart, the one way and the other.
+fn compared(
+    rt: &(impl Abort + AllocGlobal),
+    left: &str,
+    right: &str,
+) -> Result<(bool, bool, bool), Fail> {
+    let (first, second) = (one(rt, left)?, one(rt, right)?);
+    let fit = fits(&first, &second);
+    Ok((fit, apart(&first, &second), apart(&second, &first)))
+}
+
 #[test]
 fn pairs_of_patterns(rt: HostRuntime) -> Result<(), Fail> {
-    for (left, right, fit, far) in PAIRS {
-        let (first, second) = (one(&rt, left)?, one(&rt, right)?);
-        assert_eq!(rt; fits(&first, &second), fit, "{left} fits {right}");
-        assert_eq!(rt; apart(&first, &second), far, "{left} apart from {right}");
-        assert_eq!(rt; apart(&second, &first), far, "{right} apart from {left}");
+    for (left, right, fit, far) in &PAIRS {
+        assert_eq!(rt;
+            compared(&rt, left, right)?,
+            (*fit, *far, *far),
+            "{left} {right}"
+        );
     }
     Ok(())
 }

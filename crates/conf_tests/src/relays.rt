@@ -87,7 +87,32 @@ fn a_source(rt: HostRuntime) -> Result<(), Fail> {
     assert_eq!(rt; source.port, 24224);
     assert_eq!(rt; source.bind.as_str(), "0.0.0.0");
     assert_eq!(rt; source.label.0, 0);
+    assert!(rt; source.prefix.is_none());
     assert_eq!(rt; source.line, 1);
+    Ok(())
+}
+
+// A source's prefix, and a value that is none.
+#[test]
+fn a_prefixed_source(rt: HostRuntime) -> Result<(), Fail> {
+    let relay = relay(
+        &rt,
+        "<source>\n  @type forward\n  add_tag_prefix edge.a\n</source>\n",
+    )?;
+    let [source] = relay.sources.as_slice() else {
+        panic!(rt; "not one source");
+    };
+    match &source.prefix {
+        Some(prefix) => assert_eq!(rt; prefix.as_bytes(), b"edge.a".as_slice()),
+        None => panic!(rt; "no prefix"),
+    }
+    match read(
+        &rt,
+        "<source>\n  @type forward\n  add_tag_prefix a*\n</source>\n",
+    )? {
+        Ok(_relay) => panic!(rt; "read"),
+        Err(error) => assert_eq!(rt; format!(in rt.alloc(); "{error}")?.as_str(), "G3 line 3"),
+    }
     Ok(())
 }
 

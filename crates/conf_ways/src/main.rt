@@ -9,7 +9,7 @@ use std::alloc::Global;
 use std::io::Read;
 use std::process::ExitCode;
 use std::{env, io};
-use tag_pattern::Tag;
+use tag_pattern::{Tag, TagError};
 
 // The status of a configuration with a fault, and of one that can't be read.
 const FAULT: u8 = 2;
@@ -53,6 +53,19 @@ fn print_output(rt: &HostRuntime, output: &Output<Global>) -> io::Result<()> {
     }
 }
 
+// The tag that an event of this tag has behind the source.
+fn entered_tag(
+    rt: &HostRuntime,
+    source: &Source<Global>,
+    word: &str,
+) -> Result<Tag<Global>, TagError> {
+    let tag = Tag::read(rt.alloc(), word.as_bytes())?;
+    match &source.prefix {
+        Some(prefix) => tag.prefixed(rt.alloc(), prefix),
+        None => Ok(tag),
+    }
+}
+
 // `PORT TAG`, and then each output in the order first reached, ` loop` or ` nowhere`.
 fn print_way(
     rt: &HostRuntime,
@@ -62,7 +75,7 @@ fn print_way(
     word: &str,
 ) -> io::Result<()> {
     let port = source.port;
-    let Ok(tag) = Tag::read(rt.alloc(), word.as_bytes()) else {
+    let Ok(tag) = entered_tag(rt, source, word) else {
         return println!(rt; "{port} {word} is no tag");
     };
     print!(rt; "{port} {word}")?;

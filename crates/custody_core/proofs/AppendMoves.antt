@@ -6,6 +6,7 @@ use Rattle.custody_store.specs.declared.chunk.Stage.TheVariants.{Staged}
 use Rattle.custody_store.specs.Buffers.{Event, Chunk, BufferState, with_chunk, CanTake, chunk_with, next_after, appended_to}
 use Rattle.relay_net.specs.Network.{Network}
 use Rattle.custody_steps.specs.World.{World, with_buffer}
+use Rattle.custody_core.proofs.Borne.{Origin, Bears}
 use Rattle.custody_core.proofs.Serials.{event_of, at_serial}
 use Rattle.custody_core.proofs.Safe.{Ranking, KeepsAt, IsHeldFrom, IsSafe, changed, safe_here}
 use Rattle.custody_core.proofs.Ranked.{Labelling, IsSentOn, IsIdOf, IsRanked}
@@ -30,7 +31,7 @@ record Takes {A : Type 0} (net : Network A) (labelled : Labelling) (ranks : Rank
 -- What an append leaves.
 pub record Appended {A : Type 0} (net : Network A) (labelled : Labelling) (ranks : Ranking) (clock : ℕ) (w : World) (place buffer : ℕ) (tag : List ℕ) (entries : List (List ℕ)) (change : BufferState → BufferState) : Type 0 where
   pub ranked : IsRanked net labelled ranks clock (with_buffer w place buffer change)
-  pub safe : KeepsAt net place buffer → (rank : ℕ) (entry : List ℕ) → Contains entries entry → IsSafe net ranks (changed w.buffers place buffer change) rank (event_of tag entry)
+  pub safe : KeepsAt net place buffer → (rank : ℕ) (origin : Origin) → Bears net origin place buffer tag → Contains entries origin.entry → IsSafe net ranks (changed w.buffers place buffer change) rank origin
 
 module _ {A : Type 0} (net : Network A) (labelled : Labelling) (ranks : Ranking) (clock : ℕ) (w : World) (is : IsRanked net labelled ranks clock w) (place buffer : ℕ) (tag : List ℕ) (entries : List (List ℕ)) (serial : ℕ) (new : Chunk) (next : ℕ)
     (takes : Takes net labelled ranks clock place buffer (w.buffers place buffer) tag entries serial new next) (change : BufferState → BufferState) (is_put : change (w.buffers place buffer) ≡ put (w.buffers place buffer) serial new next) where
@@ -67,7 +68,7 @@ module _ {A : Type 0} (net : Network A) (labelled : Labelling) (ranks : Ranking)
     time = omega arith;
     elsewhere = λ p b other s. refl;
     sink = λ event inside. rw is_put inside;
-    held = λ rank event le keeps held. safe_here net ranks w.buffers place buffer change rank event keeps (take_held rank event held);
+    held = λ rank origin tag le borne keeps held. safe_here net ranks w.buffers place buffer change rank origin tag borne keeps (take_held rank (event_of tag origin.entry) held);
     ids = λ keeps other t e id. (take_ids other t e id, refl);
   }
 
@@ -88,8 +89,8 @@ module _ {A : Type 0} (net : Network A) (labelled : Labelling) (ranks : Ranking)
               place buffer other now now refl (like_itself now) (λ e. e) (is.chunks place buffer other now (sym apart.1 ∙ there))
         ])
         is;
-    safe = λ keeps rank entry inside. safe_here net ranks w.buffers place buffer change rank (event_of tag entry) keeps (elim (now_at serial) [
-      | inl here ↦ record { serial = serial; chunk = new; there = here.1; inside = record { tag = takes.tagged; entry = takes.has entry inside }; ranked = inl takes.staged }
+    safe = λ keeps rank origin borne inside. safe_here net ranks w.buffers place buffer change rank origin tag borne keeps (elim (now_at serial) [
+      | inl here ↦ record { serial = serial; chunk = new; there = here.1; inside = record { tag = takes.tagged; entry = takes.has origin.entry inside }; ranked = inl takes.staged }
       | inr apart ↦ absurd (apart.0 refl)
     ]);
   }

@@ -7,9 +7,10 @@ use Rattle.custody_store.specs.declared.chunk.Stage.TheVariants.{Staged}
 use Rattle.custody_store.specs.Buffers.{Event, Chunk, BufferState, IsInChunk, with_chunk}
 use Rattle.relay_net.specs.Network.{Network}
 use Rattle.custody_steps.specs.World.{World, with_buffer}
+use Rattle.custody_core.proofs.Borne.{Origin, Bears}
 use Rattle.custody_core.proofs.Serials.{event_of, at_serial}
 use Rattle.custody_core.proofs.Safe.{Buffers, Ranking, KeepsAt, IsHeldFrom, IsSafe, changed, safe_below, safe_changed, safe_here}
-use Rattle.custody_core.proofs.Ranked.{Labelling, IsIdOf, AreSafe, IsRanked}
+use Rattle.custody_core.proofs.Ranked.{Labelling, IsIdOf, AreSafeOnward, IsRanked}
 use Rattle.custody_core.proofs.Going.{GoesOn, IsLike, like_itself, Changes, change_goes, chunk_goes, buffer_goes}
 
 -- a chunk has the events of one that it is like
@@ -78,7 +79,7 @@ module _ {A : Type 0} (net : Network A) (labelled : Labelling) (ranks : Ranking)
       time = omega arith;
       elsewhere = λ p b other s. refl;
       sink = λ event inside. inside;
-      held = λ rank event le keeps held. safe_here net ranks w.buffers place buffer marked rank event keeps (mark_held rank event held);
+      held = λ rank origin tag le borne keeps held. safe_here net ranks w.buffers place buffer marked rank origin tag borne keeps (mark_held rank (event_of tag origin.entry) held);
       ids = λ keeps other tag entries id. (mark_ids other tag entries id, refl);
     }
 
@@ -89,7 +90,7 @@ module _ {A : Type 0} (net : Network A) (labelled : Labelling) (ranks : Ranking)
     mark_goes = change_goes net labelled ranks clock w ranks clock place buffer marked mark_changes
 
     -- the mark says that the chunk has evidence only where its events are safe elsewhere
-    pub mark_ranked : (KeepsAt net place buffer → (mark chunk).evidence ≡ true → ((mark chunk).stage ≢ Staged) × AreSafe net ranks clock w.buffers (ranks place buffer serial + 1) chunk.tag chunk.entries)
+    pub mark_ranked : (KeepsAt net place buffer → (mark chunk).evidence ≡ true → ((mark chunk).stage ≢ Staged) × AreSafeOnward net ranks clock w.buffers (ranks place buffer serial + 1) place buffer chunk.tag chunk.entries)
         → IsRanked net labelled ranks clock (with_buffer w place buffer marked)
     mark_ranked evident = buffer_goes net labelled ranks clock w ranks clock place buffer marked mark_changes (put_below (λ c. Some (mark c)))
         (λ other now there. elim (put_at (λ c. Some (mark c)) other) [
@@ -100,14 +101,14 @@ module _ {A : Type 0} (net : Network A) (labelled : Labelling) (ranks : Ranking)
                 ranked = λ keeps moved. known.ranked keeps (λ e. moved (like.still e));
                 evident = λ keeps yes. (let h = evident keeps yes in
                     let less = known.ranked keeps (λ e. h.0 (like.still e)) in
-                    (h.0, λ entry inside. rw like.tag (mark_goes.safe (ranks place buffer serial + 1) (event_of chunk.tag entry) (omega arith) (h.1 entry (rw like.entries at inside)))));
+                    (h.0, λ origin borne inside. mark_goes.safe (ranks place buffer serial + 1) origin (omega arith) (h.1 origin (rw like.tag at borne) (rw like.entries at inside))));
               }))
           | inr apart ↦ chunk_goes net labelled ranks clock w.buffers ranks clock after mark_goes place buffer other now now refl (like_itself now) (λ e. e) (is.chunks place buffer other now (sym apart.1 ∙ there))
         ])
         is
 
   -- The chunk goes, which no buffer that keeps allows before its events are safe elsewhere.
-  module _ (delivered : KeepsAt net place buffer → (chunk.stage ≢ Staged) × AreSafe net ranks clock w.buffers (ranks place buffer serial + 1) chunk.tag chunk.entries) where
+  module _ (delivered : KeepsAt net place buffer → (chunk.stage ≢ Staged) × AreSafeOnward net ranks clock w.buffers (ranks place buffer serial + 1) place buffer chunk.tag chunk.entries) where
     abbrev gone : BufferState → BufferState
     gone = put (λ c. None)
 
@@ -115,32 +116,32 @@ module _ {A : Type 0} (net : Network A) (labelled : Labelling) (ranks : Ranking)
     without = changed w.buffers place buffer gone
 
     -- What is held above the chunk's own rank is held elsewhere.
-    above_own : (rank : ℕ) (event : Event) → KeepsAt net place buffer → ranks place buffer serial < rank → IsHeldFrom (ranks place buffer) rank before event → IsSafe net ranks without rank event
-    above_own rank event keeps less held = elim (put_at (λ c. None) held.serial) [
+    above_own : (rank : ℕ) (origin : Origin) (tag : List ℕ) → Bears net origin place buffer tag → KeepsAt net place buffer → ranks place buffer serial < rank → IsHeldFrom (ranks place buffer) rank before (event_of tag origin.entry) → IsSafe net ranks without rank origin
+    above_own rank origin tag borne keeps less held = elim (put_at (λ c. None) held.serial) [
       | inl here ↦ absurd (let same : held.chunk ≡ chunk = same_Some held.chunk chunk (sym held.there ∙ ap before.chunks here.0 ∙ at) in
           elim held.ranked [
             | inl staged ↦ (delivered keeps).0 (ap (λ (c : Chunk). c.stage) (sym same) ∙ staged)
             | inr high ↦ (let high_here : rank ≤ ranks place buffer serial = rw here.0 at high in omega arith)
           ])
-      | inr there ↦ safe_here net ranks w.buffers place buffer gone rank event keeps (record { serial = held.serial; chunk = held.chunk; there = there.1 ∙ held.there; inside = held.inside; ranked = held.ranked })
+      | inr there ↦ safe_here net ranks w.buffers place buffer gone rank origin tag borne keeps (record { serial = held.serial; chunk = held.chunk; there = there.1 ∙ held.there; inside = held.inside; ranked = held.ranked })
     ]
 
-    safe_above : (rank : ℕ) (event : Event) → ranks place buffer serial < rank → IsSafe net ranks w.buffers rank event → IsSafe net ranks without rank event
-    safe_above rank event less safe = safe_changed net ranks ranks w.buffers place buffer gone rank event (λ p b other s. refl) (λ inside. inside) (λ keeps held. above_own rank event keeps less held) safe
+    safe_above : (rank : ℕ) (origin : Origin) → ranks place buffer serial < rank → IsSafe net ranks w.buffers rank origin → IsSafe net ranks without rank origin
+    safe_above rank origin less safe = safe_changed net ranks ranks w.buffers place buffer gone rank origin (λ p b other s. refl) (λ event inside. inside) (λ tag borne keeps held. above_own rank origin tag borne keeps less held) safe
 
     -- an event that was held in the buffer is safe still
-    gone_held : (rank : ℕ) (event : Event) → KeepsAt net place buffer → IsHeldFrom (ranks place buffer) rank before event → IsSafe net ranks without rank event
-    gone_held rank event keeps held = elim (put_at (λ c. None) held.serial) [
+    gone_held : (rank : ℕ) (origin : Origin) (tag : List ℕ) → Bears net origin place buffer tag → KeepsAt net place buffer → IsHeldFrom (ranks place buffer) rank before (event_of tag origin.entry) → IsSafe net ranks without rank origin
+    gone_held rank origin tag borne keeps held = elim (put_at (λ c. None) held.serial) [
       | inl here ↦ (let same : held.chunk ≡ chunk = same_Some held.chunk chunk (sym held.there ∙ ap before.chunks here.0 ∙ at) in
           let d = delivered keeps in
-          let inside : IsInChunk chunk event = rw same at held.inside in
-          let old : IsSafe net ranks w.buffers (ranks place buffer serial + 1) event = (let e : event_of chunk.tag event.entry ≡ event = ap (λ (t : List ℕ). event_of t event.entry) inside.tag in rw (← e) (d.1 event.entry inside.entry)) in
+          let inside : IsInChunk chunk (event_of tag origin.entry) = rw same at held.inside in
+          let old : IsSafe net ranks w.buffers (ranks place buffer serial + 1) origin = d.1 origin (rw (← inside.tag) at borne) inside.entry in
           elim held.ranked [
             | inl staged ↦ absurd (d.0 (ap (λ (c : Chunk). c.stage) (sym same) ∙ staged))
             | inr high ↦ (let high_here : rank ≤ ranks place buffer serial = rw here.0 at high in
-                safe_below net ranks without (ranks place buffer serial + 1) rank event (omega arith) (safe_above (ranks place buffer serial + 1) event (omega arith) old))
+                safe_below net ranks without (ranks place buffer serial + 1) rank origin (omega arith) (safe_above (ranks place buffer serial + 1) origin (omega arith) old))
           ])
-      | inr there ↦ safe_here net ranks w.buffers place buffer gone rank event keeps (record { serial = held.serial; chunk = held.chunk; there = there.1 ∙ held.there; inside = held.inside; ranked = held.ranked })
+      | inr there ↦ safe_here net ranks w.buffers place buffer gone rank origin tag borne keeps (record { serial = held.serial; chunk = held.chunk; there = there.1 ∙ held.there; inside = held.inside; ranked = held.ranked })
     ]
 
     gone_changes : Changes net labelled ranks clock w ranks clock place buffer gone
@@ -148,7 +149,7 @@ module _ {A : Type 0} (net : Network A) (labelled : Labelling) (ranks : Ranking)
       time = omega arith;
       elsewhere = λ p b other s. refl;
       sink = λ event inside. inside;
-      held = λ rank event le keeps held. gone_held rank event keeps held;
+      held = λ rank origin tag le borne keeps held. gone_held rank origin tag borne keeps held;
       ids = λ keeps other tag entries id. (
         record {
           ranked = id.ranked;

@@ -17,7 +17,8 @@ use Rattle.custody_steps.specs.Steps.{Allowed, effect, Forwards, Stores, DropsOl
 use Rattle.step_lines.specs.declared.step.ChunkName.{ChunkName}
 use Rattle.step_lines.specs.declared.step.Step.TheVariants as step
 use Rattle.custody_core.proofs.Serials.{event_of, some_and}
-use Rattle.custody_core.proofs.Lists.{get-map, map-contains}
+use Rattle.routed_tags.specs.Routed.{SendsTo}
+use Rattle.custody_core.proofs.Lists.{get-map, get-contains, map-contains}
 use Rattle.custody_core.proofs.Safe.{Ranking, KeepsAt}
 use Rattle.custody_core.proofs.Ranked.{Labelling, IsTaken, IsKnownDelivery, IsIdOf, IsRanked}
 use Rattle.custody_core.proofs.Going.{IsLike}
@@ -80,10 +81,12 @@ written_at net labelled ranks clock w is name P place chunk is_place at claimed 
     (record { tag = refl; entries = refl; staged = λ e. e; still = λ e. e })
     (λ keeps yes. (
       λ e. (let g : Claimed ≡ Staged = sym claimed ∙ e in cc),
-      λ entry inside. record {
+      λ origin borne inside. record {
         place = place;
         buffer = name.buffer;
-        held = inl (rw sink_is (Contains-append_right (w.buffers place name.buffer).sink (events_of chunk.tag chunk.entries) (event_of chunk.tag entry) (map-contains (λ e. event_of chunk.tag e) chunk.entries entry inside)));
+        tag = chunk.tag;
+        borne = borne;
+        held = inl (rw sink_is (Contains-append_right (w.buffers place name.buffer).sink (events_of chunk.tag chunk.entries) (event_of chunk.tag origin.entry) (map-contains (λ e. event_of chunk.tag e) chunk.entries origin.entry inside)));
       },
     ))
 
@@ -95,13 +98,13 @@ written net labelled ranks clock w is name h =
 
 -- A copy of a chunk was sent to a server, if that is there.
 sent_to : {A : Type 0} (net : Network A) (labelled : Labelling) (ranks : Ranking) (clock : ℕ) (v : World) → IsRanked net labelled ranks clock v → (place buffer serial : ℕ) (chunk : Chunk) (o : Option (Server A))
-    → ((server : Server A) → o ≡ Some server → IsTaken net labelled (address_of_server server) chunk.tag)
+    → ((server : Server A) → o ≡ Some server → IsTaken net labelled (address_of_server server) chunk.tag × SendsTo net place buffer (address_of_server server))
     → (KeepsAt net place buffer → IsIdOf (ranks place buffer) clock (v.buffers place buffer) serial chunk.tag chunk.entries)
     → IsRanked net labelled ranks clock (record v { messages = forwarded_to v.messages (sender.Chunk place buffer serial) chunk o })
 sent_to net labelled ranks clock v is place buffer serial chunk None taken id = is
-sent_to net labelled ranks clock v is place buffer serial chunk (Some server) taken id = pushed_ranked net labelled ranks clock v is _ (record { taken = taken server refl; id = id; answered = λ yes. absurd (cc) })
+sent_to net labelled ranks clock v is place buffer serial chunk (Some server) taken id = pushed_ranked net labelled ranks clock v is _ (record { taken = (taken server refl).0; from = (taken server refl).1; id = id; answered = λ yes. absurd (cc) })
 
-server_of : {A : Type 0} (o : Option (Output A)) (number : ℕ) (server : Server A) → option_and_then (λ found. slice_get (servers_of found) number) o ≡ Some server → (found : Output A) × (o ≡ Some found) × (slice_get (servers_of found) number ≡ Some server)
+pub server_of : {A : Type 0} (o : Option (Output A)) (number : ℕ) (server : Server A) → option_and_then (λ found. slice_get (servers_of found) number) o ≡ Some server → (found : Output A) × (o ≡ Some found) × (slice_get (servers_of found) number ≡ Some server)
 server_of None number server e = absurd (cc)
 server_of (Some found) number server e = (found, refl, e)
 
@@ -122,5 +125,8 @@ forwarded net labelled ranks clock w is name server h =
     let moved = mark_goes net labelled ranks clock w is n.place name.buffer name.serial chunk n.is_chunk mark like in
     let marked = mark_ranked net labelled ranks clock w is n.place name.buffer name.serial chunk n.is_chunk mark like (λ keeps yes. known.evident keeps yes) in
     rw (n.is_place, n.is_chunk) (sent_to net labelled ranks clock _ marked n.place name.buffer name.serial chunk (option_and_then (λ o. slice_get (servers_of o) server) (output_at net n.place name.buffer))
-    (λ found e. (let s = server_of (output_at net n.place name.buffer) server found e in known.sent_on s.0 s.1 server found s.2))
+    (λ found e. (let s = server_of (output_at net n.place name.buffer) server found e in (
+      known.sent_on s.0 s.1 server found s.2,
+      record { output = s.0; there = s.1; server = found; among = get-contains (servers_of s.0) found server s.2; address_is = refl },
+    )))
     (λ keeps. (moved.ids n.place name.buffer keeps name.serial chunk.tag chunk.entries (id keeps)).0))

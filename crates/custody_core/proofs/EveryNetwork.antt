@@ -1,12 +1,14 @@
 -- After every list of steps nothing is lost in a network whose messages all lead to outputs that keep.
-use Rattle.std.proofs.Common.{ℕ, ◌+◌, List, [], ◌∷◌, refl, arith}
+use Rattle.std.proofs.Common.{ℕ, ◌+◌, List, [], ◌∷◌, get_or, slice_get, refl, arith}
 use Rattle.std.proofs.lemmas.List.Elements.{All-contains_itself}
-use Rattle.relay_net.specs.Network.{Network}
+use Rattle.relay_net.specs.Network.{Network, address_of_client}
+use Rattle.custody_steps.specs.Held.{HeldAs}
 use Rattle.custody_steps.specs.World.{World, opening}
 use Rattle.custody_steps.specs.Steps.{Allowed, effect, Steps}
 use Rattle.step_lines.specs.declared.step.Step.{Step}
 use Rattle.step_lines.specs.declared.step.Step.TheVariants as step
 use Rattle.custody_core.specs.Custody.{NothingIsLost}
+use Rattle.custody_core.proofs.Serials.{some_and, and_some}
 use Rattle.custody_core.proofs.Safe.{Ranking, safe_held}
 use Rattle.custody_core.proofs.Ranked.{Labelling, LeadOn, IsRanked}
 use Rattle.custody_core.proofs.Sendings.{sent, begun, appended, acknowledged, abandoned, never_foreign}
@@ -57,12 +59,14 @@ module _ {A : Type 0} (net : Network A) (labelled : Labelling) (leads : LeadOn n
       chunks = λ place buffer serial chunk at. absurd (cc);
       messages = λ number message at. absurd (cc);
       deliveries = λ number delivery at. absurd (cc);
-      acknowledged = λ event inside. absurd (let less = inside.1 in omega arith);
+      acknowledged = λ told inside. absurd (let less = inside.1 in omega arith);
     };
   }
 
   -- Every event that was acknowledged to a client is held after every list of steps.
-  pub nothing_lost : (steps : List (Step A)) (w : World) → Steps net opening steps w → NothingIsLost w
+  pub nothing_lost : (steps : List (Step A)) (w : World) → Steps net opening steps w → NothingIsLost net w
   nothing_lost steps w run k d less =
       let kept = run_keeps steps opening w opening_kept run in
-      safe_held net kept.ranks w 0 _ (kept.ranked.acknowledged _ (All-contains_itself w.acknowledged k d less))
+      let told = get_or w.acknowledged k d in
+      let safe = some_and (slice_get net.clients told.client) _ (kept.ranked.acknowledged told (All-contains_itself w.acknowledged k d less)) in
+      and_some (slice_get net.clients told.client) (λ client. HeldAs net w (address_of_client net client) told.event) safe.0 safe.1 (safe_held net kept.ranks w 0 _ safe.2)

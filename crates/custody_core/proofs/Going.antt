@@ -2,19 +2,21 @@
 use Rattle.std.proofs.Common.{◌≡◌, ℕ, ◌+◌, ◌≤◌, true, List, Some, None, slice_get, refl, inl, inr, arith, Contains}
 use Rattle.custody_store.specs.declared.chunk.Stage.TheVariants.{Staged}
 use Rattle.custody_store.specs.Buffers.{Event, Chunk, BufferState}
-use Rattle.message_book.specs.Book.{Message, Delivery}
+use Rattle.message_book.specs.Book.{Message, Delivery, Told}
 use Rattle.message_book.specs.declared.sender.Sender.{Sender}
 use Rattle.message_book.specs.declared.sender.Sender.TheVariants as sender
-use Rattle.relay_net.specs.Network.{Network}
+use Rattle.relay_net.specs.Addresses.{Address}
+use Rattle.relay_net.specs.Network.{Network, address_of_client}
 use Rattle.custody_steps.specs.World.{World, with_buffer}
-use Rattle.custody_core.proofs.Serials.{event_of}
+use Rattle.custody_core.proofs.Borne.{Origin, Bears}
+use Rattle.custody_core.proofs.Serials.{event_of, some_and, and_some}
 use Rattle.custody_core.proofs.Safe.{Buffers, Ranking, KeepsAt, IsHeldFrom, IsSafe, IsOther, changed, at_buffer, safe_changed}
-use Rattle.custody_core.proofs.Ranked.{Labelling, IsIdOf, ArePassedOn, HasId, IsKnown, IsKnownChunk, IsKnownDelivery, IsRanked}
+use Rattle.custody_core.proofs.Ranked.{Labelling, IsIdOf, ArePassedOn, IsToldSafe, HasId, IsKnown, IsKnownChunk, IsKnownDelivery, IsRanked}
 
 -- Buffers and ranks changed: what was safe is safe, and each id keeps its meaning and its rank.
 pub record GoesOn {A : Type 0} (net : Network A) (ranks : Ranking) (clock : ℕ) (old : Buffers) (later : Ranking) (next : ℕ) (new : Buffers) : Type 0 where
   pub time : clock ≤ next
-  pub safe : (rank : ℕ) (event : Event) → rank ≤ clock → IsSafe net ranks old rank event → IsSafe net later new rank event
+  pub safe : (rank : ℕ) (origin : Origin) → rank ≤ clock → IsSafe net ranks old rank origin → IsSafe net later new rank origin
   pub ids : (place buffer : ℕ) → KeepsAt net place buffer → (serial : ℕ) (tag : List ℕ) (entries : List (List ℕ)) → IsIdOf (ranks place buffer) clock (old place buffer) serial tag entries
       → IsIdOf (later place buffer) next (new place buffer) serial tag entries × (later place buffer serial ≡ ranks place buffer serial)
 
@@ -29,13 +31,13 @@ pub like_itself : (chunk : Chunk) → IsLike chunk chunk
 like_itself chunk = record { tag = refl; entries = refl; staged = λ e. e; still = λ e. e }
 
 module _ {A : Type 0} (net : Network A) (labelled : Labelling) (ranks : Ranking) (clock : ℕ) (old : Buffers) (later : Ranking) (next : ℕ) (new : Buffers) (goes : GoesOn net ranks clock old later next new) where
-  passed_goes : (s : Sender) (tag : List ℕ) (entries : List (List ℕ)) → HasId net ranks clock old s tag entries → ArePassedOn net ranks clock old s tag entries → ArePassedOn net later next new s tag entries
-  passed_goes (sender.Client client) tag entries id passed counts entry inside = goes.safe 0 (event_of tag entry) (omega arith) (passed counts entry inside)
-  passed_goes (sender.Chunk place buffer serial) tag entries id passed counts entry inside =
+  passed_goes : (s : Sender) (address : Address) (tag : List ℕ) (entries : List (List ℕ)) → HasId net ranks clock old s tag entries → ArePassedOn net ranks clock old s address tag entries → ArePassedOn net later next new s address tag entries
+  passed_goes (sender.Client client) address tag entries id passed counts entry inside = goes.safe 0 (record { address = address; tag = tag; entry = entry }) (omega arith) (passed counts entry inside)
+  passed_goes (sender.Chunk place buffer serial) address tag entries id passed counts entry inside =
       let known = id counts in
       let went = goes.ids place buffer counts serial tag entries known in
       let less = known.ranked in
-      rw went.1 (goes.safe (ranks place buffer serial + 1) (event_of tag entry) (omega arith) (passed counts entry inside))
+      rw went.1 (goes.safe (ranks place buffer serial + 1) (record { address = address; tag = tag; entry = entry }) (omega arith) (passed counts entry inside))
 
   id_goes : (s : Sender) (tag : List ℕ) (entries : List (List ℕ)) → HasId net ranks clock old s tag entries → HasId net later next new s tag entries
   id_goes (sender.Client client) tag entries id = id
@@ -44,8 +46,9 @@ module _ {A : Type 0} (net : Network A) (labelled : Labelling) (ranks : Ranking)
   pub known_goes : (message : Message) → IsKnown net ranks clock old labelled message → IsKnown net later next new labelled message
   known_goes message known = record {
     taken = known.taken;
+    from = known.from;
     id = id_goes message.sender message.tag message.entries known.id;
-    answered = λ yes. passed_goes message.sender message.tag message.entries known.id (known.answered yes);
+    answered = λ yes. passed_goes message.sender message.address message.tag message.entries known.id (known.answered yes);
   }
 
   pub delivery_goes : (messages : List Message) (delivery : Delivery) → ((number : ℕ) (message : Message) → slice_get messages number ≡ Some message → IsKnown net ranks clock old labelled message)
@@ -53,8 +56,11 @@ module _ {A : Type 0} (net : Network A) (labelled : Labelling) (ranks : Ranking)
   delivery_goes messages delivery known d = record {
     message = d.message;
     there = d.there;
+    enters = d.enters;
+    tag_is = d.tag_is;
+    short = d.short;
     taken = d.taken;
-    appended = λ buffer inside keeps. passed_goes d.message.sender d.message.tag d.message.entries (known delivery.message d.message d.there).id (d.appended buffer inside keeps);
+    appended = λ buffer inside keeps. passed_goes d.message.sender d.message.address d.message.tag d.message.entries (known delivery.message d.message d.there).id (d.appended buffer inside keeps);
   }
 
   -- a chunk that stays, but for evidence that goes
@@ -66,10 +72,15 @@ module _ {A : Type 0} (net : Network A) (labelled : Labelling) (ranks : Ranking)
     evident = λ keeps yes. (let h = known.evident keeps (evidence yes) in
         let less = known.ranked keeps h.0 in (
           λ e. h.0 (like.staged e),
-          λ entry inside.
-              rw (rank_is, like.tag) (goes.safe (ranks place buffer serial + 1) (event_of chunk.tag entry) (omega arith) (h.1 entry (rw like.entries at inside))),
+          λ origin borne inside.
+              rw rank_is (goes.safe (ranks place buffer serial + 1) origin (omega arith) (h.1 origin (rw like.tag at borne) (rw like.entries at inside))),
         ));
   }
+
+told_goes : {A : Type 0} (net : Network A) (ranks : Ranking) (clock : ℕ) (old : Buffers) (later : Ranking) (next : ℕ) (new : Buffers) → GoesOn net ranks clock old later next new → (told : Told) → IsToldSafe net ranks clock old told → IsToldSafe net later next new told
+told_goes net ranks clock old later next new goes told h =
+    let c = some_and (slice_get net.clients told.client) _ h in
+    and_some (slice_get net.clients told.client) (λ client. IsSafe net later new 0 (record { address = address_of_client net client; tag = told.event.tag; entry = told.event.entry })) c.0 c.1 (goes.safe 0 _ (omega arith) c.2)
 
 -- All is known of the world with these buffers.
 pub world_goes : {A : Type 0} (net : Network A) (labelled : Labelling) (ranks : Ranking) (clock : ℕ) (w : World) (later : Ranking) (next : ℕ) (new : Buffers) → GoesOn net ranks clock w.buffers later next new
@@ -81,7 +92,7 @@ world_goes net labelled ranks clock w later next new goes below chunks is = reco
   chunks = chunks;
   messages = λ number message at. known_goes net labelled ranks clock w.buffers later next new goes message (is.messages number message at);
   deliveries = λ number delivery at. delivery_goes net labelled ranks clock w.buffers later next new goes w.messages delivery is.messages (is.deliveries number delivery at);
-  acknowledged = λ event inside. goes.safe 0 event (omega arith) (is.acknowledged event inside);
+  acknowledged = λ told inside. told_goes net ranks clock w.buffers later next new goes told (is.acknowledged told inside);
 }
 
 -- One buffer changed.
@@ -91,14 +102,15 @@ module _ {A : Type 0} (net : Network A) (labelled : Labelling) (ranks : Ranking)
     pub time : clock ≤ next
     pub elsewhere : (p b : ℕ) → IsOther place buffer p b → (s : ℕ) → later p b s ≡ ranks p b s
     pub sink : (event : Event) → Contains (w.buffers place buffer).sink event → Contains (change (w.buffers place buffer)).sink event
-    pub held : (rank : ℕ) (event : Event) → rank ≤ clock → KeepsAt net place buffer → IsHeldFrom (ranks place buffer) rank (w.buffers place buffer) event → IsSafe net later (changed w.buffers place buffer change) rank event
+    pub held : (rank : ℕ) (origin : Origin) (tag : List ℕ) → rank ≤ clock → Bears net origin place buffer tag → KeepsAt net place buffer → IsHeldFrom (ranks place buffer) rank (w.buffers place buffer) (event_of tag origin.entry)
+        → IsSafe net later (changed w.buffers place buffer change) rank origin
     pub ids : KeepsAt net place buffer → (serial : ℕ) (tag : List ℕ) (entries : List (List ℕ)) → IsIdOf (ranks place buffer) clock (w.buffers place buffer) serial tag entries
         → IsIdOf (later place buffer) next (change (w.buffers place buffer)) serial tag entries × (later place buffer serial ≡ ranks place buffer serial)
 
   pub change_goes : Changes → GoesOn net ranks clock w.buffers later next (changed w.buffers place buffer change)
   change_goes c = record {
     time = c.time;
-    safe = λ rank event le safe. safe_changed net ranks later w.buffers place buffer change rank event c.elsewhere (c.sink event) (c.held rank event le) safe;
+    safe = λ rank origin le safe. safe_changed net ranks later w.buffers place buffer change rank origin c.elsewhere c.sink (λ tag borne. c.held rank origin tag le borne) safe;
     ids = λ p b keeps serial tag entries id. elim (at_buffer w.buffers place buffer change p b) [
       | inl here ↦ rw here.2 (rw (here.0, here.1) (c.ids (rw (here.0, here.1) at keeps) serial tag entries (rw (here.0, here.1) at id)))
       | inr there ↦ (let same = c.elsewhere p b there.0 serial in let less = id.ranked in let time = c.time in (record { ranked = omega (arith, same); given = rw there.1 id.given; same = λ chunk at. id.same chunk (rw there.1 at at) }, same))

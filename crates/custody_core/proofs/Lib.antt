@@ -1,4 +1,5 @@
 pub mod AppendMoves
+pub mod Borne
 pub mod ChunkMoves
 pub mod Deliverings
 pub mod EveryNetwork

@@ -13,10 +13,12 @@ use Rattle.custody_steps.specs.World.{World}
 use Rattle.custody_steps.specs.Steps.{Allowed, effect, OfChunk, IsAnswered, Forwards, Stores, GivesUp, DropsOldest, with_named, with_stored, output_named}
 use Rattle.step_lines.specs.declared.step.ChunkName.{ChunkName}
 use Rattle.step_lines.specs.declared.step.Step.TheVariants as step
+use Rattle.routed_tags.specs.Routed.{SendsTo, Follows}
+use Rattle.custody_core.proofs.Borne.{borne_onward, borne_on}
 use Rattle.custody_core.proofs.Serials.{some_and}
 use Rattle.custody_core.proofs.Lists.{contains-get}
 use Rattle.custody_core.proofs.Safe.{Ranking, KeepsAt}
-use Rattle.custody_core.proofs.Ranked.{Labelling, AreSafe, IsRanked}
+use Rattle.custody_core.proofs.Ranked.{Labelling, AreSafeOnward, IsRanked}
 use Rattle.custody_core.proofs.Going.{IsLike}
 use Rattle.custody_core.proofs.ChunkMoves.{mark_ranked, gone_ranked}
 use Rattle.custody_core.proofs.QueueMoves.{ranked_at, queue_ranked}
@@ -69,13 +71,13 @@ both (Some x) P Q never p q = never x p q
 module _ {A : Type 0} (net : Network A) (labelled : Labelling) (ranks : Ranking) (clock : ℕ) (w : World) (is : IsRanked net labelled ranks clock w) (name : ChunkName) where
   -- the chunk is marked
   pub marks : (stage : Stage) (P : Chunk → Type 0) (n : IsNamed net w name stage P) (mark : Chunk → Chunk) → IsLike n.chunk (mark n.chunk)
-      → (KeepsAt net n.place name.buffer → (mark n.chunk).evidence ≡ true → ((mark n.chunk).stage ≢ Staged) × AreSafe net ranks clock w.buffers (ranks n.place name.buffer name.serial + 1) n.chunk.tag n.chunk.entries)
+      → (KeepsAt net n.place name.buffer → (mark n.chunk).evidence ≡ true → ((mark n.chunk).stage ≢ Staged) × AreSafeOnward net ranks clock w.buffers (ranks n.place name.buffer name.serial + 1) n.place name.buffer n.chunk.tag n.chunk.entries)
       → IsRanked net labelled ranks clock (with_named net w name (λ c. Some (mark c)))
   marks level P n mark like evident = rw n.is_place (mark_ranked net labelled ranks clock w is n.place name.buffer name.serial n.chunk n.is_chunk mark like evident)
 
   -- the evidence of a chunk that has it stays true
   evident_still : (stage : Stage) (P : Chunk → Type 0) (n : IsNamed net w name stage P) → KeepsAt net n.place name.buffer → n.chunk.evidence ≡ true
-      → (n.chunk.stage ≢ Staged) × AreSafe net ranks clock w.buffers (ranks n.place name.buffer name.serial + 1) n.chunk.tag n.chunk.entries
+      → (n.chunk.stage ≢ Staged) × AreSafeOnward net ranks clock w.buffers (ranks n.place name.buffer name.serial + 1) n.place name.buffer n.chunk.tag n.chunk.entries
   evident_still level P n keeps evident = (is.chunks n.place name.buffer name.serial n.chunk n.is_chunk).evident keeps evident
 
   -- a queued or claimed chunk is claimed or queued
@@ -123,15 +125,25 @@ module _ {A : Type 0} (net : Network A) (labelled : Labelling) (ranks : Ranking)
 
   -- An acknowledgement of the chunk was given: its events are safe where the buffer keeps.
   answered_safe : (place : ℕ) (chunk : Chunk) → (w.buffers place name.buffer).chunks name.serial ≡ Some chunk → IsAnswered w place name.buffer name.serial → KeepsAt net place name.buffer
-      → AreSafe net ranks clock w.buffers (ranks place name.buffer name.serial + 1) chunk.tag chunk.entries
-  answered_safe place chunk at any keeps entry inside =
+      → AreSafeOnward net ranks clock w.buffers (ranks place name.buffer name.serial + 1) place name.buffer chunk.tag chunk.entries
+  answered_safe place chunk at any keeps origin borne inside =
       let m = contains-get w.messages any.1 (any.0, any.2, any.3) in
       let known = is.messages m.0 any.1 m.1 in
       let from : any.1.sender ≡ sender.Chunk place name.buffer name.serial = any.4.0 in
       let id = rw from at known.id in
       let same = (id keeps).same chunk at in
       let passed = rw from at (known.answered any.4.1) in
-      rw same.1 (passed keeps entry (rw (← same.2) inside))
+      let sends : SendsTo net place name.buffer any.1.address = rw from at known.from in
+      let later = passed keeps origin.entry (rw (← same.2) inside) in
+      let follows : Follows net origin.address origin.tag any.1.address any.1.tag =
+      rw (← same.1) (borne_onward net origin.address origin.tag place name.buffer chunk.tag any.1.address borne sends) in
+      record {
+        place = later.place;
+        buffer = later.buffer;
+        tag = later.tag;
+        borne = borne_on net origin.address origin.tag any.1.address any.1.tag later.place later.buffer later.tag follows later.borne;
+        held = later.held;
+      }
 
   pub seen : Allowed net w (step.Seen name) → IsRanked net labelled ranks clock (effect net w (step.Seen name))
   seen h =

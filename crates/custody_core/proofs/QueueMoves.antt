@@ -6,6 +6,7 @@ use Rattle.custody_store.specs.declared.chunk.Stage.TheVariants.{Staged, Queued}
 use Rattle.custody_store.specs.Buffers.{Event, Chunk, BufferState}
 use Rattle.relay_net.specs.Network.{Network}
 use Rattle.custody_steps.specs.World.{World, with_buffer}
+use Rattle.custody_core.proofs.Serials.{event_of}
 use Rattle.custody_core.proofs.Safe.{Ranking, IsHeldFrom, changed, safe_here}
 use Rattle.custody_core.proofs.Ranked.{Labelling, IsIdOf, IsKnownChunk, IsRanked}
 use Rattle.custody_core.proofs.Going.{like_itself, Changes, change_goes, chunk_goes, buffer_goes}
@@ -83,7 +84,7 @@ module _ {A : Type 0} (net : Network A) (labelled : Labelling) (ranks : Ranking)
     time = omega arith;
     elsewhere = λ p b other s. rank_unless ranks clock place buffer serial p b s (λ same_place same_buffer same_serial. other same_place same_buffer);
     sink = λ event inside. inside;
-    held = λ rank event le keeps held. safe_here net later w.buffers place buffer enqueued rank event keeps (queue_held rank event le held);
+    held = λ rank origin tag le borne keeps held. safe_here net later w.buffers place buffer enqueued rank origin tag borne keeps (queue_held rank (event_of tag origin.entry) le held);
     ids = λ keeps other tag entries id. queue_ids other tag entries id;
   }
 

@@ -1,14 +1,15 @@
 -- Events that are safe above a rank: in a sink, or in a chunk of a buffer that keeps which was queued later.
-use Rattle.std.proofs.Common.{◌≡◌, ℕ, ◌≤◌, ◌==◌, ◌&&◌, true, false, cond, Some, refl, sym, ◌∙◌, ◌⊎◌, inl, inr, arith, Contains, IsSomeAnd}
+use Rattle.std.proofs.Common.{◌≡◌, ℕ, ◌≤◌, ◌==◌, ◌&&◌, true, false, cond, List, Some, refl, sym, ◌∙◌, ◌⊎◌, inl, inr, arith, Contains, IsSomeAnd}
 use Rattle.std.proofs.lemmas.Bool.{and_parts, eqb-true, eq-eqb}
 use Rattle.custody_store.specs.declared.chunk.Stage.{Stage}
 use Rattle.custody_store.specs.declared.chunk.Stage.TheVariants.{Staged}
 use Rattle.custody_store.specs.Buffers.{Event, Chunk, BufferState, IsInChunk}
 use Rattle.relay_net.specs.Network.{Network, output_at}
 use Rattle.relay_net.specs.Outputs.{Keeps}
-use Rattle.custody_steps.specs.Held.{Held}
+use Rattle.custody_steps.specs.Held.{HeldAs}
 use Rattle.custody_steps.specs.World.{World}
-use Rattle.custody_core.proofs.Serials.{and_some}
+use Rattle.custody_core.proofs.Borne.{Origin, Bears, borne_routed}
+use Rattle.custody_core.proofs.Serials.{event_of, and_some}
 
 -- the buffers of all relays, by the place of the relay and the buffer in it
 abbrev pub Buffers : Type 0
@@ -34,11 +35,13 @@ pub record IsHeldFrom (ranks : ℕ → ℕ) (rank : ℕ) (state : BufferState) (
   pub inside : IsInChunk chunk event
   pub ranked : RanksFrom chunk.stage (ranks serial) rank
 
--- The event is in a sink, or in a live chunk of a buffer that keeps which ranks so high.
-pub record IsSafe {A : Type 0} (net : Network A) (ranks : Ranking) (buffers : Buffers) (rank : ℕ) (event : Event) : Type 0 where
+-- The origin's event is in a sink, or in a live chunk of a buffer that keeps which ranks so high, under a tag that it may bear there.
+pub record IsSafe {A : Type 0} (net : Network A) (ranks : Ranking) (buffers : Buffers) (rank : ℕ) (origin : Origin) : Type 0 where
   pub place : ℕ
   pub buffer : ℕ
-  pub held : Contains (buffers place buffer).sink event ⊎ (KeepsAt net place buffer × IsHeldFrom (ranks place buffer) rank (buffers place buffer) event)
+  pub tag : List ℕ
+  pub borne : Bears net origin place buffer tag
+  pub held : Contains (buffers place buffer).sink (event_of tag origin.entry) ⊎ (KeepsAt net place buffer × IsHeldFrom (ranks place buffer) rank (buffers place buffer) (event_of tag origin.entry))
 
 lower : (level : Stage) (queued rank less : ℕ) → less ≤ rank → RanksFrom level queued rank → RanksFrom level queued less
 lower level queued rank less le ranked = elim ranked [
@@ -47,10 +50,12 @@ lower level queued rank less le ranked = elim ranked [
 ]
 
 -- what is safe above a rank is safe above each lesser one
-pub safe_below : {A : Type 0} (net : Network A) (ranks : Ranking) (buffers : Buffers) (rank less : ℕ) (event : Event) → less ≤ rank → IsSafe net ranks buffers rank event → IsSafe net ranks buffers less event
-safe_below net ranks buffers rank less event le safe = record {
+pub safe_below : {A : Type 0} (net : Network A) (ranks : Ranking) (buffers : Buffers) (rank less : ℕ) (origin : Origin) → less ≤ rank → IsSafe net ranks buffers rank origin → IsSafe net ranks buffers less origin
+safe_below net ranks buffers rank less origin le safe = record {
   place = safe.place;
   buffer = safe.buffer;
+  tag = safe.tag;
+  borne = safe.borne;
   held = elim safe.held [
     | inl stored ↦ inl stored
     | inr in_chunk ↦ (let h = in_chunk.1 in inr (in_chunk.0, record { serial = h.serial; chunk = h.chunk; there = h.there; inside = h.inside; ranked = lower h.chunk.stage (ranks safe.place safe.buffer h.serial) rank less le h.ranked }))
@@ -58,14 +63,18 @@ safe_below net ranks buffers rank less event le safe = record {
 }
 
 -- what is safe is held
-pub safe_held : {A : Type 0} (net : Network A) (ranks : Ranking) (w : World) (rank : ℕ) (event : Event) → IsSafe net ranks w.buffers rank event → Held w event
-safe_held net ranks w rank event safe = (
-  safe.place,
-  safe.buffer,
-  elim safe.held [
-    | inl stored ↦ inr stored
-    | inr in_chunk ↦ inl (in_chunk.1.serial, and_some _ (λ c. IsInChunk c event) in_chunk.1.chunk in_chunk.1.there in_chunk.1.inside)
-  ],
+pub safe_held : {A : Type 0} (net : Network A) (ranks : Ranking) (w : World) (rank : ℕ) (origin : Origin) → IsSafe net ranks w.buffers rank origin → HeldAs net w origin.address (event_of origin.tag origin.entry)
+safe_held net ranks w rank origin safe = (
+  safe.tag,
+  borne_routed net origin.address origin.tag safe.place safe.buffer safe.tag safe.borne,
+  (
+    safe.place,
+    safe.buffer,
+    elim safe.held [
+      | inl stored ↦ inr stored
+      | inr in_chunk ↦ inl (in_chunk.1.serial, and_some _ (λ c. IsInChunk c (event_of safe.tag origin.entry)) in_chunk.1.chunk in_chunk.1.there in_chunk.1.inside)
+    ],
+  ),
 )
 
 -- the buffers after this one changed
@@ -92,20 +101,22 @@ at_buffer old place buffer change p b =
     ] refl
 
 -- One buffer changed: what was safe is safe if it is where it was held there.
-pub safe_changed : {A : Type 0} (net : Network A) (ranks later : Ranking) (old : Buffers) (place buffer : ℕ) (change : BufferState → BufferState) (rank : ℕ) (event : Event)
+pub safe_changed : {A : Type 0} (net : Network A) (ranks later : Ranking) (old : Buffers) (place buffer : ℕ) (change : BufferState → BufferState) (rank : ℕ) (origin : Origin)
     → ((p b : ℕ) → IsOther place buffer p b → (s : ℕ) → later p b s ≡ ranks p b s)
-    → (Contains (old place buffer).sink event → Contains (change (old place buffer)).sink event)
-    → (KeepsAt net place buffer → IsHeldFrom (ranks place buffer) rank (old place buffer) event → IsSafe net later (changed old place buffer change) rank event)
-    → IsSafe net ranks old rank event → IsSafe net later (changed old place buffer change) rank event
-safe_changed net ranks later old place buffer change rank event elsewhere sink held safe =
+    → ((event : Event) → Contains (old place buffer).sink event → Contains (change (old place buffer)).sink event)
+    → ((tag : List ℕ) → Bears net origin place buffer tag → KeepsAt net place buffer → IsHeldFrom (ranks place buffer) rank (old place buffer) (event_of tag origin.entry) → IsSafe net later (changed old place buffer change) rank origin)
+    → IsSafe net ranks old rank origin → IsSafe net later (changed old place buffer change) rank origin
+safe_changed net ranks later old place buffer change rank origin elsewhere sink held safe =
     elim (at_buffer old place buffer change safe.place safe.buffer) [
       | inl here ↦ elim safe.held [
-        | inl stored ↦ record { place = safe.place; buffer = safe.buffer; held = inl (rw here.2 (sink (rw (here.0, here.1) at stored))) }
-        | inr in_chunk ↦ held (rw (here.0, here.1) at in_chunk.0) (rw (here.0, here.1) at in_chunk.1)
+        | inl stored ↦ record { place = safe.place; buffer = safe.buffer; tag = safe.tag; borne = safe.borne; held = inl (rw here.2 (sink (event_of safe.tag origin.entry) (rw (here.0, here.1) at stored))) }
+        | inr in_chunk ↦ held safe.tag (rw (here.0, here.1) at safe.borne) (rw (here.0, here.1) at in_chunk.0) (rw (here.0, here.1) at in_chunk.1)
       ]
       | inr there ↦ record {
         place = safe.place;
         buffer = safe.buffer;
+        tag = safe.tag;
+        borne = safe.borne;
         held = elim safe.held [
           | inl stored ↦ inl (rw there.1 stored)
           | inr in_chunk ↦ (let h = in_chunk.1 in inr (
@@ -123,10 +134,10 @@ safe_changed net ranks later old place buffer change rank event elsewhere sink h
     ]
 
 -- held in a chunk of the changed buffer, so high
-pub safe_here : {A : Type 0} (net : Network A) (later : Ranking) (old : Buffers) (place buffer : ℕ) (change : BufferState → BufferState) (rank : ℕ) (event : Event)
-    → KeepsAt net place buffer → IsHeldFrom (later place buffer) rank (change (old place buffer)) event → IsSafe net later (changed old place buffer change) rank event
-safe_here net later old place buffer change rank event keeps held =
+pub safe_here : {A : Type 0} (net : Network A) (later : Ranking) (old : Buffers) (place buffer : ℕ) (change : BufferState → BufferState) (rank : ℕ) (origin : Origin) (tag : List ℕ)
+    → Bears net origin place buffer tag → KeepsAt net place buffer → IsHeldFrom (later place buffer) rank (change (old place buffer)) (event_of tag origin.entry) → IsSafe net later (changed old place buffer change) rank origin
+safe_here net later old place buffer change rank origin tag borne keeps held =
     elim (at_buffer old place buffer change place buffer) [
-      | inl here ↦ record { place = place; buffer = buffer; held = inr (keeps, rw here.2 held) }
+      | inl here ↦ record { place = place; buffer = buffer; tag = tag; borne = borne; held = inr (keeps, rw here.2 held) }
       | inr there ↦ absurd (there.0 refl refl)
     ]

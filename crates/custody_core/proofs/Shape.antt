@@ -1,5 +1,6 @@
 -- A network of one relay with one scope, one match and one file output that keeps: what its parts are, and where clients enter.
-use Rattle.std.proofs.Common.{◌≡◌, ℕ, zero, suc, ◌==◌, ◌&&◌, Bool, true, false, cond, List, [], ◌∷◌, Some, slice_get, refl, sym, ap, ◌∙◌, find, string_bytes}
+use Rattle.std.proofs.Common.{◌≡◌, ℕ, zero, suc, ◌==◌, ◌&&◌, Bool, true, false, not, cond, List, [], ◌∷◌, Option, Some, None, slice_get, refl, sym, ap, ◌∙◌, find, string_bytes}
+use Rattle.std.specs.Prelude.{is_some}
 use Rattle.std.specs.List.{list_all, list_any}
 use Rattle.std.specs.Str.{bytes_eq}
 use Rattle.std.proofs.lemmas.Bool.{and_parts, eqb-true, eq-eqb, false≢true}
@@ -11,10 +12,10 @@ use Rattle.relay_conf.specs.declared.relay.MatchRule.{MatchRule}
 use Rattle.relay_conf.specs.declared.relay.Scope.{Scope}
 use Rattle.relay_conf.specs.declared.relay.Source.{Source}
 use Rattle.relay_net.specs.declared.node.Client.{Client}
-use Rattle.relay_net.specs.Network.{Network, entrance, address_of_client, source_at}
+use Rattle.relay_net.specs.Network.{Network, entrance, prefix_at, address_of_client, source_at}
 use Rattle.relay_net.specs.declared.node.Node.{Node}
 use Rattle.relay_net.specs.Outputs.{keeps_chunks}
-use Rattle.custody_core.specs.SingleFile.{only, is_kept_file, has_one_file, has_one_match, is_single_file, enter_main, has_port, enters, is_single_file_net}
+use Rattle.custody_core.specs.SingleFile.{enters_main, only, is_kept_file, has_one_file, has_one_match, is_single_file, enter_main, has_port, enters, is_single_file_net}
 
 pub record Single {A : Type 0} (nodes : List (Node A)) (clients : List (Client A)) : Type 0 where
   pub node : Node A
@@ -99,10 +100,15 @@ find_from_any p q (x ∷ xs) all any =
       | false ↦ λ e. find_from_any p q xs parts.1 (rw e at any)
     ] refl
 
-source_is : {A : Type 0} (node : Node A) (port : ℕ) → enter_main node.relay.sources.items ≡ true → has_port node.relay.sources.items port ≡ true → (source : Source A) × (source_at node (record { host = string_bytes node.host; port = port }) ≡ Some source) × (source.label.0 ≡ 0)
+no_prefix : (prefix : Option (List ℕ)) → not (is_some prefix) ≡ true → prefix ≡ None
+no_prefix None h = refl
+no_prefix (Some p) h = absurd (false≢true h)
+
+source_is : {A : Type 0} (node : Node A) (port : ℕ) → enter_main node.relay.sources.items ≡ true → has_port node.relay.sources.items port ≡ true → (source : Source A) × (source_at node (record { host = string_bytes node.host; port = port }) ≡ Some source) × (source.label.0 ≡ 0) × (source.prefix ≡ None)
 source_is node port main any =
-    let f = find_from_any (λ (source : Source _). source.port == port) (λ source. source.label.0 == 0) node.relay.sources.items main any in
-    (f.0, rw (bytes_eq_same (string_bytes node.host)) f.1, eqb-true f.0.label.0 0 f.2)
+    let f = find_from_any (λ (source : Source _). source.port == port) enters_main node.relay.sources.items main any in
+    let parts = and_parts (f.0.label.0 == 0) (not (is_some f.0.prefix)) f.2 in
+    (f.0, rw (bytes_eq_same (string_bytes node.host)) f.1, eqb-true f.0.label.0 0 parts.0, no_prefix f.0.prefix parts.1)
 
 enter_at : {A : Type 0} (node : Node A) (clients : List (Client A)) (k : ℕ) (client : Client A) → list_all (enters node) clients ≡ true → slice_get clients k ≡ Some client → enters node client ≡ true
 enter_at node [] k client all at = cc
@@ -117,3 +123,11 @@ module _ {A : Type 0} (net : Network A) (s : Single net.relays net.clients) wher
       let number : client.relay ≡ s.node.number = eqb-true client.relay s.node.number e.0 in
       let source = source_is s.node client.port s.main e.1 in
       rw s.nodes_is (rw (eq-eqb s.node.number client.relay (sym number)) (rw source.1 (ap (λ n. Some (record { relay = 0; scope = n })) source.2)))
+
+  -- and nothing is put in front of their tags
+  pub prefix_is : (k : ℕ) (client : Client A) → slice_get net.clients k ≡ Some client → prefix_at net (address_of_client net client) ≡ None
+  prefix_is k client at =
+      let e = and_parts (client.relay == s.node.number) (has_port s.node.relay.sources.items client.port) (enter_at s.node net.clients k client s.enter at) in
+      let number : client.relay ≡ s.node.number = eqb-true client.relay s.node.number e.0 in
+      let source = source_is s.node client.port s.main e.1 in
+      rw s.nodes_is (rw (eq-eqb s.node.number client.relay (sym number)) (rw source.1 source.3))

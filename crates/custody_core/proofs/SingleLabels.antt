@@ -16,10 +16,10 @@ use Rattle.relay_conf.specs.declared.buffer.OverflowAction.TheVariants.{ThrowExc
 use Rattle.relay_conf.specs.declared.output.Output.{Output}
 use Rattle.relay_conf.specs.declared.output.Server.{Server}
 use Rattle.relay_conf.specs.declared.relay.MatchRule.{MatchRule}
-use Rattle.relay_net.specs.Network.{Network, relay_at, entrance, address_of_client}
+use Rattle.relay_net.specs.Network.{Network, relay_at, entrance, prefix_at, address_of_client}
 use Rattle.relay_net.specs.Outputs.{servers_of, KeepsChunks, IsInFile, is_memory, is_refusing, keeps_chunks}
 use Rattle.relay_net.specs.declared.node.Client.{Client}
-use Rattle.loss_rules.specs.Labels.{FitsLabel, FitsReach}
+use Rattle.loss_rules.specs.Labels.{FitsLabel, FitsLabelWith, FitsReach}
 use Rattle.loss_rules.specs.Rules.{AreRulesKept, IsLabelledClient, IsMatched, ReachesCoverLabel, KeepsOrRelabels}
 use Rattle.loss_rules.specs.Sites.{rule_at, output_in_rule, BuffersAreDistinct, RelabelsTo}
 use Rattle.loss_rules.specs.declared.label.Label.{Label}
@@ -27,7 +27,7 @@ use Rattle.loss_rules.specs.declared.label.Reach.{Reach}
 use Rattle.custody_core.specs.Premise.{ClientsFit, patterns_of}
 use Rattle.custody_core.proofs.Serials.{and_some}
 use Rattle.custody_core.proofs.Lists.{contains-get}
-use Rattle.custody_core.proofs.Shape.{Single, file, entrance_is}
+use Rattle.custody_core.proofs.Shape.{Single, file, entrance_is, prefix_is}
 
 pub fits_itself : (p : List Item) → Fits p p
 fits_itself [] = empty_fits
@@ -112,8 +112,8 @@ module _ {A : Type 0} (net : Network A) (s : Single net.relays net.clients) (fit
   client_labelled client inside =
       let at = contains-get net.clients client inside in
       let fits = All-contains (λ c. All (λ p. Any (Fits p) (patterns_of net.relays)) c.patterns.items) net.clients client fit inside in
-      and_some (entrance net (address_of_client net client)) (λ at. All (FitsLabel labels at.relay at.scope) client.patterns.items) (record { relay = 0; scope = 0 }) (entrance_is net s at.0 client at.1)
-      (λ k d less. (let of_rule : Any (Fits _) s.rule.patterns.items = rw one_rule at (fits k d less) in fits_label _ of_rule))
+      and_some (entrance net (address_of_client net client)) (λ at. All (FitsLabelWith labels at.relay at.scope (prefix_at net (address_of_client net client))) client.patterns.items) (record { relay = 0; scope = 0 }) (entrance_is net s at.0 client at.1)
+      (rw (prefix_is net s at.0 client at.1) (λ k d less. (let of_rule : Any (Fits _) s.rule.patterns.items = rw one_rule at (fits k d less) in fits_label _ of_rule)))
 
   pub distinct : BuffersAreDistinct net
   distinct place scope rule output found at s2 r o other there buffer number same =

@@ -13,6 +13,7 @@ use Rattle.relay_conf.specs.declared.output.Output.TheVariants as output
 use Rattle.relay_net.specs.Network.{Network, output_at, is_in_memory}
 use Rattle.relay_net.specs.Outputs.{Keeps, IsInFile, is_memory, settings_of}
 use Rattle.custody_steps.specs.World.{World, with_buffer}
+use Rattle.custody_core.proofs.Borne.{Origin}
 use Rattle.custody_core.proofs.Safe.{Buffers, Ranking, KeepsAt, IsSafe, changed, safe_here}
 use Rattle.custody_core.proofs.Ranked.{Labelling, IsRanked}
 use Rattle.custody_core.proofs.Going.{GoesOn, IsLike, like_itself, Changes, change_goes, chunk_goes, world_goes, buffer_goes}
@@ -28,7 +29,7 @@ module _ {A : Type 0} (net : Network A) (labelled : Labelling) (ranks : Ranking)
       time = omega arith;
       elsewhere = λ p b other s. refl;
       sink = λ event inside. Contains-append_left (w.buffers place buffer).sink (more (w.buffers place buffer)) event inside;
-      held = λ rank event le keeps held. safe_here net ranks w.buffers place buffer fuller rank event keeps (record { serial = held.serial; chunk = held.chunk; there = held.there; inside = held.inside; ranked = held.ranked });
+      held = λ rank origin tag le borne keeps held. safe_here net ranks w.buffers place buffer fuller rank origin tag borne keeps (record { serial = held.serial; chunk = held.chunk; there = held.there; inside = held.inside; ranked = held.ranked });
       ids = λ keeps serial tag entries id. (record { ranked = id.ranked; given = id.given; same = id.same }, refl);
     }
 
@@ -46,7 +47,7 @@ module _ {A : Type 0} (net : Network A) (labelled : Labelling) (ranks : Ranking)
       time = omega arith;
       elsewhere = λ p b other s. refl;
       sink = λ event inside. rw sink inside;
-      held = λ rank event le keeps held. absurd (lets_go keeps);
+      held = λ rank origin tag le borne keeps held. absurd (lets_go keeps);
       ids = λ keeps serial tag entries id. absurd (lets_go keeps);
     }
 
@@ -147,10 +148,12 @@ module _ {A : Type 0} (net : Network A) (labelled : Labelling) (ranks : Ranking)
   kept_again : (place buffer : ℕ) → KeepsAt net place buffer → IsAgain (w.buffers place buffer) false (new place buffer)
   kept_again place buffer keeps = rw (in_file net place buffer keeps) at (are place buffer)
 
-  again_safe : (rank : ℕ) (event : Event) → IsSafe net ranks w.buffers rank event → IsSafe net ranks new rank event
-  again_safe rank event safe = record {
+  again_safe : (rank : ℕ) (origin : Origin) → IsSafe net ranks w.buffers rank origin → IsSafe net ranks new rank origin
+  again_safe rank origin safe = record {
     place = safe.place;
     buffer = safe.buffer;
+    tag = safe.tag;
+    borne = safe.borne;
     held = elim safe.held [
       | inl stored ↦ inl (rw (again_sink (w.buffers safe.place safe.buffer) (is_in_memory net safe.place safe.buffer) (new safe.place safe.buffer) (are safe.place safe.buffer)) stored)
       | inr in_chunk ↦ (let h = in_chunk.1 in
@@ -171,7 +174,7 @@ module _ {A : Type 0} (net : Network A) (labelled : Labelling) (ranks : Ranking)
   again_goes : GoesOn net ranks clock w.buffers ranks clock new
   again_goes = record {
     time = omega arith;
-    safe = λ rank event le safe. again_safe rank event safe;
+    safe = λ rank origin le safe. again_safe rank origin safe;
     ids = λ place buffer keeps serial tag entries id. (
       record {
         ranked = id.ranked;

@@ -5,37 +5,24 @@ use Rattle.std.proofs.lemmas.Bool.{eqb-true}
 use Rattle.std.specs.Option.{option_and_then, option_map_or}
 use Rattle.std.proofs.lemmas.List.Elements.{Contains-append_cases}
 use Rattle.custody_store.specs.Buffers.{Event, Chunk, BufferState, with_chunk, CanTake, chunk_with, next_after, appended_to, events_of, is_queued, none_queued_below, without_oldest, restarted, started_again}
-use Rattle.message_book.specs.Book.{Message}
-use Rattle.custody_core.specs.Custody.{IsOriginOf}
 use Rattle.custody_core.proofs.Serials.{event_of}
 use Rattle.custody_core.proofs.Lists.{contains-map}
 
--- a client sent the event, with one of these messages
-pub record WasSentIn (messages : List Message) (event : Event) : Type 0 where
-  pub place : ℕ
-  pub message : Message
-  pub there : slice_get messages place ≡ Some message
-  pub origin : IsOriginOf event message
+-- this holds of each of these entries under this tag, as of what was sent
+abbrev pub AllSent : (Event → Type 0) → List ℕ → List (List ℕ) → Type 0
+AllSent Sent tag entries = (entry : List ℕ) → Contains entries entry → Sent (event_of tag entry)
 
--- a client sent each of these entries under this tag
-abbrev pub AllSent : List Message → List ℕ → List (List ℕ) → Type 0
-AllSent messages tag entries = (entry : List ℕ) → Contains entries entry → WasSentIn messages (event_of tag entry)
-
--- A client sent each event of the buffer's chunks and of its sink; no serial from the next on is taken.
-pub record IsSourced (messages : List Message) (state : BufferState) : Type 0 where
+-- Each event of the buffer's chunks and of its sink was sent; no serial from the next on is taken.
+pub record IsSourced (Sent : Event → Type 0) (state : BufferState) : Type 0 where
   pub below : (serial : ℕ) → state.next ≤ serial → state.chunks serial ≡ None
-  pub chunks : (serial : ℕ) (chunk : Chunk) → state.chunks serial ≡ Some chunk → AllSent messages chunk.tag chunk.entries
-  pub sink : (event : Event) → Contains state.sink event → WasSentIn messages event
+  pub chunks : (serial : ℕ) (chunk : Chunk) → state.chunks serial ≡ Some chunk → AllSent Sent chunk.tag chunk.entries
+  pub sink : (event : Event) → Contains state.sink event → Sent event
 
--- what a client sent with the one list it sent with the other
-abbrev pub Follows : List Message → List Message → Type 0
-Follows old new = (event : Event) → WasSentIn old event → WasSentIn new event
-
-pub sourced_more : (old new : List Message) → Follows old new → (state : BufferState) → IsSourced old state → IsSourced new state
-sourced_more old new follows state is = record {
+pub sourced_more : (Old New : Event → Type 0) → ((event : Event) → Old event → New event) → (state : BufferState) → IsSourced Old state → IsSourced New state
+sourced_more Old New more state is = record {
   below = is.below;
-  chunks = λ serial chunk at entry inside. follows _ (is.chunks serial chunk at entry inside);
-  sink = λ event inside. follows event (is.sink event inside);
+  chunks = λ serial chunk at entry inside. more _ (is.chunks serial chunk at entry inside);
+  sink = λ event inside. more event (is.sink event inside);
 }
 
 chosen : (b : Bool) (x y : Option Chunk) (chunk : Chunk) → cond b x y ≡ Some chunk → ((b ≡ true) × (x ≡ Some chunk)) ⊎ (y ≡ Some chunk)
@@ -51,10 +38,10 @@ none_changed true None p change e f = refl
 none_changed true (Some c) p change e f = absurd (cc)
 none_changed false o p change e f = f
 
-module _ (messages : List Message) (state : BufferState) (is : IsSourced messages state) where
+module _ (Sent : Event → Type 0) (state : BufferState) (is : IsSourced Sent state) where
   -- a chunk is changed, but not what is in it, or goes
   pub chunk_changes : (serial : ℕ) (change : Chunk → Option Chunk) → ((old new : Chunk) → change old ≡ Some new → (new.tag ≡ old.tag) × (new.entries ≡ old.entries))
-      → IsSourced messages (with_chunk serial (option_and_then change (state.chunks serial)) state)
+      → IsSourced Sent (with_chunk serial (option_and_then change (state.chunks serial)) state)
   chunk_changes serial change same = record {
     below = λ other le. go other (other == serial) (eqb-true other serial) le;
     chunks = λ other chunk at entry inside. elim (chosen (other == serial) (option_and_then change (state.chunks serial)) (state.chunks other) chunk at) [
@@ -70,8 +57,8 @@ module _ (messages : List Message) (state : BufferState) (is : IsSourced message
       go other false eq le = is.below other le
 
   first_events : (o : Option Chunk) (those : List (List ℕ) → List (List ℕ)) → ((entries : List (List ℕ)) (entry : List ℕ) → Contains (those entries) entry → Contains entries entry)
-      → ((chunk : Chunk) → o ≡ Some chunk → AllSent messages chunk.tag chunk.entries)
-      → (event : Event) → Contains (option_map_or (λ chunk. events_of chunk.tag (those chunk.entries)) o []) event → WasSentIn messages event
+      → ((chunk : Chunk) → o ≡ Some chunk → AllSent Sent chunk.tag chunk.entries)
+      → (event : Event) → Contains (option_map_or (λ chunk. events_of chunk.tag (those chunk.entries)) o []) event → Sent event
   first_events None those among sent event inside = absurd (let less = inside.1 in omega arith)
   first_events (Some chunk) those among sent event inside =
       let e = contains-map (λ entry. event_of chunk.tag entry) (those chunk.entries) event inside in
@@ -79,7 +66,7 @@ module _ (messages : List Message) (state : BufferState) (is : IsSourced message
 
   -- entries of a chunk are stored in the sink
   pub sink_takes : (serial : ℕ) (those : List (List ℕ) → List (List ℕ)) → ((entries : List (List ℕ)) (entry : List ℕ) → Contains (those entries) entry → Contains entries entry)
-      → IsSourced messages (record state { sink = state.sink ++ option_map_or (λ chunk. events_of chunk.tag (those chunk.entries)) (state.chunks serial) [] })
+      → IsSourced Sent (record state { sink = state.sink ++ option_map_or (λ chunk. events_of chunk.tag (those chunk.entries)) (state.chunks serial) [] })
   sink_takes serial those among = record {
     below = is.below;
     chunks = is.chunks;
@@ -90,7 +77,7 @@ module _ (messages : List Message) (state : BufferState) (is : IsSourced message
   }
 
   -- entries that a client sent are appended where the buffer takes them
-  pub takes_sent : (tag : List ℕ) (entries : List (List ℕ)) (serial : ℕ) → CanTake state tag serial → AllSent messages tag entries → IsSourced messages (appended_to tag entries serial state)
+  pub takes_sent : (tag : List ℕ) (entries : List (List ℕ)) (serial : ℕ) → CanTake state tag serial → AllSent Sent tag entries → IsSourced Sent (appended_to tag entries serial state)
   takes_sent tag entries serial can sent = record {
     below = λ other le. below (state.chunks serial) refl other le (other == serial) (eqb-true other serial);
     chunks = λ other chunk at entry inside. elim (chosen (other == serial) (Some (chunk_with (state.chunks serial) tag entries)) (state.chunks other) chunk at) [
@@ -106,7 +93,7 @@ module _ (messages : List Message) (state : BufferState) (is : IsSourced message
       below (Some c) at other le true eq = absurd (let g = is.below serial (rw (eq refl) at le) in let f = sym at ∙ g in cc)
       below (Some c) at other le false eq = is.below other le
 
-      put : (o : Option Chunk) → state.chunks serial ≡ o → CanTake state tag serial → (chunk : Chunk) → chunk_with o tag entries ≡ chunk → AllSent messages chunk.tag chunk.entries
+      put : (o : Option Chunk) → state.chunks serial ≡ o → CanTake state tag serial → (chunk : Chunk) → chunk_with o tag entries ≡ chunk → AllSent Sent chunk.tag chunk.entries
       put None at take chunk same = rw (← same) sent
       put (Some c) at take chunk same =
           let tagged : c.tag ≡ tag = elim take [ inl h ↦ (let two : (c.stage ≡ _) × (c.tag ≡ tag) = rw at at h in two.1) | inr h ↦ absurd (let g = is.below serial (omega arith) in let f = sym at ∙ g in cc) ] in
@@ -116,7 +103,7 @@ module _ (messages : List Message) (state : BufferState) (is : IsSourced message
           ])
 
   -- the oldest queued chunk goes
-  pub oldest_goes : IsSourced messages (without_oldest state)
+  pub oldest_goes : IsSourced Sent (without_oldest state)
   oldest_goes = record {
     below = λ serial le. go serial (is_queued (state.chunks serial) && none_queued_below serial state.chunks) le;
     chunks = λ serial chunk at entry inside. elim (chosen (is_queued (state.chunks serial) && none_queued_below serial state.chunks) None (state.chunks serial) chunk at) [
@@ -131,7 +118,7 @@ module _ (messages : List Message) (state : BufferState) (is : IsSourced message
       go serial false le = is.below serial le
 
   -- the relay stops and starts again
-  pub starts_again : (b : Bool) → IsSourced messages (started_again b state)
+  pub starts_again : (b : Bool) → IsSourced Sent (started_again b state)
   starts_again true = record { below = λ serial le. refl; chunks = λ serial chunk at. absurd (cc); sink = is.sink }
   starts_again false = record {
     below = λ serial le. none (state.chunks serial) (is.below serial le);
@@ -143,6 +130,6 @@ module _ (messages : List Message) (state : BufferState) (is : IsSourced message
       none None e = refl
       none (Some c) e = absurd (cc)
 
-      one : (serial : ℕ) (o : Option Chunk) → ((c : Chunk) → o ≡ Some c → AllSent messages c.tag c.entries) → (chunk : Chunk) → option_map restarted o ≡ Some chunk → AllSent messages chunk.tag chunk.entries
+      one : (serial : ℕ) (o : Option Chunk) → ((c : Chunk) → o ≡ Some c → AllSent Sent c.tag c.entries) → (chunk : Chunk) → option_map restarted o ≡ Some chunk → AllSent Sent chunk.tag chunk.entries
       one serial None sent chunk at = absurd (cc)
       one serial (Some c) sent chunk at = rw (← same_Some (restarted c) chunk at) (sent c refl)

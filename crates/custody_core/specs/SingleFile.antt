@@ -1,5 +1,5 @@
 -- The networks that are known so far to lose nothing: one relay with one scope, one match and one file output that keeps.
-use Rattle.std.specs.Prelude.{◌≡◌, ◌==◌, ◌&&◌, ℕ, Bool, true, false, List, [], ◌∷◌}
+use Rattle.std.specs.Prelude.{◌≡◌, ◌==◌, ◌&&◌, not, is_some, ℕ, Bool, true, false, List, [], ◌∷◌}
 use Rattle.std.specs.List.{list_all, list_any}
 use Rattle.relay_conf.specs.declared.output.Output.{Output}
 use Rattle.relay_conf.specs.declared.output.Output.TheVariants as output
@@ -36,11 +36,15 @@ has_one_file rule = only is_kept_file rule.outputs.items
 abbrev pub has_one_match : {A : Type 0} → Scope A → Bool
 has_one_match scope = only has_one_file scope.matches.items
 
--- each source leads into the main scope
-abbrev pub enter_main : {A : Type 0} → List (Source A) → Bool
-enter_main sources = list_all (λ source. source.label.0 == 0) sources
+-- the source leads into the main scope, and puts nothing in front of tags
+abbrev pub enters_main : {A : Type 0} → Source A → Bool
+enters_main source = (source.label.0 == 0) && not (is_some source.prefix)
 
--- a relay with one scope, which its sources enter, one match and one file output that keeps
+-- so it is with each source
+abbrev pub enter_main : {A : Type 0} → List (Source A) → Bool
+enter_main sources = list_all enters_main sources
+
+-- a relay with one scope, which its sources enter without a prefix, one match and one file output that keeps
 abbrev pub is_single_file : {A : Type 0} → Relay A → Bool
 is_single_file relay = enter_main relay.sources.items && only has_one_match relay.scopes.items
 

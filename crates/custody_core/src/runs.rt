@@ -19,10 +19,11 @@ use step_lines::Step;
 /// Takes the steps one after another, from the network before the first step. An `Err` has the number of the
 /// first step that is refused, counted from 1, and why.
 ///
-/// After every list of steps whatever a sink holds a client sent, under that tag. In every network that obeys the rules
-/// on labels, for some labels and reaches, and whose relays number each output's buffer once, each event that was
-/// acknowledged to a client is then in a live chunk of a buffer or in a sink, with its bytes unchanged. So it is in a
-/// network of one relay with one match and one file output that keeps, if each pattern of a client fits one of the match.
+/// After every list of steps whatever a sink holds a client sent, under a tag that becomes the sink's where sources put prefixes
+/// in front of it. In every network that obeys the rules on labels, for some labels and reaches, and whose relays number each
+/// output's buffer once, each event that was acknowledged to a client is then in a live chunk of a buffer or in a sink, under such
+/// a tag and with its bytes unchanged. So it is in a network of one relay with one match and one file output that keeps, if each
+/// pattern of a client fits one of the match and no source has a prefix.
 pub fn run<'n, A: Allocator + Copy>(
     alloc: A,
     net: &'n Net<A>,
@@ -31,9 +32,9 @@ pub fn run<'n, A: Allocator + Copy>(
     ensures net { IfOk result (λ w. net_of w ≡ net.now) }
     ensures taken { IfOk result (λ w. Steps net.now opening steps.now (world_of w)) }
     ensures refused { IfErr result (λ e. IsRefusedAt net.now steps.now e.0 e.1) }
-    ensures nothing_is_lost { is_single_file_net net.now.relays net.now.clients ≡ true → ClientsFit net.now → IfOk result (λ w. NothingIsLost (world_of w)) }
-    ensures labelled_nothing_is_lost { (labels : List (Label A)) (reaches : List (Reach A)) → BuffersAreDistinct net.now → AreRulesKept net.now labels reaches → IfOk result (λ w. NothingIsLost (world_of w)) }
-    ensures nothing_is_made_up { IfOk result (λ w. NothingIsMadeUp (world_of w)) }
+    ensures nothing_is_lost { is_single_file_net net.now.relays net.now.clients ≡ true → ClientsFit net.now → IfOk result (λ w. NothingIsLost net.now (world_of w)) }
+    ensures labelled_nothing_is_lost { (labels : List (Label A)) (reaches : List (Reach A)) → BuffersAreDistinct net.now → AreRulesKept net.now labels reaches → IfOk result (λ w. NothingIsLost net.now (world_of w)) }
+    ensures nothing_is_made_up { IfOk result (λ w. NothingIsMadeUp net.now (world_of w)) }
 {
     let mut world = World::new(alloc, net);
     for (place, step) in steps.iter().enumerate() {

@@ -21,18 +21,24 @@ pub fn is_single_file_net<A: Allocator>(relays: &[Node<A>], clients: &[Client<A>
     }
 }
 
-// Whether the relay has one scope, which its sources enter, one match and one file output that keeps.
+// Whether the relay has one scope, which its sources enter without a prefix, one match and one file output that keeps.
 fn is_single_file<A: Allocator>(relay: &Relay<A>) -> bool
     ensures { result ≡ shape.is_single_file relay.now }
 {
     enter_main(relay.sources.as_slice()) && has_one_scope(relay.scopes.as_slice())
 }
 
-// Whether each source leads into the main scope.
+// Whether each source leads into the main scope, and puts nothing in front of tags.
 fn enter_main<A: Allocator>(sources: &[Source<A>]) -> bool
     ensures { result ≡ shape.enter_main sources.now }
 {
-    sources.iter().all(|source| source.label.0 == 0)
+    sources.iter().all(|source| enters_main(source))
+}
+
+fn enters_main<A: Allocator>(source: &Source<A>) -> bool
+    ensures { result ≡ shape.enters_main source.now }
+{
+    source.label.0 == 0 && source.prefix.is_none()
 }
 
 fn has_one_scope<A: Allocator>(scopes: &[Scope<A>]) -> bool

@@ -57,16 +57,17 @@ of_messages-opened messages ds d given less k x e = elim (got_last ds d x k e) a
 ]
 
 pub no_loops-opened : {A : Type 0} (net : Network A) (messages : List Message) (ds : List Delivery) (d : Delivery) → HaveNoLoops net messages ds
-    → ((m : Message) → slice_get messages d.message ≡ Some m → ¬ HasLoop net d.entrance m.tag m.entries) → HaveNoLoops net messages (ds ++ d ∷ [])
-no_loops-opened net messages ds d given ends k x m e at = elim (got_last ds d x k e) as (λ _. ¬ HasLoop net x.entrance m.tag m.entries) [
+    → ((m : Message) → slice_get messages d.message ≡ Some m → ¬ HasLoop net d.entrance d.tag m.entries) → HaveNoLoops net messages (ds ++ d ∷ [])
+no_loops-opened net messages ds d given ends k x m e at = elim (got_last ds d x k e) as (λ _. ¬ HasLoop net x.entrance x.tag m.entries) [
   | inl old ↦ given k x m old at
   | inr same ↦ let at_d = rw (← same) at at in rw (← same) (ends m at_d)
 ]
 
--- A change leaves what the delivery is of, and where that came in.
+-- A change leaves what the delivery is of, where that came in, and under which tag.
 pub record IsOfSame (change : Delivery → Delivery) : Type 0 where
   pub message : (d : Delivery) → (change d).message ≡ d.message
   pub entrance : (d : Delivery) → (change d).entrance ≡ d.entrance
+  pub tag : (d : Delivery) → (change d).tag ≡ d.tag
 
 pub of_messages-changed : (change : Delivery → Delivery) (messages : List Message) (ds : List Delivery) (n : ℕ) → IsOfSame change → AreOfMessages messages ds → AreOfMessages messages (changed_at ds n change)
 of_messages-changed change messages ds n same given k y e = let x = got_changed change ds n k y e in elim x.2 as (λ _. y.message < length messages) [
@@ -75,8 +76,8 @@ of_messages-changed change messages ds n same given k y e = let x = got_changed 
 ]
 
 pub no_loops-changed : {A : Type 0} (net : Network A) (change : Delivery → Delivery) (messages : List Message) (ds : List Delivery) (n : ℕ) → IsOfSame change → HaveNoLoops net messages ds → HaveNoLoops net messages (changed_at ds n change)
-no_loops-changed net change messages ds n same given k y m e at = let x = got_changed change ds n k y e in elim x.2 as (λ _. ¬ HasLoop net y.entrance m.tag m.entries) [
-  | inl c ↦ let at_x = rw (c, same.message x.0) at at in rw (c, same.entrance x.0) (given k x.0 m x.1 at_x)
+no_loops-changed net change messages ds n same given k y m e at = let x = got_changed change ds n k y e in elim x.2 as (λ _. ¬ HasLoop net y.entrance y.tag m.entries) [
+  | inl c ↦ let at_x = rw (c, same.message x.0) at at in rw (c, same.entrance x.0, same.tag x.0) (given k x.0 m x.1 at_x)
   | inr c ↦ let at_x = rw c at at in rw c (given k x.0 m x.1 at_x)
 ]
 
@@ -90,7 +91,7 @@ pub of_messages-marked : (messages : List Message) (n : ℕ) (ds : List Delivery
 of_messages-marked messages n ds given k d e = let less = given k d e in let same = length-changed_at acknowledged_message messages n in omega arith
 
 pub no_loops-marked : {A : Type 0} (net : Network A) (messages : List Message) (n : ℕ) (ds : List Delivery) → HaveNoLoops net messages ds → HaveNoLoops net (changed_at messages n acknowledged_message) ds
-no_loops-marked net messages n ds given k d y e at = let x = got_changed acknowledged_message messages n d.message y at in elim x.2 as (λ _. ¬ HasLoop net d.entrance y.tag y.entries) [
+no_loops-marked net messages n ds given k d y e at = let x = got_changed acknowledged_message messages n d.message y at in elim x.2 as (λ _. ¬ HasLoop net d.entrance d.tag y.entries) [
   | inl c ↦ rw c (given k d x.0 e x.1)
   | inr c ↦ rw c (given k d x.0 e x.1)
 ]
@@ -116,10 +117,10 @@ pub ended-along : GoesAlong ended
 ended-along closed number d = refl
 
 pub ended-same : IsOfSame ended
-ended-same = record { message = λ _. refl; entrance = λ _. refl }
+ended-same = record { message = λ _. refl; entrance = λ _. refl; tag = λ _. refl }
 
 pub appended-along : (buffer : ℕ) → GoesAlong (appended_to_buffer buffer)
 appended-along buffer closed number d = refl
 
 pub appended-same : (buffer : ℕ) → IsOfSame (appended_to_buffer buffer)
-appended-same buffer = record { message = λ _. refl; entrance = λ _. refl }
+appended-same buffer = record { message = λ _. refl; entrance = λ _. refl; tag = λ _. refl }

@@ -4,11 +4,11 @@ use Rattle.std.specs.Option.{option_copied}
 use denote.Ref.{Bor}
 use Rattle.std.proofs.lemmas.List.{length_push}
 use Rattle.std.proofs.lemmas.Option.{slice_get_within}
-use Rattle.custody_store.specs.Buffers.{Event, CanTake, appended_to}
+use Rattle.custody_store.specs.Buffers.{CanTake, appended_to}
 use Rattle.custody_store.specs.Contents.{Contents, flag_at, taken_in, buffer_of, IsAnsweredToo}
 use Rattle.custody_store.specs.Places.{contents_at, closed_at, IsChangedAt, AreSame}
 use Rattle.custody_store.specs.declared.places.Places.{Places}
-use Rattle.message_book.specs.Book.{Message, Delivery, Book, changed_at, acknowledged_message, appended_to_buffer}
+use Rattle.message_book.specs.Book.{Message, Delivery, Told, Book, changed_at, acknowledged_message, appended_to_buffer}
 use Rattle.message_book.specs.declared.sender.Sender.TheVariants as sender
 use Rattle.relay_net.specs.Network.{Network}
 use Rattle.relay_net.specs.Ways.{HasLoop}
@@ -62,7 +62,7 @@ module _ {A B : Type 0} (net : Network B) (before after : Places A) (book : Book
   -- a chunk's message was acknowledged, and its answer kept
   pub known_chunk : (place buffer serial : ℕ) → IsChangedAt before after place buffer (contents_at after place buffer)
       → IsAnsweredToo (contents_at before place buffer).answered serial (contents_at after place buffer).answered
-      → (n : ℕ) (m : Message) → slice_get book.messages n ≡ Some m → m.sender ≡ sender.Chunk place buffer serial → (told : List Event) (new : Book)
+      → (n : ℕ) (m : Message) → slice_get book.messages n ≡ Some m → m.sender ≡ sender.Chunk place buffer serial → (told : List Told) (new : Book)
       → new ≡ record book { messages = changed_at book.messages n acknowledged_message; acknowledged = told } → Known net after new
   known_chunk place buffer serial is too n m at e told new new_is = rw new_is (record {
     answers = answering.answers-chunk before after place buffer serial is too book.messages n m at e known.answers;
@@ -82,7 +82,7 @@ module _ {A B : Type 0} (net : Network B) (places : Places A) (book new : Book) 
   })
 
   -- a client's message was acknowledged
-  pub known_client : (n : ℕ) (m : Message) (client : ℕ) → slice_get book.messages n ≡ Some m → m.sender ≡ sender.Client client → (told : List Event)
+  pub known_client : (n : ℕ) (m : Message) (client : ℕ) → slice_get book.messages n ≡ Some m → m.sender ≡ sender.Client client → (told : List Told)
       → new ≡ record book { messages = changed_at book.messages n acknowledged_message; acknowledged = told } → Known net places new
   known_client n m client at e told new_is = rw new_is (record {
     answers = answering.answers-client places book.messages n m client at e known.answers;
@@ -92,7 +92,7 @@ module _ {A B : Type 0} (net : Network B) (places : Places A) (book new : Book) 
   })
 
   -- a delivery was opened
-  pub known_opened : (d : Delivery) (room : List ℕ) → d.message < length book.messages → ((m : Message) → slice_get book.messages d.message ≡ Some m → ¬ HasLoop net d.entrance m.tag m.entries)
+  pub known_opened : (d : Delivery) (room : List ℕ) → d.message < length book.messages → ((m : Message) → slice_get book.messages d.message ≡ Some m → ¬ HasLoop net d.entrance d.tag m.entries)
       → new ≡ record book { deliveries = book.deliveries ++ d ∷ []; room = room } → Known net places new
   known_opened d room less ends new_is = rw new_is (record {
     answers = known.answers;
@@ -199,7 +199,7 @@ pub known_again : {A B : Type 0} (net : Network B) (places : Places A) (book new
 known_again net places book new known e = rw e known
 
 -- the world after a message was acknowledged
-pub marked_world : {A : Type 0} (places : Places A) (book new : Book) (w : World) (n : ℕ) (told : List Event) → new ≡ record book { messages = changed_at book.messages n acknowledged_message; acknowledged = told } → world_from places book ≡ w
+pub marked_world : {A : Type 0} (places : Places A) (book new : Book) (w : World) (n : ℕ) (told : List Told) → new ≡ record book { messages = changed_at book.messages n acknowledged_message; acknowledged = told } → world_from places book ≡ w
     → world_from places new ≡ record w { messages = changed_at book.messages n acknowledged_message; acknowledged = told }
 marked_world places book new w n told e same = ap (world_from places) e ∙ ap (λ (x : World). record x { messages = changed_at book.messages n acknowledged_message; acknowledged = told }) same
 
@@ -209,9 +209,9 @@ pub sent_world : {A : Type 0} (places : Places A) (book new : Book) (w : World) 
 sent_world places book new w m x e same is = ap (world_from places) e ∙ (λ i. record (is i) { messages = book.messages ++ same i ∷ [] })
 
 -- the way of this message is known to end
-pub ends_of : {B : Type 0} (net : Network B) (messages : List Message) (n : ℕ) (m : Message) (at : Entrance) → slice_get messages n ≡ Some m → ¬ HasLoop net at m.tag m.entries
-    → (x : Message) → slice_get messages n ≡ Some x → ¬ HasLoop net at x.tag x.entries
-ends_of net messages n m at e ends x ex = let same : m ≡ x = cc in rw (← same) ends
+pub ends_of : {B : Type 0} (net : Network B) (messages : List Message) (n : ℕ) (m : Message) (at : Entrance) (tag : List ℕ) → slice_get messages n ≡ Some m → ¬ HasLoop net at tag m.entries
+    → (x : Message) → slice_get messages n ≡ Some x → ¬ HasLoop net at tag x.entries
+ends_of net messages n m at tag e ends x ex = let same : m ≡ x = cc in rw (← same) ends
 
 -- An answer `false` about what can't be.
 pub never : (P : Type 0) → ¬ P → IsTrue false ↔ P
@@ -230,17 +230,17 @@ as_many places others book new e =
 
 -- a delivery was appended to a buffer of its relay
 pub appended_world : {A : Type 0} (places made after : Places A) (book new : Book) (number buffer serial : ℕ) (d : Delivery) → Some d ≡ slice_get book.deliveries number → (m : Message) → Some m ≡ slice_get book.messages d.message → AreSame places made
-    → IsChangedAt made after d.entrance.relay buffer (record (contents_at made d.entrance.relay buffer) { chunks = taken_in (contents_at made d.entrance.relay buffer).chunks serial m.tag m.entries })
-    → CanTake (buffer_of (contents_at made d.entrance.relay buffer)) m.tag serial
+    → IsChangedAt made after d.entrance.relay buffer (record (contents_at made d.entrance.relay buffer) { chunks = taken_in (contents_at made d.entrance.relay buffer).chunks serial d.tag m.entries })
+    → CanTake (buffer_of (contents_at made d.entrance.relay buffer)) d.tag serial
     → (room : List ℕ) → new ≡ record book { deliveries = changed_at book.deliveries number (appended_to_buffer buffer); room = room }
     → world_from after new ≡ with_appended (world_from places book) number buffer serial
 appended_world places made after book new number buffer serial d at m sent same is takes room new_is =
     let w = world_from places book in
     let old = contents_at made d.entrance.relay buffer in
-    let change = appended_to m.tag m.entries serial in
+    let change = appended_to d.tag m.entries serial in
     delivery_world after book new (appended_to_buffer buffer) number room (delivered.appended-along buffer) new_is
     ∙ ap (λ (x : World). record x { deliveries = changed_at x.deliveries number (appended_to_buffer buffer) })
-    (changed_world made after d.entrance.relay buffer _ is book change (buffer_of-taken_in old m.tag m.entries serial takes)
+    (changed_world made after d.entrance.relay buffer _ is book change (buffer_of-taken_in old d.tag m.entries serial takes)
     ∙ ap (λ (x : World). with_buffer x d.entrance.relay buffer change) (same_world places made same book))
     ∙ rw (shown places book number d at, ← sent) refl
 

@@ -11,7 +11,7 @@ use Rattle.relay_conf.specs.declared.buffer.OverflowAction.TheVariants.{DropOlde
 use Rattle.relay_conf.specs.declared.output.Output.{Output}
 use Rattle.relay_conf.specs.declared.output.Output.TheVariants as output
 use Rattle.relay_conf.specs.declared.output.Server.{Server}
-use Rattle.relay_net.specs.Network.{Network, place_of, entrance, address_of_client, address_of_server, output_at, is_in_memory}
+use Rattle.relay_net.specs.Network.{Network, place_of, entrance, tag_at, address_of_client, address_of_server, output_at, is_in_memory}
 use Rattle.relay_net.specs.Outputs.{settings_of, servers_of}
 use Rattle.relay_net.specs.Ways.{HasLeaf, HasLoop}
 use Rattle.route_graph.specs.Ways.{HaveTag}
@@ -81,21 +81,25 @@ GivesUp o = IsSomeAnd (settings_of o) (λ settings. settings.retry.forever ≡ f
 abbrev pub DropsOldest : {A : Type 0} → Output A → Type 0
 DropsOldest o = IsSomeAnd (settings_of o) (λ settings. settings.overflow_action ≡ DropOldestChunk)
 
--- A message may be taken where it comes in, if its way ends.
+-- the tag that the message's events bear where it comes in
+abbrev pub tag_of : {A : Type 0} → Network A → Message → List ℕ
+tag_of net message = tag_at net message.address message.tag
+
+-- A message may be taken where it comes in, if the tag that its events bear there is one, and its way ends.
 abbrev pub CanBegin : {A : Type 0} → Network A → Message → Type 0
-CanBegin net message = IsSomeAnd (entrance net message.address) (λ at. ¬ HasLoop net at message.tag message.entries)
+CanBegin net message = IsSomeAnd (entrance net message.address) (λ at. (length (tag_of net message) ≤ 1024) × ¬ HasLoop net at (tag_of net message) message.entries)
 
 -- An open delivery of the message may be appended there: to a leaf that it wasn't appended to.
 pub record CanAppend {A : Type 0} (net : Network A) (w : World) (delivery : Delivery) (message : Message) (buffer serial : ℕ) : Type 0 where
   pub is_open : delivery.is_open ≡ true
-  pub is_leaf : HasLeaf net delivery.entrance message.tag message.entries buffer
+  pub is_leaf : HasLeaf net delivery.entrance delivery.tag message.entries buffer
   pub is_new : ¬ Contains delivery.appended buffer
-  pub can_take : CanTake (w.buffers delivery.entrance.relay buffer) message.tag serial
+  pub can_take : CanTake (w.buffers delivery.entrance.relay buffer) delivery.tag serial
 
 -- An open delivery of the message may be acknowledged: it was appended to each leaf.
 pub record CanAcknowledge {A : Type 0} (net : Network A) (delivery : Delivery) (message : Message) : Type 0 where
   pub is_open : delivery.is_open ≡ true
-  pub is_whole : (buffer : ℕ) → HasLeaf net delivery.entrance message.tag message.entries buffer → Contains delivery.appended buffer
+  pub is_whole : (buffer : ℕ) → HasLeaf net delivery.entrance delivery.tag message.entries buffer → Contains delivery.appended buffer
 
 -- of this delivery and its message
 abbrev pub OfDelivery : World → ℕ → (Delivery → Message → Type 0) → Type 0
@@ -174,7 +178,7 @@ with_delivery w number change = option_map_or (λ delivery. option_map_or (chang
 -- the world after a delivery was appended to a buffer of its relay at this serial
 abbrev pub with_appended : World → ℕ → ℕ → ℕ → World
 with_appended w delivery buffer serial = with_delivery w delivery (λ d m. record w {
-  buffers = (with_buffer w d.entrance.relay buffer (appended_to m.tag m.entries serial)).buffers;
+  buffers = (with_buffer w d.entrance.relay buffer (appended_to d.tag m.entries serial)).buffers;
   deliveries = slice_set w.deliveries delivery (record d { appended = d.appended ++ buffer ∷ [] });
 })
 
@@ -185,9 +189,10 @@ effect net w (step.Send client tag entries) = option_map_or
       messages = w.messages ++ record { sender = sender.Client client; address = address_of_client net found; tag = tag; entries = map (λ entry. entry.items) entries.items; acknowledged = false } ∷ [];
     }) (slice_get net.clients client) w
 effect net w (step.Begin message) = option_map_or
+    (λ m. option_map_or
     (λ at. record w {
-      deliveries = w.deliveries ++ record { message = message; entrance = at; appended = []; is_open = true } ∷ [];
-    }) (option_and_then (λ m. entrance net m.address) (slice_get w.messages message)) w
+      deliveries = w.deliveries ++ record { message = message; entrance = at; tag = tag_of net m; appended = []; is_open = true } ∷ [];
+    }) (entrance net m.address) w) (slice_get w.messages message) w
 effect net w (step.Append delivery buffer serial) = with_appended w delivery buffer serial
 effect net w (step.Ack delivery) = with_delivery w delivery (λ d m. record w {
   messages = (answered w d.message m).messages;
@@ -228,7 +233,7 @@ Steps net before (first ∷ steps) after = Names net before first × Allowed net
 -- whether the way allows the step; all else that the step asks for holds.
 abbrev pub MayRunOut : {A : Type 0} → Network A → World → Step A → Type 0
 MayRunOut net w (step.Begin message) = IsSomeAnd (slice_get w.messages message) (λ m. IsSome (entrance net m.address))
-MayRunOut net w (step.Append delivery buffer serial) = OfDelivery w delivery (λ d m. (d.is_open ≡ true) × (¬ Contains d.appended buffer) × CanTake (w.buffers d.entrance.relay buffer) m.tag serial)
+MayRunOut net w (step.Append delivery buffer serial) = OfDelivery w delivery (λ d m. (d.is_open ≡ true) × (¬ Contains d.appended buffer) × CanTake (w.buffers d.entrance.relay buffer) d.tag serial)
 MayRunOut net w (step.Ack delivery) = OfDelivery w delivery (λ d m. d.is_open ≡ true)
 MayRunOut net w (step.Send client tag entries) = Allowed net w (step.Send client tag entries)
 MayRunOut net w (step.Abandon delivery) = Allowed net w (step.Abandon delivery)

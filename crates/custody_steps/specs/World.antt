@@ -1,14 +1,14 @@
 -- The state of a whole network: what its buffers and sinks hold, and all that was ever sent.
 use Rattle.std.specs.Prelude.{ℕ, ◌==◌, ◌&&◌, cond, List, []}
-use Rattle.custody_store.specs.Buffers.{Event, BufferState, empty_buffer}
-use Rattle.message_book.specs.Book.{Message, Delivery}
+use Rattle.custody_store.specs.Buffers.{BufferState, empty_buffer}
+use Rattle.message_book.specs.Book.{Message, Delivery, Told}
 
 -- the whole network at one time
 pub record World : Type 0 where
   pub buffers : ℕ → ℕ → BufferState  -- by the place of the relay, and the buffer in it
   pub messages : List Message  -- all that were ever sent, in that order
   pub deliveries : List Delivery  -- all that were ever opened, in that order
-  pub acknowledged : List Event  -- the events that were acknowledged to clients, in that order
+  pub acknowledged : List Told  -- the events that were acknowledged to clients, in that order
 
 -- before the first step
 abbrev pub opening : World

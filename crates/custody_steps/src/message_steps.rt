@@ -1,5 +1,5 @@
 // The steps on messages and their deliveries.
-ghost use Rattle.std.specs.Prelude.{◌≡◌, ◌↔◌, ℕ, true, Contains, IsTrue, IsSomeAnd, IfSome, IfOk, OnOk, OnErr, slice_get};
+ghost use Rattle.std.specs.Prelude.{◌≡◌, ◌↔◌, ◌<◌, ℕ, length, true, Contains, IsTrue, IsSomeAnd, IfSome, IfOk, OnOk, OnErr, slice_get};
 
 use crate::fault::StepFault;
 use crate::found::Found;
@@ -12,7 +12,7 @@ use relay_net::{Address, Entrance, server};
 use route_graph::Way;
 use std::alloc::{AllocError, Allocator};
 use step_lines::{ChunkName, Step};
-use tag_pattern::Tag;
+use tag_pattern::{Tag, TagError};
 
 impl<'n, A: Allocator + Copy> World<'n, A> {
     ghost use Rattle.custody_store.specs.Buffers.{CanTake};
@@ -21,7 +21,7 @@ impl<'n, A: Allocator + Copy> World<'n, A> {
     ghost use Rattle.relay_net.specs.Network.{output_at, entrance as address_leads};
     ghost use Rattle.relay_net.specs.Outputs.{servers_of};
     ghost use Rattle.custody_steps.specs.Found.{chunk_of, sent_on};
-    ghost use Rattle.custody_steps.specs.Steps.{Answers, OfDelivery, CanAppend, CanAcknowledge, with_appended};
+    ghost use Rattle.custody_steps.specs.Steps.{Answers, OfDelivery, CanAppend, CanAcknowledge, tag_of, with_appended};
     ghost use Rattle.custody_steps.specs.WorldOf.{world_of, net_of, open_after};
     ghost use Rattle.custody_store.specs.Places.{closed_at};
 
@@ -57,33 +57,45 @@ impl<'n, A: Allocator + Copy> World<'n, A> {
         self.net.entrance(address.host(), address.port())
     }
 
-    // Whether the way of the message that comes in there is a loop.
-    fn has_loop(&self, at: Entrance, message: &Message<A>) -> Result<bool, AllocError>
-        ensures { IfOk result (λ yes. IsTrue yes ↔ HasLoop (net_of self.now) at message.now.tag message.now.entries) }
+    // The tag that the message's events bear where it comes in.
+    fn entered_tag(&self, message: &Message<A>) -> Result<Tag<A>, TagError>
+        ensures tag { IfOk result (λ tag. tag ≡ tag_of (net_of self.now) message.now) }
+        ensures too_long { (result ≡ Err TagError.TagTooLong) ↔ (1024 < length (tag_of (net_of self.now) message.now)) }
+    {
+        let address = message.address();
+        match self.net.prefix(address.host(), address.port()) {
+            Some(prefix) => message.tag().prefixed(self.alloc, prefix),
+            None => Tag::read(self.alloc, message.tag().as_bytes()),
+        }
+    }
+
+    // Whether the way of the message that comes in there, under this tag, is a loop.
+    fn has_loop(&self, at: Entrance, tag: &Tag<A>, message: &Message<A>) -> Result<bool, AllocError>
+        ensures { IfOk result (λ yes. IsTrue yes ↔ HasLoop (net_of self.now) at tag.now message.now.entries) }
     {
         if message.entries().is_empty() {
             return Ok(false);
         }
-        match self.net.way(at, message.tag())? {
+        match self.net.way(at, tag)? {
             Way::Loop => Ok(true),
             Way::Leaves(_) => Ok(false),
         }
     }
 
-    // Whether the buffer is a leaf of the message that comes in there, if its way ends.
+    // Whether the buffer is a leaf of the delivery's message, if its way ends.
     fn has_leaf(
         &self,
-        at: Entrance,
+        delivery: &Delivery<A>,
         message: &Message<A>,
         buffer: usize,
     ) -> Result<bool, AllocError>
-        requires { ¬ HasLoop (net_of self.now) at message.now.tag message.now.entries }
-        ensures { IfOk result (λ yes. IsTrue yes ↔ HasLeaf (net_of self.now) at message.now.tag message.now.entries buffer) }
+        requires { ¬ HasLoop (net_of self.now) delivery.now.delivery.entrance delivery.now.delivery.tag message.now.entries }
+        ensures { IfOk result (λ yes. IsTrue yes ↔ HasLeaf (net_of self.now) delivery.now.delivery.entrance delivery.now.delivery.tag message.now.entries buffer) }
     {
         if message.entries().is_empty() {
             return Ok(false);
         }
-        match self.net.way(at, message.tag())? {
+        match self.net.way(delivery.entrance(), delivery.tag())? {
             Way::Loop => Ok(false),
             Way::Leaves(leaves) => Ok(leaves.contains(&BufferNo(buffer))),
         }
@@ -91,13 +103,13 @@ impl<'n, A: Allocator + Copy> World<'n, A> {
 
     // Whether the delivery was appended to each leaf of its message, if the way of that ends.
     fn is_whole(&self, delivery: &Delivery<A>, message: &Message<A>) -> Result<bool, AllocError>
-        requires { ¬ HasLoop (net_of self.now) delivery.now.delivery.entrance message.now.tag message.now.entries }
-        ensures { IfOk result (λ yes. IsTrue yes ↔ ((buffer : ℕ) → HasLeaf (net_of self.now) delivery.now.delivery.entrance message.now.tag message.now.entries buffer → Contains delivery.now.delivery.appended buffer)) }
+        requires { ¬ HasLoop (net_of self.now) delivery.now.delivery.entrance delivery.now.delivery.tag message.now.entries }
+        ensures { IfOk result (λ yes. IsTrue yes ↔ ((buffer : ℕ) → HasLeaf (net_of self.now) delivery.now.delivery.entrance delivery.now.delivery.tag message.now.entries buffer → Contains delivery.now.delivery.appended buffer)) }
     {
         if message.entries().is_empty() {
             return Ok(true);
         }
-        match self.net.way(delivery.entrance(), message.tag())? {
+        match self.net.way(delivery.entrance(), delivery.tag())? {
             Way::Loop => Ok(false),
             Way::Leaves(leaves) => Ok(leaves.iter().all(|leaf| delivery.has_appended(leaf.0))),
         }
@@ -110,7 +122,7 @@ impl<'n, A: Allocator + Copy> World<'n, A> {
         delivery.is_open() && self.places.closed(delivery.entrance().relay) <= number
     }
 
-    // The relay takes a message whose way ends.
+    // The relay takes a message whose tag, as it is prefixed there, is one, and whose way ends.
     pub(crate) fn begin(&mut self, message: u64) -> Result<(), StepFault>
         ensures net { net_of self.new ≡ net_of self.old }
         ensures answer { Answers (net_of self.old) (world_of self.old) (Step.Begin message) (world_of self.new) result }
@@ -122,17 +134,22 @@ impl<'n, A: Allocator + Copy> World<'n, A> {
         let Some(at) = self.entrance(found) else {
             return Err(StepFault::NotAllowed);
         };
-        if self.has_loop(at, found)? {
+        let tag = match self.entered_tag(found) {
+            Ok(tag) => tag,
+            Err(TagError::TagTooLong) => return Err(StepFault::NotAllowed),
+            Err(TagError::Memory) => return Err(StepFault::Memory),
+        };
+        if self.has_loop(at, &tag, found)? {
             return Err(StepFault::NotAllowed);
         }
-        self.book.begin(number, at, 0)?;
+        self.book.begin(number, at, tag, 0)?;
         Ok(())
     }
 
     // Whether the delivery may be appended to the buffer at this serial.
     fn can_append(&self, number: usize, buffer: usize, serial: usize) -> Result<bool, AllocError>
         ensures ok { IfOk result (λ yes. IsTrue yes ↔ OfDelivery (world_of self.now) number (λ d m. CanAppend (net_of self.now) (world_of self.now) d m buffer serial)) }
-        ensures err { OnErr result (OfDelivery (world_of self.now) number (λ d m. (d.is_open ≡ true) × (¬ Contains d.appended buffer) × CanTake ((world_of self.now).buffers d.entrance.relay buffer) m.tag serial)) }
+        ensures err { OnErr result (OfDelivery (world_of self.now) number (λ d m. (d.is_open ≡ true) × (¬ Contains d.appended buffer) × CanTake ((world_of self.now).buffers d.entrance.relay buffer) d.tag serial)) }
     {
         let Some(found) = self.book.delivery(number) else {
             return Ok(false);
@@ -146,11 +163,11 @@ impl<'n, A: Allocator + Copy> World<'n, A> {
         }
         if !self
             .places
-            .takes(at.relay, buffer, serial, message.tag().as_bytes())
+            .takes(at.relay, buffer, serial, found.tag().as_bytes())
         {
             return Ok(false);
         }
-        self.has_leaf(at, message, buffer)
+        self.has_leaf(found, message, buffer)
     }
 
     // A delivery is appended to a buffer.
@@ -194,7 +211,7 @@ impl<'n, A: Allocator + Copy> World<'n, A> {
         let place = found.entrance().relay;
         self.places.make(place, buffer)?;
         self.places
-            .take_in(place, buffer, serial, message.tag(), message.entries())?;
+            .take_in(place, buffer, serial, found.tag(), message.entries())?;
         self.book.mark_appended(number, buffer);
         Ok(())
     }

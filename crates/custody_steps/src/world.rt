@@ -1,17 +1,19 @@
 // A network at one time, and how a step changes it.
-ghost use Rattle.std.specs.Prelude.{◌≡◌, ◌≤◌, ◌↔◌, ℕ, length, None, IfSome, IfNone, IfErr, IsTrue, OnOk, OnErr};
+ghost use Rattle.std.specs.Prelude.{◌≡◌, ◌≤◌, ◌↔◌, ℕ, length, None, IfSome, IfNone, IfOk, IfErr, IsTrue, OnOk, OnErr};
 ghost use Rattle.std.specs.List.{list_any};
 ghost use Rattle.custody_store.specs.Contents.{flag_at, stored_events};
 ghost use Rattle.custody_store.specs.Places.{contents_at, closed_at};
 ghost use Rattle.custody_steps.specs.Answers.{is_answer};
 ghost use Rattle.custody_steps.specs.Open.{AreOfMessages, HaveNoLoops};
+ghost use Rattle.message_book.specs.Book.{told_events};
 
 use crate::fault::StepFault;
 use crate::found::Found;
 use custody_store::{Event, Places, Stage};
-use message_book::Book;
+use message_book::{Acknowledged, Book};
 use relay_net::Net;
-use std::alloc::Allocator;
+use routed_tags::is_routed_tag;
+use std::alloc::{AllocError, Allocator};
 use step_lines::{ChunkName, Step};
 
 /// A network at one time: what its buffers and sinks hold, and all that was ever sent.
@@ -29,7 +31,9 @@ pub struct World<'n, A: Allocator> {
 
 impl<'n, A: Allocator + Copy> World<'n, A> {
     ghost use Rattle.custody_steps.specs.Found.{IsFound};
-    ghost use Rattle.custody_steps.specs.Held.{Held};
+    ghost use Rattle.custody_store.specs.Contents.{event_of};
+    ghost use Rattle.routed_tags.specs.Routed.{IsRoutedTag};
+    ghost use Rattle.custody_steps.specs.Held.{Held, HeldAs, IsKeptAnswer};
     ghost use Rattle.custody_steps.specs.Steps.{Answers, Names, Allowed, IsRefused, chunk_named, effect, sink_named};
     ghost use Rattle.custody_steps.specs.World.{opening};
     ghost use Rattle.custody_steps.specs.WorldOf.{world_of, net_of};
@@ -47,9 +51,10 @@ impl<'n, A: Allocator + Copy> World<'n, A> {
         }
     }
 
-    /// The events that were acknowledged to clients, in the order of their acknowledgement.
-    pub fn acknowledged(&self) -> &[Event<A>]
-        ensures { stored_events result.now ≡ (world_of self.now).acknowledged }
+    /// The events that were acknowledged to clients, in the order of their acknowledgement, each under the tag that its client
+    /// sent.
+    pub fn acknowledged(&self) -> &[Acknowledged<A>]
+        ensures { told_events result.now ≡ (world_of self.now).acknowledged }
     {
         self.book.acknowledged()
     }
@@ -59,6 +64,54 @@ impl<'n, A: Allocator + Copy> World<'n, A> {
         ensures { IsTrue result ↔ Held (world_of self.now) (record { tag = tag.now; entry = entry.now }) }
     {
         self.places.hold(tag, entry)
+    }
+
+    /// Whether the event of this number, counted from 0, that was acknowledged to a client is held under a tag that it may bear:
+    /// the one that the client sent, with the prefix of each source that it enters in front, along relabels and forwards.
+    /// `None` where no event has this number. It looks at all that is held, and follows the event's ways.
+    pub fn kept(&self, number: usize) -> Result<Option<bool>, AllocError>
+        ensures { IfOk result (λ answer. IsKeptAnswer (net_of self.now) (world_of self.now) number answer) }
+    {
+        let Some(told) = self.book.acknowledged().get(number) else {
+            return Ok(None);
+        };
+        let Some(client) = self.net.client(told.client) else {
+            return Ok(Some(false));
+        };
+        let Some(host) = self.net.client_host(told.client) else {
+            return Ok(Some(false));
+        };
+        let yes = self.is_kept(host, client.port, &told.event)?;
+        Ok(Some(yes))
+    }
+
+    // Whether the event is held under a tag that it may bear, if a message with it was sent to this host and port.
+    fn is_kept(&self, host: &[u8], port: u16, event: &Event<A>) -> Result<bool, AllocError>
+        ensures { IfOk result (λ yes. IsTrue yes ↔ HeldAs (net_of self.now) (world_of self.now) (record { host = host.now; port = port }) (event_of event.now)) }
+    {
+        let tags = self.places.tags()?;
+        for tag in &tags {
+            if self.is_kept_under(host, port, event, tag.as_slice())? {
+                return Ok(true);
+            }
+        }
+        Ok(false)
+    }
+
+    // Whether the event is held under this tag, and may bear it, if a message with it was sent to this host and port.
+    fn is_kept_under(
+        &self,
+        host: &[u8],
+        port: u16,
+        event: &Event<A>,
+        tag: &[u8],
+    ) -> Result<bool, AllocError>
+        ensures { IfOk result (λ yes. IsTrue yes ↔ (IsRoutedTag (net_of self.now) (record { host = host.now; port = port }) event.now.tag.items tag.now × Held (world_of self.now) (record { tag = tag.now; entry = event.now.entry.items }))) }
+    {
+        if !self.places.hold(tag, event.entry.as_slice()) {
+            return Ok(false);
+        }
+        is_routed_tag(self.alloc, self.net, host, port, event.tag.as_slice(), tag)
     }
 
     /// What is in the sink of this output, by the number of its relay and its buffer; nothing where there is none.

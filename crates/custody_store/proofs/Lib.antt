@@ -1,3 +1,4 @@
+pub mod Covering
 pub mod ChunksAt
 pub mod Members
 pub mod PlaceLists

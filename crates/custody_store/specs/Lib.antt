@@ -4,3 +4,4 @@ pub mod Copies
 pub mod Marks
 pub mod PlaceLists
 pub mod Places
+pub mod Tags

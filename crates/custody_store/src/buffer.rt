@@ -5,9 +5,11 @@ ghost use Rattle.step_lines.specs.Texts.{texts_of};
 ghost use Rattle.custody_store.specs.Buffers.{events_of, CanTake, Holds, is_queued, none_queued_below};
 ghost use Rattle.custody_store.specs.Contents.{buffer_of, chunk_at, flag_at, changed, look_of, empty_contents, stored_events, taken_in, restarted_chunks, parts_of, IsAnsweredToo};
 ghost use Rattle.custody_store.specs.Copies.{copied_parts};
+ghost use Rattle.custody_store.specs.Tags.{Covers, HoldsUnder};
 
 use crate::chunk::{self, Chunk, Copied, Kept, Look, Stage};
 use crate::event::{Event, copy_texts, has_event};
+use crate::tags::{add_chunk_tags, add_event_tags};
 use std::alloc::{AllocError, Allocator};
 use std::marker::Model;
 use tag_pattern::Tag;
@@ -79,6 +81,14 @@ impl<A: Allocator + Copy> Buffer<A> {
     {
         chunk::have_entry(self.chunks.as_slice(), tag, entry)
             || has_event(self.sink.as_slice(), tag, entry)
+    }
+
+    /// Adds the tags under which it or its sink holds something.
+    pub(crate) fn add_tags(&self, tags: &mut Vec<Vec<u8, A>, A>) -> Result<(), AllocError>
+        ensures { OnOk result (Covers (HoldsUnder (buffer_of self.now)) (texts_of tags.old.items) (texts_of tags.new.items)) }
+    {
+        add_chunk_tags(tags, self.chunks.as_slice())?;
+        add_event_tags(tags, self.sink.as_slice())
     }
 
     /// Whether an event of this tag may be appended at this serial: to a staged chunk of the tag, or at the next.

@@ -5,6 +5,7 @@ mod buffer;
 mod chunk;
 mod event;
 mod places;
+mod tags;
 
 pub use buffer::Buffer;
 pub use chunk::{Copied, Look, Stage};

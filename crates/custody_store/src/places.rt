@@ -1,14 +1,15 @@
 // What the relays of a network have.
-ghost use Rattle.std.specs.Prelude.{◌≡◌, ◌<◌, ◌≤◌, ◌++◌, ◌==◌, ◌&&◌, Some, None, [], ◌↔◌, ℕ, cond, IsSomeAnd, IsTrue, IfSome, IfNone, IfOk, OnOk, OnErr, take, length, option_map, true, false};
+ghost use Rattle.std.specs.Prelude.{◌≡◌, ◌<◌, ◌≤◌, ◌++◌, ◌==◌, ◌&&◌, Some, None, [], ◌↔◌, ℕ, cond, IsSomeAnd, IsTrue, IfSome, IfNone, IfOk, OnOk, OnErr, take, length, option_map, true, false, Contains};
 ghost use Rattle.std.specs.Option.{ForSome, option_map_or};
 ghost use Rattle.step_lines.specs.Texts.{texts_of};
-ghost use Rattle.custody_store.specs.Buffers.{events_of, CanTake, Holds, is_queued, none_queued_below};
+ghost use Rattle.custody_store.specs.Buffers.{Event, events_of, CanTake, Holds, is_queued, none_queued_below};
 ghost use Rattle.custody_store.specs.Contents.{buffer_of, chunk_at, changed, look_of, flag_at, stored_events, taken_in, empty_contents, restarted_chunks, parts_of, contents_of, IsAnsweredToo};
 ghost use Rattle.custody_store.specs.Copies.{copied_parts};
 
 use crate::buffer::Buffer;
 use crate::chunk::{Copied, Look, Stage};
-use crate::event::Event;
+use crate::event::Event as Stored;
+use crate::tags::add_place_tags;
 use std::alloc::{AllocError, Allocator};
 use tag_pattern::Tag;
 
@@ -98,7 +99,7 @@ impl<A: Allocator + Copy> Places<A> {
     }
 
     /// What is in the sink of this buffer's output.
-    pub fn sink(&self, place: usize, buffer: usize) -> &[Event<A>]
+    pub fn sink(&self, place: usize, buffer: usize) -> &[Stored<A>]
         ensures { stored_events result.now ≡ (contents_at self.now place buffer).sink }
     {
         match self.buffer(place, buffer) {
@@ -112,6 +113,15 @@ impl<A: Allocator + Copy> Places<A> {
         ensures { IsTrue result ↔ HoldAnywhere self.now (record { tag = tag.now; entry = entry.now }) }
     {
         hold_any(self.list.as_slice(), tag, entry)
+    }
+
+    /// All tags under which something is held in a live chunk of some buffer or in a sink, and maybe others, each once.
+    pub fn tags(&self) -> Result<Vec<Vec<u8, A>, A>, AllocError>
+        ensures { IfOk result (λ tags. (event : Event) → HoldAnywhere self.now event → Contains (texts_of tags.items) event.tag) }
+    {
+        let mut tags = Vec::new(*self.list.allocator());
+        add_place_tags(&mut tags, self.list.as_slice())?;
+        Ok(tags)
     }
 
     /// Deliveries of a lesser number of the relay at this place have ended.

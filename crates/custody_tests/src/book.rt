@@ -28,7 +28,8 @@ fn messages_are_sent_and_answered(rt: HostRuntime) -> Result<(), Fail> {
 fn deliveries_are_opened_and_appended(rt: HostRuntime) -> Result<(), Fail> {
     let alloc = rt.alloc();
     let mut book: Book<Global> = Book::new(alloc);
-    book.begin(0, Entrance { relay: 0, scope: 3 }, 0)?;
+    let tag = Tag::read(alloc, b"a")?;
+    book.begin(0, Entrance { relay: 0, scope: 3 }, tag, 0)?;
     book.make_room(0)?;
     book.mark_appended(0, 5);
     book.end(0);

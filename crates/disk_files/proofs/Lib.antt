@@ -5,3 +5,5 @@ pub mod Stops
 pub mod Moments
 pub mod Causes
 pub mod Outcomes
+mod Failing
+mod Written

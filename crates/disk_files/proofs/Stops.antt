@@ -252,3 +252,8 @@ module _ (files new : List Entry) (past past' : List (List Entry)) (keep : Keep)
 
   pub stop_settled : SameDisk (now (history_of new past')) (settled (reads (now (history_of new past'))))
   stop_settled name = left_now name ∙ ap (option_map kept_file) (sym (reads_left name))
+
+-- what is left, where the file written to last is told in another way
+pub left_known : (files after : List Entry) (keep : Keep) (last last' : Option ℕ) → last ≡ last' → SameDisk (disk_of after) (settled (left_of keep (name_at files last) (disk_of files)))
+    → SameDisk (disk_of after) (settled (left_of keep (name_at files last') (disk_of files)))
+left_known files after keep last last' same left = subst (λ l. SameDisk (disk_of after) (settled (left_of keep (name_at files l) (disk_of files)))) same left

@@ -1,5 +1,5 @@
 -- A folder whose device fails at a chosen call.
-use Rattle.std.specs.Prelude.{◌≡◌, ℕ, ◌==◌, Bool, false}
+use Rattle.std.specs.Prelude.{ℕ, ◌-◌, ◌==◌, nat_lt, Bool, true, false, cond}
 use Rattle.disk_files.specs.declared.fuse.Fuse.{Fuse}
 use Rattle.disk_files.specs.declared.fuse.Fails.{Fails}
 use Rattle.disk_files.specs.declared.fuse.Fails.TheVariants.{All, One, Nothing}
@@ -16,13 +16,19 @@ next_of All = All
 next_of One = Nothing
 next_of Nothing = Nothing
 
--- once it fails, it fails each later call too
-abbrev pub IsLasting : {D : Type 0} → Fuse D → Type 0
-IsLasting f = f.fails ≡ All
+-- which calls fail: so many are passed on, and all later ones fail
+abbrev pub all_after : ℕ → (ℕ → Bool) → ℕ → Bool
+all_after passes below k = cond (nat_lt k passes) (below k) true
 
--- it fails one call
-abbrev pub IsBrief : {D : Type 0} → Fuse D → Type 0
-IsBrief f = f.fails ≡ One
+-- which calls fail: so many are passed on, the next one fails and isn't passed on, and all later ones are
+abbrev pub one_after : ℕ → (ℕ → Bool) → ℕ → Bool
+one_after passes below k = cond (nat_lt k passes) (below k) (cond (k == passes) true (below (k - 1)))
+
+-- which calls fail, over a device that fails those
+abbrev pub failures : Fails → ℕ → (ℕ → Bool) → ℕ → Bool
+failures All passes below = all_after passes below
+failures One passes below = one_after passes below
+failures Nothing passes below = below
 
 -- the folder below
 abbrev pub inner_of : {D : Type 0} → Fuse D → D

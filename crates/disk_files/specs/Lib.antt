@@ -4,6 +4,7 @@ pub mod Faults
 pub mod Entry
 pub mod Table
 pub mod Past
+pub mod Written
 pub mod Earlier
 pub mod Readable
 pub mod Stop

@@ -1,10 +1,10 @@
-// A folder as one value: the calls, and what each promises of the disk.
-ghost use Rattle.std.specs.Prelude.{◌≡◌, ◌≢◌, ◌⊎◌, ◌↔◌, ℕ, ◌+◌, ◌-◌, ◌≤◌, List, ◌++◌, length, take, drop, min, Option, Some, None, IsSome, IfOk, OnOk, OnErr, IsErrOf, Contains};
+//! A folder as one value: the calls, and what each promises of the disk.
+ghost use Rattle.std.specs.Prelude.{◌≡◌, ◌≢◌, ◌⊎◌, ◌↔◌, ℕ, ◌+◌, ◌-◌, ◌≤◌, List, ◌++◌, length, take, drop, min, Bool, Option, Some, None, IsSome, IfOk, OnOk, OnErr, IsErrOf, Contains};
 ghost use Rattle.std.specs.List.{IsDistinct};
 ghost use Rattle.std.specs.Str.{bytes_eq};
 ghost use Rattle.disk_files.specs.Disk.{grown, flushed, unlinked, SameDisk, Makes, Changes, reads, StopLeaves};
 ghost use Rattle.disk_files.specs.Moments.{History, Elapses, now};
-ghost use Rattle.disk_files.specs.Faults.{HasCause};
+ghost use Rattle.disk_files.specs.Faults.{HasCause, FailsInTurn};
 ghost use Rattle.disk_files.specs.declared.dir.FileNo.{FileNo};
 
 use std::alloc::{AllocError, AllocFailed, Allocator};
@@ -94,8 +94,8 @@ pub trait Dir {
     /// The disk at each moment up to this one.
     ghost history: { Self → History };
 
-    /// The device fails the next call.
-    ghost is_failing: { Self → Type 0 };
+    /// Whether the device fails the call that comes after so many more.
+    ghost fails_after: { Self → ℕ → Bool };
 
     /// The name of an open file.
     ghost opened: { Self → FileNo → Option (List ℕ) };
@@ -123,7 +123,7 @@ pub trait Dir {
         ensures other_room { (other : FileNo) → IsSome (opened self.old other)
             → bytes_left self.old other ≤ bytes_left self.new other }
         ensures cause { HasCause (fault_count self.old) (fault_count self.new) result }
-        ensures fault { is_honest self.old → (IsErrOf result DirError.Fault ↔ is_failing self.old) }
+        ensures fault { is_honest self.old → FailsInTurn (fails_after self.old) (fails_after self.new) result }
         ensures memory { is_honest self.old → IsErrOf result DirError.Memory
             → SameDisk (now (history self.new)) (now (history self.old)) }
         ensures taken { is_honest self.old → IsErrOf result DirError.NameTaken
@@ -143,7 +143,7 @@ pub trait Dir {
         ensures other_room { (other : FileNo) → IsSome (opened self.old other)
             → bytes_left self.old other ≤ bytes_left self.new other }
         ensures cause { HasCause (fault_count self.old) (fault_count self.new) result }
-        ensures fault { is_honest self.old → (IsErrOf result DirError.Fault ↔ is_failing self.old) }
+        ensures fault { is_honest self.old → FailsInTurn (fails_after self.old) (fails_after self.new) result }
         ensures missing { is_honest self.old → IsErrOf result DirError.NoSuchFile
             → (reads (now (history self.old)) name.now ≡ None) }
         ensures never_taken { result ≢ Err DirError.NameTaken };
@@ -158,7 +158,8 @@ pub trait Dir {
         ensures room { OnOk result (room ≤ bytes_left self.new file) }
         ensures other_room { (other : FileNo)
             → bytes_left self.old other ≤ bytes_left self.new other }
-        ensures cause { fault_count self.new ≡ fault_count self.old };
+        ensures cause { fault_count self.new ≡ fault_count self.old }
+        ensures fault { is_honest self.old → (k : ℕ) → fails_after self.new k ≡ fails_after self.old k };
 
     /// The names of the files that are there, each once, in no certain order.
     fn list<B: Allocator + Copy>(&mut self, alloc: B) -> Result<Vec<FileName<B>, B>, DirError>
@@ -173,7 +174,7 @@ pub trait Dir {
         ensures other_room { (other : FileNo)
             → bytes_left self.old other ≤ bytes_left self.new other }
         ensures cause { HasCause (fault_count self.old) (fault_count self.new) result }
-        ensures fault { is_honest self.old → (IsErrOf result DirError.Fault ↔ is_failing self.old) }
+        ensures fault { is_honest self.old → FailsInTurn (fails_after self.old) (fails_after self.new) result }
         ensures only { OnErr result ((result ≡ Err DirError.Memory) ⊎ (result ≡ Err DirError.Fault)) };
 
     /// Adds bytes at an open file's end. After a `Fault` a beginning of them may be there.
@@ -192,7 +193,7 @@ pub trait Dir {
         ensures other_room { (other : FileNo) → other ≢ file
             → bytes_left self.old other ≤ bytes_left self.new other }
         ensures cause { HasCause (fault_count self.old) (fault_count self.new) result }
-        ensures fault { is_honest self.old → (IsErrOf result DirError.Fault ↔ is_failing self.old) }
+        ensures fault { is_honest self.old → FailsInTurn (fails_after self.old) (fails_after self.new) result }
         ensures only { OnErr result (result ≡ Err DirError.Fault) };
 
     /// After its `Ok` each stop leaves the file, with all that was written to it. A `Fault` changes nothing.
@@ -208,7 +209,7 @@ pub trait Dir {
         ensures other_room { (other : FileNo)
             → bytes_left self.old other ≤ bytes_left self.new other }
         ensures cause { HasCause (fault_count self.old) (fault_count self.new) result }
-        ensures fault { is_honest self.old → (IsErrOf result DirError.Fault ↔ is_failing self.old) }
+        ensures fault { is_honest self.old → FailsInTurn (fails_after self.old) (fails_after self.new) result }
         ensures only { OnErr result (result ≡ Err DirError.Fault) };
 
     /// Reads an open file from a place on, as far as the file and `into` reach, and says how many bytes these are.
@@ -229,7 +230,7 @@ pub trait Dir {
         ensures other_room { (other : FileNo)
             → bytes_left self.old other ≤ bytes_left self.new other }
         ensures cause { HasCause (fault_count self.old) (fault_count self.new) result }
-        ensures fault { is_honest self.old → (IsErrOf result DirError.Fault ↔ is_failing self.old) }
+        ensures fault { is_honest self.old → FailsInTurn (fails_after self.old) (fails_after self.new) result }
         ensures only { OnErr result (result ≡ Err DirError.Fault) };
 
     /// The length of an open file, in bytes.
@@ -245,7 +246,7 @@ pub trait Dir {
         ensures other_room { (other : FileNo)
             → bytes_left self.old other ≤ bytes_left self.new other }
         ensures cause { HasCause (fault_count self.old) (fault_count self.new) result }
-        ensures fault { is_honest self.old → (IsErrOf result DirError.Fault ↔ is_failing self.old) }
+        ensures fault { is_honest self.old → FailsInTurn (fails_after self.old) (fails_after self.new) result }
         ensures only { OnErr result (result ≡ Err DirError.Fault) };
 
     /// Removes an open file, and closes it. After a `Fault` it may have been removed.
@@ -264,7 +265,7 @@ pub trait Dir {
         ensures other_room { (other : FileNo) → other ≢ file
             → bytes_left self.old other ≤ bytes_left self.new other }
         ensures cause { HasCause (fault_count self.old) (fault_count self.new) result }
-        ensures fault { is_honest self.old → (IsErrOf result DirError.Fault ↔ is_failing self.old) }
+        ensures fault { is_honest self.old → FailsInTurn (fails_after self.old) (fails_after self.new) result }
         ensures only { OnErr result (result ≡ Err DirError.Fault) };
 
     /// How many calls were refused for another reason than memory, up to the greatest number of its type.

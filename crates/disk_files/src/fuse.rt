@@ -1,4 +1,4 @@
-// A folder whose device fails at a chosen call.
+//! A folder whose device fails at a chosen call.
 ghost use Rattle.std.specs.Prelude.{◌≡◌, ◌≢◌, ◌⊎◌, ◌↔◌, ℕ, ◌+◌, ◌-◌, ◌^◌, ◌≤◌, List, min, true, false, Some, None, OnOk, OnErr};
 ghost use Rattle.disk_files.specs.Fuse.{blows, next_of};
 ghost use Rattle.disk_files.specs.Faults.{Rises};
@@ -24,13 +24,12 @@ pub struct Fuse<D> {
 }
 
 impl<D: Dir> Fuse<D> {
-    ghost use Rattle.disk_files.specs.Fuse.{inner_of, IsBrief, IsLasting};
+    ghost use Rattle.disk_files.specs.Fuse.{inner_of, all_after, one_after};
 
     /// Passes so many calls on, and fails all later ones.
     pub fn after(inner: D, passes: u64) -> Fuse<D>
         ensures inner { inner_of result ≡ inner }
-        ensures lasting { IsLasting result }
-        ensures failing { ⟦<Fuse<D> as Dir>⟧.is_failing result ↔ ((passes ≡ 0) ⊎ D.is_failing inner) }
+        ensures failing { ⟦<Fuse<D> as Dir>⟧.fails_after result ≡ all_after passes (D.fails_after inner) }
         ensures faults { ⟦<Fuse<D> as Dir>⟧.fault_count result ≡ min (D.fault_count inner) (2 ^ 64 - 1) }
     {
         Fuse {
@@ -44,8 +43,7 @@ impl<D: Dir> Fuse<D> {
     /// Passes so many calls on, fails one, and passes all later ones.
     pub fn once(inner: D, passes: u64) -> Fuse<D>
         ensures inner { inner_of result ≡ inner }
-        ensures brief { IsBrief result }
-        ensures failing { ⟦<Fuse<D> as Dir>⟧.is_failing result ↔ ((passes ≡ 0) ⊎ D.is_failing inner) }
+        ensures failing { ⟦<Fuse<D> as Dir>⟧.fails_after result ≡ one_after passes (D.fails_after inner) }
         ensures faults { ⟦<Fuse<D> as Dir>⟧.fault_count result ≡ min (D.fault_count inner) (2 ^ 64 - 1) }
     {
         Fuse {
@@ -75,7 +73,7 @@ impl<D: Dir> Fuse<D> {
         ensures ok { OnOk result (blows self.old.fails self.old.passes ≡ false) }
         ensures err { OnErr result (blows self.old.fails self.old.passes ≡ true) }
         ensures only { OnErr result (result ≡ Err DirError.Fault) }
-        ensures passes { OnOk result (self.new.passes ≡ self.old.passes - 1) }
+        ensures passes { self.new.passes ≡ self.old.passes - 1 }
         ensures fails { OnOk result (self.new.fails ≡ self.old.fails) }
         ensures next { OnErr result (self.new.fails ≡ next_of self.old.fails) }
         ensures passed { OnOk result (self.new.failed ≡ self.old.failed) }
@@ -97,14 +95,14 @@ impl<D: Dir> Fuse<D> {
 }
 
 impl<D: Dir> Dir for Fuse<D> {
-    ghost use Rattle.std.specs.Prelude.{◌≡◌, ◌⊎◌, ◌+◌, ◌-◌, ◌^◌, min, true};
-    ghost use Rattle.disk_files.specs.Fuse.{blows};
+    ghost use Rattle.std.specs.Prelude.{◌+◌, ◌-◌, ◌^◌, min};
+    ghost use Rattle.disk_files.specs.Fuse.{failures};
 
     ghost is_honest = { λ f. D.is_honest f.inner };
 
     ghost history = { λ f. D.history f.inner };
 
-    ghost is_failing = { λ f. (blows f.fails f.passes ≡ true) ⊎ D.is_failing f.inner };
+    ghost fails_after = { λ f. failures f.fails f.passes (D.fails_after f.inner) };
 
     ghost opened = { λ f. D.opened f.inner };
 

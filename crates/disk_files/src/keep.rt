@@ -1,4 +1,4 @@
-// How much a stop keeps.
+//! How much a stop keeps.
 
 /// How much a stop of a folder in memory keeps. A removed file is gone in each case.
 #[derive(Clone, Copy, Debug, PartialEq, Eq)]

@@ -2,6 +2,7 @@
 #![tactic(auto)]
 
 mod dir;
+mod either;
 mod fuse;
 mod keep;
 mod laws;
@@ -11,6 +12,7 @@ mod past;
 mod real;
 
 pub use dir::{Dir, DirError, FileName, FileNo};
+pub use either::EitherDir;
 pub use fuse::Fuse;
 pub use keep::Keep;
 pub use laws::{inside_calls, stop_settles, sync_keeps};

@@ -1,8 +1,8 @@
-// A folder in memory.
-ghost use Rattle.std.specs.Prelude.{◌≡◌, ℕ, List, None, ◌+◌, ◌-◌, ◌≤◌, ◌++◌, [], ◌∷◌, length, take, drop, min, IfOk, vec_len};
+//! A folder in memory.
+ghost use Rattle.std.specs.Prelude.{◌≡◌, ◌==◌, ℕ, List, Some, None, cond, ◌+◌, ◌-◌, ◌≤◌, ◌++◌, [], ◌∷◌, length, take, drop, min, IfOk, vec_len};
 ghost use Rattle.disk_files.specs.Disk.{SameDisk, reads, StopLeaves, settled};
 ghost use Rattle.disk_files.specs.Moments.{now};
-ghost use Rattle.disk_files.specs.Stop.{left_of};
+ghost use Rattle.disk_files.specs.Stop.{left_of, name_at};
 ghost use Rattle.disk_files.specs.Stopped.{left_state};
 ghost use Rattle.disk_files.specs.Table.{disk_of, IsSound, names_there};
 ghost use Rattle.disk_files.specs.Faults.{Rises};
@@ -61,8 +61,9 @@ impl<A: Allocator + Copy> MemoryDir<A> {
     fn lose(&mut self, keep: Keep)
         ensures sound { IsSound self.old.files.items → IsSound self.new.files.items }
         ensures left { IsSound self.old.files.items → SameDisk (disk_of self.new.files.items)
-            (settled (left_of keep (last_written self.old) (disk_of self.old.files.items))) }
+            (settled (left_of keep (name_at self.old.files.items self.old.last) (disk_of self.old.files.items))) }
         ensures past { self.new.past ≡ [] }
+        ensures last { self.new.last ≡ None }
     {
         match keep {
             Keep::Least => self.restart(true),
@@ -80,6 +81,7 @@ impl<A: Allocator + Copy> MemoryDir<A> {
         ensures left { IsSound self.old.files.items → (name : List ℕ)
             → disk_of self.new.files.items name ≡ left_state least (disk_of self.old.files.items name) }
         ensures past { self.new.past ≡ [] }
+        ensures last { self.new.last ≡ None }
     {
         stop_each(&mut self.files, least);
         sweep(&mut self.files);
@@ -107,7 +109,7 @@ impl<A: Allocator + Copy> MemoryDir<A> {
 }
 
 impl<A: Allocator + Copy> Dir for MemoryDir<A> {
-    ghost use Rattle.std.specs.Prelude.{slice_get};
+    ghost use Rattle.std.specs.Prelude.{slice_get, false};
     ghost use Rattle.disk_files.specs.Table.{name_of, room_of};
     ghost use Rattle.disk_files.specs.Memory.{IsHonest, history as history_now};
 
@@ -115,7 +117,7 @@ impl<A: Allocator + Copy> Dir for MemoryDir<A> {
 
     ghost history = { λ d. history_now d };
 
-    ghost is_failing = { λ _. ⊥ };
+    ghost fails_after = { λ _ _. false };
 
     ghost opened = { λ d file. name_of (slice_get d.files.items file.0) };
 
@@ -125,7 +127,7 @@ impl<A: Allocator + Copy> Dir for MemoryDir<A> {
 
     ghost use Rattle.disk_files.specs.Readable.{reads_stay_of};
 
-    ghost reads_stay = { λ d sound. reads_stay_of d.files.items d.past sound };
+    ghost reads_stay = { λ d sound. reads_stay_of d.files.items d.past sound.0 };
 
     fn create(&mut self, name: &[u8], room: usize) -> Result<FileNo, DirError> {
         if place_of(&self.files, name).is_some() {
@@ -157,7 +159,7 @@ impl<A: Allocator + Copy> Dir for MemoryDir<A> {
     fn append(&mut self, file: FileNo, bytes: &[u8]) -> Result<(), DirError> {
         self.note();
         grow_at(&mut self.files, file.0, bytes);
-        self.last = Some(file.0);
+        self.last = last_of(self.last, file.0, bytes);
         Ok(())
     }
 
@@ -184,6 +186,13 @@ impl<A: Allocator + Copy> Dir for MemoryDir<A> {
     fn faults(&self) -> u64 {
         self.faults
     }
+}
+
+// The place that was written to last, after these bytes were written to one.
+fn last_of(last: Option<usize>, at: usize, bytes: &[u8]) -> Option<usize>
+    ensures { result ≡ cond (length bytes.now == 0) last (Some at) }
+{
+    if bytes.is_empty() { last } else { Some(at) }
 }
 
 // The bytes from a place on, as far as there is room for them.

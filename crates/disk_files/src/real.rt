@@ -1,5 +1,5 @@
-// A folder of the system.
-ghost use Rattle.std.specs.Prelude.{◌≡◌, ◌≢◌, ◌⊎◌, ℕ, ◌≤◌, ◌<◌, Some, None, IsSome, IfSome, IfOk, OnErr, length, slice_get};
+//! A folder of the system.
+ghost use Rattle.std.specs.Prelude.{◌≡◌, ◌≢◌, ◌⊎◌, ℕ, Err, ◌≤◌, ◌<◌, Some, None, IsSome, IfSome, IfOk, OnErr, length, slice_get};
 ghost use Rattle.disk_files.specs.declared.dir.FileNo.{FileNo};
 ghost use Rattle.disk_files.specs.Faults.{HasCause, Rises};
 ghost use Rattle.disk_files.specs.Real.{open_name};
@@ -38,6 +38,19 @@ where
     R::A: Clone,
     A: Allocator + Copy,
 {
+    /// The folder of this path, which is made, with those above it, where it isn't there. `Fault`: it couldn't be made or
+    /// synced, and some of those above it may be there.
+    pub fn make(rt: R, alloc: A, path: &str) -> Result<RealDir<R, A>, DirError>
+        ensures count { IfOk result (λ d. ⟦<RealDir<R, A> as Dir>⟧.fault_count d ≡ 0) }
+        ensures only { OnErr result ((result ≡ Err DirError.Memory) ⊎ (result ≡ Err DirError.Fault)) }
+    {
+        let dir = RealDir::new(rt, alloc, path)?;
+        if make_folder(&dir.rt, path).is_err() {
+            return Err(DirError::Fault);
+        }
+        Ok(dir)
+    }
+
     /// The folder of this path, which has to be there by the first call.
     pub fn new(rt: R, alloc: A, path: &str) -> Result<RealDir<R, A>, AllocError>
         ensures { IfOk result (λ d. ⟦<RealDir<R, A> as Dir>⟧.fault_count d ≡ 0) }
@@ -96,16 +109,15 @@ where
             return Err(self.refuse(DirError::Fault));
         };
         let name = FileName::from_slice(self.alloc, name)?;
-        self.files.reserve(1)?;
+        let at = free_place(&mut self.files)?;
         match how.open(&self.rt, path.as_str()) {
             Ok(file) => {
-                let at = self.files.len();
-                self.files.push_reserved(Some(OpenFile {
+                self.files[at] = Some(OpenFile {
                     name,
                     path,
                     file,
                     is_settled: false,
-                }));
+                });
                 Ok(FileNo(at))
             }
             Err(error) if error.kind() == kind => Err(self.refuse(refusal)),
@@ -129,6 +141,49 @@ where
             Err(self.refuse(DirError::Fault))
         }
     }
+}
+
+// Makes the folder of a path, and those above it, where they aren't there.
+fn make_folder(rt: &impl Files, path: &str) -> io::Result<()> {
+    for (end, byte) in path.as_bytes().iter().enumerate() {
+        if *byte == b'/' && end > 0 {
+            make_in(rt, &path[..end])?;
+        }
+    }
+    make_in(rt, path)
+}
+
+// Makes the folder of a path in the one above it, which is synced then, so that a stop leaves the new one.
+fn make_in(rt: &impl Files, path: &str) -> io::Result<()> {
+    match fs::create_dir(rt, path) {
+        Ok(()) => fs::open(rt, above(path))?.sync_all(),
+        Err(error) if error.kind() == ErrorKind::AlreadyExists => Ok(()),
+        Err(error) => Err(error),
+    }
+}
+
+// The path of the folder above that of a path.
+fn above(path: &str) -> &str {
+    match path.rsplit_once('/') {
+        Some(("", _)) => "/",
+        Some((above, _)) => above,
+        None => ".",
+    }
+}
+
+// A place where no file is open, one more where there is none.
+fn free_place<F: Drop, A: Allocator>(
+    files: &mut Vec<Option<OpenFile<F, A>>, A>,
+) -> Result<usize, AllocError>
+    ensures free { IfOk result (λ at. slice_get files.new.items at ≡ Some None) }
+    ensures same { (j : ℕ) → open_name (slice_get files.new.items j) ≡ open_name (slice_get files.old.items j) }
+{
+    if let Some(at) = files.iter().position(|place| place.is_none()) {
+        return Ok(at);
+    }
+    let at = files.len();
+    files.push(None)?;
+    Ok(at)
 }
 
 // The place of the open file of this name.
@@ -197,14 +252,14 @@ where
     R::A: Clone,
     A: Allocator + Copy,
 {
-    ghost use Rattle.std.specs.Prelude.{◌-◌, ◌^◌, slice_get};
+    ghost use Rattle.std.specs.Prelude.{◌-◌, ◌^◌, slice_get, false};
     ghost use Rattle.disk_files.specs.Real.{open_name, unknown};
 
     ghost is_honest = { λ _. ⊥ };
 
     ghost history = { λ _. unknown };
 
-    ghost is_failing = { λ _. ⊥ };
+    ghost fails_after = { λ _ _. false };
 
     ghost opened = { λ d file. open_name (slice_get d.files.items file.0) };
 

@@ -1,4 +1,6 @@
-use disk_files::{Dir, DirError, Fuse, Keep, MemoryDir, RealDir};
+//! Folders: what a stop leaves, what a fuse fails, and folders of the system.
+
+use disk_files::{Dir, DirError, EitherDir, FileNo, Fuse, Keep, MemoryDir, RealDir};
 use std::alloc::Global;
 use std::fs;
 use std::rt::Files;
@@ -158,39 +160,98 @@ fn names_of_files(rt: HostRuntime) -> Result<(), DirError> {
     Ok(())
 }
 
-fn real_folder<R: Files + Alloc>(rt: &R, path: &str) -> Result<(), Fail> {
+// No folder of this path.
+fn no_folder<R: Files + Alloc>(rt: &R, path: &str) {
     let _ = fs::remove_dir_all(rt, path);
-    fs::create_dir(rt, path)?;
-    Ok(())
+}
+
+// A folder of the system has one file more, and the refusals of a folder are counted.
+fn real_refusals<D: Dir>(alloc: Global, dir: &mut D) -> Result<bool, DirError> {
+    each_call(alloc, dir, b"a.journal")?;
+    let file = dir.create(b"b.sink", 5)?;
+    dir.append(file, b"hello")?;
+    dir.sync(file)?;
+    Ok(
+        dir.create(b"b.sink", 0) == Err(DirError::NameTaken)
+            && dir.open(b"a.journal") == Err(DirError::NoSuchFile)
+            && dir.create(b"x/y", 0) == Err(DirError::Fault)
+            && dir.open(b"\xff") == Err(DirError::Fault)
+            && dir.faults() == 4,
+    )
+}
+
+// A folder has one file of this name and these bytes, and nothing else.
+fn has_one<D: Dir>(
+    alloc: Global,
+    dir: &mut D,
+    name: &[u8],
+    bytes: &[u8],
+) -> Result<bool, DirError> {
+    let names = dir.list(alloc)?;
+    let found = bytes_of(alloc, dir, name)?;
+    Ok(
+        names.len() == 1
+            && names[0].as_bytes() == name
+            && found.is_some_and(|found| found.as_slice() == bytes),
+    )
 }
 
 #[test]
 fn real_files(rt: HostRuntime) -> Result<(), Fail> {
     let alloc = rt.alloc();
-    real_folder(&rt, "disk_files_test")?;
-    let mut dir = RealDir::new(rt.clone()?, alloc, "disk_files_test")?;
-    send(&dir);
-    assert_eq!(rt; each_call(alloc, &mut dir, b"a.journal"), Ok(()));
-    let file = dir.create(b"b.sink", 5).map_err(|_| "create")?;
-    dir.append(file, b"hello").map_err(|_| "append")?;
-    dir.sync(file).map_err(|_| "sync")?;
-    assert_eq!(rt; dir.create(b"b.sink", 0), Err(DirError::NameTaken));
-    assert_eq!(rt; dir.open(b"a.journal"), Err(DirError::NoSuchFile));
-    assert_eq!(rt; dir.create(b"x/y", 0), Err(DirError::Fault));
-    assert_eq!(rt; dir.open(b"\xff"), Err(DirError::Fault));
-    assert_eq!(rt; dir.faults(), 4);
-    // A value made anew finds the file as it was written.
-    let mut anew = RealDir::new(rt.clone()?, alloc, "disk_files_test")?;
-    let names = anew.list(alloc).map_err(|_| "list")?;
-    assert_eq!(rt; names.len(), 1);
-    assert_eq!(rt; names[0].as_bytes(), b"b.sink".as_slice());
-    let bytes = bytes_of(alloc, &mut anew, b"b.sink").map_err(|_| "read")?;
-    assert!(rt; bytes.is_some_and(|bytes| bytes.as_slice() == b"hello".as_slice()));
-    // A folder that isn't there.
-    let mut none = RealDir::new(rt.clone()?, alloc, "disk_files_test/none")?;
+    no_folder(&rt, "disk_files_test");
+    let mut none = RealDir::new(rt.clone()?, alloc, "disk_files_test/made")?;
     assert_eq!(rt; none.create(b"a", 0), Err(DirError::Fault));
     assert!(rt; none.list(alloc).is_err());
     assert_eq!(rt; none.faults(), 2);
+    let mut dir = RealDir::make(rt.clone()?, alloc, "disk_files_test/made")?;
+    assert!(rt; real_refusals(alloc, &mut dir)?);
+    // A value made anew finds the file as it was written.
+    let mut anew = RealDir::make(rt.clone()?, alloc, "disk_files_test/made")?;
+    assert!(rt; has_one(alloc, &mut anew, b"b.sink", b"hello")?);
+    assert!(rt; RealDir::make(rt.clone()?, alloc, "disk_files_test/made/b.sink/x").is_err());
     fs::remove_dir_all(&rt, "disk_files_test")?;
+    Ok(())
+}
+
+// Makes a file and removes it, and says where it stood.
+fn come_and_go<D: Dir>(dir: &mut D) -> Result<FileNo, DirError> {
+    let file = dir.create(b"a", 1)?;
+    dir.append(file, b"x")?;
+    dir.remove(file)?;
+    Ok(file)
+}
+
+#[test]
+fn removed_files_leave_their_places(rt: HostRuntime) -> Result<(), Fail> {
+    let alloc = rt.alloc();
+    no_folder(&rt, "disk_places_test");
+    let mut dir = RealDir::make(rt.clone()?, alloc, "disk_places_test")?;
+    for _ in 0..2000u32 {
+        assert_eq!(rt; come_and_go(&mut dir), Ok(FileNo(0)));
+    }
+    fs::remove_dir_all(&rt, "disk_places_test")?;
+    Ok(())
+}
+
+// A relay's folder: of the system, or in memory.
+type Folder = EitherDir<RealDir<HostRuntime, Global>, MemoryDir<Global>>;
+
+#[test]
+fn either_kind_of_folder(rt: HostRuntime) -> Result<(), Fail> {
+    let alloc = rt.alloc();
+    no_folder(&rt, "disk_either_test");
+    let real = RealDir::make(rt.clone()?, alloc, "disk_either_test")?;
+    let mut on_disk: Folder = EitherDir::Left(real);
+    let mut in_memory: Folder = EitherDir::Right(MemoryDir::new(alloc));
+    send(&on_disk);
+    assert_eq!(rt; each_call(alloc, &mut on_disk, b"a"), Ok(()));
+    assert_eq!(rt; each_call(alloc, &mut in_memory, b"a"), Ok(()));
+    // A removed name is free in the one, and not in the other before a stop.
+    assert!(rt; on_disk.create(b"a", 0).is_ok());
+    assert_eq!(rt; in_memory.create(b"a", 0), Err(DirError::NameTaken));
+    assert_eq!(rt; on_disk.faults(), 0);
+    assert_eq!(rt; in_memory.faults(), 1);
+    fs::remove_dir_all(&rt, "disk_either_test")?;
     Ok(())
 }

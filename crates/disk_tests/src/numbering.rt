@@ -1,3 +1,5 @@
+//! Numbered files in folders.
+
 use disk_files::{Dir, DirError, FileNo, Fuse, MemoryDir};
 use numbered_files::{Family, names_differ, numbers, read_file};
 use std::alloc::{AllocError, Global};

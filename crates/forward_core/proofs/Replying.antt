@@ -14,8 +14,7 @@ use Rattle.event_modes.specs.declared.fault.ModeFault.TheVariants.{NotAMessage, 
 use Rattle.event_modes.proofs.Parting.{some_item, text_item, same_front}
 use Rattle.event_modes.proofs.Only.{no_begin}
 use Rattle.std.specs.Prelude.{slice_range}
-use Rattle.ack_receipt.specs.declared.evidence.Shown.{Shown}
-use Rattle.ack_receipt.specs.declared.evidence.Shown.TheVariants.{Acknowledged}
+use Rattle.buffer_book.specs.Evidences.{Shows, Acknowledged}
 use Rattle.forward_core.specs.declared.fault.SessionFault.TheVariants.{BadAck}
 use Rattle.forward_core.specs.Client.{Sees, Waits, Fails, IsPassed, IsOther, IsNoReply, IsHeard}
 
@@ -83,7 +82,7 @@ heard_bad chunk bytes n p o = record {
 }
 
 -- what is heard where the acknowledgement stands that is awaited
-pub heard_seen : (chunk : Option ChunkId) (bytes : List ℕ) (n end : ℕ) (shown : Shown) (id : ChunkId) → Passing chunk bytes n → Front bytes n end
+pub heard_seen : (chunk : Option ChunkId) (bytes : List ℕ) (n end : ℕ) (shown : Shows) (id : ChunkId) → Passing chunk bytes n → Front bytes n end
     → chunk ≡ Some id → shown ≡ Acknowledged id → IsAcknowledgement (take end (drop n bytes)) (chunk_text id) → IsHeard chunk bytes (n + end) (Sees shown)
 heard_seen chunk bytes n end shown id p f k s a = record {
   within = f.within;

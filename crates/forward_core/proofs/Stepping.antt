@@ -1,12 +1,13 @@
 -- A step of a server's session.
-use Rattle.std.proofs.Common.{ℕ, ◌≡◌, ◌+◌, List, ◌++◌, take, drop, ap, sym, ◌∙◌, subst, inl, inr, Result, Ok, Err, IsOk, is_ok, if◌then◌else◌, add_comm}
-use Rattle.std.proofs.lemmas.List.{drop-drop}
+use Rattle.std.proofs.Common.{ℕ, ◌≡◌, ◌+◌, List, [], ◌++◌, take, drop, refl, ap, sym, ◌∙◌, subst, inl, inr, add_comm, None}
+use Rattle.std.proofs.lemmas.List.{drop-drop, append-nil}
+use Rattle.msgpack_bytes.specs.Item.{IsOpen}
 use Rattle.auth_handshake.specs.declared.answers.Ping.TheVariants.{Passed}
 use Rattle.auth_handshake.specs.Ends.{ServerEnd, IsAnswer}
 use Rattle.ack_receipt.specs.Reservations.{Asked, Reservation}
 use Rattle.forward_core.specs.Demands.{Wanted, asked_in}
 use Rattle.forward_core.specs.Handshakes.{IsShown}
-use Rattle.forward_core.specs.Server.{ServerPhase, Outcome, ServerState, ReadsOn, Greets, after}
+use Rattle.forward_core.specs.Server.{ServerPhase, Awaiting, Opened, Over, Outcome, ServerState, ReadsOn, ServerReads, Greets, after}
 
 -- what bytes behind the first item come to
 abbrev pub outcome : ServerPhase → List ℕ → List ℕ → List Wanted → Outcome
@@ -35,3 +36,26 @@ pub state_after : (old : ServerState) (phase : ServerPhase) (held outgoing : Lis
     → phase ≡ out.phase → held ≡ out.rest → outgoing ≡ old.outgoing ++ out.sends → asked ≡ old.asked ++ asked_in out.wants → taken ≡ old.taken
     → record { phase = phase; held = held; outgoing = outgoing; asked = asked; taken = taken } ≡ after old out
 state_after old phase held outgoing asked taken out p h o a t = rw (p, h, o, a, t)
+
+-- bytes that only begin an item come to nothing yet
+reads_begun : (phase : ServerPhase) (bytes : List ℕ) → (phase ≡ Over → ⊥) → IsOpen bytes → ServerReads phase bytes (outcome phase bytes [] [])
+reads_begun (Awaiting server) bytes o b = inl (record { begun = b; is = refl })
+reads_begun Opened bytes o b = record {
+  messages = [];
+  rest = bytes;
+  fault = None;
+  stream = record { arrivals = []; splits = refl; are = refl; ends = b };
+  is = refl;
+}
+reads_begun Over bytes o b = absurd (o refl)
+
+-- and the session stays as it is
+pub stays : (session : ServerState) → (session.phase ≡ Over → ⊥) → IsOpen session.held
+    → (out : Outcome) × ServerReads session.phase session.held out × (session ≡ after session out) × ([] ≡ out.wants)
+stays session o b = (
+  outcome session.phase session.held [] [],
+  reads_begun session.phase session.held o b,
+  state_after session session.phase session.held session.outgoing session.asked session.taken (outcome session.phase session.held [] [])
+      refl refl (sym (append-nil session.outgoing)) (sym (append-nil session.asked)) refl,
+  refl,
+)

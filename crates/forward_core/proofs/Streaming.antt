@@ -9,7 +9,6 @@ use Rattle.event_modes.specs.Faults.{StreamFault}
 use Rattle.event_modes.specs.Reading.{Means, Beats, Answers}
 use Rattle.event_modes.proofs.Parting.{some_item, text_item}
 use Rattle.event_modes.proofs.One.{arrival_text}
-use Rattle.ack_receipt.specs.Reservations.{Asked, asked_of}
 use Rattle.forward_core.specs.declared.fault.SessionFault.TheVariants.{BadStream}
 use Rattle.forward_core.specs.Demands.{Wanted, Delivers, Closes}
 use Rattle.forward_core.specs.Streams.{messages_in}

@@ -13,8 +13,7 @@ use Rattle.auth_handshake.specs.Ends.{ClientEnd, client_digest, IsVerdict}
 use Rattle.event_modes.specs.declared.chunk_id.ChunkId.{ChunkId}
 use Rattle.event_modes.specs.ChunkIds.{chunk_text}
 use Rattle.event_modes.specs.Acknowledgement.{IsAcknowledgement}
-use Rattle.ack_receipt.specs.declared.evidence.Shown.{Shown}
-use Rattle.ack_receipt.specs.declared.evidence.Shown.TheVariants.{Acknowledged}
+use Rattle.buffer_book.specs.Evidences.{Shows, Acknowledged}
 use Rattle.forward_core.specs.declared.fault.SessionFault.{SessionFault}
 use Rattle.forward_core.specs.declared.fault.SessionFault.TheVariants.{Handshake, BadAck, Closed}
 use Rattle.forward_core.specs.declared.security.Security.{Security}
@@ -54,12 +53,12 @@ opening (Some security) salt = record {
 
 -- what a session says: this evidence, or that more has to come, or that it is over
 pub data Said : Type 0 where
-  Sees : (shown : Shown) → Said
+  Sees : (shown : Shows) → Said
   Waits : Said
   Fails : (fault : SessionFault) → Said
 
 -- what a session said, without where it lies in memory
-abbrev pub said : Heard → Said
+abbrev pub said : {A : Type 0} → Heard A → Said
 said (heard.Seen evidence) = Sees evidence
 said heard.Wait = Waits
 said (heard.Fault fault) = Fails fault
@@ -167,7 +166,7 @@ awaited (HasSent chunk) = chunk
 awaited _ = None
 
 -- what one item is to a client that awaits the acknowledgement of this chunk
-abbrev pub IsReply : Option ChunkId → List ℕ → Reply → Type 0
+abbrev pub IsReply : {A : Type 0} → Option ChunkId → List ℕ → Reply A → Type 0
 IsReply chunk item (reply.Seen evidence) = (id : ChunkId) × (chunk ≡ Some id) × (evidence ≡ Acknowledged id) × IsAcknowledgement item (chunk_text id)
 IsReply chunk item reply.Passed = IsPassed chunk item
 IsReply chunk item reply.Other = IsOther item

@@ -12,9 +12,10 @@ ghost use Rattle.forward_core.specs.Client.{AwaitsHelo, AwaitsPong, ClientReads,
 
 use crate::fault::SessionFault;
 use crate::meeting::{Met, take_helo, take_pong};
-use crate::outbox::{Outbox, drop_front};
+use crate::outbox::Outbox;
 use crate::replies::{Heard, listen_to};
 use crate::security::Security;
+use crate::unread::Unread;
 use auth_handshake::Client;
 use event_modes::{ChunkId, Entries};
 use std::alloc::{AllocError, Allocator};
@@ -45,7 +46,7 @@ impl<A: Allocator> Phase<A> {
     }
 
     // A fault ends the session.
-    fn end_if(&mut self, heard: &Heard)
+    fn end_if(&mut self, heard: &Heard<A>)
         ensures ends { (greeted : Bool) → phase_of self.new greeted ≡ phase_if (said heard.now) (phase_of self.old greeted) }
         ensures nonce { (greeted : Bool) → HasNonce self.old greeted → HasNonce self.new greeted }
     {
@@ -64,7 +65,7 @@ pub struct ClientSession<A: Allocator> {
     phase: Phase<A>,
     // Whether the HELO was taken.
     greeted: bool,
-    held: Vec<u8, A>,
+    held: Unread<A>,
     outgoing: Outbox<A>,
 }
 
@@ -73,7 +74,7 @@ impl<A: Allocator> Model for ClientSession<A> {
 
     ghost Value = { ClientState };
 
-    ghost view = { λ s. record { phase = phase_of s.phase s.greeted; held = s.held.items; outgoing = s.outgoing } };
+    ghost view = { λ s. record { phase = phase_of s.phase s.greeted; held = s.held; outgoing = s.outgoing } };
 
     ghost invariant = { λ s. HasNonce s.phase s.greeted };
 }
@@ -103,7 +104,7 @@ impl<A: Allocator + Copy> ClientSession<A> {
         Ok(ClientSession {
             phase,
             greeted: false,
-            held: Vec::new(alloc),
+            held: Unread::new(alloc),
             outgoing: Outbox::new(alloc),
         })
     }
@@ -142,7 +143,7 @@ impl<A: Allocator + Copy> ClientSession<A> {
     /// the session is over: it says `Closed` from then on.
     ///
     /// The error is want of memory, and changes nothing.
-    pub fn feed(&mut self, piece: &[u8]) -> Result<Heard, AllocError>
+    pub fn feed(&mut self, piece: &[u8]) -> Result<Heard<A>, AllocError>
         ensures reads { IfOk result (λ heard. ClientReads self.old piece.now (said heard) self.new) }
         ensures err { OnErr result (self.new ≡ self.old) }
     {
@@ -150,7 +151,9 @@ impl<A: Allocator + Copy> ClientSession<A> {
             return Ok(Heard::Fault(SessionFault::Closed));
         }
         let before = self.held.len();
-        self.held.extend_from_slice(piece)?;
+        if self.held.take(piece)? {
+            return Ok(Heard::Wait);
+        }
         match self.hear() {
             Ok(heard) => Ok(heard),
             Err(e) => {
@@ -161,7 +164,7 @@ impl<A: Allocator + Copy> ClientSession<A> {
     }
 
     // What the bytes that are held say. The error is want of memory, and changes nothing.
-    fn hear(&mut self) -> Result<Heard, AllocError>
+    fn hear(&mut self) -> Result<Heard<A>, AllocError>
         requires { self.old.phase ≡ Ended → ⊥ }
         ensures reads { IfOk result (λ heard. ReadsAll self.old.phase self.old (said heard) self.new) }
         ensures err { OnErr result (self.new ≡ self.old) }
@@ -176,7 +179,7 @@ impl<A: Allocator + Copy> ClientSession<A> {
         self.hear_helo()
     }
 
-    fn hear_helo(&mut self) -> Result<Heard, AllocError>
+    fn hear_helo(&mut self) -> Result<Heard<A>, AllocError>
         ensures reads { IfOk result (λ heard. (client : ClientEnd) → self.old.phase ≡ AwaitsHelo client
             → ReadsHelo client self.old (said heard) self.new) }
         ensures err { OnErr result (self.new ≡ self.old) }
@@ -184,10 +187,10 @@ impl<A: Allocator + Copy> ClientSession<A> {
         let Phase::Shaking(client) = &mut self.phase else {
             return Ok(Heard::Wait);
         };
-        match take_helo(client, &mut self.outgoing, &self.held)? {
+        match take_helo(client, &mut self.outgoing, self.held.as_slice())? {
             Met::Taken(n) => {
                 self.greeted = true;
-                drop_front(&mut self.held, n);
+                self.held.drop_front(n);
                 Ok(self.hear_pong())
             }
             Met::Waits => Ok(Heard::Wait),
@@ -198,7 +201,7 @@ impl<A: Allocator + Copy> ClientSession<A> {
         }
     }
 
-    fn hear_pong(&mut self) -> Heard
+    fn hear_pong(&mut self) -> Heard<A>
         ensures { (client : ClientEnd) → self.old.phase ≡ AwaitsPong client
             → ReadsPong client self.old (said result) self.new }
     {
@@ -208,10 +211,10 @@ impl<A: Allocator + Copy> ClientSession<A> {
         if !self.greeted {
             return Heard::Wait;
         }
-        match take_pong(client, &self.held) {
+        match take_pong(client, self.held.as_slice()) {
             Met::Taken(n) => {
                 self.phase = Phase::Ready;
-                drop_front(&mut self.held, n);
+                self.held.drop_front(n);
                 self.listen()
             }
             Met::Waits => Heard::Wait,
@@ -223,11 +226,11 @@ impl<A: Allocator + Copy> ClientSession<A> {
     }
 
     // Reads the replies that are held.
-    fn listen(&mut self) -> Heard
+    fn listen(&mut self) -> Heard<A>
         ensures { Listens (awaited self.old.phase) self.old (said result) self.new }
     {
-        let (n, heard) = listen_to(self.phase.chunk(), &self.held);
-        drop_front(&mut self.held, n);
+        let (n, heard) = listen_to(self.phase.chunk(), self.held.as_slice());
+        self.held.drop_front(n);
         self.phase.end_if(&heard);
         heard
     }

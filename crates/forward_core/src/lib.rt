@@ -14,6 +14,7 @@ mod replies;
 mod security;
 mod server;
 mod taken;
+mod unread;
 
 pub use client::ClientSession;
 pub use demand::Demand;

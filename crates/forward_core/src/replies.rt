@@ -6,17 +6,19 @@ ghost use Rattle.msgpack_bytes.specs.Kinds.{IsNil};
 ghost use Rattle.event_modes.specs.declared.chunk_id.ChunkId.{ChunkId};
 ghost use Rattle.event_modes.specs.ChunkIds.{chunk_text};
 ghost use Rattle.event_modes.specs.Acknowledgement.{IsAcknowledgement};
+ghost use Rattle.buffer_book.specs.Evidences.{Acknowledged};
 ghost use Rattle.forward_core.specs.Client.{IsAwaited, IsHeard, IsReply, said};
 
 use crate::fault::SessionFault;
-use ack_receipt::{Evidence, Shown};
+use ack_receipt::Evidence;
 use event_modes::{AckRead, ChunkId, read_ack};
 use msgpack_bytes::{Scan, scan};
+use std::alloc::Allocator;
 
 /// What a client's session says to the bytes that it took. It can't be dropped, since an evidence can't.
-pub enum Heard {
+pub enum Heard<A: Allocator> {
     /// The chunk that was sent is acknowledged.
-    Seen(Evidence),
+    Seen(Evidence<A>),
     /// More has to come.
     Wait,
     /// The session is over: close the connection.
@@ -24,9 +26,9 @@ pub enum Heard {
 }
 
 /// What one item is to a client.
-pub enum Reply {
+pub enum Reply<A: Allocator> {
     /// The acknowledgement that it awaits.
-    Seen(Evidence),
+    Seen(Evidence<A>),
     /// A heartbeat, or the acknowledgement of another chunk.
     Passed,
     /// Neither.
@@ -34,7 +36,7 @@ pub enum Reply {
 }
 
 /// Listens for the acknowledgement of this chunk, if one is awaited, and says how many bytes were passed over or taken.
-pub fn listen_to(chunk: Option<ChunkId>, bytes: &[u8]) -> (usize, Heard)
+pub fn listen_to<A: Allocator>(chunk: Option<ChunkId>, bytes: &[u8]) -> (usize, Heard<A>)
     ensures { IsHeard chunk bytes.now result.0 (said result.1) }
 {
     let mut at = 0;
@@ -52,7 +54,7 @@ pub fn listen_to(chunk: Option<ChunkId>, bytes: &[u8]) -> (usize, Heard)
     }
 }
 
-fn reply_of(chunk: Option<ChunkId>, item: &[u8]) -> Reply
+fn reply_of<A: Allocator>(chunk: Option<ChunkId>, item: &[u8]) -> Reply<A>
     requires { IsTextItem item.now }
     ensures { IsReply chunk item.now result }
 {
@@ -79,9 +81,9 @@ fn is_nil(item: &[u8]) -> bool
 }
 
 // The evidence, if the item is the acknowledgement that is awaited.
-fn awaited_of(chunk: Option<ChunkId>, item: &[u8]) -> Option<Evidence>
+fn awaited_of<A: Allocator>(chunk: Option<ChunkId>, item: &[u8]) -> Option<Evidence<A>>
     ensures { MatchOption result (IsAwaited chunk item.now → ⊥) (λ evidence. (id : ChunkId) × (chunk ≡ Some id)
-        × (evidence ≡ Shown.Acknowledged id) × IsAcknowledgement item.now (chunk_text id)) }
+        × (evidence ≡ Acknowledged id) × IsAcknowledgement item.now (chunk_text id)) }
 {
     match chunk {
         Some(id) => Evidence::acknowledged(id, item),

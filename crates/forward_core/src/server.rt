@@ -1,6 +1,7 @@
 //! The end that listens.
 
 ghost use Rattle.std.specs.Prelude.{◌≡◌, ◌≤◌, ◌↔◌, ◌⊎◌, ◌++◌, ◌∷◌, [], length, drop, map, Some, IsSome, IfOk, IfErr, OnOk, OnErr, IsErrOf, All, Contains};
+ghost use Rattle.msgpack_bytes.specs.Item.{IsOpen};
 ghost use Rattle.ack_receipt.specs.Reservations.{Answer};
 ghost use Rattle.forward_core.specs.Demands.{wanted};
 ghost use Rattle.forward_core.specs.Handshakes.{IsHosted};
@@ -10,10 +11,11 @@ use crate::demand::Demand;
 use crate::fault::{SessionError, SessionFault};
 use crate::greeting::take_ping;
 use crate::messages::take_messages;
-use crate::outbox::{Outbox, drop_front};
+use crate::outbox::Outbox;
 use crate::past::{AskedSoFar, TakenSoFar};
 use crate::security::Security;
 use crate::taken::{Stage, Taken};
+use crate::unread::Unread;
 use ack_receipt::Reserved;
 use auth_handshake::Server;
 use std::alloc::{AllocError, Allocator};
@@ -50,7 +52,7 @@ impl<A: Allocator> Phase<A> {
 #[derive(Drop)]
 pub struct ServerSession<A: Allocator> {
     phase: Phase<A>,
-    held: Vec<u8, A>,
+    held: Unread<A>,
     outgoing: Outbox<A>,
     asked: AskedSoFar<A>,
     taken: TakenSoFar<A>,
@@ -63,7 +65,7 @@ impl<A: Allocator> Model for ServerSession<A> {
 
     ghost view = { λ s. record {
       phase = phase_of s.phase;
-      held = s.held.items;
+      held = s.held;
       outgoing = s.outgoing;
       asked = s.asked.all;
       taken = s.taken.all;
@@ -110,7 +112,7 @@ impl<A: Allocator + Copy> ServerSession<A> {
     {
         ServerSession {
             phase,
-            held: Vec::new(alloc),
+            held: Unread::new(alloc),
             outgoing,
             asked: AskedSoFar::new(),
             taken: TakenSoFar::new(),
@@ -140,7 +142,9 @@ impl<A: Allocator + Copy> ServerSession<A> {
             return Err(SessionError::Fault(SessionFault::Closed));
         }
         let before = self.held.len();
-        self.held.extend_from_slice(piece)?;
+        if self.held.take(piece)? {
+            return Ok(self.wait());
+        }
         match self.take_all() {
             Ok(demands) => Ok(demands),
             Err(_) => {
@@ -148,6 +152,17 @@ impl<A: Allocator + Copy> ServerSession<A> {
                 Err(SessionError::Memory)
             }
         }
+    }
+
+    // What is held only begins an item, so nothing is to be done yet.
+    fn wait(&self) -> Vec<Demand<A>, A>
+        requires over { self.now.phase ≡ Over → ⊥ }
+        requires begins { IsOpen self.now.held }
+        ensures reads { (out : Outcome) × ServerReads self.now.phase self.now.held out
+            × (self.now ≡ after self.now out) × (map wanted result.items ≡ out.wants) }
+        ensures none { result.items ≡ [] }
+    {
+        Vec::new(self.held.alloc())
     }
 
     // Takes what is held and whole. The error is want of memory, and changes nothing.
@@ -162,7 +177,7 @@ impl<A: Allocator + Copy> ServerSession<A> {
         let taken = self.read_all()?;
         self.outgoing.append(&taken.sends)?;
         self.asked = self.asked.then(&taken.demands);
-        drop_front(&mut self.held, taken.len);
+        self.held.drop_front(taken.len);
         self.phase.move_to(taken.stage);
         Ok(taken.demands)
     }
@@ -174,10 +189,10 @@ impl<A: Allocator + Copy> ServerSession<A> {
             ServerReads self.now.phase self.now.held (outcome_of self.now.phase self.now.held taken)) }
         ensures len { IfOk result (λ taken. taken.len ≤ length self.now.held) }
     {
-        let alloc = *self.held.allocator();
+        let alloc = self.held.alloc();
         match &self.phase {
-            Phase::Awaiting(server) => take_ping(alloc, server, &self.held),
-            _ => take_messages(alloc, Vec::new(alloc), &self.held),
+            Phase::Awaiting(server) => take_ping(alloc, server, self.held.as_slice()),
+            _ => take_messages(alloc, Vec::new(alloc), self.held.as_slice()),
         }
     }
 

@@ -3,9 +3,9 @@ use Rattle.std.proofs.Common.{◌≡◌, ℕ, ◌<◌, List, Option, Some, sym, 
 use Rattle.std.proofs.lemmas.Bool.{cases_lt}
 use Rattle.disk_files.specs.Disk.{Folder}
 use Rattle.buffer_state.specs.State.{State}
-use Rattle.chunk_journal.specs.Meaning.{IsReplayed, Answer, Means, NotSealed, BadRecord}
+use Rattle.chunk_journal.specs.Meaning.{IsReplayed, IsDamaged, Answer, Means, NotSealed, BadRecord}
 use Rattle.chunk_journal.specs.Laws.{AnswersOneWay}
-use Rattle.journal_files.specs.Folders.{journal_name, IsPassedOver, OpensBy, Opens}
+use Rattle.journal_files.specs.Folders.{journal_name, IsPassedOver, OpensBy, Opens, IsDamagedFolder}
 
 state_in : State → Answer → State
 state_in other (Means state used) = state
@@ -49,3 +49,27 @@ module _ (law : AnswersOneWay) where
   one_way path folder one other (inr a) (inl b) =
       absurd (counts b.bytes (folder (journal_name path b.number)) other b.used b.highest.there b.means (a.1 b.number (omega (arith, b.highest.first)) b.highest.last))
   one_way path folder one other (inr a) (inr b) = a.0 ∙ sym b.0
+
+  -- a damaged generation isn't passed over
+  broken : (bytes : List ℕ) (file : Option (List ℕ)) → file ≡ Some bytes → IsDamaged bytes → IsPassedOver file → ⊥
+  broken bytes file there bad passed =
+      let differs : BadRecord ≡ NotSealed = law bytes BadRecord NotSealed bad (subst IsPassedOver there passed) in
+      cc differs
+
+  at_one : (path : List ℕ) (folder : Folder) (state : State) (a : OpensBy path folder state) (d : IsDamagedFolder path folder) → a.number ≡ d.number → ⊥
+  at_one path folder state a d e =
+      let same : a.bytes ≡ d.bytes = some_same (sym a.highest.there ∙ ap (λ (n : ℕ). folder (journal_name path n)) e ∙ d.highest.there) in
+      let differs : Means state a.used ≡ BadRecord = law d.bytes (Means state a.used) BadRecord (subst (λ (z : List ℕ). IsReplayed z state a.used) same a.means) d.damaged in
+      cc differs
+
+  pub undamaged : (path : List ℕ) (folder : Folder) (state : State) → Opens path folder state → IsDamagedFolder path folder → ⊥
+  undamaged path folder state (inl a) d =
+      elim (cases_lt a.number d.number) [
+        | inl lt ↦ broken d.bytes (folder (journal_name path d.number)) d.highest.there d.damaged (a.highest.above d.number lt d.highest.last)
+        | inr le ↦ elim (cases_lt d.number a.number) [
+          | inl lt ↦ counts a.bytes (folder (journal_name path a.number)) state a.used a.highest.there a.means (d.highest.above a.number lt a.highest.last)
+          | inr ge ↦ at_one path folder state a d (omega (arith, le, ge))
+        ]
+      ]
+  undamaged path folder state (inr a) d =
+      broken d.bytes (folder (journal_name path d.number)) d.highest.there d.damaged (a.1 d.number (omega (arith, d.highest.first)) d.highest.last)

@@ -1,14 +1,10 @@
 -- A journal is opened: what a stop leaves at each moment, and what is there at the end.
-use Rattle.std.proofs.Common.{◌≡◌, ℕ, List, refl, subst}
+use Rattle.std.proofs.Common.{◌≡◌, ℕ, List, subst}
 use Rattle.disk_files.specs.Disk.{Disk, SameDisk}
 use Rattle.disk_files.specs.Moments.{History, now, Elapses, LeavesOnly}
-use Rattle.disk_files.specs.declared.dir.DirError.{DirError}
-use Rattle.disk_files.specs.declared.dir.DirError.TheVariants as dir
 use Rattle.disk_files.proofs.Moments.{started, rests, joined, weaker, leaves_same}
 use Rattle.buffer_state.specs.State.{State}
 use Rattle.buffer_state.specs.Steps.{settled, reopened}
-use Rattle.journal_files.specs.declared.error.OpenError.TheVariants as opening
-use Rattle.journal_files.specs.Faults.{open_error}
 use Rattle.journal_files.specs.Tellings.{Telling, state_of, opening as opened_with, IsOfSome, OpensWithin}
 use Rattle.journal_files.specs.Views.{OpenJournal}
 use Rattle.journal_files.specs.Disks.{Keeps, Recovers, HasNoStray}

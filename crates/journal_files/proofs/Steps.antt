@@ -35,7 +35,7 @@ sure_begun item t few = ap (λ (z : List Record). t.told ++ Seal t.next ∷ z) (
 bytes_begun : (item : Record) (t : Telling) → journal_bytes (records_of (begun item t)) ≡ journal_bytes (records_of t) ++ record_bytes item
 bytes_begun item t = ap journal_bytes (records_begun item t) ∙ journal_push (records_of t) item
 
-telling_begun : (item : Record) (t : Telling) → IsTelling t → IsRecord item → Allows (state_of t) item → IsTelling (begun item t)
+pub telling_begun : (item : Record) (t : Telling) → IsTelling t → IsRecord item → Allows (state_of t) item → IsTelling (begun item t)
 telling_begun item t is one allowed = record {
   tells = is.tells;
   greater = is.greater;

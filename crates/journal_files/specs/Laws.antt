@@ -2,7 +2,7 @@
 use Rattle.std.specs.Prelude.{ℕ, ◌≡◌, List}
 use Rattle.disk_files.specs.Disk.{Disk, Folder, settled}
 use Rattle.buffer_state.specs.State.{State}
-use Rattle.journal_files.specs.Folders.{Opens}
+use Rattle.journal_files.specs.Folders.{Opens, IsDamagedFolder}
 use Rattle.journal_files.specs.Tellings.{Telling}
 use Rattle.journal_files.specs.Views.{OpenJournal}
 use Rattle.journal_files.specs.Disks.{Keeps, Recovers, HasNoStray}
@@ -22,3 +22,7 @@ LeavesNoStray = (path : List ℕ) (folder : Folder) → HasNoStray path (settled
 -- a folder opens one way
 abbrev pub OpensOneWay : Type 0
 OpensOneWay = (path : List ℕ) (folder : Folder) (one other : State) → Opens path folder one → Opens path folder other → one ≡ other
+
+-- a folder that opens isn't damaged
+abbrev pub OpensUndamaged : Type 0
+OpensUndamaged = (path : List ℕ) (folder : Folder) (state : State) → Opens path folder state → IsDamagedFolder path folder → ⊥

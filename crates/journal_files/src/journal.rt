@@ -24,8 +24,6 @@ use disk_files::{Dir, DirError, FileNo};
 use std::alloc::{AllocError, Allocator};
 use std::marker::Model;
 
-const RENEWED_LEN: u64 = 268_435_456;
-
 /// An open generation of a buffer's journal: one file of a folder that is lent to each call.
 #[derive(Drop)]
 pub struct Journal<A: Allocator> {
@@ -47,11 +45,11 @@ impl<A: Allocator> Model for Journal<A> {
 }
 
 impl<A: Allocator> Journal<A> {
-    /// Whether the journal has more than 268,435,456 bytes, and more than twice as many as the live chunks have.
-    pub fn wants_renewal(&self, live: u128) -> bool
-        ensures { IsTrue result ↔ ((268435456 < self.now.len) × (2 * live < self.now.len)) }
+    /// Whether the journal has more bytes than this, and more than twice as many as the live chunks have.
+    pub fn wants_renewal(&self, live: u128, past: u64) -> bool
+        ensures { IsTrue result ↔ ((past < self.now.len) × (2 * live < self.now.len)) }
     {
-        self.len > RENEWED_LEN && live < (u128::from(self.len) + 1) / 2
+        self.len > past && live < (u128::from(self.len) + 1) / 2
     }
 
     /// Spells a record, and makes room for it in the folder, so that `put` needs no memory.

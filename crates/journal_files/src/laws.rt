@@ -1,6 +1,6 @@
 //! What holds of journals on a disk. These functions do nothing: each stands for a theorem.
 
-ghost use Rattle.journal_files.specs.Laws.{RecoversAll, OpensOneWay, KeepsNoStray, LeavesNoStray};
+ghost use Rattle.journal_files.specs.Laws.{RecoversAll, OpensOneWay, OpensUndamaged, KeepsNoStray, LeavesNoStray};
 
 use chunk_journal::{answers_one_way, cuts_generation, cuts_whole};
 use numbered_files::names_differ;
@@ -19,9 +19,10 @@ pub fn has_no_stray()
     ensures left { LeavesNoStray }
 {}
 
-/// A folder opens to one state.
+/// A folder opens to one state, and one that opens isn't damaged.
 pub fn opens_one_way()
-    ensures { OpensOneWay }
+    ensures one { OpensOneWay }
+    ensures undamaged { OpensUndamaged }
 {
     answers_one_way();
 }

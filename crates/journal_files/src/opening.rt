@@ -38,8 +38,9 @@ impl<A: Allocator + Copy> Journal<A> {
     /// Opens the journal whose files' names begin with this path: takes the greatest generation that has a whole Seal, passing over
     /// those without one, writes what it means as the generation above the greatest file there is, syncs it, and removes the older ones.
     ///
+    /// `LastGeneration`: the greatest file there is is number 4,294,967,295; then none is read.
     /// `Damaged`: the greatest generation that isn't passed over has a whole record that can't stand there, or what is none.
-    /// `LastGeneration`: the greatest file there is is number 4,294,967,295. These two and `Memory` change nothing.
+    /// These two and `Memory` change nothing.
     /// After `Fault` the new file may be there, whole or not, and older ones removed once it is synced; the folder opens to what it opened to.
     pub fn open<D: Dir>(alloc: A, dir: &mut D, path: &[u8]) -> Result<Opened<A>, OpenError>
         ensures honest { D.is_honest dir.old → D.is_honest dir.new }
@@ -58,6 +59,9 @@ impl<A: Allocator + Copy> Journal<A> {
             → IsDamagedFolder path.now (reads (now (D.history dir.old))) }
         ensures last { D.is_honest dir.old → (result ≡ Err OpenError.LastGeneration)
             → IsSome (reads (now (D.history dir.old)) (journal_name path.now (2 ^ 32 - 1))) }
+        // Where there is a last generation, it isn't read.
+        ensures unread { D.is_honest dir.old → IsSome (reads (now (D.history dir.old)) (journal_name path.now (2 ^ 32 - 1)))
+            → result ≢ Err OpenError.Damaged }
         // Files of other names stay as they are.
         ensures elsewhere { D.is_honest dir.old → (name : List ℕ) → ((n : ℕ) → n < 2 ^ 32 → name ≢ journal_name path.now n)
             → now (D.history dir.new) name ≡ now (D.history dir.old) name }
@@ -72,9 +76,6 @@ impl<A: Allocator + Copy> Journal<A> {
         ensures cause { HasReason (D.fault_count dir.old) (D.fault_count dir.new) result OpenError.Fault }
     {
         let found = find(alloc, dir, path)?;
-        if found.greatest == u32::MAX {
-            return Err(OpenError::LastGeneration);
-        }
         answers_one_way();
         let number = found.greatest + 1;
         let older = Older::open(alloc, dir, path, number)?;
@@ -87,7 +88,7 @@ impl<A: Allocator + Copy> Journal<A> {
     }
 }
 
-// What a folder means, and the greatest number of its generations, 0 where there is none.
+// What a folder means, and the greatest number of its generations, 0 where there is none. No file is read where that is the last.
 #[derive(Drop)]
 pub struct Found<A: Allocator> {
     chunks: Chunks<A>,
@@ -110,11 +111,18 @@ fn find<A: Allocator + Copy, D: Dir>(
     ensures unclaimed { IfOk result (λ found. reopened found.chunks ≡ found.chunks) }
     ensures damaged { D.is_honest dir.old → (result ≡ Err OpenError.Damaged)
         → IsDamagedFolder path.now (reads (now (D.history dir.old))) }
-    ensures not_last { result ≢ Err OpenError.LastGeneration }
+    ensures last { D.is_honest dir.old → (result ≡ Err OpenError.LastGeneration)
+        → IsSome (reads (now (D.history dir.old)) (journal_name path.now (2 ^ 32 - 1))) }
+    ensures unread { D.is_honest dir.old → IsSome (reads (now (D.history dir.old)) (journal_name path.now (2 ^ 32 - 1)))
+        → result ≢ Err OpenError.Damaged }
+    ensures below { IfOk result (λ found. found.greatest < 2 ^ 32 - 1) }
     ensures cause { HasReason (D.fault_count dir.old) (D.fault_count dir.new) result OpenError.Fault }
 {
     let mut rest = numbers(alloc, dir, generations(path))?;
     let greatest = greatest_of(&rest);
+    if greatest == u32::MAX {
+        return Err(OpenError::LastGeneration);
+    }
     while let Some(number) = rest.pop_last() {
         if let Some(chunks) = read_generation(alloc, dir, path, number)? {
             return Ok(Found { chunks, greatest });

@@ -24,11 +24,26 @@ pub(crate) fn spell_chunks<A: Allocator + Copy>(
     ensures records { OnOk result (AllByRecursion IsRecord (flat_map telling chunks.now.chunks)) }
     ensures told { AreTold 0 chunks.now.chunks chunks.now.next }
 {
-    let mut bytes = Vec::new(alloc);
-    for (serial, chunk) in chunks.live() {
+    let live = chunks.live();
+    let mut bytes = Vec::with_capacity(alloc, told_len(chunks))?;
+    for (serial, chunk) in live {
         put_chunk(alloc, &mut bytes, *serial, chunk)?;
     }
     Ok(bytes)
+}
+
+// The records that tell a chunk have at most so many bytes beside its tag and its entries: an Append's and a Queue's.
+const RECORDS_LEN: usize = 32;
+
+// How many bytes the records that tell these chunks have at most, if memory holds so many.
+fn told_len<A: Allocator + Copy>(chunks: &Chunks<A>) -> usize {
+    let mut len = usize::try_from(chunks.total()).unwrap_or(0);
+    for (_, chunk) in chunks.live() {
+        len = len
+            .saturating_add(RECORDS_LEN)
+            .saturating_add(chunk.tag().len());
+    }
+    len
 }
 
 // Appends the records that tell a chunk.

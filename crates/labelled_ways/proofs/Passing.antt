@@ -1,13 +1,15 @@
 -- How the tags of labels go on: to the reaches of the match that takes an event, and from there to further labels.
-use Rattle.std.proofs.Common.{ℕ, List, subst₂, inl, inr, Any, All}
+use Rattle.std.proofs.Common.{ℕ, List, Option, Some, None, subst₂, inl, inr, Any, All}
 use Rattle.std.proofs.lemmas.List.Elements.{All-contains}
 use Rattle.tag_pattern.specs.Items.{Item}
 use Rattle.tag_pattern.specs.Parts.{parts_of}
 use Rattle.tag_pattern.specs.Patterns.{IsTagOf, Fits}
+use Rattle.tag_pattern.specs.Prefixes.{entered_items, entered_tag}
+use Rattle.tag_pattern.proofs.Prefixing.{same_behind}
 use Rattle.tag_pattern.proofs.Sets.{subset, common_meets}
 use Rattle.relay_net.specs.Network.{Network}
 use Rattle.route_graph.specs.Ways.{HaveTag}
-use Rattle.loss_rules.specs.Labels.{IsReachOf, FitsLabel, IsReached, EachReach, IsLabelledTag, IsReachedTag}
+use Rattle.loss_rules.specs.Labels.{IsReachOf, FitsLabelWith, IsReached, EachReach, IsLabelledTag, IsReachedTag}
 use Rattle.loss_rules.specs.Rules.{IsMatched, LabelsAreMatched, IsCovered, FitsNoneBefore, ReachesCoverLabel, ReachesCover}
 use Rattle.loss_rules.specs.declared.label.Label.{Label}
 use Rattle.loss_rules.specs.declared.label.Reach.{Reach}
@@ -21,13 +23,18 @@ fits-have p patterns tag (k, q, less, is, fit) h = (k, q, less, is, subset fit (
 pub reached-tag : {A : Type 0} (reaches : List (Reach A)) (place scope rule : ℕ) (tag : List ℕ) → IsReachedTag reaches place scope rule tag → IsReached reaches place scope rule
 reached-tag reaches place scope rule tag (k, reach, less, is, h) = (k, reach, less, is, h.0)
 
--- where each reach of a match fits a label of a scope, a tag of a reach is one of a label there
-pub reach-labelled : {A : Type 0} (labels : List (Label A)) (reaches : List (Reach A)) (place scope rule to_place to_scope : ℕ) (tag : List ℕ) → EachReach reaches place scope rule (FitsLabel labels to_place to_scope) → IsReachedTag reaches place scope rule tag
-    → IsLabelledTag labels to_place to_scope tag
-reach-labelled labels reaches place scope rule to_place to_scope tag each (k, reach, less, is, (of, (i, p, within, here, h))) =
-    let fits = All-contains (λ r. IsReachOf place scope rule r → All (FitsLabel labels to_place to_scope) r.patterns.items) reaches reach each (k, less, is) of in
-    let fit = All-contains (FitsLabel labels to_place to_scope) reach.patterns.items p fits (i, within, here) in
-    (fit.0, fit.1, fit.2, fit.3, (fit.4.0, fits-have p fit.1.patterns.items tag fit.4.1 h))
+-- a tag of the pattern, with what is put in front of it, is one of the pattern with that in front
+pub entered-tag : (prefix : Option (List ℕ)) (p : List Item) (tag : List ℕ) → IsTagOf p tag → IsTagOf (entered_items prefix p) (entered_tag prefix tag)
+entered-tag None p tag h = h
+entered-tag (Some prefix) p tag h = (same_behind prefix p tag).0 h
+
+-- where each reach of a match fits a label of a scope, with this in front, a tag of a reach with this in front is one of a label there
+pub reach-labelled : {A : Type 0} (labels : List (Label A)) (reaches : List (Reach A)) (place scope rule to_place to_scope : ℕ) (prefix : Option (List ℕ)) (tag : List ℕ) → EachReach reaches place scope rule (FitsLabelWith labels to_place to_scope prefix)
+    → IsReachedTag reaches place scope rule tag → IsLabelledTag labels to_place to_scope (entered_tag prefix tag)
+reach-labelled labels reaches place scope rule to_place to_scope prefix tag each (k, reach, less, is, (of, (i, p, within, here, h))) =
+    let fits = All-contains (λ r. IsReachOf place scope rule r → All (FitsLabelWith labels to_place to_scope prefix) r.patterns.items) reaches reach each (k, less, is) of in
+    let fit = All-contains (FitsLabelWith labels to_place to_scope prefix) reach.patterns.items p fits (i, within, here) in
+    (fit.0, fit.1, fit.2, fit.3, (fit.4.0, fits-have (entered_items prefix p) fit.1.patterns.items (entered_tag prefix tag) fit.4.1 (entered-tag prefix p tag h)))
 
 -- A pattern of a label of the scope that has the tag.
 pub record IsLabelPattern {A : Type 0} (net : Network A) (reaches : List (Reach A)) (place scope : ℕ) (tag : List ℕ) : Type 0 where

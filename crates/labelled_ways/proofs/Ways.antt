@@ -1,10 +1,10 @@
 -- The way of an event whose tag is one of a label.
-use Rattle.std.proofs.Common.{◌≡◌, ℕ, zero, suc, ◌+◌, ◌<◌, ◌≤◌, List, [], ◌∷◌, length, Option, Some, slice_get, refl, sym, ap, subst, ◌∙◌, ◌⊎◌, inl, inr, arith, Contains, IsSomeAnd}
+use Rattle.std.proofs.Common.{◌≡◌, ℕ, zero, suc, ◌+◌, ◌<◌, ◌≤◌, List, [], ◌∷◌, length, Option, Some, None, slice_get, refl, sym, ap, subst, ◌∙◌, ◌⊎◌, inl, inr, arith, Contains, IsSomeAnd}
 use Rattle.std.specs.Option.{option_and_then}
 use Rattle.std.proofs.lemmas.Option.{same_Some, slice_get_read}
 use Rattle.relay_conf.specs.declared.output.Output.{Output}
 use Rattle.relay_conf.specs.declared.relay.MatchRule.{MatchRule}
-use Rattle.relay_net.specs.Network.{Network, relay_at, output_at}
+use Rattle.relay_net.specs.Network.{Network, relay_at, prefix_at, address_of_server, output_at}
 use Rattle.relay_net.specs.Outputs.{servers_of, Keeps}
 use Rattle.relay_net.specs.Ways.{table_at}
 use Rattle.route_graph.specs.Table.{hop_of, rule_of}
@@ -82,7 +82,7 @@ module _ {A : Type 0} (net : Network A) (labels : List (Label A)) (reaches : Lis
   relabel-labelled : (scope target : ℕ) → IsLabelledTag labels place scope tag → IsRelabelled (table_at net place) tag scope target → IsLabelledTag labels place target tag
   relabel-labelled scope target labelled relabelled =
       let by = handed-by scope (to_scope target) labelled relabelled in
-      reach-labelled labels reaches place scope by.rule place target tag (kept.relabels place scope by.rule by.output by.found by.there target (scope-relabel by.found target by.is)) by.reached
+      reach-labelled labels reaches place scope by.rule place target None tag (kept.relabels place scope by.rule by.output by.found by.there target (scope-relabel by.found target by.is)) by.reached
 
   leads-labelled : {scope last : ℕ} → LeadsTo (table_at net place) tag scope last → IsLabelledTag labels place scope tag → IsLabelledTag labels place last tag
   leads-labelled here labelled = labelled
@@ -108,7 +108,7 @@ module _ {A : Type 0} (net : Network A) (labels : List (Label A)) (reaches : Lis
       let by = handed-by scope (to_buffer buffer) labelled handed in
       let there = output-found net distinct place scope by.rule by.output by.found buffer by.there (buffer-number by.found buffer by.is) in
       let same : found ≡ by.found = same_Some found by.found (sym is ∙ there) in
-      reach-labelled labels reaches place scope by.rule at.relay at.scope tag
+      reach-labelled labels reaches place scope by.rule at.relay at.scope (prefix_at net (address_of_server server)) tag
       (kept.forwards place scope by.rule by.output by.found by.there server (subst (λ (o : Output A). Contains (servers_of o) server) same c) at enters) by.reached
 
   leaf-onward : {scope buffer : ℕ} → IsLeaf (table_at net place) tag scope buffer → IsLabelledTag labels place scope tag → IsLabelledOnward net labels place buffer tag

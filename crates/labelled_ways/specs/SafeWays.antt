@@ -3,7 +3,7 @@ use Rattle.std.specs.Prelude.{◌≡◌, ◌<◌, ℕ, List, Some, Contains, IsS
 use Rattle.relay_conf.specs.declared.output.Output.{Output}
 use Rattle.relay_conf.specs.declared.output.Server.{Server}
 use Rattle.relay_conf.specs.declared.relay.MatchRule.{MatchRule}
-use Rattle.relay_net.specs.Network.{Network, entrance, address_of_server, output_at}
+use Rattle.relay_net.specs.Network.{Network, entrance, tag_at, address_of_server, output_at}
 use Rattle.relay_net.specs.Outputs.{servers_of, Keeps}
 use Rattle.relay_net.specs.Ways.{table_at}
 use Rattle.relay_net.specs.declared.address.Entrance.{Entrance}
@@ -21,13 +21,14 @@ pub record IsFirstTaker {A : Type 0} (net : Network A) (place scope : ℕ) (tag 
   pub has : HaveTag found.patterns.items tag
   pub others : (before : ℕ) (other : MatchRule A) → before < rule → rule_at net place scope before ≡ Some other → ¬ HaveTag other.patterns.items tag
 
--- Wherever the output of this buffer forwards to, the tag is one of a label there.
+-- Wherever the output of this buffer forwards to, the tag is one of a label there, with the prefix that it gets there.
 abbrev pub IsLabelledOnward : {A : Type 0} → Network A → List (Label A) → ℕ → ℕ → List ℕ → Type 0
 IsLabelledOnward {A} net labels place buffer tag = (found : Output A) (server : Server A) (at : Entrance) → output_at net place buffer ≡ Some found
-    → Contains (servers_of found) server → entrance net (address_of_server server) ≡ Some at → IsLabelledTag labels at.relay at.scope tag
+    → Contains (servers_of found) server → entrance net (address_of_server server) ≡ Some at → IsLabelledTag labels at.relay at.scope (tag_at net (address_of_server server) tag)
 
 -- The tag's way from this scope keeps the event: the match that takes it has a reach with the tag; no chain of relabels comes back; an
--- output that keeps is among those reached; and whatever is reached forwards only to where the tag is one of a label.
+-- output that keeps is among those reached; and whatever is reached forwards only to where the tag, as it is prefixed there, is one of a
+-- label.
 pub record IsSafeWay {A : Type 0} (net : Network A) (labels : List (Label A)) (reaches : List (Reach A)) (place scope : ℕ) (tag : List ℕ) : Type 0 where
   pub rule : ℕ
   pub taken : IsFirstTaker net place scope tag rule

@@ -1,7 +1,8 @@
 -- What a plan says of tags: which may reach a scope, and which of them a match.
-use Rattle.std.specs.Prelude.{◌≡◌, ℕ, List, Any, All}
+use Rattle.std.specs.Prelude.{◌≡◌, ℕ, List, Option, Any, All}
 use Rattle.tag_pattern.specs.Items.{Item}
 use Rattle.tag_pattern.specs.Patterns.{Fits}
+use Rattle.tag_pattern.specs.Prefixes.{entered_items}
 use Rattle.route_graph.specs.Ways.{HaveTag}
 use Rattle.loss_rules.specs.declared.label.Label.{Label}
 use Rattle.loss_rules.specs.declared.label.Reach.{Reach}
@@ -20,6 +21,10 @@ pub record IsReachOf {A : Type 0} (place scope rule : ℕ) (reach : Reach A) : T
 -- The pattern fits a pattern of a label of this scope.
 abbrev pub FitsLabel : {A : Type 0} → List (Label A) → ℕ → ℕ → List Item → Type 0
 FitsLabel labels place scope pattern = Any (λ label. IsLabelOf place scope label × Any (Fits pattern) label.patterns.items) labels
+
+-- The same of the pattern with this prefix in front, if there is one.
+abbrev pub FitsLabelWith : {A : Type 0} → List (Label A) → ℕ → ℕ → Option (List ℕ) → List Item → Type 0
+FitsLabelWith labels place scope prefix pattern = FitsLabel labels place scope (entered_items prefix pattern)
 
 -- The pattern fits a pattern of a reach of this match.
 abbrev pub FitsReach : {A : Type 0} → List (Reach A) → ℕ → ℕ → ℕ → List Item → Type 0

@@ -9,13 +9,13 @@ use Rattle.relay_conf.specs.declared.output.Output.TheVariants as output
 use Rattle.relay_conf.specs.declared.relay.MatchRule.{MatchRule}
 use Rattle.relay_conf.specs.declared.relay.Source.{Source}
 use Rattle.relay_net.specs.Addresses.{Address}
-use Rattle.relay_net.specs.Network.{Network, entrance, address_of_client, address_of_server}
+use Rattle.relay_net.specs.Network.{Network, entrance, prefix_at, address_of_client, address_of_server}
 use Rattle.relay_net.specs.Outputs.{settings_of, Keeps}
 use Rattle.relay_net.specs.declared.node.Client.{Client}
 use Rattle.relay_net.specs.declared.node.Node.{Node}
 use Rattle.tag_pattern.specs.Items.{Item}
 use Rattle.tag_pattern.specs.Patterns.{Fits, Meets}
-use Rattle.loss_rules.specs.Labels.{FitsLabel, FitsReach, IsReached, EachReach}
+use Rattle.loss_rules.specs.Labels.{FitsLabel, FitsLabelWith, FitsReach, IsReached, EachReach}
 use Rattle.loss_rules.specs.Sites.{rule_at, output_in_rule, EachMatch, EachOutput, EachServer, line_of, RelabelsTo}
 use Rattle.loss_rules.specs.declared.label.Label.{Label}
 use Rattle.loss_rules.specs.declared.label.Reach.{Reach}
@@ -60,9 +60,9 @@ ServersAreSources net = EachServer net (λ place scope rule server. IsSome (entr
 
 -- 3. Clients are labelled.
 
--- Each pattern of the client fits a label of the scope that its source leads into.
+-- Each pattern of the client, with the prefix of its source in front, fits a label of the scope that the source leads into.
 abbrev pub IsLabelledClient : {A : Type 0} → Network A → List (Label A) → Client A → Type 0
-IsLabelledClient net labels client = IsSomeAnd (entrance net (address_of_client net client)) (λ at. All (FitsLabel labels at.relay at.scope) client.patterns.items)
+IsLabelledClient net labels client = IsSomeAnd (entrance net (address_of_client net client)) (λ at. All (FitsLabelWith labels at.relay at.scope (prefix_at net (address_of_client net client))) client.patterns.items)
 
 -- This is so of all clients.
 abbrev pub ClientsAreLabelled : {A : Type 0} → Network A → List (Label A) → Type 0
@@ -124,9 +124,10 @@ RelabelsAreLabelled net labels reaches = EachOutput net (λ place scope rule out
 
 -- 8. Forwards are labelled.
 
--- Each reach of the match fits a label of the scope that the server leads into. Where the server is no source, nothing is asked for.
+-- Each reach of the match, with the prefix of the source that the server is in front, fits a label of the scope that this source leads
+-- into. Where the server is no source, nothing is asked for.
 abbrev pub IsLabelledServer : {A : Type 0} → Network A → List (Label A) → List (Reach A) → ℕ → ℕ → ℕ → Address → Type 0
-IsLabelledServer net labels reaches place scope rule address = (at : _) → entrance net address ≡ Some at → EachReach reaches place scope rule (FitsLabel labels at.relay at.scope)
+IsLabelledServer net labels reaches place scope rule address = (at : _) → entrance net address ≡ Some at → EachReach reaches place scope rule (FitsLabelWith labels at.relay at.scope (prefix_at net address))
 
 -- This is so of each server.
 abbrev pub ForwardsAreLabelled : {A : Type 0} → Network A → List (Label A) → List (Reach A) → Type 0

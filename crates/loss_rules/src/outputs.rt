@@ -7,7 +7,7 @@ ghost use Rattle.loss_rules.specs.Rules.{ReachedMatchesKeep, KeepsOrRelabels, Re
 ghost use Rattle.loss_rules.specs.Sites.{RelabelsTo};
 
 use crate::answer::Place;
-use crate::fitting::{is_reached, reaches_fit_label};
+use crate::fitting::{is_reached, no_prefix, reaches_fit_label};
 use crate::label::{Label, Reach};
 use crate::requirement::{OfOutputs, Requirement, first_place, line_unless};
 use crate::site::Site;
@@ -85,7 +85,8 @@ impl<A: Allocator> Requirement<Output<A>> for RelabelsToLabel<'_, A> {
             relay: at.place,
             scope: target.0,
         };
-        let kept = reaches_fit_label(self.labels, self.reaches, at, scope);
+        let none = no_prefix(self.labels);
+        let kept = reaches_fit_label(self.labels, self.reaches, at, scope, none);
         line_unless(kept, *line)
     }
 }

@@ -14,7 +14,8 @@ use relay_net::Net;
 use std::alloc::Allocator;
 use tag_pattern::{Plain, apart};
 
-/// The first line of a client with a pattern that fits no label of the scope that its source leads into.
+/// The first line of a client with a pattern that fits no label of the scope that its source leads into, with the source's
+/// prefix in front.
 /// The lines are those of the network's clients. Each pattern of a client is compared with those of all labels.
 pub fn clients_are_labelled<A: Allocator + Copy>(
     net: &Net<A>,
@@ -74,7 +75,10 @@ fn is_labelled<A: Allocator + Copy>(net: &Net<A>, labels: &[Label<A>], number: u
         return false;
     };
     match net.entrance(host, client.port) {
-        Some(scope) => all_fit_label(labels, scope, &client.patterns),
+        Some(scope) => {
+            let prefix = net.prefix(host, client.port);
+            all_fit_label(labels, scope, prefix, &client.patterns)
+        }
         None => false,
     }
 }

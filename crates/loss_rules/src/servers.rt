@@ -21,7 +21,8 @@ pub fn servers_are_sources<A: Allocator + Copy>(net: &Net<A>) -> Option<Place>
     first_place(net, &OfOutputs(OfServers(IsSource { net })))
 }
 
-/// Where a server is first found with a reach of its match that fits no label of the scope that the server leads into.
+/// Where a server is first found with a reach of its match that fits no label of the scope that the server leads into, with the
+/// prefix in front that the server's source has.
 /// For each server each pattern of its match's reaches is compared with those of all labels.
 pub fn forwards_are_labelled<A: Allocator + Copy>(
     net: &Net<A>,
@@ -83,7 +84,8 @@ impl<A: Allocator + Copy> Requirement<Server<A>> for LeadsToLabel<'_, A> {
 
     fn broken_line(&self, at: Site, found: &Server<A>) -> Option<usize> {
         let scope = self.net.entrance(found.host.as_bytes(), found.port)?;
-        let kept = reaches_fit_label(self.labels, self.reaches, at, scope);
+        let prefix = self.net.prefix(found.host.as_bytes(), found.port);
+        let kept = reaches_fit_label(self.labels, self.reaches, at, scope, prefix);
         line_unless(kept, found.line)
     }
 }

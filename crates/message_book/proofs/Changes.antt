@@ -4,10 +4,8 @@ use Rattle.std.specs.Option.{option_map_or}
 use Rattle.std.proofs.Math.Seq.{map-set_same}
 use Rattle.std.proofs.lemmas.List.{length-map, map-set, map-append}
 use Rattle.std.proofs.lemmas.Option.{slice_get-map, slice_get_read, slice_get-get_or}
-use Rattle.custody_store.specs.Buffers.{Event}
-use Rattle.custody_store.specs.Contents.{event_of, stored_events}
-use Rattle.custody_store.specs.declared.event.Event.{Event as Stored}
-use Rattle.message_book.specs.Book.{Message, Delivery, Opened, book_from, changed_at, events_told, with_room}
+use Rattle.message_book.specs.declared.message.Acknowledged.{Acknowledged}
+use Rattle.message_book.specs.Book.{Message, Delivery, Opened, book_from, changed_at, events_told, with_room, Told, told_of, told_events}
 
 changed_at-read : {X : Type 0} (xs : List X) (n : ℕ) (x : X) (change : X → X) → slice_get xs n ≡ Some x → changed_at xs n change ≡ set xs n (change x)
 changed_at-read {X} xs n x change at = ap (λ (o : Option X). option_map_or (λ y. set xs n (change y)) o xs) at
@@ -24,8 +22,8 @@ pub told-read : (messages : List Message) (n : ℕ) (m : Message) → n < length
 told-read messages n m within is = ap (λ (o : Option Message). option_map_or events_told o []) (slice_get_read messages (length messages) n m refl within is)
 
 -- events were added to those that are stored
-pub stored-added : {A : Type 0} (old new after : List (Stored A)) → after ≡ old ++ new → stored_events after ≡ stored_events old ++ stored_events new
-stored-added old new after e = ap stored_events e ∙ map-append event_of old new
+pub stored-added : {A : Type 0} (old new after : List (Acknowledged A)) → after ≡ old ++ new → told_events after ≡ told_events old ++ told_events new
+stored-added old new after e = ap told_events e ∙ map-append told_of old new
 
 -- Deliveries.
 
@@ -36,7 +34,7 @@ module _ {Y : Type 0} (show : Opened → Y) (change : Y → Y) (opened : List Op
       map-set show opened n new ∙ ap (set (map show opened) n) e
       ∙ sym (changed_at-read (map show opened) n (show old) change (slice_get-map show opened n ∙ ap (option_map show) (slice_get_read opened (length opened) n old refl within is)))
 
-module _ (messages : List Message) (opened : List Opened) (events : List Event) (n : ℕ) (old new : Opened) (within : n < length (map (λ (d : Opened). d.delivery) opened)) (is : old ≡ get_or opened n old) where
+module _ (messages : List Message) (opened : List Opened) (events : List Told) (n : ℕ) (old new : Opened) (within : n < length (map (λ (d : Opened). d.delivery) opened)) (is : old ≡ get_or opened n old) where
   there : n < length opened
   there = simp length-map at within
 

@@ -1,14 +1,12 @@
 // The book of a network: messages, deliveries and acknowledged events.
 ghost use Rattle.std.specs.Prelude.{◌≡◌, ◌↔◌, ◌<◌, ◌++◌, [], ◌∷◌, false, true, length, map, option_map, slice_get, OnOk, OnErr, IsTrue, IsSomeAnd, Contains};
 ghost use Rattle.std.specs.Option.{option_copied, option_map_or};
-ghost use Rattle.custody_store.specs.Contents.{stored_events};
 ghost use Rattle.step_lines.specs.Texts.{texts_of};
-ghost use Rattle.message_book.specs.Book.{empty_book, changed_at, acknowledged_message, events_told, appended_to_buffer, ended, with_room, less_room, HasRoom};
+ghost use Rattle.message_book.specs.Book.{empty_book, changed_at, acknowledged_message, events_told, told_events, appended_to_buffer, ended, with_room, less_room, HasRoom};
 
 use crate::delivery::Delivery;
-use crate::message::Message;
+use crate::message::{Acknowledged, Message};
 use crate::sender::Sender;
-use custody_store::Event;
 use relay_net::{Address, Entrance};
 use std::alloc::{AllocError, Allocator};
 use std::marker::Model;
@@ -20,16 +18,15 @@ use tag_pattern::Tag;
 pub struct Book<A: Allocator> {
     messages: Vec<Message<A>, A>,
     deliveries: Vec<Delivery<A>, A>,
-    acknowledged: Vec<Event<A>, A>,
+    acknowledged: Vec<Acknowledged<A>, A>,
 }
 
 impl<A: Allocator> Model for Book<A> {
-    ghost use Rattle.custody_store.specs.Contents.{stored_events};
     ghost use Rattle.message_book.specs.Book as book;
 
     ghost Value = { book.Book };
 
-    ghost view = { λ b. book.book_from b.messages.items b.deliveries.items (stored_events b.acknowledged.items) };
+    ghost view = { λ b. book.book_from b.messages.items b.deliveries.items (book.told_events b.acknowledged.items) };
 }
 
 impl<A: Allocator + Copy> Book<A> {
@@ -73,8 +70,8 @@ impl<A: Allocator + Copy> Book<A> {
     }
 
     /// The events that were acknowledged to clients, in that order.
-    pub fn acknowledged(&self) -> &[Event<A>]
-        ensures { stored_events result.now ≡ self.now.acknowledged }
+    pub fn acknowledged(&self) -> &[Acknowledged<A>]
+        ensures { told_events result.now ≡ self.now.acknowledged }
     {
         self.acknowledged.as_slice()
     }
@@ -106,18 +103,20 @@ impl<A: Allocator + Copy> Book<A> {
         Ok(())
     }
 
-    /// A delivery of a message is opened where it comes in, with room for so many buffers. An `Err` changes nothing.
+    /// A delivery of a message is opened where it comes in, under this tag, with room for so many buffers. An `Err` changes
+    /// nothing.
     pub fn begin(
         &mut self,
         message: usize,
         entrance: Entrance,
+        tag: Tag<A>,
         room: usize,
     ) -> Result<(), AllocError>
-        ensures ok { OnOk result (self.new ≡ record self.old { deliveries = self.old.deliveries ++ record { message = message; entrance = entrance; appended = []; is_open = true } ∷ []; room = self.old.room ++ room ∷ [] }) }
+        ensures ok { OnOk result (self.new ≡ record self.old { deliveries = self.old.deliveries ++ record { message = message; entrance = entrance; tag = tag; appended = []; is_open = true } ∷ []; room = self.old.room ++ room ∷ [] }) }
         ensures err { OnErr result (self.new ≡ self.old) }
     {
         let alloc = *self.messages.allocator();
-        let opened = Delivery::new(alloc, message, entrance, room)?;
+        let opened = Delivery::new(alloc, message, entrance, tag, room)?;
         self.deliveries.push(opened)?;
         Ok(())
     }

@@ -5,12 +5,14 @@ ghost use Rattle.message_book.specs.Book.{appended_to_buffer, ended, with_room, 
 use relay_net::Entrance;
 use std::alloc::{AllocError, Allocator};
 use std::marker::Model;
+use tag_pattern::Tag;
 
 /// A delivery of a message, with the buffers of its relay that it was appended to.
 #[derive(Drop)]
 pub struct Delivery<A: Allocator> {
     message: usize,
     entrance: Entrance,
+    tag: Tag<A>,
     appended: Vec<usize, A>,
     is_open: bool,
 }
@@ -22,24 +24,26 @@ impl<A: Allocator> Model for Delivery<A> {
     ghost Value = { Opened };
 
     ghost view = { λ d. record {
-      delivery = record { message = d.message; entrance = d.entrance; appended = d.appended.items; is_open = d.is_open };
+      delivery = record { message = d.message; entrance = d.entrance; tag = d.tag; appended = d.appended.items; is_open = d.is_open };
       room = vec_capacity d.appended - vec_len d.appended;
     } };
 }
 
 impl<A: Allocator> Delivery<A> {
-    /// An open delivery of the message that came in there, with room for so many buffers.
+    /// An open delivery of the message that came in there, under this tag, with room for so many buffers.
     pub(crate) fn new(
         alloc: A,
         message: usize,
         entrance: Entrance,
+        tag: Tag<A>,
         room: usize,
     ) -> Result<Delivery<A>, AllocError>
-        ensures { IfOk result (λ d. d ≡ record { delivery = record { message = message; entrance = entrance; appended = []; is_open = true }; room = room }) }
+        ensures { IfOk result (λ d. d ≡ record { delivery = record { message = message; entrance = entrance; tag = tag; appended = []; is_open = true }; room = room }) }
     {
         Ok(Delivery {
             message,
             entrance,
+            tag,
             appended: Vec::with_capacity(alloc, room)?,
             is_open: true,
         })
@@ -57,6 +61,13 @@ impl<A: Allocator> Delivery<A> {
         ensures { result ≡ self.now.delivery.entrance }
     {
         self.entrance
+    }
+
+    /// The tag that its events bear where it came in, under which they are appended.
+    pub fn tag(&self) -> &Tag<A>
+        ensures { result.now ≡ self.now.delivery.tag }
+    {
+        &self.tag
     }
 
     /// The buffers that it was appended to, in that order.

@@ -8,5 +8,5 @@ mod sender;
 
 pub use book::Book;
 pub use delivery::Delivery;
-pub use message::Message;
+pub use message::{Acknowledged, Message};
 pub use sender::Sender;

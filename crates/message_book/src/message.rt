@@ -1,15 +1,23 @@
 // Messages that were sent.
 ghost use Rattle.std.specs.Prelude.{◌≡◌, IfOk, true, false};
-ghost use Rattle.custody_store.specs.Contents.{stored_events};
 ghost use Rattle.step_lines.specs.Texts.{texts_of};
-ghost use Rattle.message_book.specs.Book.{acknowledged_message, events_told};
+ghost use Rattle.message_book.specs.Book.{acknowledged_message, events_told, told_events, told_to};
 
 use crate::sender::Sender;
-use custody_store::{Event, copy_events, copy_texts};
+use custody_store::{Event, copy_texts};
 use relay_net::Address;
 use std::alloc::{AllocError, Allocator};
 use std::marker::Model;
 use tag_pattern::Tag;
+
+/// An event that was acknowledged to a client, under the tag that the client sent.
+#[derive(Drop)]
+pub struct Acknowledged<A: Allocator> {
+    /// The number of the client.
+    pub client: usize,
+    /// The event.
+    pub event: Event<A>,
+}
 
 /// A message that was sent to an address. An acknowledgement of it was given to its sender, or not yet.
 #[derive(Drop)]
@@ -101,16 +109,36 @@ impl<A: Allocator> Message<A> {
     }
 
     /// Copies of the events that an acknowledgement tells its client: none, where it is no client's, or was acknowledged.
-    pub(crate) fn events_told(&self, alloc: A) -> Result<Vec<Event<A>, A>, AllocError>
+    pub(crate) fn events_told(&self, alloc: A) -> Result<Vec<Acknowledged<A>, A>, AllocError>
     where
         A: Copy,
-        ensures { IfOk result (λ events. stored_events events.items ≡ events_told self.now) }
+        ensures { IfOk result (λ events. told_events events.items ≡ events_told self.now) }
     {
         match self.sender {
-            Sender::Client { .. } if !self.acknowledged => {
-                copy_events(alloc, self.tag.as_bytes(), self.entries.as_slice())
+            Sender::Client { number } if !self.acknowledged => {
+                copy_told(alloc, number, self.tag.as_bytes(), self.entries.as_slice())
             }
             _ => Ok(Vec::new(alloc)),
         }
     }
+}
+
+// The entries as events that this client was told, in their order.
+fn copy_told<A: Allocator + Copy>(
+    alloc: A,
+    client: usize,
+    tag: &[u8],
+    entries: &[Vec<u8, A>],
+) -> Result<Vec<Acknowledged<A>, A>, AllocError>
+    ensures { IfOk result (λ events. told_events events.items ≡ told_to client tag.now (texts_of entries.now)) }
+{
+    let mut events = Vec::new(alloc);
+    for entry in entries {
+        let event = Event {
+            tag: Vec::from_slice(alloc, tag)?,
+            entry: Vec::from_slice(alloc, entry.as_slice())?,
+        };
+        events.push(Acknowledged { client, event })?;
+    }
+    Ok(events)
 }

@@ -4,7 +4,7 @@ ghost use Rattle.std.specs.Ordering.{nat_cmp};
 ghost use Rattle.std.specs.BTreeSet.{contains};
 ghost use Rattle.disk_files.specs.Disk.{SameDisk, reads};
 ghost use Rattle.disk_files.specs.Moments.{Elapses, now};
-ghost use Rattle.disk_files.specs.Faults.{HasCause};
+ghost use Rattle.disk_files.specs.Faults.{HasCause, FailsInTurn};
 ghost use Rattle.disk_files.specs.declared.dir.FileNo.{FileNo};
 ghost use Rattle.numbered_files.specs.Names.{IsNumber, IsNamed, IsThere};
 
@@ -30,7 +30,7 @@ pub fn numbers<A: Allocator + Copy, D: Dir>(
     ensures other_room { (other : FileNo)
         → D.bytes_left dir.old other ≤ D.bytes_left dir.new other }
     ensures cause { HasCause (D.fault_count dir.old) (D.fault_count dir.new) result }
-    ensures fault { D.is_honest dir.old → (IsErrOf result DirError.Fault ↔ D.is_failing dir.old) }
+    ensures fault { D.is_honest dir.old → FailsInTurn (D.fails_after dir.old) (D.fails_after dir.new) result }
     ensures only { OnErr result ((result ≡ Err DirError.Memory) ⊎ (result ≡ Err DirError.Fault)) }
 {
     let names = dir.list(alloc)?;

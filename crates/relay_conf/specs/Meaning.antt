@@ -15,7 +15,7 @@ use Rattle.relay_faults.specs.declared.form.OutputType.{OutputType}
 use Rattle.relay_faults.specs.declared.form.OutputType.TheVariants as outputs
 use Rattle.relay_faults.specs.Elements.{heading_of, settings_of, children_of, value_of, or_else, is_named}
 use Rattle.relay_faults.specs.Values.{threads_of, output_type_of}
-use Rattle.relay_conf.specs.Values.{flush_mode_of, overflow_of}
+use Rattle.relay_conf.specs.Values.{flush_mode_of, overflow_of, prefix_of}
 use Rattle.relay_faults.specs.Examined.{has_files}
 use Rattle.relay_conf.specs.Targets.{target_of}
 
@@ -29,6 +29,7 @@ pub record SourceMeaning : Type 0 where
   pub port : ℕ
   pub bind : List ℕ
   pub label : ℕ
+  pub prefix : Option (List ℕ)
   pub security : Option SecurityMeaning
   pub line : ℕ
 
@@ -96,12 +97,13 @@ security_of settings = record {
 abbrev pub security_in : List Tree → Option SecurityMeaning
 security_in children = option_map (λ t. security_of (settings_of t)) (last_child (codes "security") children)
 
--- a source: port 24224 of every local address, and the main scope, where nothing else is said
+-- a source: port 24224 of every local address, the main scope, and no prefix, where nothing else is said
 abbrev pub source_of : List Tree → Tree → SourceMeaning
 source_of elements t = record {
   port = read_or port_of 24224 (value_of (codes "port") (settings_of t));
   bind = unwrap_or (value_of (codes "bind") (settings_of t)) (codes "0.0.0.0");
   label = target_of elements (value_of (codes "@label") (settings_of t));
+  prefix = option_and_then prefix_of (value_of (codes "add_tag_prefix") (settings_of t));
   security = security_in (children_of t);
   line = (heading_of t).line;
 }

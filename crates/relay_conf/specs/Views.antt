@@ -19,7 +19,7 @@ security_view s = record { self_hostname = string_bytes s.self_hostname; shared_
 
 -- a source
 abbrev pub source_view : {A : Type 0} → Source A → SourceMeaning
-source_view s = record { port = s.port; bind = string_bytes s.bind; label = s.label.0; security = option_map security_view s.security; line = s.line }
+source_view s = record { port = s.port; bind = string_bytes s.bind; label = s.label.0; prefix = s.prefix; security = option_map security_view s.security; line = s.line }
 
 -- a server
 abbrev pub server_view : {A : Type 0} → Server A → ServerMeaning

@@ -13,7 +13,7 @@ use crate::outputs::{label_scopes, matches_in};
 use crate::relay::{Relay, Scope, Source};
 use crate::settings::security_in;
 use crate::target::target;
-use crate::values::{port_or, text_or};
+use crate::values::{port_or, prefix, text_or};
 use conf_text::Element;
 use relay_faults::{
     RelayError, RelayFault, children_of, examine_elements, is_named, last_value, line_of, pairs_of,
@@ -89,6 +89,7 @@ fn source<A: Allocator + Copy>(
         port: port_or(pairs, "port", DEFAULT_PORT),
         bind: text_or(alloc, pairs, "bind", DEFAULT_BIND)?,
         label: target(elements, last_value(pairs, "@label")),
+        prefix: prefix(alloc, pairs, "add_tag_prefix")?,
         security: security_in(alloc, children_of(element))?,
         line: line_of(element),
     })

@@ -1,7 +1,7 @@
 // A relay: its sources, and its scopes with their matches.
 use crate::output::Output;
 use std::alloc::Allocator;
-use tag_pattern::Plain;
+use tag_pattern::{Plain, Prefix};
 
 /// The place of a scope in its relay, counted from 0; the main scope is 0.
 #[derive(Clone, Copy, Debug, PartialEq, Eq)]
@@ -25,6 +25,8 @@ pub struct Source<A: Allocator> {
     pub bind: String<A>,
     /// The scope that its events enter.
     pub label: ScopeNo,
+    /// What is put in front of the tags of its events, with a dot, if anything (this project's profile).
+    pub prefix: Option<Prefix<A>>,
     /// What its clients must prove in the handshake, if anything.
     pub security: Option<Security<A>>,
     /// The line that opens it, counted from 1.

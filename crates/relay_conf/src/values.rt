@@ -7,7 +7,7 @@ ghost use Rattle.conf_values.specs.Amounts.{size_of, seconds_of};
 ghost use Rattle.conf_values.specs.Words.{boolean_of};
 ghost use Rattle.relay_faults.specs.Elements.{value_of};
 ghost use Rattle.relay_faults.specs.Values.{threads_of, is_flush_mode, is_overflow};
-ghost use Rattle.relay_conf.specs.Values.{flush_mode_of, overflow_of};
+ghost use Rattle.relay_conf.specs.Values.{flush_mode_of, overflow_of, prefix_of};
 ghost use Rattle.relay_conf.specs.Meaning.{read_or, last_child};
 
 use crate::buffer::{FlushMode, OverflowAction};
@@ -15,6 +15,7 @@ use conf_text::{Element, Pair};
 use conf_values::{boolean, port, seconds, size, whole_number};
 use relay_faults::{is_named, last_value, threads};
 use std::alloc::{AllocError, Allocator};
+use tag_pattern::{Prefix, PrefixError};
 
 /// A text.
 pub(crate) fn text_or<A: Allocator + Copy>(
@@ -102,6 +103,24 @@ pub(crate) fn threads_or<A: Allocator>(pairs: &[Pair<A>], name: &str, default: u
     match last_value(pairs, name) {
         None => default,
         Some(value) => threads(value.as_bytes()).unwrap_or(default),
+    }
+}
+
+/// A prefix, if there is one.
+pub(crate) fn prefix<A: Allocator>(
+    alloc: A,
+    pairs: &[Pair<A>],
+    name: &str,
+) -> Result<Option<Prefix<A>>, AllocError>
+    ensures { IfOk result (λ prefix. prefix ≡ option_and_then prefix_of (value_of name.now (map setting pairs.now))) }
+{
+    let Some(value) = last_value(pairs, name) else {
+        return Ok(None);
+    };
+    match Prefix::read(alloc, value.as_bytes()) {
+        Ok(prefix) => Ok(Some(prefix)),
+        Err(PrefixError::BadPrefix) => Ok(None),
+        Err(PrefixError::Memory) => Err(AllocError),
     }
 }
 

@@ -8,6 +8,7 @@ use Rattle.relay_faults.specs.Values.{is_flush_mode, is_overflow, is_file_of, ou
 use Rattle.conf_values.specs.Numbers.{number_of, port_of}
 use Rattle.conf_values.specs.Amounts.{size_of, seconds_of}
 use Rattle.conf_values.specs.Words.{boolean_of, is_path, has_slash, is_label_name}
+use Rattle.tag_pattern.specs.Prefixes.{is_prefix}
 
 -- a value that isn't of its form
 abbrev pub bad_unless : Bool → Option RelayFaultKind
@@ -37,6 +38,7 @@ value_fault form.Threads text = bad_unless (is_some (threads_of text))
 value_fault form.Path text = path_fault text
 value_fault form.HostName text = bad_unless (is_short text)
 value_fault form.Target text = target_fault text
+value_fault form.Prefix text = bad_unless (is_prefix text)
 value_fault form.FlushMode text = outside_unless (is_flush_mode text)
 value_fault form.RetryType text = outside_unless (is_retry_type text)
 value_fault form.Overflow text = outside_unless (is_overflow text)

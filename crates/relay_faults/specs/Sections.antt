@@ -32,12 +32,13 @@ abbrev pub form_in : List NamedForm → List ℕ → Option Form
 form_in [] name = None
 form_in (r ∷ rows) name = if bytes_eq r.name name then Some r.form else form_in rows name
 
--- the parameters of a source (Fluentd, in_forward)
+-- the parameters of a source (Fluentd, in_forward); what `add_tag_prefix` may be is chosen here
 abbrev pub source_rows : List NamedForm
 source_rows =
     row (codes "port") form.Port
     ∷ row (codes "bind") form.Text
     ∷ row (codes "@label") form.Target
+    ∷ row (codes "add_tag_prefix") form.Prefix
     ∷ []
 
 -- the parameters of a server (Fluentd, out_forward)

@@ -7,6 +7,7 @@ use crate::fault::RelayFaultKind;
 use conf_values::{
     boolean, has_slash, is_host_name, is_label_name, is_path, port, seconds, size, whole_number,
 };
+use tag_pattern::is_prefix;
 
 /// The most threads that may deliver a buffer's chunks.
 pub const MOST_FLUSH_THREADS: usize = 64;
@@ -34,6 +35,8 @@ pub(crate) enum Form {
     HostName,
     /// A label that events go to.
     Target,
+    /// What is put in front of tags.
+    Prefix,
     /// When a chunk is queued.
     FlushMode,
     /// How waits grow.
@@ -81,6 +84,7 @@ pub(crate) fn value_fault(form: Form, value: &str) -> Option<RelayFaultKind>
         Form::Path => path_fault(bytes),
         Form::HostName => bad_unless(is_short(bytes)),
         Form::Target => target_fault(value),
+        Form::Prefix => bad_unless(is_prefix(bytes)),
         _ => word_fault(form, value),
     }
 }

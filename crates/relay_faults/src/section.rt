@@ -44,7 +44,7 @@ struct Row {
     form: Form,
 }
 
-static SOURCE_ROWS: [Row; 3] = [
+static SOURCE_ROWS: [Row; 4] = [
     Row {
         name: "port",
         form: Form::Port,
@@ -56,6 +56,10 @@ static SOURCE_ROWS: [Row; 3] = [
     Row {
         name: "@label",
         form: Form::Target,
+    },
+    Row {
+        name: "add_tag_prefix",
+        form: Form::Prefix,
     },
 ];
 

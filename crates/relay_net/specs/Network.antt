@@ -7,6 +7,7 @@ use Rattle.relay_conf.specs.declared.relay.Relay.{Relay}
 use Rattle.relay_conf.specs.declared.relay.Source.{Source}
 use Rattle.relay_conf.specs.declared.output.Output.{Output}
 use Rattle.relay_conf.specs.declared.output.Server.{Server}
+use Rattle.tag_pattern.specs.Prefixes.{entered_tag}
 use Rattle.relay_net.specs.Addresses.{Address}
 use Rattle.relay_net.specs.Outputs.{number_of, is_numbered, settings_of, is_memory}
 use Rattle.relay_net.specs.declared.address.Entrance.{Entrance}
@@ -60,6 +61,24 @@ entrance_from place (node ∷ nodes) address = entrance_or (source_at node addre
 -- where a message to this address comes in: the first source of the plan that has it
 abbrev pub entrance : {A : Type 0} → Network A → Address → Option Entrance
 entrance net address = entrance_from 0 net.relays address
+
+-- the prefix of that source, if it is there, else the other one
+abbrev pub prefix_or : {A : Type 0} → Option (Source A) → Option (List ℕ) → Option (List ℕ)
+prefix_or None other = other
+prefix_or (Some source) other = source.prefix
+
+-- the prefix at an address of these relays
+abbrev pub prefix_from : {A : Type 0} → List (Node A) → Address → Option (List ℕ)
+prefix_from [] address = None
+prefix_from (node ∷ nodes) address = prefix_or (source_at node address) (prefix_from nodes address)
+
+-- what is put in front of the tags of messages to this address: the prefix of the first source of the plan that has it
+abbrev pub prefix_at : {A : Type 0} → Network A → Address → Option (List ℕ)
+prefix_at net address = prefix_from net.relays address
+
+-- the tag that the events of a message with this tag bear where it comes in, if it is sent to this address
+abbrev pub tag_at : {A : Type 0} → Network A → Address → List ℕ → List ℕ
+tag_at net address tag = entered_tag (prefix_at net address) tag
 
 -- the host of the relay that this number means (empty where it means none)
 abbrev pub host_from : {A : Type 0} → List (Node A) → ℕ → List ℕ

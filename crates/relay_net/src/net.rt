@@ -2,7 +2,7 @@
 ghost use Rattle.std.specs.Prelude.{◌≡◌, true, IfOk, IfErr, IfSome, IsSome, option_map, slice_get, ℕ};
 ghost use Rattle.std.specs.Option.{option_copied};
 ghost use Rattle.route_graph.specs.Listing.{IsWay, HasLeaves, HasEachOnce};
-ghost use Rattle.relay_net.specs.Network.{place_of, entrance, address_of_client, all_enter, output_at, is_in_memory};
+ghost use Rattle.relay_net.specs.Network.{place_of, entrance, prefix_at, address_of_client, all_enter, output_at, is_in_memory};
 ghost use Rattle.relay_net.specs.Ways.{table_at};
 
 use crate::address::Entrance;
@@ -14,7 +14,7 @@ use relay_conf::{Output, ScopeNo};
 use route_graph::Way;
 use std::alloc::{AllocError, Allocator};
 use std::marker::Model;
-use tag_pattern::Tag;
+use tag_pattern::{Prefix, Tag};
 
 /// A network: its relays and its clients, each in the order of the plan. To contracts it is these two lists.
 ///
@@ -134,6 +134,18 @@ impl<A: Allocator + Copy> Net<A> {
                     relay: place,
                     scope: source.label.0,
                 });
+            }
+        }
+        None
+    }
+
+    /// What is put in front of the tags of messages to this host and port: the prefix of the first source with that address.
+    pub fn prefix(&self, host: &[u8], port: u16) -> Option<&Prefix<A>>
+        ensures { option_copied result ≡ prefix_at self.now (record { host = host.now; port = port }) }
+    {
+        for node in &self.relays {
+            if let Some(source) = source_at(node, host, port) {
+                return source.prefix.as_ref();
             }
         }
         None

@@ -53,12 +53,12 @@ Listed-taken fed start before after arrival old new h k e = record {
 
 -- nothing came of the piece
 pub Lists-none : (hex : List ℕ) (feed : Feeding) (piece lines : List ℕ) (hex' : List ℕ) (feed' : Feeding) → lines ≡ []
-    → Lists hex feed piece lines [] (Err Memory) hex' feed'
+    → Lists hex feed piece lines (Err Memory) hex' feed'
 Lists-none hex feed piece lines hex' feed' e = record {
   arrivals = [];
   left = hex ++ digits_of piece;
   held = feed.held;
   reads = record { bytes = []; read = SpellsUpTo-none (hex ++ digits_of piece); splits = append-nil feed.held };
   whole = e;
-  after = (tt, refl);
+  after = tt;
 }

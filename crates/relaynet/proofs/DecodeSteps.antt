@@ -1,20 +1,22 @@
 -- Steps of a decoder from piece to piece, and what all of them make.
-use Rattle.std.proofs.Common.{◌≡◌, inl, inr, ℕ, List, [], ◌∷◌, ◌++◌, Option, Some, None, IfSome, length, refl, sym, ap, ◌∙◌, subst, append_assoc, append-nil}
+use Rattle.std.proofs.Common.{◌≡◌, ◌<◌, ◌⊎◌, inl, inr, ℕ, List, [], ◌∷◌, ◌++◌, Option, Some, None, length, length-append, arith, refl, sym, ap, ◌∙◌, subst, append_assoc, append-nil}
 use Rattle.std.specs.Char.{is_ascii_whitespace}
-use Rattle.std.specs.Prelude.{not}
+use Rattle.std.specs.Prelude.{not, Result}
 use Rattle.std.proofs.Common.{Ok, Err}
 use Rattle.std.specs.Io.KnownBytes.{Appends, Consumes, IsAtEnd}
 use Rattle.std.proofs.KnownBytes.{Appends-trans, Consumes-trans, Consumes-whole}
 use Rattle.std.proofs.lemmas.List.Elements.{filter-append}
 use Rattle.event_modes.specs.Stream.{Arrival, Splits}
 use Rattle.relaynet.specs.declared.status.Status.{Status}
+use Rattle.relaynet.specs.declared.status.Status.TheVariants.{Usage}
 use Rattle.relaynet.specs.declared.decode.Stop.{Stop}
-use Rattle.relaynet.specs.declared.decode.Stop.TheVariants.{Hex, Stream, Memory, Read, Write}
+use Rattle.relaynet.specs.declared.decode.Stop.TheVariants.{Hex, Stream, Memory, Read}
 use Rattle.relaynet.specs.HexText.{digits_of, SpellsUpTo}
-use Rattle.relaynet.specs.Listing.{arrival_lines, lines_of, Ending, Rest, Fault, BadHex, ending_lines, ReadsOn, IsPending, status_of, Holds, IsListing, IsLastLine, IsCutShort, IsOutput}
+use Rattle.relaynet.specs.Listing.{arrival_lines, lines_of, memory_line, read_line, Ending, Rest, Fault, BadHex, ending_lines, ReadsOn, IsPending, status_of, Holds, IsListed, PrintsListing}
 use Rattle.event_modes.specs.Feeding.{Feeding}
-use Rattle.relaynet.specs.Output.{TakesPart}
-use Rattle.relaynet.specs.Decoding.{Lists, StopsAt, HidesOnly, IsLast, IsLastAtEnd}
+use Rattle.relaynet.specs.Output.{TakesPart, IsPrinted}
+use Rattle.relaynet.specs.Decoding.{Lists, StopsAt, IsLast, IsLastAtEnd, PrintsLast}
+use Rattle.relaynet.specs.Texts.{IsTextOf}
 use Rattle.relaynet.proofs.HexSteps.{SpellsUpTo-append, SpellsUpTo-more}
 use Rattle.relaynet.proofs.ArrivalSteps.{Splits-trans, Splits-more}
 
@@ -74,179 +76,169 @@ pub writes_piece : (before lines unseen written : List ℕ) (arrivals more : Lis
 writes_piece before lines unseen written arrivals more e k h =
     append_assoc before written unseen ∙ ap (λ l. before ++ l) (h ∙ k) ∙ ap (λ l. l ++ lines_of more) e ∙ sym (lines_of-append arrivals more)
 
--- two lists that make none are none
-both_nil : (xs ys : List ℕ) → xs ++ ys ≡ [] → xs ≡ []
-both_nil [] ys h = refl
-both_nil (x ∷ xs) ys h = cc h
+-- the lines of a piece that are written whole, behind those before it
+pub lines_written : (o0 o1 o2 : Option (List ℕ)) (lines : List ℕ) (arrivals more : List Arrival) → Appends o0 o1 (lines_of arrivals) → lines ≡ lines_of more
+    → TakesPart o1 o2 lines [] → Appends o0 o2 (lines_of (arrivals ++ more))
+lines_written o0 o1 o2 lines arrivals more written whole takes =
+    let all : lines_of arrivals ++ takes.written ≡ lines_of (arrivals ++ more) =
+    ap (λ l. lines_of arrivals ++ l) (sym (append-nil takes.written) ∙ takes.whole ∙ whole) ∙ sym (lines_of-append arrivals more) in
+    subst (Appends o0 o2) all (Appends-trans o0 o1 o2 (lines_of arrivals) takes.written written takes.appends)
 
--- the lines, and a part of the last one
-with_last : (lines last unseen written part : List ℕ) → written ++ [] ≡ lines → part ++ unseen ≡ last → (written ++ part) ++ unseen ≡ lines ++ last
-with_last lines last unseen written part h k =
-    append_assoc written part unseen ∙ ap (λ l. written ++ l) k ∙ ap (λ l. l ++ last) (sym (append-nil written) ∙ h)
+-- what is longer than something isn't empty
+longer : (xs ys : List ℕ) → 0 < length xs → 0 < length (xs ++ ys)
+longer xs ys some = omega (arith, some, length-append xs ys)
+
+-- the lines so far, and a last one that is printed behind them
+printed_behind : (o0 o1 o2 : Option (List ℕ)) (lines last : List ℕ) (meant status : Status) → Appends o0 o1 lines → IsPrinted o1 o2 last meant status
+    → IsPrinted o0 o2 (lines ++ last) meant status
+printed_behind o0 o1 o2 lines last meant status written prints = (
+  prints.0,
+  record {
+    written = lines ++ prints.1.written;
+    appends = Appends-trans o0 o1 o2 lines prints.1.written written prints.1.appends;
+    whole = append_assoc lines prints.1.written prints.0 ∙ ap (λ l. lines ++ l) prints.1.whole;
+  },
+  prints.2,
+)
 
 -- ---- what all of it makes
 
--- a listing that ends with a line of its own, or with why it was cut short
-cut_short : (text left held last unseen written part : List ℕ) (arrivals : List Arrival) → ReadsOn [] [] (digits_of text) arrivals left held
-    → IsLastLine text arrivals last unseen → written ++ [] ≡ lines_of arrivals → part ++ unseen ≡ last → IsCutShort text (written ++ part)
-cut_short text left held last unseen written part arrivals h is_last e k = record {
+-- why nothing more is read, in the lines of a whole listing or of one that is cut short
+cut_listed : (text left held last : List ℕ) (arrivals : List Arrival) (meant : Status) → ReadsOn [] [] (digits_of text) arrivals left held
+    → (last ≡ memory_line) ⊎ (last ≡ read_line) → meant ≡ Usage → IsListed text meant (lines_of arrivals ++ last)
+cut_listed text left held last arrivals meant reads is_last is_status = inr (record {
   arrivals = arrivals;
   left = left;
   held = held;
+  reads = reads;
   last = last;
-  unseen = unseen;
-  reads = h;
   is_last = is_last;
-  lines = with_last (lines_of arrivals) last unseen written part e k;
-}
+  lines_are = refl;
+  is_status = is_status;
+})
 
-whole_listing : (text last unseen written part : List ℕ) (arrivals : List Arrival) (ending : Ending) (status : Status) → Holds text arrivals ending
-    → last ≡ ending_lines ending → unseen ≡ [] → written ++ [] ≡ lines_of arrivals → part ++ unseen ≡ last → status ≡ status_of ending
-    → IsListing text status (written ++ part)
-whole_listing text last unseen written part arrivals ending status h same none e k is_status = record {
+whole_listed : (text last : List ℕ) (arrivals : List Arrival) (ending : Ending) (meant : Status) → Holds text arrivals ending → last ≡ ending_lines ending
+    → meant ≡ status_of ending → IsListed text meant (lines_of arrivals ++ last)
+whole_listed text last arrivals ending meant holds is_last is_status = inl (record {
   arrivals = arrivals;
   ending = ending;
-  holds = h;
-  lines = sym (append-nil (written ++ part)) ∙ ap (λ l. (written ++ part) ++ l) (sym none)
-      ∙ with_last (lines_of arrivals) last unseen written part e k ∙ ap (λ l. lines_of arrivals ++ l) same;
+  holds = holds;
+  lines = ap (λ l. lines_of arrivals ++ l) is_last;
   is_status = is_status;
-}
+})
 
 -- nothing more is read: the text is what was read and what was not
-pub stop_output : (text more left held last unseen hidden written part : List ℕ) (arrivals : List Arrival) (stop : Stop) (status : Status)
-    → ReadsOn [] [] (digits_of text) arrivals left held → StopsAt stop left held → HidesOnly stop hidden → written ++ hidden ≡ lines_of arrivals
-    → IsLast stop last unseen status → part ++ unseen ≡ last → IsOutput (text ++ more) status (written ++ part)
-stop_output text more left held last unseen hidden written part arrivals Hex status h at only e is_last k =
-    let e' : written ++ [] ≡ lines_of arrivals = subst (λ l. written ++ l ≡ lines_of arrivals) only e in
+stop_listed : (text more left held last : List ℕ) (arrivals : List Arrival) (stop : Stop) (meant : Status) → ReadsOn [] [] (digits_of text) arrivals left held
+    → StopsAt stop left held → IsLast stop last meant → IsListed (text ++ more) meant (lines_of arrivals ++ last)
+stop_listed text more left held last arrivals Hex meant h at is_last =
     let reads = reads_front text more left held arrivals h in
-    let holds : Holds (text ++ more) arrivals BadHex = record { left = left ++ digits_of more; held = held; reads = reads; ends = (at.0 (digits_of more), at.1) } in
-    inr (is_last.1, cut_short (text ++ more) (left ++ digits_of more) held last unseen written part arrivals reads (inr (inr (inr (BadHex, holds, is_last.0)))) e' k)
-stop_output text more left held last unseen hidden written part arrivals (Stream fault) status h at only e is_last k =
-    let e' : written ++ [] ≡ lines_of arrivals = subst (λ l. written ++ l ≡ lines_of arrivals) only e in
+    whole_listed (text ++ more) last arrivals BadHex meant (record { left = left ++ digits_of more; held = held; reads = reads; ends = (at.0 (digits_of more), at.1) }) is_last.0 is_last.1
+stop_listed text more left held last arrivals (Stream fault) meant h at is_last =
     let reads = reads_front text more left held arrivals h in
-    let holds : Holds (text ++ more) arrivals (Fault fault) = record { left = left ++ digits_of more; held = held; reads = reads; ends = at } in
     elim is_last [
-      | inl whole ↦ inl (whole_listing (text ++ more) last unseen written part arrivals (Fault fault) status holds whole.0 whole.1 e' k whole.2)
-      | inr cut ↦ inr (
-        cut.1,
-        elim cut.0 [
-          | inl same ↦ cut_short (text ++ more) (left ++ digits_of more) held last unseen written part arrivals reads (inr (inr (inr (Fault fault, holds, same)))) e' k
-          | inr memory ↦ cut_short (text ++ more) (left ++ digits_of more) held last unseen written part arrivals reads (inr (inl memory)) e' k
-        ],
-      )
+      | inl whole ↦
+          whole_listed (text ++ more) last arrivals (Fault fault) meant (record { left = left ++ digits_of more; held = held; reads = reads; ends = at }) whole.0 whole.1
+      | inr memory ↦ cut_listed (text ++ more) (left ++ digits_of more) held last arrivals meant reads (inl memory.0) memory.1
     ]
-stop_output text more left held last unseen hidden written part arrivals Memory status h at only e is_last k =
-    let e' : written ++ [] ≡ lines_of arrivals = subst (λ l. written ++ l ≡ lines_of arrivals) only e in
-    inr (is_last.1, cut_short (text ++ more) (left ++ digits_of more) held last unseen written part arrivals (reads_front text more left held arrivals h) (inr (inl is_last.0)) e' k)
-stop_output text more left held last unseen hidden written part arrivals Read status h at only e is_last k =
-    let e' : written ++ [] ≡ lines_of arrivals = subst (λ l. written ++ l ≡ lines_of arrivals) only e in
-    inr (is_last.1, cut_short (text ++ more) (left ++ digits_of more) held last unseen written part arrivals (reads_front text more left held arrivals h) (inr (inr (inl is_last.0))) e' k)
-stop_output text more left held last unseen hidden written part arrivals Write status h at only e is_last k =
-    let none : part ≡ [] = both_nil part unseen (k ∙ is_last.0) in
-    inr (
-      is_last.1,
-      record {
-        arrivals = arrivals;
-        left = left ++ digits_of more;
-        held = held;
-        last = [];
-        unseen = hidden;
-        reads = reads_front text more left held arrivals h;
-        is_last = inl (refl, only);
-        lines = ap (λ l. (written ++ l) ++ hidden) none ∙ ap (λ l. l ++ hidden) (append-nil written) ∙ e ∙ sym (append-nil (lines_of arrivals));
-      },
-    )
+stop_listed text more left held last arrivals Memory meant h at is_last =
+    cut_listed (text ++ more) (left ++ digits_of more) held last arrivals meant (reads_front text more left held arrivals h) (inl is_last.0) is_last.1
+stop_listed text more left held last arrivals Read meant h at is_last =
+    cut_listed (text ++ more) (left ++ digits_of more) held last arrivals meant (reads_front text more left held arrivals h) (inr is_last.0) is_last.1
 
 -- the text is at its end
-pub end_output : (text hex held last unseen written part : List ℕ) (arrivals : List Arrival) (status : Status)
-    → ReadsOn [] [] (digits_of text) arrivals hex held → IsPending held → written ≡ lines_of arrivals
-    → IsLastAtEnd hex held last unseen status → part ++ unseen ≡ last → IsOutput text status (written ++ part)
-end_output text hex held last unseen written part arrivals status h pending e at k =
-    let e' : written ++ [] ≡ lines_of arrivals = append-nil written ∙ e in
-    let rest : hex ≡ [] → Holds text arrivals (Rest (length held)) =
-    λ none. record { left = hex; held = held; reads = h; ends = (none, pending, refl) } in
+end_listed : (text hex held last : List ℕ) (arrivals : List Arrival) (meant : Status) → ReadsOn [] [] (digits_of text) arrivals hex held → IsPending held
+    → IsLastAtEnd hex held last meant → IsListed text meant (lines_of arrivals ++ last)
+end_listed text hex held last arrivals meant h pending at =
     elim at [
-      | inl whole ↦ inl (whole_listing text last unseen written part arrivals (Rest (length held)) status (rest whole.0) whole.1 whole.2 e' k whole.3)
-      | inr cut ↦ inr (
-        cut.1,
-        elim cut.0 [
-          | inl same ↦ cut_short text hex held last unseen written part arrivals h (inr (inr (inr (Rest (length held), rest same.0, same.1)))) e' k
-          | inr other ↦ elim other [
-            | inl broken ↦
-                cut_short text hex held last unseen written part arrivals h
-                (inr (inr (inr (BadHex, record { left = hex; held = held; reads = h; ends = (broken.0, pending) }, broken.1)))) e' k
-            | inr memory ↦ cut_short text hex held last unseen written part arrivals h (inr (inl memory)) e' k
-          ]
-        ],
-      )
+      | inl whole ↦
+          whole_listed text last arrivals (Rest (length held)) meant (record { left = hex; held = held; reads = h; ends = (whole.0, pending, refl) }) whole.1 whole.2
+      | inr other ↦ elim other [
+        | inl broken ↦ whole_listed text last arrivals BadHex meant (record { left = hex; held = held; reads = h; ends = (broken.0, pending) }) broken.1 broken.2
+        | inr memory ↦ cut_listed text hex held last arrivals meant h (inl memory.0) memory.1
+      ]
     ]
 
 -- what holds of a text that goes on in any way holds of all that a reader had
-pub from_front : (a b : Option (List ℕ)) (text : List ℕ) (P : List ℕ → Type 0) → Consumes a b text → ((more : List ℕ) → P (text ++ more)) → IfSome a P
-from_front None b text P h k = tt
-from_front (Some x) None text P h k = absurd h
-from_front (Some x) (Some y) text P h k = subst P (sym h) (k y)
+known_text : (a b : Option (List ℕ)) (text : List ℕ) (P : List ℕ → Type 0) → Consumes a b text → ((more : List ℕ) → P (text ++ more))
+    → (all : List ℕ) × IsTextOf a all × P all
+known_text None b text P h k = (text ++ [], tt, k [])
+known_text (Some x) None text P h k = absurd h
+known_text (Some x) (Some y) text P h k = (text ++ y, sym h, k y)
 
 -- nothing more is read after the text so far
-pub early_output : (i0 i1 o0 o1 o2 : Option (List ℕ)) (text left held last hidden : List ℕ) (arrivals : List Arrival) (stop : Stop) (status : Status)
+pub early_output : (i0 i1 o0 o1 o2 : Option (List ℕ)) (text left held : List ℕ) (arrivals : List Arrival) (stop : Stop) (status : Status)
     → Consumes i0 i1 text → ReadsOn [] [] (digits_of text) arrivals left held → Appends o0 o1 (lines_of arrivals)
-    → StopsAt stop left held → HidesOnly stop [] → TakesPart o1 o2 last hidden → IsLast stop last hidden status
-    → IfSome i0 (λ all. (written : List ℕ) × Appends o0 o2 written × IsOutput all status written)
-early_output i0 i1 o0 o1 o2 text left held last hidden arrivals stop status consumed reads written at only takes is_last =
-    from_front i0 i1 text (λ all. (w : List ℕ) × Appends o0 o2 w × IsOutput all status w) consumed (λ more. (
-      lines_of arrivals ++ takes.written,
-      Appends-trans o0 o1 o2 (lines_of arrivals) takes.written written takes.appends,
-      stop_output text more left held last hidden [] (lines_of arrivals) takes.written arrivals stop status reads at only (append-nil (lines_of arrivals)) is_last takes.whole,
-    ))
+    → StopsAt stop left held → PrintsLast (IsLast stop) o1 o2 status → PrintsListing i0 o0 o2 status
+early_output i0 i1 o0 o1 o2 text left held arrivals stop status consumed reads written at prints =
+    let all = known_text i0 i1 text (λ t. IsListed t prints.meant (lines_of arrivals ++ prints.last)) consumed
+    (λ more. stop_listed text more left held prints.last arrivals stop prints.meant reads at prints.is_last) in record {
+      text = all.0;
+      text_is = all.1;
+      lines = lines_of arrivals ++ prints.last;
+      meant = prints.meant;
+      listed = all.2;
+      printed = printed_behind o0 o1 o2 (lines_of arrivals) prints.last prints.meant status written prints.printed;
+    }
 
 -- nothing more is read after a piece
-pub piece_output : (i0 i1 i2 o0 o1 o2 o3 : Option (List ℕ)) (text piece lines unseen last hidden hex hex' : List ℕ) (feed feed' : Feeding) (arrivals : List Arrival) (stop : Stop) (status : Status)
+pub piece_output : (i0 i1 i2 o0 o1 o2 o3 : Option (List ℕ)) (text piece lines hex hex' : List ℕ) (feed feed' : Feeding) (arrivals : List Arrival) (stop : Stop) (status : Status)
     → Consumes i0 i1 text → Consumes i1 i2 piece → ReadsOn [] [] (digits_of text) arrivals hex feed.held → Appends o0 o1 (lines_of arrivals)
-    → Lists hex feed piece lines unseen (Err stop) hex' feed' → TakesPart o1 o2 lines unseen → TakesPart o2 o3 last hidden → IsLast stop last hidden status
-    → IfSome i0 (λ all. (written : List ℕ) × Appends o0 o3 written × IsOutput all status written)
-piece_output i0 i1 i2 o0 o1 o2 o3 text piece lines unseen last hidden hex hex' feed feed' arrivals stop status consumed more_consumed reads written lists shown takes is_last =
-    from_front i0 i2 (text ++ piece) (λ all. (w : List ℕ) × Appends o0 o3 w × IsOutput all status w)
-    (Consumes-trans i0 i1 i2 text piece consumed more_consumed) (λ more. (
-      (lines_of arrivals ++ shown.written) ++ takes.written,
-      Appends-trans o0 o2 o3 (lines_of arrivals ++ shown.written) takes.written
-          (Appends-trans o0 o1 o2 (lines_of arrivals) shown.written written shown.appends) takes.appends,
-      stop_output (text ++ piece) more lists.left lists.held last hidden unseen (lines_of arrivals ++ shown.written) takes.written (arrivals ++ lists.arrivals) stop status
-          (reads_piece text piece hex feed.held lists.left lists.held arrivals lists.arrivals reads lists.reads) lists.after.0 lists.after.1
-          (writes_piece (lines_of arrivals) lines unseen shown.written arrivals lists.arrivals refl lists.whole shown.whole) is_last takes.whole,
-    ))
+    → Lists hex feed piece lines (Err stop) hex' feed' → TakesPart o1 o2 lines [] → PrintsLast (IsLast stop) o2 o3 status → PrintsListing i0 o0 o3 status
+piece_output i0 i1 i2 o0 o1 o2 o3 text piece lines hex hex' feed feed' arrivals stop status consumed more_consumed reads written lists shown prints =
+    early_output i0 i2 o0 o2 o3 (text ++ piece) lists.left lists.held (arrivals ++ lists.arrivals) stop status
+    (Consumes-trans i0 i1 i2 text piece consumed more_consumed)
+    (reads_piece text piece hex feed.held lists.left lists.held arrivals lists.arrivals reads lists.reads)
+    (lines_written o0 o1 o2 lines arrivals lists.arrivals written lists.whole shown) lists.after prints
+
+-- the writer failed in the lines of a piece: it has a beginning of what is printed where memory was wanted then
+pub cut_output : (i0 i1 i2 o0 o1 o2 : Option (List ℕ)) (text piece lines unseen hex hex' : List ℕ) (feed feed' : Feeding) (arrivals : List Arrival)
+    (result : Result (Unit {0}) Stop) → Consumes i0 i1 text → Consumes i1 i2 piece → ReadsOn [] [] (digits_of text) arrivals hex feed.held → Appends o0 o1 (lines_of arrivals)
+    → Lists hex feed piece lines result hex' feed' → TakesPart o1 o2 lines unseen → 0 < length unseen → PrintsListing i0 o0 o2 Usage
+cut_output i0 i1 i2 o0 o1 o2 text piece lines unseen hex hex' feed feed' arrivals result consumed more_consumed reads written lists shown some =
+    let came = arrivals ++ lists.arrivals in
+    let on = reads_piece text piece hex feed.held lists.left lists.held arrivals lists.arrivals reads lists.reads in
+    let all = known_text i0 i2 (text ++ piece) (λ t. IsListed t Usage (lines_of came ++ memory_line)) (Consumes-trans i0 i1 i2 text piece consumed more_consumed)
+    (λ more. cut_listed ((text ++ piece) ++ more) (lists.left ++ digits_of more) lists.held memory_line came Usage
+    (reads_front (text ++ piece) more lists.left lists.held came on) (inl refl) refl) in record {
+      text = all.0;
+      text_is = all.1;
+      lines = lines_of came ++ memory_line;
+      meant = Usage;
+      listed = all.2;
+      printed = (
+        unseen ++ memory_line,
+        record {
+          written = lines_of arrivals ++ shown.written;
+          appends = Appends-trans o0 o1 o2 (lines_of arrivals) shown.written written shown.appends;
+          whole = sym (append_assoc (lines_of arrivals ++ shown.written) unseen memory_line)
+              ∙ ap (λ l. l ++ memory_line) (writes_piece (lines_of arrivals) lines unseen shown.written arrivals lists.arrivals refl lists.whole shown.whole);
+        },
+        inr (refl, longer unseen memory_line some),
+      );
+    }
 
 -- the reader is at its end
-pub finish_output : (i0 i1 o0 o1 o2 : Option (List ℕ)) (text hex held last hidden : List ℕ) (arrivals : List Arrival) (status : Status)
+pub finish_output : (i0 i1 o0 o1 o2 : Option (List ℕ)) (text hex held : List ℕ) (arrivals : List Arrival) (status : Status)
     → Consumes i0 i1 text → IsAtEnd i1 → ReadsOn [] [] (digits_of text) arrivals hex held → Appends o0 o1 (lines_of arrivals)
-    → IsPending held → TakesPart o1 o2 last hidden → IsLastAtEnd hex held last hidden status
-    → IfSome i0 (λ all. (written : List ℕ) × Appends o0 o2 written × IsOutput all status written)
-finish_output i0 i1 o0 o1 o2 text hex held last hidden arrivals status consumed ended reads written pending takes at =
-    Consumes-whole i0 i1 text (λ all. (w : List ℕ) × Appends o0 o2 w × IsOutput all status w) consumed ended (
-      lines_of arrivals ++ takes.written,
-      Appends-trans o0 o1 o2 (lines_of arrivals) takes.written written takes.appends,
-      end_output text hex held last hidden (lines_of arrivals) takes.written arrivals status reads pending refl at takes.whole,
-    )
+    → IsPending held → PrintsLast (IsLastAtEnd hex held) o1 o2 status → PrintsListing i0 o0 o2 status
+finish_output i0 i1 o0 o1 o2 text hex held arrivals status consumed ended reads written pending prints = record {
+  text = text;
+  text_is = Consumes-whole i0 i1 text (λ all. text ≡ all) consumed ended refl;
+  lines = lines_of arrivals ++ prints.last;
+  meant = prints.meant;
+  listed = end_listed text hex held prints.last arrivals prints.meant reads pending prints.is_last;
+  printed = printed_behind o0 o1 o2 (lines_of arrivals) prints.last prints.meant status written prints.printed;
+}
 
 -- ---- a piece that didn't end it
 
-pub piece_read : (text piece lines unseen hex hex' : List ℕ) (feed feed' : Feeding) (arrivals : List Arrival) (u : Unit {0})
-    → ReadsOn [] [] (digits_of text) arrivals hex feed.held → (lists : Lists hex feed piece lines unseen (Ok u) hex' feed')
+pub piece_read : (text piece lines hex hex' : List ℕ) (feed feed' : Feeding) (arrivals : List Arrival) (u : Unit {0})
+    → ReadsOn [] [] (digits_of text) arrivals hex feed.held → (lists : Lists hex feed piece lines (Ok u) hex' feed')
     → ReadsOn [] [] (digits_of (text ++ piece)) (arrivals ++ lists.arrivals) hex' feed'.held
-piece_read text piece lines unseen hex hex' feed feed' arrivals u reads lists =
-    subst (λ d. ReadsOn [] [] (digits_of (text ++ piece)) (arrivals ++ lists.arrivals) d feed'.held) lists.after.0.digits
-    (subst (ReadsOn [] [] (digits_of (text ++ piece)) (arrivals ++ lists.arrivals) lists.left) lists.after.0.bytes
+piece_read text piece lines hex hex' feed feed' arrivals u reads lists =
+    subst (λ d. ReadsOn [] [] (digits_of (text ++ piece)) (arrivals ++ lists.arrivals) d feed'.held) lists.after.digits
+    (subst (ReadsOn [] [] (digits_of (text ++ piece)) (arrivals ++ lists.arrivals) lists.left) lists.after.bytes
     (reads_piece text piece hex feed.held lists.left lists.held arrivals lists.arrivals reads lists.reads))
 
-pub piece_written : (o0 o1 o2 : Option (List ℕ)) (piece lines unseen hex hex' : List ℕ) (feed feed' : Feeding) (arrivals : List Arrival) (u : Unit {0})
-    → Appends o0 o1 (lines_of arrivals) → (lists : Lists hex feed piece lines unseen (Ok u) hex' feed') → TakesPart o1 o2 lines unseen
-    → Appends o0 o2 (lines_of (arrivals ++ lists.arrivals))
-piece_written o0 o1 o2 piece lines unseen hex hex' feed feed' arrivals u written lists takes =
-    let whole : takes.written ≡ lines_of lists.arrivals =
-    sym (append-nil takes.written) ∙ ap (λ l. takes.written ++ l) (sym lists.after.1) ∙ takes.whole ∙ lists.whole in
-    let all : lines_of arrivals ++ takes.written ≡ lines_of (arrivals ++ lists.arrivals) =
-    ap (λ l. lines_of arrivals ++ l) whole ∙ sym (lines_of-append arrivals lists.arrivals) in
-    subst (Appends o0 o2) all (Appends-trans o0 o1 o2 (lines_of arrivals) takes.written written takes.appends)
-
-pub piece_pending : (piece lines unseen hex hex' : List ℕ) (feed feed' : Feeding) (u : Unit {0})
-    → Lists hex feed piece lines unseen (Ok u) hex' feed' → IsPending feed'.held
-piece_pending piece lines unseen hex hex' feed feed' u lists = subst IsPending lists.after.0.bytes lists.after.0.pending
+pub piece_pending : (piece lines hex hex' : List ℕ) (feed feed' : Feeding) (u : Unit {0}) → Lists hex feed piece lines (Ok u) hex' feed' → IsPending feed'.held
+piece_pending piece lines hex hex' feed feed' u lists = subst IsPending lists.after.bytes lists.after.pending

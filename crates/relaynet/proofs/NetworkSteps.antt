@@ -1,5 +1,5 @@
 -- From what is read and written to what `check` and `replay` print.
-use Rattle.std.proofs.Common.{◌≡◌, ◌<◌, ◌⊎◌, ℕ, List, [], ◌++◌, length, refl, sym, ap, ◌∙◌, subst, inl, inr, append_assoc, append-nil, length-append, arith, ◌+◌, get_or}
+use Rattle.std.proofs.Common.{◌≡◌, ◌<◌, ◌⊎◌, ℕ, List, [], ◌++◌, length, refl, sym, ap, ◌∙◌, subst, inl, inr, append_assoc, append-nil, length-append, arith, get_or}
 use Rattle.std.specs.Prelude.{Option}
 use Rattle.std.proofs.lemmas.List.{append_cancel_left}
 use Rattle.std.proofs.KnownBytes.{Appends-trans}
@@ -14,7 +14,7 @@ use Rattle.relaynet.specs.declared.reading.ReadFault.TheVariants as unread
 use Rattle.relaynet.specs.declared.status.Status.{Status}
 use Rattle.relaynet.specs.declared.status.Status.TheVariants.{Usage}
 use Rattle.relaynet.specs.Networks.{IsAnswered, IsRefusedPlan, StopsWith, IsFaultLine, IsStopLine, IsStopOf, SaysStop, PrintsStop, unread_line, PrintsCheck, PrintsReplay, PrintsNoLossUnderYes, AreReplayed, answer_line, answer_status, joined_status}
-use Rattle.relaynet.specs.Decoding.{memory_line}
+use Rattle.relaynet.specs.Listing.{memory_line}
 use Rattle.relaynet.specs.Output.{TakesPart, IsPrinted}
 use Rattle.relaynet.specs.Replays.{SaysNoLoss}
 

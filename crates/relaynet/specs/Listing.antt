@@ -1,7 +1,6 @@
 -- What is printed for the messages of a stream.
-use Rattle.std.specs.Prelude.{◌≡◌, ◌<◌, ℕ, zero, suc, ◌⊎◌, List, [], ◌∷◌, ◌++◌, codes, decimal, take, length, Option, Some, None}
+use Rattle.std.specs.Prelude.{◌≡◌, ℕ, zero, suc, ◌⊎◌, List, [], ◌∷◌, ◌++◌, codes, decimal, take, length, Option, Some, None}
 use Rattle.std.specs.List.{flat_map}
-use Rattle.std.specs.Io.KnownBytes.{Appends}
 use Rattle.hex.specs.Hex.{encode_lower}
 use Rattle.msgpack_bytes.specs.Item.{IsOpen}
 use Rattle.event_modes.specs.declared.fault.ModeFault.{ModeFault}
@@ -12,10 +11,20 @@ use Rattle.event_modes.specs.Printed.{code_of}
 use Rattle.relaynet.specs.declared.status.Status.{Status}
 use Rattle.relaynet.specs.declared.status.Status.TheVariants.{Done, No, Usage}
 use Rattle.relaynet.specs.HexText.{digits_of, SpellsUpTo, IsBroken}
+use Rattle.relaynet.specs.Output.{IsPrinted}
+use Rattle.relaynet.specs.Texts.{IsTextOf}
 
 -- a line: its text and the line feed that ends it
 abbrev pub line : List ℕ → List ℕ
 line text = text ++ 10 ∷ []
+
+-- where memory was wanted
+abbrev pub memory_line : List ℕ
+memory_line = line (codes "fault memory")
+
+-- where a reader failed
+abbrev pub read_line : List ℕ
+read_line = line (codes "fault read")
 
 -- a tag in hex, and a dash for the empty tag
 abbrev pub tag_text : List ℕ → List ℕ
@@ -96,32 +105,29 @@ pub record IsListing (text : List ℕ) (status : Status) (written : List ℕ) : 
   pub lines : written ≡ lines_of arrivals ++ ending_lines ending
   pub is_status : status ≡ status_of ending
 
--- the last line where memory, the reader or the writer failed; only a writer that has not seen all may have none
-abbrev pub IsLastLine : List ℕ → List Arrival → List ℕ → List ℕ → Type 0
-IsLastLine text arrivals last unseen = ((last ≡ []) × (0 < length unseen))
-    ⊎ ((last ≡ line (codes "fault memory"))
-    ⊎ ((last ≡ line (codes "fault read"))
-    ⊎ ((ending : Ending) × Holds text arrivals ending × (last ≡ ending_lines ending))))
-
--- what is seen where memory, the reader or the writer failed: the lines of what came first,
--- none left out or written twice, and the last line; a writer that failed has a beginning of that
-pub record IsCutShort (text written : List ℕ) : Type 0 where
+-- A listing that memory or the reader cut short: the lines of what came first, none left out or written twice, and a last line that says so.
+pub record IsCutShort (text : List ℕ) (status : Status) (lines : List ℕ) : Type 0 where
   pub arrivals : List Arrival
   pub left : List ℕ
   pub held : List ℕ
-  pub last : List ℕ
-  pub unseen : List ℕ
   pub reads : ReadsOn [] [] (digits_of text) arrivals left held
-  pub is_last : IsLastLine text arrivals last unseen
-  pub lines : written ++ unseen ≡ lines_of arrivals ++ last
+  pub last : List ℕ
+  pub is_last : (last ≡ memory_line) ⊎ (last ≡ read_line)
+  pub lines_are : lines ≡ lines_of arrivals ++ last
+  pub is_status : status ≡ Usage
 
--- all that is printed for a text
-abbrev pub IsOutput : List ℕ → Status → List ℕ → Type 0
-IsOutput text status written = IsListing text status written ⊎ ((status ≡ Usage) × IsCutShort text written)
+-- what is printed for a text, in lines, and the status that it means
+abbrev pub IsListed : List ℕ → Status → List ℕ → Type 0
+IsListed text status lines = IsListing text status lines ⊎ IsCutShort text status lines
 
--- a writer got what is printed for a text, and nothing else
-abbrev pub Prints : Option (List ℕ) → Option (List ℕ) → List ℕ → Status → Type 0
-Prints old new text status = (written : List ℕ) × Appends old new written × IsOutput text status written
+-- all that `decode` does to a writer, and its status
+pub record PrintsListing (input old new : Option (List ℕ)) (status : Status) : Type 0 where
+  pub text : List ℕ
+  pub text_is : IsTextOf input text
+  pub lines : List ℕ
+  pub meant : Status
+  pub listed : IsListed text meant lines
+  pub printed : IsPrinted old new lines meant status
 
 -- what was in front is there still
 abbrev pub KeepsFront : List ℕ → List ℕ → Type 0

@@ -1,5 +1,5 @@
 -- What is printed of a network's plan, and of a plan with steps.
-use Rattle.std.specs.Prelude.{◌≡◌, ◌≢◌, ◌<◌, ℕ, List, [], ◌++◌, codes, length, Option, ◌⊎◌}
+use Rattle.std.specs.Prelude.{◌≡◌, ◌≢◌, ◌<◌, ℕ, List, ◌++◌, codes, length, Option, ◌⊎◌}
 use Rattle.std.specs.List.{AllZip}
 use Rattle.loss_rules.specs.Breaks.{Subject, IsAnswer}
 use Rattle.loss_rules.specs.Printed.{answer_text}
@@ -18,8 +18,7 @@ use Rattle.relaynet.specs.declared.reading.ReadFault.{ReadFault}
 use Rattle.relaynet.specs.declared.reading.ReadFault.TheVariants as unread
 use Rattle.relaynet.specs.declared.status.Status.{Status}
 use Rattle.relaynet.specs.declared.status.Status.TheVariants.{Done, No, Usage}
-use Rattle.relaynet.specs.Decoding.{memory_line, read_line}
-use Rattle.relaynet.specs.Listing.{line}
+use Rattle.relaynet.specs.Listing.{line, memory_line, read_line}
 use Rattle.relaynet.specs.Output.{TakesPart, IsPrinted}
 use Rattle.relaynet.specs.Replays.{IsReplayed, SaysNoLoss}
 use Rattle.relaynet.specs.Texts.{IsTextOf}

@@ -1,12 +1,13 @@
 -- What is printed of steps that are taken in a network.
 use Rattle.std.specs.Prelude.{◌≡◌, ◌==◌, ℕ, List, ◌++◌, codes, decimal, length, map, flat_map, cond, not, count_by, All, Bool, true, IsTrue, ◌↔◌, ◌⊎◌}
 use Rattle.hex.specs.Hex.{encode_lower}
-use Rattle.custody_steps.specs.Held.{Held}
+use Rattle.custody_steps.specs.Held.{IsKept}
 use Rattle.custody_steps.specs.Steps.{Steps, IsRefusedAt}
 use Rattle.custody_steps.specs.World.{World, opening}
 use Rattle.custody_steps.specs.declared.fault.StepFault.{StepFault}
 use Rattle.custody_steps.specs.declared.fault.StepFault.TheVariants as refusal
 use Rattle.custody_store.specs.Buffers.{Event}
+use Rattle.message_book.specs.Book.{Told}
 use Rattle.relay_net.specs.Network.{Network}
 use Rattle.step_lines.specs.StepLines.{SayAll, IsRefusedLine}
 use Rattle.step_lines.specs.declared.step.Step.{Step}
@@ -15,23 +16,27 @@ use Rattle.relaynet.specs.declared.status.Status.{Status}
 use Rattle.relaynet.specs.declared.status.Status.TheVariants.{Done, No, Usage}
 use Rattle.relaynet.specs.Listing.{line}
 
--- an acknowledged event, and whether a buffer or a sink has it
+-- an acknowledged event, and whether a buffer or a sink has it, under a tag that it may bear
 pub record Fate : Type 0 where
-  pub event : Event
+  pub told : Told
   pub is_held : Bool
 
 -- These are the events of the world that were acknowledged to clients, in that order, each with what became of it.
-pub record AreFates (w : World) (fates : List Fate) : Type 0 where
-  pub events : map (λ fate. fate.event) fates ≡ w.acknowledged
-  pub held : All (λ fate. IsTrue fate.is_held ↔ Held w fate.event) fates
+pub record AreFates {A : Type 0} (net : Network A) (w : World) (fates : List Fate) : Type 0 where
+  pub events : map (λ fate. fate.told) fates ≡ w.acknowledged
+  pub held : All (λ fate. IsTrue fate.is_held ↔ IsKept net w fate.told) fates
 
 -- how many of the events are lost
 abbrev pub lost_among : List Fate → ℕ
 lost_among fates = count_by (λ fate. not fate.is_held) fates
 
--- the line of an event: what became of it, its tag, and its entry in hex
+-- the line of an event: whether it is held, its tag, and its entry in hex
+abbrev pub told_line : Bool → Event → List ℕ
+told_line is_held event = line (cond is_held (codes "held ") (codes "lost ") ++ event.tag ++ codes " " ++ encode_lower event.entry)
+
+-- the line of what became of an event, under the tag that the client sent
 abbrev pub fate_line : Fate → List ℕ
-fate_line fate = line (cond fate.is_held (codes "held ") (codes "lost ") ++ fate.event.tag ++ codes " " ++ encode_lower fate.event.entry)
+fate_line fate = told_line fate.is_held fate.told.event
 
 -- the last line: how many steps were taken, how many events acknowledged, and how many of these are lost
 abbrev pub summary_line : ℕ → ℕ → ℕ → List ℕ
@@ -42,23 +47,23 @@ abbrev pub lost_status : ℕ → Status
 lost_status lost = cond (lost == 0) Done No
 
 -- These lines are those of the world's acknowledged events, one each, and so many of them are lost.
-pub record AreListed (w : World) (lines : List ℕ) (lost : ℕ) : Type 0 where
+pub record AreListed {A : Type 0} (net : Network A) (w : World) (lines : List ℕ) (lost : ℕ) : Type 0 where
   pub fates : List Fate
-  pub are_fates : AreFates w fates
+  pub are_fates : AreFates net w fates
   pub lines_are : lines ≡ flat_map fate_line fates
   pub lost_is : lost ≡ lost_among fates
 
 -- The listing of a world after so many steps: a line for each event that was acknowledged, and the last line.
-pub record IsWorldListing (w : World) (steps : ℕ) (written : List ℕ) (status : Status) : Type 0 where
+pub record IsWorldListing {A : Type 0} (net : Network A) (w : World) (steps : ℕ) (written : List ℕ) (status : Status) : Type 0 where
   pub lines : List ℕ
   pub lost : ℕ
-  pub listed : AreListed w lines lost
+  pub listed : AreListed net w lines lost
   pub written_is : written ≡ lines ++ summary_line steps (length w.acknowledged) lost
   pub is_status : status ≡ lost_status lost
 
 -- the line of an event that a buffer or a sink has
 abbrev pub held_line : Event → List ℕ
-held_line event = fate_line (record { event = event; is_held = true })
+held_line event = told_line true event
 
 -- The listing of a world that has lost nothing: each event's line says that it is held, and the last line that none is lost.
 pub record IsHeldListing (written : List ℕ) (status : Status) : Type 0 where
@@ -86,7 +91,7 @@ pub record AreTaken {A : Type 0} (net : Network A) (text written : List ℕ) (st
   pub read : SayAll (text_lines text) steps
   pub world : World
   pub taken : Steps net opening steps world
-  pub listed : IsWorldListing world (length steps) written status
+  pub listed : IsWorldListing net world (length steps) written status
 
 -- A step of the text is refused, and this is its line.
 pub record IsRefusal {A : Type 0} (net : Network A) (text written : List ℕ) (status : Status) : Type 0 where

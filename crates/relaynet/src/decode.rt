@@ -1,10 +1,8 @@
 //! The word `decode`: a hex text of messages, listed while it is read.
-ghost use Rattle.std.specs.Prelude.{◌≡◌, ◌<◌, ◌⊎◌, ◌++◌, ℕ, List, [], length, None, Ok, Err, IfSome, MatchResult};
+ghost use Rattle.std.specs.Prelude.{◌≡◌, ◌<◌, ◌++◌, ℕ, List, [], length, None, MatchResult};
 ghost use Rattle.event_modes.specs.Stream.{Arrival, Splits};
-ghost use Rattle.relaynet.specs.HexText.{digits_of};
-ghost use Rattle.relaynet.specs.Listing.{lines_of, Prints};
-ghost use Rattle.relaynet.specs.Output.{TakesPart};
-ghost use Rattle.relaynet.specs.Decoding.{IsHeld, StopsAt, HidesOnly, Lists, IsLast, IsLastAtEnd};
+ghost use Rattle.relaynet.specs.Listing.{lines_of, PrintsListing};
+ghost use Rattle.relaynet.specs.Decoding.{IsHeld, StopsAt, Lists, IsLast, IsLastAtEnd, PrintsLast};
 
 use crate::hex_text::{HexFault, HexText};
 use crate::lines::put_message;
@@ -16,13 +14,15 @@ use std::alloc::{AllocError, Allocator};
 use std::io::{ErrorKind, Read, Write};
 
 /// Lists the messages of a hex text: the lines of each as soon as it is whole.
+///
+/// The status is `Done` at the end of the text, `No` after a fault of the stream, and `Usage` after bad hex, and where memory ran
+/// out or the reader or the writer failed.
 pub fn run_decode<A: Allocator + Copy, R: Read, W: Write>(
     alloc: A,
     input: &mut R,
     out: &mut W,
 ) -> Status
-    ensures { IfSome (R.remaining input.old)
-        (λ text. Prints (W.contents out.old) (W.contents out.new) text result) }
+    ensures { PrintsListing (R.remaining input.old) (W.contents out.old) (W.contents out.new) result }
 {
     match Vec::from_elem(alloc, 0, PIECE) {
         Ok(mut piece) => decode_pieces(alloc, &mut piece, input, out),
@@ -40,8 +40,6 @@ enum Stop {
     Memory,
     // The reader failed.
     Read,
-    // The writer failed.
-    Write,
 }
 
 impl From<AllocError> for Stop {
@@ -51,16 +49,6 @@ impl From<AllocError> for Stop {
 
     fn from(_: AllocError) -> Stop {
         Stop::Memory
-    }
-}
-
-impl From<OutputFault> for Stop {
-    ghost use Rattle.relaynet.specs.declared.decode.Stop.TheVariants.{Write};
-
-    ghost from_gives = { λ _ stop. stop ≡ Write };
-
-    fn from(_: OutputFault) -> Stop {
-        Stop::Write
     }
 }
 
@@ -89,23 +77,10 @@ impl<A: Allocator + Copy> Decoder<A> {
         }
     }
 
-    // Writes the lines of what is whole with the next piece of the text.
-    fn take<W: Write>(&mut self, piece: &[u8], out: &mut W) -> Result<(), Stop>
-        requires { self.old.feed.fault ≡ None }
-        ensures { (lines unseen : List ℕ)
-            × Lists self.old.hex self.old.feed piece.now lines unseen result self.new.hex self.new.feed
-            × TakesPart (W.contents out.old) (W.contents out.new) lines unseen }
-    {
-        let listed = self.list(piece);
-        put_all(out, &self.lines)?;
-        listed
-    }
-
     // Collects the lines of what is whole with the next piece of the text.
     fn list(&mut self, piece: &[u8]) -> Result<(), Stop>
         requires { self.old.feed.fault ≡ None }
-        ensures { Lists self.old.hex self.old.feed piece.now self.new.lines.items [] result
-            self.new.hex self.new.feed }
+        ensures { Lists self.old.hex self.old.feed piece.now self.new.lines.items result self.new.hex self.new.feed }
     {
         self.lines.clear();
         self.bytes.clear();
@@ -126,7 +101,7 @@ impl<A: Allocator + Copy> Decoder<A> {
             × Splits (self.old.feed.held ++ self.old.bytes.items) arrivals held
             × (self.new.lines.items ≡ self.old.lines.items ++ lines_of arrivals)
             × MatchResult result (λ _. IsHeld [] held [] self.new.feed)
-            (λ stop. StopsAt stop [] held × HidesOnly stop []) }
+            (λ stop. StopsAt stop [] held) }
         ensures hex { self.new.hex ≡ self.old.hex }
     {
         match self.feed.feed(&self.bytes) {
@@ -138,9 +113,7 @@ impl<A: Allocator + Copy> Decoder<A> {
 
     // Ends the text.
     fn finish<W: Write>(&self, out: &mut W) -> Status
-        ensures { (last unseen : List ℕ)
-            × TakesPart (W.contents out.old) (W.contents out.new) last unseen
-            × IsLastAtEnd self.now.hex self.now.feed.held last unseen result }
+        ensures { PrintsLast (IsLastAtEnd self.now.hex self.now.feed.held) (W.contents out.old) (W.contents out.new) result }
     {
         if !self.hex.is_whole() {
             return end(self.alloc, Stop::Hex, out);
@@ -166,7 +139,7 @@ fn list_arrivals<A: Allocator + Copy>(
         × Splits feed.old.held arrivals held
         × (lines.new.items ≡ lines.old.items ++ lines_of arrivals)
         × MatchResult result (λ _. IsHeld [] held [] feed.new)
-        (λ stop. StopsAt stop [] held × HidesOnly stop []) }
+        (λ stop. StopsAt stop [] held) }
 {
     loop {
         match feed.next()? {
@@ -180,9 +153,7 @@ fn list_arrivals<A: Allocator + Copy>(
 
 // Writes the last line after a stop.
 fn end<A: Allocator, W: Write>(alloc: A, stop: Stop, out: &mut W) -> Status
-    ensures { (last unseen : List ℕ)
-        × TakesPart (W.contents out.old) (W.contents out.new) last unseen
-        × IsLast stop last unseen result }
+    ensures { PrintsLast (IsLast stop) (W.contents out.old) (W.contents out.new) result }
 {
     match stop {
         Stop::Hex => put_last(out, b"fault hex\n", Status::Usage),
@@ -192,7 +163,6 @@ fn end<A: Allocator, W: Write>(alloc: A, stop: Stop, out: &mut W) -> Status
         },
         Stop::Memory => put_last(out, b"fault memory\n", Status::Usage),
         Stop::Read => put_last(out, b"fault read\n", Status::Usage),
-        Stop::Write => Status::Usage,
     }
 }
 
@@ -204,15 +174,18 @@ fn decode_pieces<A: Allocator + Copy, R: Read, W: Write>(
     out: &mut W,
 ) -> Status
     requires { 0 < length piece.old }
-    ensures { IfSome (R.remaining input.old)
-        (λ text. Prints (W.contents out.old) (W.contents out.new) text result) }
+    ensures { PrintsListing (R.remaining input.old) (W.contents out.old) (W.contents out.new) result }
 {
     let mut decoder = Decoder::new(alloc);
     for _ in 0..MOST_READS {
         match input.read(piece) {
             Ok(0) => return decoder.finish(out),
             Ok(n) => {
-                if let Err(stop) = decoder.take(&piece[..n], out) {
+                let listed = decoder.list(&piece[..n]);
+                if let Err(OutputFault) = put_all(out, &decoder.lines) {
+                    return Status::Usage;
+                }
+                if let Err(stop) = listed {
                     return end(alloc, stop, out);
                 }
             }

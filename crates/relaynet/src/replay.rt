@@ -1,12 +1,14 @@
 //! The listing of steps that are taken in a network.
-ghost use Rattle.std.specs.Prelude.{◌≡◌, ◌++◌, List, string_bytes, IfOk, IfSome, OnOk};
-ghost use Rattle.custody_steps.specs.WorldOf.{world_of};
+ghost use Rattle.std.specs.Prelude.{◌≡◌, ◌↔◌, ◌++◌, List, slice_get, string_bytes, IsTrue, IfOk, IfSome, OnOk};
+ghost use Rattle.std.specs.Option.{ForSome};
+ghost use Rattle.custody_steps.specs.Held.{IsKept};
+ghost use Rattle.custody_steps.specs.WorldOf.{world_of, net_of};
 ghost use Rattle.custody_store.specs.Contents.{event_of};
 ghost use Rattle.loss_rules.specs.Rules.{AreRulesKept};
 ghost use Rattle.loss_rules.specs.Sites.{BuffersAreDistinct};
 ghost use Rattle.loss_rules.specs.declared.label.Label.{Label};
 ghost use Rattle.loss_rules.specs.declared.label.Reach.{Reach};
-ghost use Rattle.relaynet.specs.Replays.{fate_line, lost_status, summary_line, AreListed, IsBadLineSaid, IsCodeOf, IsRefusalLine, IsWorldListing, IsReplayed, SaysNoLoss};
+ghost use Rattle.relaynet.specs.Replays.{told_line, lost_status, summary_line, AreListed, IsBadLineSaid, IsCodeOf, IsRefusalLine, IsWorldListing, IsReplayed, SaysNoLoss};
 
 use crate::lines::put_hex;
 use crate::status::Status;
@@ -92,7 +94,7 @@ fn list_world<A: Allocator + Copy>(
     world: &World<'_, A>,
     steps: usize,
 ) -> Result<Said<A>, AllocError>
-    ensures { IfOk result (λ said. IsWorldListing (world_of world.now) steps said.lines.items said.status) }
+    ensures { IfOk result (λ said. IsWorldListing (net_of world.now) (world_of world.now) steps said.lines.items said.status) }
 {
     let mut said = list_fates(alloc, world)?;
     let lost = said.lost;
@@ -133,19 +135,26 @@ struct Fates<A: Allocator> {
 
 // Lists what became of the events that were acknowledged.
 fn list_fates<A: Allocator + Copy>(alloc: A, world: &World<'_, A>) -> Result<Fates<A>, AllocError>
-    ensures { IfOk result (λ listed. AreListed (world_of world.now) listed.lines.items listed.lost) }
+    ensures { IfOk result (λ listed. AreListed (net_of world.now) (world_of world.now) listed.lines.items listed.lost) }
 {
     let mut lines = Vec::new(alloc);
     let mut lost = 0usize;
     let events = world.acknowledged();
-    for event in events {
-        let is_held = world.held(&event.tag, &event.entry);
-        put_fate(&mut lines, event, is_held)?;
+    for (number, told) in events.iter().enumerate() {
+        let is_held = is_held(world, number)?;
+        put_fate(&mut lines, &told.event, is_held)?;
         if !is_held {
             lost += 1;
         }
     }
     Ok(Fates { lines, lost })
+}
+
+// Whether the acknowledged event of this number is held under a tag that it may bear.
+fn is_held<A: Allocator + Copy>(world: &World<'_, A>, number: usize) -> Result<bool, AllocError>
+    ensures { IfOk result (λ yes. ForSome (slice_get (world_of world.now).acknowledged number) (λ told. IsTrue yes ↔ IsKept (net_of world.now) (world_of world.now) told)) }
+{
+    Ok(world.kept(number)?.unwrap_or(false))
 }
 
 // Adds the line of an event.
@@ -154,7 +163,7 @@ fn put_fate<A: Allocator>(
     event: &Event<A>,
     is_held: bool,
 ) -> Result<(), AllocError>
-    ensures { OnOk result (lines.new.items ≡ lines.old.items ++ fate_line (record { event = event_of event.now; is_held = is_held })) }
+    ensures { OnOk result (lines.new.items ≡ lines.old.items ++ told_line is_held (event_of event.now)) }
 {
     let fate = if is_held { "held " } else { "lost " };
     lines.extend_from_slice(fate.as_bytes())?;

@@ -319,3 +319,20 @@ fn faults_are_printed_by_their_codes(rt: HostRuntime) -> Result<(), Fail> {
     );
     Ok(())
 }
+
+// A message of a million bytes in pieces of one byte: the session looks at each byte once.
+#[test]
+fn a_long_message_comes_byte_by_byte(rt: HostRuntime) -> Result<(), Fail> {
+    let mut bytes = vec![in rt.alloc();
+        0x93, 0xa1, b'a', 0, 0x81, 0xa1, b'k', 0xdb, 0, 0x0f, 0x42, 0x40,
+    ]?;
+    bytes.resize(1_000_012, b'v')?;
+    let mut session = ServerSession::open(rt.alloc(), None, ZEROS)?;
+    let (front, last) = bytes.split_at(1_000_011);
+    for byte in front {
+        assert!(rt; session.feed(&[*byte])?.is_empty());
+    }
+    let message = delivered(session.feed(last)?)?;
+    assert_eq!(rt; message.entries.count(), 1);
+    Ok(())
+}

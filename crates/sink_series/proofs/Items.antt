@@ -1,6 +1,6 @@
 -- The items of events: bytes begin with one at most.
-use Rattle.std.proofs.Common.{ℕ, ◌≡◌, ◌-◌, ◌≤◌, List, [], ◌∷◌, ◌++◌, length, take, drop, Option, Some, None, refl, ap, sym, subst, ◌∙◌, arith, append_assoc, inl}
-use Rattle.std.specs.Prelude.{IfSome}
+use Rattle.std.proofs.Common.{ℕ, ◌≡◌, ◌≢◌, Bor, ◌-◌, ◌≤◌, List, [], ◌∷◌, ◌++◌, length, take, drop, Option, Some, None, refl, ap, sym, subst, ◌∙◌, arith, append_assoc, inl}
+use Rattle.std.specs.Prelude.{IfSome, MatchOption}
 use Rattle.std.proofs.Math.Seq.{take-append_seam}
 use Rattle.std.specs.List.{concat, AllByRecursion}
 use Rattle.std.proofs.lemmas.List.{length-append, append-nil}
@@ -65,14 +65,31 @@ item_one e f x y p q same =
     let entry : e.entry ≡ f.entry = s.whole ∙ ap (λ (z : List ℕ). 0x92 ∷ z ++ s.fields) times ∙ ap (λ (z : List ℕ). 0x92 ∷ t.time ++ z) fields ∙ sym t.whole in
     (ap (λ (a : List ℕ). let v : Event = record { tag = a; entry = e.entry } in v) tag ∙ ap (λ (a : List ℕ). let v : Event = record { tag = f.tag; entry = a } in v) entry, rests)
 
+-- what is behind one front
+after_front : (front a b : List ℕ) → front ++ a ≡ front ++ b → a ≡ b
+after_front [] a b same = same
+after_front (x ∷ front) a b same = after_front front a b (behind x x (front ++ a) (front ++ b) same)
+
 -- an item as it is put together
-pub item_made : (out a b back c : List ℕ) (event : Event) → a ≡ out ++ 0x93 ∷ [] → b ≡ a ++ str_of event.tag → back ≡ drop 1 event.entry → c ≡ b ++ back → c ≡ out ++ item_of event
+pub item_made : (out front back all : List ℕ) (event : Event) → front ≡ out ++ 0x93 ∷ str_of event.tag → back ≡ drop 1 event.entry → all ≡ front ++ back → all ≡ out ++ item_of event
 unfolding item_of
-item_made out a b back c event first tag rest all =
-    all ∙ ap (λ (z : List ℕ). z ++ back) (tag ∙ ap (λ (z : List ℕ). z ++ str_of event.tag) first)
-    ∙ ap (λ (z : List ℕ). ((out ++ 0x93 ∷ []) ++ str_of event.tag) ++ z) rest
-    ∙ append_assoc (out ++ 0x93 ∷ []) (str_of event.tag) (drop 1 event.entry)
-    ∙ append_assoc out (0x93 ∷ []) (str_of event.tag ++ drop 1 event.entry)
+item_made out front back all event begun rest is =
+    is ∙ ap (λ (z : List ℕ). z ++ back) begun ∙ ap (λ (z : List ℕ). (out ++ 0x93 ∷ str_of event.tag) ++ z) rest
+    ∙ append_assoc out (0x93 ∷ str_of event.tag) (drop 1 event.entry)
+
+-- an item is its front and its entry's time and record
+pub item_parts : (front back : List ℕ) (event : Event) → front ≡ 0x93 ∷ str_of event.tag → back ≡ drop 1 event.entry → front ++ back ≡ item_of event
+unfolding item_of
+item_parts front back event begun rest = ap (λ (z : List ℕ). z ++ back) begun ∙ ap (λ (z : List ℕ). (0x93 ∷ str_of event.tag) ++ z) rest
+
+-- what is behind an item, where what is behind its front is known
+pub item_stripped : (bytes content front back item : List ℕ) (o : Option (Bor (List ℕ))) → bytes ≡ front ++ content → front ++ back ≡ item
+    → MatchOption o ((rest : List ℕ) → content ≢ back ++ rest) (λ x. content ≡ back ++ x.now)
+    → MatchOption o ((rest : List ℕ) → bytes ≡ item ++ rest → ⊥) (λ x. bytes ≡ item ++ x.now)
+item_stripped bytes content front back item None begun parts none = λ rest same.
+    none rest (after_front front content (back ++ rest) (sym begun ∙ same ∙ ap (λ (z : List ℕ). z ++ rest) (sym parts) ∙ append_assoc front back rest))
+item_stripped bytes content front back item (Some x) begun parts found =
+    begun ∙ ap (λ (z : List ℕ). front ++ z) found ∙ sym (append_assoc front back x.now) ∙ ap (λ (z : List ℕ). z ++ x.now) parts
 
 -- a stored entry isn't empty
 pub not_empty : (entry : List ℕ) → IsStored entry → 1 ≤ length entry

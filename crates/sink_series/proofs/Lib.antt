@@ -4,3 +4,4 @@ pub mod Stays
 pub mod Writes
 pub mod Made
 pub mod Onward
+pub mod Kept

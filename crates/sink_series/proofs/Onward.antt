@@ -119,6 +119,10 @@ pub some_case : {X : Type 0} → (o : Option X) (x : X) (N : Type 0) (P : X → 
 some_case None x N P some m = absurd (cc some)
 some_case (Some y) x N P some m = subst P (let e : y ≡ x = cc some in e) m
 
+pub none_case : {X : Type 0} → (o : Option X) (N : Type 0) (P : X → Type 0) → o ≡ None → MatchOption o N P → N
+none_case None N P none m = m
+none_case (Some y) N P none m = absurd (cc none)
+
 -- ---- the content of a folder
 
 holds_same : (n : ℕ) (path : List ℕ) (a b : Folder) (events : List Event) → ((name : List ℕ) → a name ≡ b name) → HoldsTo path a n events → HoldsTo path b n events

@@ -1,5 +1,5 @@
 -- What a write to a file keeps safe, and what a stop leaves of it.
-use Rattle.std.proofs.Common.{ℕ, ◌≡◌, ◌-◌, ◌≤◌, ◌⊎◌, ⊎_elim, inl, inr, Result, Ok, Err, Bool, true, false, cond, List, [], ◌∷◌, ◌++◌, length, take, drop, Option, Some, None, option_map, refl, ap, sym, subst, ◌∙◌, arith, append_assoc, length-take}
+use Rattle.std.proofs.Common.{ℕ, ◌≡◌, ◌≢◌, ◌-◌, ◌≤◌, ◌⊎◌, ⊎_elim, inl, inr, Result, Ok, Err, Bool, true, false, cond, List, [], ◌∷◌, ◌++◌, length, take, drop, Option, Some, None, option_map, refl, ap, sym, subst, ◌∙◌, arith, append_assoc, length-take}
 use Rattle.std.specs.Prelude.{OnOk, OnErr, IsSome}
 use Rattle.std.specs.Str.{bytes_eq}
 use Rattle.std.specs.List.{AllByRecursion}
@@ -7,15 +7,14 @@ use Rattle.std.proofs.lemmas.List.{append-nil, take_all, take-append-drop, take-
 use Rattle.std.proofs.lemmas.Grind.{flat_map-append}
 use Rattle.disk_files.specs.Disk.{File, Disk, Folder, fresh, Makes, grown, flushed, kept_file, SameDisk, Changes, MayStay, StopLeaves}
 use Rattle.disk_files.specs.Moments.{History, now, Elapses, LeavesOnly}
-use Rattle.disk_files.proofs.Moments.{started, goes_on, rests, joined, here, follows}
+use Rattle.disk_files.proofs.Moments.{started, goes_on, rests, joined, here, elsewhere, follows}
 use Rattle.disk_files.proofs.Table.{same_name}
 use Rattle.std.proofs.Math.Seq.{take-append-add}
 use Rattle.std.proofs.lemmas.Bool.{cases_lt}
 use Rattle.sink_series.specs.Events.{Event, IsEvent, item_of, run_of, under, written_by, Holds}
 use Rattle.sink_series.specs.Views.{StoredView}
-use Rattle.sink_series.specs.Keeping.{file_with, IsSafe, IsSound, FileBegins, IsBeginning}
+use Rattle.sink_series.specs.Keeping.{file_with, IsSafe, StaysSafe, OthersStay, IsSound, IsBeginning}
 use Rattle.sink_series.proofs.Contents.{after, cuts_whole, whole_run}
-use Rattle.sink_series.proofs.Stays.{begins_left}
 
 -- ---- lists and disks
 
@@ -93,14 +92,76 @@ safe_grown disk new own name bytes events = safe_changed disk new own name (grow
 pub safe_flushed : (disk new : Disk) (own name : List ℕ) (events : List Event) → Changes own flushed disk new → IsSafe disk name events → IsSafe new name events
 safe_flushed disk new own name events = safe_changed disk new own name flushed events (sure_flushed events)
 
--- what is safe is left at a moment, and at the next
-pub safe_here : (h : History) (name : List ℕ) (events : List Event) → IsSafe (now h) name events → LeavesOnly h h (λ folder. FileBegins folder name events)
-safe_here h name events safe = started h (λ folder. FileBegins folder name events) (λ folder left. begins_left name events (now h) folder safe left)
+-- what is safe at a moment, and at the next
+pub safe_here : (h : History) (name : List ℕ) (events : List Event) → IsSafe (now h) name events → StaysSafe h h name events
+safe_here h name events safe = record {
+  later = omega arith;
+  past = λ t le q. refl;
+  each = λ t above below. subst (λ (u : ℕ). IsSafe (h.disk_at u) name events) (omega (arith, above, below)) safe;
+}
 
-pub safe_on : (old mid new : History) (name : List ℕ) (events : List Event) → LeavesOnly old mid (λ folder. FileBegins folder name events) → Elapses mid new → IsSafe (now new) name events
-    → LeavesOnly old new (λ folder. FileBegins folder name events)
-safe_on old mid new name events so_far time safe =
-    goes_on old mid new (λ folder. FileBegins folder name events) so_far time (λ folder left. begins_left name events (now new) folder safe left)
+pub safe_on : (old mid new : History) (name : List ℕ) (events : List Event) → StaysSafe old mid name events → Elapses mid new → IsSafe (now new) name events → StaysSafe old new name events
+safe_on old mid new name events so_far time safe = record {
+  later = omega (arith, so_far.later, time.later);
+  past = λ t le q. time.past t (omega (arith, le, so_far.later)) q ∙ so_far.past t le q;
+  each = λ t above below. ⊎_elim
+      (λ after. safe_same (now new) (new.disk_at t) name events (time.since t after below) safe)
+      (λ before. safe_same (mid.disk_at t) (new.disk_at t) name events (time.past t before) (so_far.each t above before))
+      (cases_lt mid.moment t);
+}
+
+pub safe_joined : (old mid new : History) (name : List ℕ) (events : List Event) → StaysSafe old mid name events → StaysSafe mid new name events → StaysSafe old new name events
+safe_joined old mid new name events first second = record {
+  later = omega (arith, first.later, second.later);
+  past = λ t le q. second.past t (omega (arith, le, first.later)) q ∙ first.past t le q;
+  each = λ t above below. ⊎_elim
+      (λ after. second.each t (omega (arith, after)) below)
+      (λ before. safe_same (mid.disk_at t) (new.disk_at t) name events (second.past t before) (first.each t above before))
+      (cases_lt mid.moment t);
+}
+
+-- it is safe now
+pub safe_now : (old new : History) (name : List ℕ) (events : List Event) → StaysSafe old new name events → IsSafe (now new) name events
+safe_now old new name events so_far = so_far.each new.moment so_far.later (omega arith)
+
+-- the other files, at a moment and at the next
+pub others_here : (h : History) (own : List ℕ) → OthersStay h h own
+others_here h own = record {
+  later = omega arith;
+  past = λ t le q. refl;
+  each = λ t above below name other. ap (λ (u : ℕ). h.disk_at u name) (omega (arith, above, below));
+}
+
+pub others_on : (old mid new : History) (own : List ℕ) → OthersStay old mid own → Elapses mid new → ((name : List ℕ) → name ≢ own → now new name ≡ now mid name) → OthersStay old new own
+others_on old mid new own so_far time same = record {
+  later = omega (arith, so_far.later, time.later);
+  past = λ t le q. time.past t (omega (arith, le, so_far.later)) q ∙ so_far.past t le q;
+  each = λ t above below name other. ⊎_elim
+      (λ after. time.since t after below name ∙ same name other ∙ so_far.each mid.moment so_far.later (omega arith) name other)
+      (λ before. time.past t before name ∙ so_far.each t above before name other)
+      (cases_lt mid.moment t);
+}
+
+pub others_joined : (old mid new : History) (own : List ℕ) → OthersStay old mid own → OthersStay mid new own → OthersStay old new own
+others_joined old mid new own first second = record {
+  later = omega (arith, first.later, second.later);
+  past = λ t le q. second.past t (omega (arith, le, first.later)) q ∙ first.past t le q;
+  each = λ t above below name other. ⊎_elim
+      (λ after. second.each t (omega (arith, after)) below name other ∙ first.each mid.moment first.later (omega arith) name other)
+      (λ before. second.past t before name ∙ first.each t above before name other)
+      (cases_lt mid.moment t);
+}
+
+pub others_rest : (old mid : History) (own : List ℕ) → Elapses old mid → SameDisk (now mid) (now old) → OthersStay old mid own
+others_rest old mid own time same = others_on old old mid own (others_here old own) time (λ name other. same name)
+
+apart_at : (a b : List ℕ) (t : Bool) → bytes_eq a b ≡ t → b ≢ a → t ≡ false
+apart_at a b true same other = absurd (other (sym (same_name a b same)))
+apart_at a b false same other = refl
+
+-- a change of one file leaves each other one
+pub change_leaves : (disk new : Disk) (own : List ℕ) (how : File → File) → Changes own how disk new → (name : List ℕ) → name ≢ own → new name ≡ disk name
+change_leaves disk new own how changes name other = elsewhere disk new own name (option_map how (disk own)) changes (apart_at own name (bytes_eq own name) refl other)
 
 -- ---- what a stop leaves of a file with events
 
@@ -200,8 +261,14 @@ pub same_changes : (disk mid new : Disk) (name : List ℕ) (how : File → File)
 same_changes disk mid new name how changes same q = same q ∙ changes q
 
 pub safe_append : (old mid : History) (own name bytes : List ℕ) (events : List Event) → Elapses old mid → Changes own (grown bytes) (now old) (now mid) → IsSafe (now old) name events
-    → LeavesOnly old mid (λ folder. FileBegins folder name events)
+    → StaysSafe old mid name events
 safe_append old mid own name bytes events time changes safe = safe_on old old mid name events (safe_here old name events safe) time (safe_grown (now old) (now mid) own name bytes events changes safe)
+
+pub others_append : (old mid : History) (own bytes : List ℕ) → Elapses old mid → Changes own (grown bytes) (now old) (now mid) → OthersStay old mid own
+others_append old mid own bytes time changes = others_on old old mid own (others_here old own) time (change_leaves (now old) (now mid) own (grown bytes) changes)
+
+pub others_sync : (mid new : Disk) (own : List ℕ) → Changes own flushed mid new ⊎ SameDisk new mid → (name : List ℕ) → name ≢ own → new name ≡ mid name
+others_sync mid new own how name other = ⊎_elim (λ changes. change_leaves mid new own flushed changes name other) (λ same. same name) how
 
 pub safe_sync : (mid new : Disk) (own name : List ℕ) (events : List Event) → Changes own flushed mid new ⊎ SameDisk new mid → IsSafe mid name events → IsSafe new name events
 safe_sync mid new own name events how safe = ⊎_elim (λ changes. safe_flushed mid new own name events changes safe) (λ same. safe_same mid new name events same safe) how
@@ -280,11 +347,7 @@ pub begun_joined : (old mid new : History) (name : List ℕ) (begun events : Lis
     → LeavesOnly mid new (λ folder. IsBeginning folder name (length begun) (begun ++ events)) → LeavesOnly old new (λ folder. IsBeginning folder name (length begun) (begun ++ events))
 begun_joined old mid new name begun events = joined old mid new (λ folder. IsBeginning folder name (length begun) (begun ++ events))
 
-pub safe_joined : (old mid new : History) (name : List ℕ) (events : List Event) → LeavesOnly old mid (λ folder. FileBegins folder name events) → LeavesOnly mid new (λ folder. FileBegins folder name events)
-    → LeavesOnly old new (λ folder. FileBegins folder name events)
-safe_joined old mid new name events = joined old mid new (λ folder. FileBegins folder name events)
-
-pub safe_rests : (old mid : History) (name : List ℕ) (events : List Event) → Elapses old mid → SameDisk (now mid) (now old) → IsSafe (now old) name events → LeavesOnly old mid (λ folder. FileBegins folder name events)
+pub safe_rests : (old mid : History) (name : List ℕ) (events : List Event) → Elapses old mid → SameDisk (now mid) (now old) → IsSafe (now old) name events → StaysSafe old mid name events
 safe_rests old mid name events time same safe = safe_on old old mid name events (safe_here old name events safe) time (safe_same (now old) (now mid) name events same safe)
 
 pub is_some_of : (o : Option (List ℕ)) (x : List ℕ) → o ≡ Some x → IsSome o

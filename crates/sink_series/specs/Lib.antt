@@ -6,4 +6,5 @@ pub mod Keeping
 pub mod Faults
 pub mod Still
 pub mod Begun
+pub mod Answers
 pub mod Laws

@@ -1,8 +1,8 @@
-// What was begun in a file, for the proofs alone.
+//! What was begun in a file, for the proofs alone.
 ghost use Rattle.std.specs.Prelude.{◌≡◌, [], ◌∷◌};
 ghost use Rattle.sink_series.specs.Events.{under};
 
-use crate::stored::Stored;
+use crate::stored::Prepared;
 use std::alloc::Allocator;
 use std::marker::Model;
 use std::snapshot::Snapshot;
@@ -18,7 +18,7 @@ pub struct Begun<A: Allocator> {
 #[cycle(begun)]
 enum Link<A: Allocator> {
     Start,
-    Then(Snapshot<Stored<A>>, Snapshot<Begun<A>>),
+    Then(Snapshot<Prepared<A>>, Snapshot<Begun<A>>),
 }
 
 impl<A: Allocator> Model for Begun<A> {
@@ -46,12 +46,12 @@ impl<A: Allocator> Begun<A> {
         Begun { link: Link::Start }
     }
 
-    /// These, and a write of entries under a tag.
-    pub fn then(&self, entries: &Stored<A>) -> Begun<A>
-        ensures { result ≡ under entries.now.tag entries.now.entries ∷ self.now }
+    /// These, and one write more.
+    pub fn then(&self, write: &Prepared<A>) -> Begun<A>
+        ensures { result ≡ under write.now.stored.tag write.now.stored.entries ∷ self.now }
     {
         Begun {
-            link: Link::Then(Snapshot::of(entries), Snapshot::of(self)),
+            link: Link::Then(Snapshot::of(write), Snapshot::of(self)),
         }
     }
 }

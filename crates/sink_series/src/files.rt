@@ -11,15 +11,14 @@ ghost use Rattle.event_modes.specs.Message.{longest_tag};
 ghost use Rattle.sink_series.specs.Events.{Event, IsEvent, run_of, under, Holds};
 ghost use Rattle.sink_series.specs.Names.{sink_name, last_number};
 ghost use Rattle.sink_series.specs.Folders.{HasFile, HoldsTo, IsNext, SinkHolds};
-ghost use Rattle.sink_series.specs.Keeping.{file_with, IsSafe, FileBegins, IsBeginning, HasMade};
+ghost use Rattle.sink_series.specs.Keeping.{file_with, IsSafe, StaysSafe, OthersStay, IsBeginning, HasMade};
 ghost use Rattle.sink_series.specs.Faults.{HasCause};
 ghost use Rattle.sink_series.specs.Still.{IsStill};
 
 use crate::event::SinkEvent;
 use crate::fault::SeriesFault;
 use crate::reading::read_events;
-use crate::stored::Stored;
-use crate::writing::run_under;
+use crate::stored::Prepared;
 use disk_files::{Dir, DirError, FileNo};
 use event_modes::Entries;
 use numbered_files::{Family, numbers, read_file};
@@ -89,8 +88,9 @@ pub(crate) fn make_next<A: Allocator + Copy, D: Dir>(
     ensures honest { D.is_honest dir.old → D.is_honest dir.new }
     ensures moments { D.is_honest dir.old
         → LeavesOnly (D.history dir.old) (D.history dir.new) (HasMade (now (D.history dir.old)) path.now) }
-    ensures still_safe { D.is_honest dir.old → (name : List ℕ) (events : List Event)
-        → IsSafe (now (D.history dir.old)) name events → IsSafe (now (D.history dir.new)) name events }
+    ensures safe { D.is_honest dir.old → (name : List ℕ) (events : List Event)
+        → IsSafe (now (D.history dir.old)) name events
+        → StaysSafe (D.history dir.old) (D.history dir.new) name events }
     ensures next { D.is_honest dir.old
         → IfOk result (λ newest. IsNext path.now (reads (now (D.history dir.old))) newest.number) }
     ensures made { D.is_honest dir.old
@@ -117,12 +117,6 @@ pub(crate) fn make_next<A: Allocator + Copy, D: Dir>(
     })
 }
 
-/// A write that has its room: the receipt for it, and the items to be written.
-pub(crate) struct Prepared<A: Allocator> {
-    pub(crate) stored: Stored<A>,
-    pub(crate) bytes: Vec<u8, A>,
-}
-
 /// Makes room for a write of entries under a tag to the file. The disk stays as it is.
 pub(crate) fn prepare<A: Allocator + Copy, B: Allocator, D: Dir>(
     alloc: A,
@@ -138,16 +132,15 @@ pub(crate) fn prepare<A: Allocator + Copy, B: Allocator, D: Dir>(
     ensures time { D.is_honest dir.old → Elapses (D.history dir.old) (D.history dir.new) }
     ensures same { D.is_honest dir.old → SameDisk (now (D.history dir.new)) (now (D.history dir.old)) }
     ensures stored { IfOk result (λ write. write.stored ≡ record { path = path.now; tag = tag.now; entries = entries.now }) }
-    ensures bytes { IfOk result (λ write. write.bytes.items ≡ run_of (under tag.now entries.now)) }
+    ensures bytes { IfOk result (λ write. write.bytes ≡ run_of (under tag.now entries.now)) }
     ensures events { OnOk result (AllByRecursion IsEvent (under tag.now entries.now)) }
-    ensures room { IfOk result (λ write. length write.bytes.items ≤ D.bytes_left dir.new file) }
+    ensures room { IfOk result (λ write. length write.bytes ≤ D.bytes_left dir.new file) }
     ensures opened { (other : FileNo) → D.opened dir.new other ≡ D.opened dir.old other }
     ensures cause { D.fault_count dir.new ≡ D.fault_count dir.old }
 {
-    let stored = Stored::new(alloc, path, tag, entries)?;
-    let bytes = run_under(alloc, tag, entries)?;
-    dir.reserve(file, bytes.len())?;
-    Ok(Prepared { stored, bytes })
+    let write = Prepared::new(alloc, path, tag, entries)?;
+    dir.reserve(file, write.bytes().len())?;
+    Ok(write)
 }
 
 /// Adds bytes at a file's end and syncs it. After an error, which is a `Fault`, a beginning of them may be there.
@@ -155,12 +148,13 @@ pub(crate) fn put_synced<D: Dir>(dir: &mut D, file: FileNo, bytes: &[u8]) -> Res
     requires open { IsSome (D.opened dir.old file) }
     requires room { length bytes.now ≤ D.bytes_left dir.old file }
     ensures honest { D.is_honest dir.old → D.is_honest dir.new }
-    // At each moment a stop leaves what was safe before, and where the file held events and nothing else, a beginning of these and those.
-    ensures safe_moments { D.is_honest dir.old → (own name : List ℕ) (events : List Event) → D.opened dir.old file ≡ Some own
+    // At each moment what was safe before is safe, each other file is as it was, and where the file held events and nothing else,
+    // a stop leaves a beginning of these and those.
+    ensures safe { D.is_honest dir.old → (own name : List ℕ) (events : List Event) → D.opened dir.old file ≡ Some own
         → IsSafe (now (D.history dir.old)) name events
-        → LeavesOnly (D.history dir.old) (D.history dir.new) (λ folder. FileBegins folder name events) }
-    ensures still_safe { D.is_honest dir.old → (own name : List ℕ) (events : List Event) → D.opened dir.old file ≡ Some own
-        → IsSafe (now (D.history dir.old)) name events → IsSafe (now (D.history dir.new)) name events }
+        → StaysSafe (D.history dir.old) (D.history dir.new) name events }
+    ensures others { D.is_honest dir.old → (own : List ℕ) → D.opened dir.old file ≡ Some own
+        → OthersStay (D.history dir.old) (D.history dir.new) own }
     ensures moments { D.is_honest dir.old → (name : List ℕ) (begun events : List Event) (is_durable : Bool)
         → D.opened dir.old file ≡ Some name → now (D.history dir.old) name ≡ Some (file_with begun is_durable)
         → AllByRecursion IsEvent begun → AllByRecursion IsEvent events → bytes.now ≡ run_of events

@@ -1,5 +1,5 @@
-// What the definitions of a sink's content come to. These functions do nothing: each stands for a theorem.
-ghost use Rattle.sink_series.specs.Laws.{HoldsOne, SinkHoldsOne, CutsWhole, SafeIsContent, SafeOverStop, MadeAddsNothing, MadeKeepsSafe};
+//! What the definitions of a sink's content come to. These functions do nothing: each stands for a theorem.
+ghost use Rattle.sink_series.specs.Laws.{HoldsOne, SinkHoldsOne, CutsWhole, SafeBegins, SafeIsContent, AnswersStand, SafeOverStop, MadeAddsNothing, MadeKeepsSafe};
 
 /// Bytes have one content, and so has a sink in a folder.
 pub fn holds_one()
@@ -12,9 +12,15 @@ pub fn cuts_whole()
     ensures { CutsWhole }
 {}
 
-/// What is safe in a file of a sink stands in the sink's content after each stop.
+/// What is safe in a file of a sink stands at the front of that file's content, and in the sink's, after each stop.
 pub fn safe_is_content()
-    ensures { SafeIsContent }
+    ensures file { SafeBegins }
+    ensures sink { SafeIsContent }
+{}
+
+/// Each answer's entries stand in the sink's content, under their tag, after a stop at any moment since the answer.
+pub fn answers_stand()
+    ensures { AnswersStand }
 {}
 
 /// What is safe before a stop is safe after it.

@@ -1,6 +1,7 @@
 //! The files of a sink: events are written to the newest, and the content of all is read in order.
 #![tactic(auto)]
 
+mod answers;
 mod begun;
 mod event;
 mod fault;
@@ -13,6 +14,8 @@ mod writing;
 
 pub use event::SinkEvent;
 pub use fault::SeriesFault;
-pub use laws::{cuts_whole, holds_one, made_adds_nothing, safe_is_content, safe_over_stop};
+pub use laws::{
+    answers_stand, cuts_whole, holds_one, made_adds_nothing, safe_is_content, safe_over_stop,
+};
 pub use series::Series;
 pub use stored::Stored;

@@ -1,9 +1,10 @@
 //! The content of bytes.
 ghost use Rattle.std.specs.Prelude.{◌≡◌, ℕ, ◌≤◌, List, ◌∷◌, ◌++◌, length, IfOk, IsSomeAnd, MatchOption};
+ghost use Rattle.event_modes.specs.Message.{longest_tag};
 ghost use Rattle.sink_series.specs.Events.{Event, IsEvent, item_of, BeginsNone, Holds};
 
 use crate::event::SinkEvent;
-use crate::writing::put_item;
+use crate::writing::put_front;
 use event_modes::Entries;
 use msgpack_bytes::{array_of, next_item, next_text};
 use std::alloc::{AllocError, Allocator};
@@ -42,12 +43,30 @@ fn next_event<'a, A: Allocator + Copy>(
     let Some(event) = event_of(alloc, tag, body)? else {
         return Ok(None);
     };
-    let mut item = Vec::new(alloc);
-    put_item(&mut item, event.tag(), event.entry())?;
-    match bytes.strip_prefix(item.as_slice()) {
+    match behind_item(alloc, bytes, event.tag(), event.entry())? {
         Some(rest) => Ok(Some((event, rest))),
         None => Ok(None),
     }
+}
+
+// What is behind the item of this event, where the bytes begin with it. The entry isn't copied for it.
+fn behind_item<'a, A: Allocator>(
+    alloc: A,
+    bytes: &'a [u8],
+    tag: &[u8],
+    entry: &[u8],
+) -> Result<Option<&'a [u8]>, AllocError>
+    requires tag { length tag.now ≤ longest_tag }
+    requires entry { 1 ≤ length entry.now }
+    ensures { let item = item_of (record { tag = tag.now; entry = entry.now }) in
+        IfOk result (λ found. MatchOption found ((rest : List ℕ) → bytes.now ≡ item ++ rest → ⊥) (λ rest. bytes.now ≡ item ++ rest.now)) }
+{
+    let mut front = Vec::new(alloc);
+    put_front(&mut front, tag)?;
+    let Some(content) = bytes.strip_prefix(front.as_slice()) else {
+        return Ok(None);
+    };
+    Ok(content.strip_prefix(entry.split_at(1).1))
 }
 
 // The tag, and the time with the record, of the item that the bytes begin with.

@@ -1,26 +1,31 @@
 //! The files of a sink, open for writing.
-ghost use Rattle.std.specs.Prelude.{◌≡◌, ◌≢◌, ◌⊎◌, ◌↔◌, ℕ, ◌≤◌, List, [], ◌++◌, length, true, false, IsSome, IfOk, IfErr, OnOk, OnErr, IsErrOf};
-ghost use Rattle.disk_files.specs.Disk.{Folder, kept_file, SameDisk, Makes, reads};
+ghost use Rattle.std.specs.Prelude.{◌≡◌, ◌≢◌, ◌⊎◌, ◌↔◌, ℕ, ◌≤◌, List, [], ◌∷◌, ◌++◌, length, true, false, IsSome, IfOk, IfErr, OnOk, OnErr, IsErrOf};
+ghost use Rattle.disk_files.specs.Disk.{kept_file, SameDisk, Makes, reads};
 ghost use Rattle.disk_files.specs.Moments.{Elapses, LeavesOnly, now};
 ghost use Rattle.disk_files.specs.Faults.{Rises};
 ghost use Rattle.event_modes.specs.Message.{longest_tag};
 ghost use Rattle.sink_series.specs.Events.{Event, run_of, under};
 ghost use Rattle.sink_series.specs.Names.{sink_name, last_number};
 ghost use Rattle.sink_series.specs.Folders.{IsNext, SinkHolds};
-ghost use Rattle.sink_series.specs.Keeping.{IsHonest, IsSafe, FileBegins, IsBeginning, HasMade};
+ghost use Rattle.sink_series.specs.Keeping.{IsSafe, StaysSafe, OthersStay, IsBeginning, HasMade, Keeps};
 ghost use Rattle.sink_series.specs.Faults.{HasCause};
 
+use crate::answers::Answers;
 use crate::begun::Begun;
 use crate::event::SinkEvent;
 use crate::fault::SeriesFault;
-use crate::files::{Newest, Prepared, make_next, prepare, put_synced, read_all};
+use crate::files::{Newest, make_next, prepare, put_synced, read_all};
 use crate::stored::Stored;
 use disk_files::{Dir, FileNo};
 use event_modes::Entries;
 use std::alloc::Allocator;
 use std::marker::Model;
+use std::snapshot::Snapshot;
 
 /// The files of a sink, `PATH.NNNNNNNNNN.sink`, from 1. Events go to the newest, which each opening makes.
+///
+/// Opened over an honest folder, it keeps each of its answers: at each later moment a stop leaves them, whatever was called
+/// since, also after a failure. This is part of the type, so it stands too where the sink lies behind a lock.
 #[derive(Drop)]
 pub struct Series<D: Dir, A: Allocator> {
     alloc: A,
@@ -29,20 +34,22 @@ pub struct Series<D: Dir, A: Allocator> {
     number: u32,
     file: FileNo,
     begun: Begun<A>,
+    answers: Answers<D, A>,
+    opening: Snapshot<D>,
     has_failed: bool,
 }
 
 impl<D: Dir, A: Allocator> Model for Series<D, A> {
     ghost use Rattle.sink_series.specs.Views.{SeriesView};
     ghost use Rattle.sink_series.specs.Events.{written_by};
-    ghost use Rattle.sink_series.specs.Names.{sink_name};
-    ghost use Rattle.sink_series.specs.Keeping.{IsSound};
+    ghost use Rattle.sink_series.specs.Keeping.{IsOpen};
 
     ghost Value = { SeriesView D };
 
-    ghost view = { λ s. record { dir = s.dir; path = s.path.items; number = s.number; begun = written_by s.begun; has_failed = s.has_failed } };
+    ghost view = { λ s. record { dir = s.dir; opening = s.opening.value; path = s.path.items; number = s.number; begun = written_by s.begun; stored = s.answers; has_failed = s.has_failed } };
 
-    ghost invariant = { λ s. IsSound (D.opened s.dir s.file) (sink_name s.path.items s.number) (written_by s.begun) };
+    ghost invariant = { λ s. IsOpen D.is_honest D.history (D.opened s.dir s.file)
+        (record { dir = s.dir; opening = s.opening.value; path = s.path.items; number = s.number; begun = written_by s.begun; stored = s.answers; has_failed = s.has_failed }) };
 }
 
 impl<D: Dir, A: Allocator + Copy> Series<D, A> {
@@ -52,19 +59,19 @@ impl<D: Dir, A: Allocator + Copy> Series<D, A> {
     ///
     /// Each error hands the folder back: `Memory` and `LastNumber` as it was, `Fault` with the file made or not.
     pub fn open(alloc: A, dir: D, path: &[u8]) -> Result<Series<D, A>, (SeriesFault, D)>
-        ensures honest { D.is_honest dir → IfOk result (IsHonest D.is_honest D.history) }
+        ensures kept { D.is_honest dir → IfOk result (Keeps D.is_honest D.history) }
+        ensures opening { IfOk result (λ series. series.opening ≡ dir) }
         ensures honest_back { D.is_honest dir → IfErr result (λ refused. D.is_honest refused.1) }
         // What a stop leaves at any moment is what a stop before the call could leave, but for an empty file of the sink.
         ensures moments { D.is_honest dir → IfOk result (λ series.
             LeavesOnly (D.history dir) (D.history series.dir) (HasMade (now (D.history dir)) path.now)) }
         ensures moments_back { D.is_honest dir → IfErr result (λ refused.
             LeavesOnly (D.history dir) (D.history refused.1) (HasMade (now (D.history dir)) path.now)) }
-        ensures still_safe { D.is_honest dir → IfOk result (λ series. (name : List ℕ) (events : List Event)
-            → IsSafe (now (D.history dir)) name events → IsSafe (now (D.history series.dir)) name events) }
-        ensures still_safe_back { D.is_honest dir → IfErr result (λ refused. (name : List ℕ) (events : List Event)
-            → IsSafe (now (D.history dir)) name events → IsSafe (now (D.history refused.1)) name events) }
+        ensures safe_back { D.is_honest dir → IfErr result (λ refused. (name : List ℕ) (events : List Event)
+            → IsSafe (now (D.history dir)) name events
+            → StaysSafe (D.history dir) (D.history refused.1) name events) }
         ensures path { IfOk result (λ series. series.path ≡ path.now) }
-        ensures begun { IfOk result (λ series. series.begun ≡ []) }
+        ensures begun { IfOk result (λ series. (series.begun ≡ []) × (series.stored ≡ [])) }
         ensures ready { IfOk result (λ series. series.has_failed ≡ false) }
         ensures range { IfOk result (λ series. (1 ≤ series.number) × (series.number ≤ last_number)) }
         ensures next { D.is_honest dir
@@ -84,6 +91,7 @@ impl<D: Dir, A: Allocator + Copy> Series<D, A> {
         ensures never_failed { IfErr result (λ refused. refused.0 ≢ SeriesFault.Failed) }
     {
         let mut dir = dir;
+        let opening = Snapshot::of(&dir);
         match make_next(alloc, &mut dir, path) {
             Ok(Newest { path, number, file }) => Ok(Series {
                 alloc,
@@ -92,6 +100,8 @@ impl<D: Dir, A: Allocator + Copy> Series<D, A> {
                 number,
                 file,
                 begun: Begun::new(),
+                answers: Answers::new(),
+                opening,
                 has_failed: false,
             }),
             Err(fault) => Err((fault, dir)),
@@ -108,32 +118,36 @@ impl<D: Dir, A: Allocator + Copy> Series<D, A> {
         entries: &Entries<B>,
     ) -> Result<Stored<A>, SeriesFault>
         requires { length tag.now ≤ longest_tag }
-        ensures honest { IsHonest D.is_honest D.history self.old → IsHonest D.is_honest D.history self.new }
+        ensures kept { D.is_honest self.old.opening → Keeps D.is_honest D.history self.new }
         ensures stored { IfOk result (λ stored.
             stored ≡ record { path = self.old.path; tag = tag.now; entries = entries.now }) }
         // After the answer the file holds what was begun in it, all of it synced.
-        ensures written { IsHonest D.is_honest D.history self.old → OnOk result
+        ensures written { D.is_honest self.old.opening → OnOk result
             (now (D.history self.new.dir) (newest self.new) ≡ Some (kept_file (run_of self.new.begun))) }
-        ensures safe { IsHonest D.is_honest D.history self.old
-            → OnOk result (IsSafe (now (D.history self.new.dir)) (newest self.new) self.new.begun) }
-        ensures still_safe { D.is_honest self.old.dir → (name : List ℕ) (events : List Event)
-            → IsSafe (now (D.history self.old.dir)) name events → IsSafe (now (D.history self.new.dir)) name events }
-        // At each moment a stop leaves what was safe before, and of what was begun a beginning with all that was begun before.
-        ensures safe_moments { D.is_honest self.old.dir → (name : List ℕ) (events : List Event)
+        // At each moment what was safe before is safe, each older file is as it was, and of what was begun in the newest one
+        // a stop leaves a beginning with all that was begun before.
+        ensures safe { D.is_honest self.old.opening → (name : List ℕ) (events : List Event)
             → IsSafe (now (D.history self.old.dir)) name events
-            → LeavesOnly (D.history self.old.dir) (D.history self.new.dir) (λ folder. FileBegins folder name events) }
-        ensures moments { IsHonest D.is_honest D.history self.old → self.old.has_failed ≡ false
+            → StaysSafe (D.history self.old.dir) (D.history self.new.dir) name events }
+        ensures others { D.is_honest self.old.opening
+            → OthersStay (D.history self.old.dir) (D.history self.new.dir) (newest self.old) }
+        ensures moments { D.is_honest self.old.opening → self.old.has_failed ≡ false
             → LeavesOnly (D.history self.old.dir) (D.history self.new.dir)
             (λ folder. IsBeginning folder (newest self.old) (length self.old.begun) (self.old.begun ++ under tag.now entries.now)) }
-        ensures others { D.is_honest self.old.dir → (name : List ℕ) → name ≢ newest self.old
-            → now (D.history self.new.dir) name ≡ now (D.history self.old.dir) name }
         ensures failed { IsErrOf result SeriesFault.Failed ↔ (self.old.has_failed ≡ true) }
-        ensures begun { OnOk result (self.new ≡ record self.old { dir = self.new.dir; begun = self.old.begun ++ under tag.now entries.now }) }
+        ensures answered { OnOk result (self.new ≡ record self.old {
+          dir = self.new.dir;
+          begun = self.old.begun ++ under tag.now entries.now;
+          stored = record {
+            stored = record { path = self.old.path; tag = tag.now; entries = entries.now };
+            since = (D.history self.new.dir).moment;
+          } ∷ self.old.stored;
+        }) }
         ensures fault { IsErrOf result SeriesFault.Fault
             → (self.new ≡ record self.old { dir = self.new.dir; begun = self.old.begun ++ under tag.now entries.now; has_failed = true }) }
         ensures refused { (result ≡ Err SeriesFault.Failed) ⊎ (result ≡ Err SeriesFault.Memory)
             → (self.new ≡ record self.old { dir = self.new.dir }) }
-        ensures same { D.is_honest self.old.dir → (result ≡ Err SeriesFault.Failed) ⊎ (result ≡ Err SeriesFault.Memory)
+        ensures same { D.is_honest self.old.opening → (result ≡ Err SeriesFault.Failed) ⊎ (result ≡ Err SeriesFault.Memory)
             → SameDisk (now (D.history self.new.dir)) (now (D.history self.old.dir)) }
         ensures cause { HasCause (D.fault_count self.old.dir) (D.fault_count self.new.dir) result }
         ensures never_last { result ≢ Err SeriesFault.LastNumber }
@@ -149,10 +163,13 @@ impl<D: Dir, A: Allocator + Copy> Series<D, A> {
             tag,
             entries,
         )?;
-        let Prepared { stored, bytes } = write;
-        self.begun = self.begun.then(&stored);
-        match put_synced(&mut self.dir, self.file, &bytes) {
-            Ok(()) => Ok(stored),
+        self.begun = self.begun.then(&write);
+        match put_synced(&mut self.dir, self.file, write.bytes()) {
+            Ok(()) => {
+                let stored = write.into_stored();
+                self.answers = self.answers.then(&stored, &self.dir);
+                Ok(stored)
+            }
             Err(error) => {
                 self.has_failed = true;
                 Err(error.into())
@@ -163,13 +180,11 @@ impl<D: Dir, A: Allocator + Copy> Series<D, A> {
     /// The events in all files of the sink, in order, in each file up to the first place where no item is whole.
     /// The errors are `Memory` and `Fault`, and change nothing.
     pub fn content(&mut self) -> Result<Vec<SinkEvent<A>, A>, SeriesFault>
-        ensures honest { IsHonest D.is_honest D.history self.old → IsHonest D.is_honest D.history self.new }
-        ensures time { D.is_honest self.old.dir → Elapses (D.history self.old.dir) (D.history self.new.dir) }
-        ensures same { D.is_honest self.old.dir
+        ensures kept { D.is_honest self.old.opening → Keeps D.is_honest D.history self.new }
+        ensures time { D.is_honest self.old.opening → Elapses (D.history self.old.dir) (D.history self.new.dir) }
+        ensures same { D.is_honest self.old.opening
             → SameDisk (now (D.history self.new.dir)) (now (D.history self.old.dir)) }
-        ensures still_safe { D.is_honest self.old.dir → (name : List ℕ) (events : List Event)
-            → IsSafe (now (D.history self.old.dir)) name events → IsSafe (now (D.history self.new.dir)) name events }
-        ensures content { D.is_honest self.old.dir
+        ensures content { D.is_honest self.old.opening
             → IfOk result (λ events. SinkHolds self.old.path (reads (now (D.history self.old.dir))) events.items) }
         ensures series { self.new ≡ record self.old { dir = self.new.dir } }
         ensures cause { HasCause (D.fault_count self.old.dir) (D.fault_count self.new.dir) result }
@@ -182,7 +197,8 @@ impl<D: Dir, A: Allocator + Copy> Series<D, A> {
 impl<D: Dir, A: Allocator> Series<D, A> {
     /// The folder, as it stands.
     pub fn into_dir(self) -> D
-        ensures { result ≡ self.dir }
+        ensures dir { result ≡ self.dir }
+        ensures kept { D.is_honest self.opening → Keeps D.is_honest D.history self }
     {
         let Series {
             alloc: _,
@@ -191,6 +207,8 @@ impl<D: Dir, A: Allocator> Series<D, A> {
             number: _,
             file: _,
             begun: _,
+            answers: _,
+            opening: _,
             has_failed: _,
         } = self;
         dir

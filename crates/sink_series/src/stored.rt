@@ -1,11 +1,15 @@
-//! The receipt for entries in a sink.
-ghost use Rattle.std.specs.Prelude.{◌≡◌, IfOk};
+//! The receipt for entries in a sink, and the write that it is made of.
+ghost use Rattle.std.specs.Prelude.{◌≡◌, ◌≤◌, length, IfOk, OnOk};
+ghost use Rattle.std.specs.List.{AllByRecursion};
+ghost use Rattle.event_modes.specs.Message.{longest_tag};
+ghost use Rattle.sink_series.specs.Events.{IsEvent, run_of, under};
 
+use crate::writing::run_under;
 use event_modes::Entries;
 use std::alloc::{AllocError, Allocator};
 use std::marker::Model;
 
-/// Entries that are in a sink. It is made after they were synced, and only by the call that wrote them.
+/// Entries that are in a sink. It is made of the write that wrote them, once they are synced.
 #[derive(Drop)]
 pub struct Stored<A: Allocator> {
     path: Vec<u8, A>,
@@ -19,26 +23,6 @@ impl<A: Allocator> Model for Stored<A> {
     ghost Value = { StoredView };
 
     ghost view = { λ s. record { path = s.path.items; tag = s.tag.items; entries = s.entries } };
-}
-
-impl<A: Allocator + Copy> Stored<A> {
-    // Of these, before they are written.
-    pub(crate) fn new<B: Allocator>(
-        alloc: A,
-        path: &[u8],
-        tag: &[u8],
-        entries: &Entries<B>,
-    ) -> Result<Stored<A>, AllocError>
-        ensures { IfOk result (λ s. s ≡ record { path = path.now; tag = tag.now; entries = entries.now }) }
-    {
-        let mut copy = Entries::new(alloc);
-        copy.append(entries)?;
-        Ok(Stored {
-            path: Vec::from_slice(alloc, path)?,
-            tag: Vec::from_slice(alloc, tag)?,
-            entries: copy,
-        })
-    }
 }
 
 impl<A: Allocator> Stored<A> {
@@ -61,5 +45,68 @@ impl<A: Allocator> Stored<A> {
         ensures { result.now ≡ self.now.entries }
     {
         &self.entries
+    }
+}
+
+/// A write that has its room: what its receipt will say, and the items to be written.
+#[derive(Drop)]
+pub(crate) struct Prepared<A: Allocator> {
+    path: Vec<u8, A>,
+    tag: Vec<u8, A>,
+    entries: Entries<A>,
+    bytes: Vec<u8, A>,
+}
+
+impl<A: Allocator> Model for Prepared<A> {
+    ghost use Rattle.sink_series.specs.Views.{WriteView};
+
+    ghost Value = { WriteView };
+
+    ghost view = { λ w. record { stored = record { path = w.path.items; tag = w.tag.items; entries = w.entries }; bytes = w.bytes.items } };
+}
+
+impl<A: Allocator> Prepared<A> {
+    /// Of entries under a tag, for the sink of this path.
+    pub(crate) fn new<B: Allocator>(
+        alloc: A,
+        path: &[u8],
+        tag: &[u8],
+        entries: &Entries<B>,
+    ) -> Result<Prepared<A>, AllocError>
+    where
+        A: Copy,
+        requires { length tag.now ≤ longest_tag }
+        ensures stored { IfOk result (λ write. write.stored ≡ record { path = path.now; tag = tag.now; entries = entries.now }) }
+        ensures bytes { IfOk result (λ write. write.bytes ≡ run_of (under tag.now entries.now)) }
+        ensures events { OnOk result (AllByRecursion IsEvent (under tag.now entries.now)) }
+    {
+        let mut copy = Entries::new(alloc);
+        copy.append(entries)?;
+        Ok(Prepared {
+            path: Vec::from_slice(alloc, path)?,
+            tag: Vec::from_slice(alloc, tag)?,
+            entries: copy,
+            bytes: run_under(alloc, tag, entries)?,
+        })
+    }
+
+    /// The items.
+    pub(crate) fn bytes(&self) -> &[u8]
+        ensures { result.now ≡ self.now.bytes }
+    {
+        &self.bytes
+    }
+
+    /// The receipt, once the items are synced.
+    pub(crate) fn into_stored(self) -> Stored<A>
+        ensures { result ≡ self.stored }
+    {
+        let Prepared {
+            path,
+            tag,
+            entries,
+            bytes: _,
+        } = self;
+        Stored { path, tag, entries }
     }
 }

@@ -74,19 +74,19 @@ pub enum Step<A: Allocator> {
         chunk: ChunkName,
         count: u64,
     },
-    /// A chunk that is certainly delivered goes.
+    /// A claimed chunk goes of which there is evidence that it was delivered.
     Purge {
         chunk: ChunkName,
     },
-    /// A chunk that was sent without asking for an acknowledgement goes.
+    /// A claimed chunk goes that was sent without asking for an acknowledgement.
     Done {
         chunk: ChunkName,
     },
-    /// A chunk that was retried for too long goes.
+    /// A claimed chunk goes, delivered or not, where its output doesn't retry for ever.
     Discard {
         chunk: ChunkName,
     },
-    /// The oldest queued chunk of a full buffer goes.
+    /// The queued chunk of least serial goes, where the output drops the oldest chunk.
     Oldest {
         relay: u64,
         buffer: u64,

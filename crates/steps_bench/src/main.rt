@@ -62,6 +62,7 @@ fn hub(alloc: Global, patterns: Vec<Plain<Global>>) -> Result<Relay<Global>, All
         port: PORT,
         bind: String::from_str(alloc, DEFAULT_BIND)?,
         label: ScopeNo(0),
+        prefix: None,
         security: None,
         line: 1,
     };

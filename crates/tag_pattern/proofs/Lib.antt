@@ -2,6 +2,7 @@ pub mod Cells
 pub mod RowSteps
 pub mod Sets
 pub mod PartSteps
+pub mod Prefixing
 pub mod Splits
 pub mod CutSteps
 pub mod SlotCuts

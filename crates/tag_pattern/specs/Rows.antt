@@ -1,5 +1,5 @@
 -- How two plain patterns are compared: row by row, from their ends.
-use Rattle.std.specs.Prelude.{ℕ, ◌≤◌, ◌↔◌, Bool, false, IsTrue, List, [], ◌∷◌, length, drop, slice_index_or}
+use Rattle.std.specs.Prelude.{ℕ, ◌≤◌, ◌↔◌, Bool, false, IsTrue, List, [], ◌∷◌, ◌++◌, length, drop, map, slice_index_or}
 use Rattle.std.specs.Borrow.{Bor}
 use Rattle.tag_pattern.specs.Items.{Item}
 use Rattle.tag_pattern.specs.Patterns.{Fits, Meets}
@@ -45,3 +45,7 @@ IsRow r p q row = (k : ℕ) → k ≤ length q → Answers r p (drop k q) (slice
 -- Whatever stands behind the item, the result is its row where below is the row of what stands behind it.
 abbrev pub IsNextRow : Relation → Item → List Item → List Bool → List Bool → Type 0
 IsNextRow r item q below result = (p : List Item) → IsRow r p q below → IsRow r (item ∷ p) q result
+
+-- Whatever stands behind these parts, the result is the row of the parts, as literals, and of it, where below is its row.
+abbrev pub IsRowOfParts : List (List ℕ) → List Item → List Bool → List Bool → Type 0
+IsRowOfParts parts q below result = (p : List Item) → IsRow relation.Fits p q below → IsRow relation.Fits (map Literal parts ++ p) q result

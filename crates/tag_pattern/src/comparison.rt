@@ -1,10 +1,12 @@
 // Which tags a plain pattern matches, and how two patterns compare.
 ghost use Rattle.std.specs.Prelude.{◌≡◌, ℕ, ◌↔◌, false, IsTrue, List};
+ghost use Rattle.std.specs.Option.{option_copied};
 ghost use Rattle.tag_pattern.specs.Patterns.{IsTagOf, Fits, Meets};
+ghost use Rattle.tag_pattern.specs.Prefixes.{entered_items};
 
-use crate::item::PatternItem;
 use crate::plain::Plain;
-use crate::row::{Relation, compare, last_row, next_row};
+use crate::prefix::Prefix;
+use crate::row::{Relation, compare, last_row, row_of, row_of_parts};
 use crate::tag::Tag;
 use std::alloc::Allocator;
 
@@ -15,18 +17,7 @@ pub fn matches<A: Allocator, B: Allocator>(pattern: &Plain<A>, tag: &Tag<B>) -> 
     ensures { IsTrue result ↔ IsTagOf pattern.now tag.now }
 {
     let items = pattern.items();
-    let bytes = tag.as_bytes();
-    let mut row = last_row(Relation::Fits, items);
-    let mut end = bytes.len();
-    for at in (0..bytes.len()).rev() {
-        if bytes[at] == b'.' {
-            let part = PatternItem::Literal(&bytes[at + 1..end]);
-            row = next_row(Relation::Fits, part, items, &row);
-            end = at;
-        }
-    }
-    let first = PatternItem::Literal(&bytes[..end]);
-    next_row(Relation::Fits, first, items, &row)[0]
+    row_of_parts(tag.as_bytes(), items, last_row(Relation::Fits, items))[0]
 }
 
 /// Whether the first pattern fits the second, by the rules of the relation: then each of its tags is one of
@@ -36,6 +27,24 @@ pub fn fits<A: Allocator, B: Allocator>(pattern: &Plain<A>, other: &Plain<B>) ->
     ensures subset { IsTrue result → (tag : List ℕ) → IsTagOf pattern.now tag → IsTagOf other.now tag }
 {
     compare(Relation::Fits, pattern.items(), other.items())
+}
+
+/// Whether the first pattern, with the prefix in front if there is one, fits the second. It takes no memory.
+pub fn fits_entered<A: Allocator, B: Allocator, C: Allocator>(
+    prefix: Option<&Prefix<A>>,
+    pattern: &Plain<B>,
+    other: &Plain<C>,
+) -> bool
+    ensures { IsTrue result ↔ Fits (entered_items (option_copied prefix.entry) pattern.now) other.now }
+{
+    match prefix {
+        Some(prefix) => {
+            let others = other.items();
+            let row = row_of(Relation::Fits, pattern.items(), others);
+            row_of_parts(prefix.as_bytes(), others, row)[0]
+        }
+        None => fits(pattern, other),
+    }
 }
 
 /// Whether the patterns don't meet, by the rules of the relation: then they have no common tag.

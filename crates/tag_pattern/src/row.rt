@@ -1,7 +1,8 @@
 // Two plain patterns are compared row by row, from their ends, and so is a tag with a pattern.
 ghost use Rattle.std.specs.Prelude.{◌≡◌, ◌≤◌, [], ◌∷◌, length};
 ghost use Rattle.tag_pattern.specs.Items.{item_of, items_of};
-ghost use Rattle.tag_pattern.specs.Rows.{lent_item, Answers, IsCell, IsEndOfRow, IsEndOfColumn, IsRow, IsNextRow};
+ghost use Rattle.tag_pattern.specs.Parts.{parts_of};
+ghost use Rattle.tag_pattern.specs.Rows.{lent_item, Answers, IsCell, IsEndOfRow, IsEndOfColumn, IsRow, IsNextRow, IsRowOfParts};
 
 use crate::item::PatternItem;
 use std::alloc::Allocator;
@@ -115,11 +116,45 @@ pub(crate) fn compare<A: Allocator, B: Allocator>(
     requires { length others.now ≤ 32 }
     ensures { Answers relation (items_of items.now) (items_of others.now) result }
 {
+    row_of(relation, items, others)[0]
+}
+
+/// The row of a pattern.
+pub(crate) fn row_of<A: Allocator, B: Allocator>(
+    relation: Relation,
+    items: &[PatternItem<Vec<u8, A>>],
+    others: &[PatternItem<Vec<u8, B>>],
+) -> Row
+    requires { length others.now ≤ 32 }
+    ensures { IsRow relation (items_of items.now) (items_of others.now) result }
+{
     let mut row = last_row(relation, others);
     for place in (0..items.len()).rev() {
         row = next_row(relation, lent(&items[place]), others, &row);
     }
-    row[0]
+    row
+}
+
+/// The row of a text's parts, each as a literal, and of what stands behind them, from the row of what stands behind them.
+pub(crate) fn row_of_parts<A: Allocator>(
+    bytes: &[u8],
+    others: &[PatternItem<Vec<u8, A>>],
+    behind: Row,
+) -> Row
+    requires { length others.now ≤ 32 }
+    ensures { IsRowOfParts (parts_of bytes.now) (items_of others.now) behind result }
+{
+    let mut row = behind;
+    let mut end = bytes.len();
+    for at in (0..bytes.len()).rev() {
+        if bytes[at] == b'.' {
+            let part = PatternItem::Literal(&bytes[at + 1..end]);
+            row = next_row(Relation::Fits, part, others, &row);
+            end = at;
+        }
+    }
+    let first = PatternItem::Literal(&bytes[..end]);
+    next_row(Relation::Fits, first, others, &row)
 }
 
 /// The row of the empty pattern.

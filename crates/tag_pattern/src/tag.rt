@@ -1,6 +1,8 @@
 // Tags: what an event is routed by.
 ghost use Rattle.std.specs.Prelude.{◌≡◌, ◌<◌, ◌≤◌, ◌↔◌, length, IfOk};
+ghost use Rattle.tag_pattern.specs.Prefixes.{prefixed_tag};
 
+use crate::prefix::Prefix;
 use std::alloc::{AllocError, Allocator};
 use std::marker::Model;
 use thiserror::Error;
@@ -68,6 +70,28 @@ impl<A: Allocator> Tag<A> {
         Ok(Tag {
             bytes: Vec::from_slice(alloc, &self.bytes)?,
         })
+    }
+
+    /// The tag with the prefix and a dot in front, in memory of its own. Where that has more than 1,024 bytes it is
+    /// `TagTooLong`; the only other error is `Memory`.
+    pub fn prefixed<B: Allocator, C: Allocator>(
+        &self,
+        alloc: B,
+        prefix: &Prefix<C>,
+    ) -> Result<Tag<B>, TagError>
+        ensures tag { IfOk result (λ tag. tag ≡ prefixed_tag prefix.now self.now) }
+        ensures too_long { (result ≡ Err TagError.TagTooLong) ↔ (1024 < length (prefixed_tag prefix.now self.now)) }
+    {
+        let front = prefix.as_bytes();
+        let length = front.len() + 1 + self.bytes.len();
+        if length > MOST_TAG_BYTES {
+            return Err(TagError::TagTooLong);
+        }
+        let mut bytes = Vec::with_capacity(alloc, length)?;
+        bytes.extend_from_slice(front)?;
+        bytes.extend_from_slice(b".")?;
+        bytes.extend_from_slice(&self.bytes)?;
+        Ok(Tag { bytes })
     }
 
     /// The tag's bytes, at most 1,024.

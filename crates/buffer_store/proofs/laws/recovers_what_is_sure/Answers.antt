@@ -11,6 +11,7 @@ returns-clause-recovers c path disk t folder recovers left =
         steps = within.steps;
         enough = within.enough;
         begun = within.begun;
-        state_is = c.opens_one_way.ensures path folder state _ opens within.opens;
+        state_is = c.opens_one_way.ensures.one path folder state _ opens within.opens;
       },
+      c.opens_one_way.ensures.undamaged path folder _ within.opens,
     )

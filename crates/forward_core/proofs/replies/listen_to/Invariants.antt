@@ -3,7 +3,7 @@ use Rattle.forward_core.proofs.Replying.{Passing}
 use Rattle.forward_core.proofs.replies.listen_to.Given as goal
 
 abbrev pub invariant-items : goal.invariant-items
-invariant-items l = Passing l.chunk l.bytes l.at
+invariant-items g l = Passing l.chunk l.bytes l.at
 
 abbrev pub decreases-items : goal.decreases-items
-decreases-items l = length l.bytes - l.at
+decreases-items g l = length l.bytes - l.at

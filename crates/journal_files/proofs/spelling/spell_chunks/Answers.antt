@@ -8,10 +8,15 @@ loop-serial-preserved g c =
 
 pub returns-in_err-put_chunk-clause-told : goal.returns-in_err-put_chunk-clause-told
 returns-in_err-put_chunk-clause-told g c =
-    let live = c.live-serial-items.ensures in
-    can_be_told c.live-serial-items.result.now.entries c.args.chunks.now.chunks c.args.chunks.now.next live.chunks live.rising live.below live.small
+    let live = c.live-live.ensures in
+    can_be_told c.live-live.result.now.entries c.args.chunks.now.chunks c.args.chunks.now.next live.chunks live.rising live.below live.small
 
 pub returns-clause-told : goal.returns-clause-told
 returns-clause-told g c =
-    let live = c.live-serial-items.ensures in
-    can_be_told c.live-serial-items.result.now.entries c.args.chunks.now.chunks c.args.chunks.now.next live.chunks live.rising live.below live.small
+    let live = c.live-live.ensures in
+    can_be_told c.live-live.result.now.entries c.args.chunks.now.chunks c.args.chunks.now.next live.chunks live.rising live.below live.small
+
+pub returns-in_err-bytes-clause-told : goal.returns-in_err-bytes-clause-told
+returns-in_err-bytes-clause-told g c =
+    let live = c.live-live.ensures in
+    can_be_told c.live-live.result.now.entries c.args.chunks.now.chunks c.args.chunks.now.next live.chunks live.rising live.below live.small

@@ -1,4 +1,4 @@
-use Rattle.std.proofs.Common.{[], refl}
+use Rattle.std.proofs.Common.{[]}
 use Rattle.std.proofs.KnownBytes.{Appends-nil, Consumes-nil}
 use Rattle.relaynet.specs.declared.decode.Stop.TheVariants.{Memory}
 use Rattle.relaynet.proofs.DecodeSteps.{early_output, reads_none}
@@ -8,6 +8,5 @@ pub returns-in-Err : goal.returns-in-Err
 returns-in-Err g c =
     let input = g.R.Read.remaining c.args.input.now in
     let out = g.W.Write.contents c.args.out.now in
-    let end = c.end.ensures in
-    early_output input input out out (g.W.Write.contents c.end.new.out) [] [] [] end.0 end.1 [] Memory c.end.result
-    (Consumes-nil input) reads_none (Appends-nil out) tt refl end.2 end.3
+    early_output input input out out (g.W.Write.contents c.end.new.out) [] [] [] [] Memory c.end.result
+    (Consumes-nil input) reads_none (Appends-nil out) tt c.end.ensures

@@ -1,6 +1,6 @@
-use Rattle.custody_steps.specs.WorldOf.{world_of}
+use Rattle.custody_steps.specs.WorldOf.{world_of, net_of}
 use Rattle.relaynet.proofs.Fates.{AreListedTo}
 use Rattle.relaynet.proofs.replay.list_fates.Given as goal
 
-abbrev pub invariant-loop-event : goal.invariant-loop-event
-invariant-loop-event g l = AreListedTo (world_of l.fn.world) l.events l.event-index l.lines.items l.lost
+abbrev pub invariant-loop-number : goal.invariant-loop-number
+invariant-loop-number g l = AreListedTo (net_of l.fn.world) (world_of l.fn.world) l.events l.number l.lines.items l.lost

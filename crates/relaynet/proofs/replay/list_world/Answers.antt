@@ -1,7 +1,7 @@
 use Rattle.std.proofs.Common.{◌≡◌, ℕ, ◌++◌, length, ap, sym, ◌∙◌, subst, rules}
 use Rattle.std.proofs.lemmas.List.{length-map}
 use Rattle.custody_steps.specs.WorldOf.{world_of}
-use Rattle.custody_store.specs.Contents.{event_of}
+use Rattle.message_book.specs.Book.{told_of}
 use Rattle.relaynet.specs.Replays.{summary_line}
 use Rattle.relaynet.proofs.replay.list_world.Goals as goal
 
@@ -9,7 +9,7 @@ pub returns : goal.returns
 returns g c =
     let said = c.in_ok-said.said in
     let w = world_of c.args.world.now in
-    let all : length c.acknowledged-acknowledged.result.now ≡ length w.acknowledged = sym (length-map c.acknowledged-acknowledged.result.now event_of) ∙ ap length c.acknowledged-acknowledged.ensures in
+    let all : length c.acknowledged-acknowledged.result.now ≡ length w.acknowledged = sym (length-map c.acknowledged-acknowledged.result.now told_of) ∙ ap length c.acknowledged-acknowledged.ensures in
     let written = λ (n : ℕ). c.extend_from_slice.new.self.items ≡ said.lines.items ++ summary_line c.args.steps n said.lost in
     let whole : written (length c.acknowledged-acknowledged.result.now) = search rules in
     record {

@@ -2,7 +2,7 @@ use Rattle.std.proofs.Common.{inr, subst}
 use Rattle.step_lines.specs.StepLines.{IsBadLine}
 use Rattle.relaynet.specs.Replays.{IsBadLineSaid, IsReplayed, SaysNoLoss}
 use Rattle.std.proofs.lemmas.Result.{IfOk-weaker}
-use Rattle.relaynet.proofs.Fates.{listed_no_loss}
+use Rattle.relaynet.proofs.Fates.{relisted, listed_no_loss}
 use Rattle.relaynet.proofs.replay.replay.Goals as goal
 
 pub returns-in-Err-BadLine-clause-replayed : goal.returns-in-Err-BadLine-clause-replayed
@@ -22,4 +22,5 @@ returns-in-Err-BadLine-clause-nothing_is_lost g c =
 
 pub returns-in-Ok-run-clause-nothing_is_lost : goal.returns-in-Ok-run-clause-nothing_is_lost
 returns-in-Ok-run-clause-nothing_is_lost g c =
-    λ labels reaches distinct rules. listed_no_loss c.list_world.result (λ said. said.lines.items) (λ said. said.status) _ _ c.list_world.ensures (c.in-Ok-run.ensures.labelled_nothing_is_lost labels reaches distinct rules)
+    let listed = relisted c.list_world.result (λ said. said.lines.items) (λ said. said.status) _ c.args.net.now _ _ c.in-Ok-run.ensures.net c.list_world.ensures in
+    λ labels reaches distinct rules. listed_no_loss c.args.net.now c.list_world.result (λ said. said.lines.items) (λ said. said.status) _ _ listed (c.in-Ok-run.ensures.labelled_nothing_is_lost labels reaches distinct rules)

@@ -1,25 +1,8 @@
-use Rattle.std.proofs.Common.{◌≡◌, ◌+◌, ◌-◌, arith}
 use Rattle.tag_pattern.specs.Items.{items_of}
-use Rattle.tag_pattern.proofs.PartSteps.{matched_none, matched_all, part_dot, part_byte}
+use Rattle.tag_pattern.proofs.PartSteps.{matched_tag}
 use Rattle.tag_pattern.proofs.comparison.matches.Goals as goal
-
-pub loop-at-init : goal.loop-at-init
-loop-at-init g c =
-    (omega arith, omega arith, matched_none (items_of c.items-items.result.now) c.as_bytes-bytes.result.now _ c.last_row-row.ensures)
-
-pub loop-at-preserved-then-bytes-at-eq46 : goal.loop-at-preserved-then-bytes-at-eq46
-loop-at-preserved-then-bytes-at-eq46 g c =
-    let held = c.loop-at.invariant in
-    let back : c.loop-at.at - 1 + 1 ≡ c.loop-at.at = omega arith in
-    let next = rw back at c.next_row-row.ensures in
-    (omega arith, omega arith, part_dot (items_of c.items-items.result.now) c.as_bytes-bytes.result.now _ _ _ _ (omega arith) (omega arith) c.if-bytes-at-eq46.true held.2 next)
-
-pub loop-at-preserved : goal.loop-at-preserved
-loop-at-preserved g c =
-    let held = c.loop-at.invariant in
-    (omega arith, held.1, part_byte (items_of c.items-items.result.now) c.as_bytes-bytes.result.now _ _ _ (omega arith) (omega arith) held.0 c.if-bytes-at-eq46.false held.2)
 
 pub returns : goal.returns
 returns g c =
-    let matched = matched_all (items_of c.items-items.result.now) c.as_bytes-bytes.result.now _ _ _ _ (omega arith) c.loop-at.invariant.2 c.next_row.ensures in
-    rw (c.items-items.ensures.items, c.as_bytes-bytes.ensures.bytes) at matched
+    let matched = matched_tag (items_of c.items-items.result.now) c.as_bytes.result.now _ _ c.last_row.ensures c.row_of_parts.ensures in
+    rw (c.items-items.ensures.items, c.as_bytes.ensures.bytes) at matched

@@ -1,10 +1,7 @@
 use Rattle.std.proofs.Common.{◌≡◌, ◌+◌, length, sym, ◌∙◌, arith}
 use Rattle.buffer_state.specs.Slots.{slot_size}
-use Rattle.buffer_state.proofs.Tables.{small_at, part_of, gone_staged, gone_other}
+use Rattle.buffer_state.proofs.Tables.{part_of, gone_staged, gone_other}
 use Rattle.buffer_state.proofs.table.Table.remove.Goals as goal
-
-pub size-requires : goal.size-requires
-size-requires g c = record { small = small_at _ c.self.inside.tags c.self.inside.total c.args.serial _ c.self.invariant (sym c.in-Some.ensures.value) }
 
 pub overflow_sub-self : goal.overflow_sub-self
 overflow_sub-self g c =

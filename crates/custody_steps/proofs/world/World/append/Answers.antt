@@ -51,7 +51,7 @@ returns-in_err-take_in-clause-answer g c =
     let yes : c.in_ok-can_append.field-0 ≡ true = grind (arith, common_steps) in
     let may = c.in_ok-can_append.ensures.ok.0 yes in
     let P : Delivery → Message → Type 0 = λ d m. CanAppend w.net.now (world_of w) d m c.args.buffer c.args.serial in
-    let Q : Delivery → Message → Type 0 = λ d m. (d.is_open ≡ true) × (¬ Contains d.appended c.args.buffer) × CanTake ((world_of w).buffers d.entrance.relay c.args.buffer) m.tag c.args.serial in
+    let Q : Delivery → Message → Type 0 = λ d m. (d.is_open ≡ true) × (¬ Contains d.appended c.args.buffer) × CanTake ((world_of w).buffers d.entrance.relay c.args.buffer) d.tag c.args.serial in
     let p = err_from_is_err_and c.from_residual-in_err-take_in.result c.from_residual-in_err-take_in.ensures.1 in
     rw (p.1, p.2) (rw shown there, keeping.weaker_of (world_of w) c.args.delivery P Q (λ d m a. (a.is_open, a.is_new, a.can_take)) may, c.in_err-take_in.ensures.err)
 

@@ -1,8 +1,10 @@
-use Rattle.std.proofs.Common.{◌++◌, ◌∷◌, [], true, refl, sym, ap, ◌∙◌}
+use Rattle.std.proofs.Common.{◌≤◌, ◌++◌, ◌∷◌, [], length, true, refl, sym, ap, ◌∙◌, inl, inr}
+use Rattle.std.proofs.lemmas.Bool.{cases_lt}
 use Rattle.std.proofs.lemmas.Option.{slice_get_within}
 use Rattle.std.proofs.lemmas.Result.{err_from_is_err_and}
 use Rattle.message_book.specs.Book.{Delivery}
 use Rattle.relay_net.specs.Ways.{HasLoop}
+use Rattle.custody_steps.specs.Steps.{tag_of}
 use Rattle.custody_steps.specs.WorldOf.{world_from}
 use Rattle.custody_steps.proofs.Keeping as keeping
 use Rattle.custody_steps.proofs.world.World.begin.Goals as goal
@@ -12,12 +14,12 @@ invariant_of-self g c =
     let w = c.args.self.now in
     let m = c.in-Some.found.now in
     let at = sym c.in-Some.ensures in
-    let no : ¬ HasLoop w.net.now c.in-Some-entrance.at m.tag m.entries = λ h. let yes = c.in_ok-has_loop.ensures.1 h in cc in
-    let d : Delivery = record { message = c.args.message; entrance = c.in-Some-entrance.at; appended = []; is_open = true } in
+    let no : ¬ HasLoop w.net.now c.in-Some-entrance.at c.in-Ok.tag m.entries = λ h. let yes = c.in_ok-has_loop.ensures.1 h in cc in
+    let d : Delivery = record { message = c.args.message; entrance = c.in-Some-entrance.at; tag = c.in-Ok.tag; appended = []; is_open = true } in
     let known = keeping.known_of w in
     let k = keeping.either c.begin.result c.begin.ensures.ok c.begin.ensures.err
     (λ e. keeping.known_opened w.net.now w.places w.book c.begin.new.self known d (w.book.room ++ 0 ∷ []) (slice_get_within w.book.messages c.args.message m at)
-    (keeping.ends_of w.net.now w.book.messages c.args.message m c.in-Some-entrance.at at no) e)
+    (keeping.ends_of w.net.now w.book.messages c.args.message m c.in-Some-entrance.at c.in-Ok.tag at no) e)
     (λ e. keeping.known_again w.net.now w.places w.book c.begin.new.self known e) in
     record { answers = k.answers; closed = k.closed; sent = k.sent; ending = k.ending }
 
@@ -37,9 +39,14 @@ returns-clause-answer g c =
     let w = c.args.self.now in
     let m = c.in-Some.found.now in
     let at = sym c.in-Some.ensures in
-    let no : ¬ HasLoop w.net.now c.in-Some-entrance.at m.tag m.entries = λ h. let yes = c.in_ok-has_loop.ensures.1 h in cc in
-    let d : Delivery = record { message = c.args.message; entrance = c.in-Some-entrance.at; appended = []; is_open = true } in (
+    let tag_is = c.in-Ok.ensures.tag in
+    let short : length (tag_of w.net.now m) ≤ 1024 = elim (cases_lt 1024 (length (tag_of w.net.now m))) [
+      | inl long ↦ absurd (let e = c.in-Ok.ensures.too_long.1 long in cc)
+      | inr le ↦ le
+    ] in
+    let no : ¬ HasLoop w.net.now c.in-Some-entrance.at c.in-Ok.tag m.entries = λ h. let yes = c.in_ok-has_loop.ensures.1 h in cc in
+    let d : Delivery = record { message = c.args.message; entrance = c.in-Some-entrance.at; tag = c.in-Ok.tag; appended = []; is_open = true } in (
       slice_get_within w.book.messages c.args.message m at,
-      rw (at, ← c.in-Some-entrance.ensures) no,
-      keeping.opened_world w.places w.book c.begin.new.self d (w.book.room ++ 0 ∷ []) (w.closed c.in-Some-entrance.at.relay) c.in_ok-begin.ensures.ok ∙ rw (at, ← c.in-Some-entrance.ensures) refl,
+      rw (at, ← c.in-Some-entrance.ensures) (short, rw tag_is at no),
+      keeping.opened_world w.places w.book c.begin.new.self d (w.book.room ++ 0 ∷ []) (w.closed c.in-Some-entrance.at.relay) c.in_ok-begin.ensures.ok ∙ rw (at, ← c.in-Some-entrance.ensures, ← tag_is) refl,
     )

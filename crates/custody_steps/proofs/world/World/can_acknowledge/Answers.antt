@@ -42,7 +42,7 @@ returns-clause-ok g c =
     let sent = rw c.message.ensures at c.in-Some-message.ensures in
     let P : Delivery → Message → Type 0 = CanAcknowledge w.net.now in
     let open_now : c.is_open.result ≡ true = grind (arith, common_steps) in
-    IfOk-weaker c.is_whole.result (λ x. IsTrue x ↔ ((buffer : ℕ) → HasLeaf w.net.now found.entrance m.tag m.entries buffer → Contains found.appended buffer)) (λ x. IsTrue x ↔ OfDelivery (world_of w) c.args.number P)
+    IfOk-weaker c.is_whole.result (λ x. IsTrue x ↔ ((buffer : ℕ) → HasLeaf w.net.now found.entrance found.tag m.entries buffer → Contains found.appended buffer)) (λ x. IsTrue x ↔ OfDelivery (world_of w) c.args.number P)
     (λ x is. (
       λ e. keeping.of_both w.places w.book c.args.number found c.in-Some.ensures m sent P (record { is_open = cc (open_now, c.is_open.ensures); is_whole = is.0 e }),
       λ o. is.1 (keeping.both_of w.places w.book c.args.number found c.in-Some.ensures m sent P o).is_whole,

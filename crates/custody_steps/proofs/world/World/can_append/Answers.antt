@@ -52,7 +52,7 @@ has_leaf-requires g c =
     let found = c.in-Some.found.now.delivery in
     let m = c.in-Some-message.message.now in
     let sent = rw c.message.ensures at c.in-Some-message.ensures in
-    rw c.entrance-at.ensures (w.ending c.args.number found m (sym c.in-Some.ensures) (sym sent))
+    w.ending c.args.number found m (sym c.in-Some.ensures) (sym sent)
 
 pub returns-clause-ok : goal.returns-clause-ok
 returns-clause-ok g c =
@@ -65,12 +65,11 @@ returns-clause-ok g c =
     let fresh : ¬ Contains found.appended c.args.buffer = λ h. let yes = c.has_appended.ensures.1 h in absurd (cc (yes, c.if-has_appended.false)) in
     let yes : c.takes.result ≡ true = grind (arith, common_steps) in
     let told = rw (c.as_bytes.ensures.bytes, c.tag.ensures, c.entrance-at.ensures) at c.takes.ensures in
-    let leaf = rw c.entrance-at.ensures at c.has_leaf.ensures in
-    IfOk-weaker c.has_leaf.result (λ x. IsTrue x ↔ HasLeaf w.net.now found.entrance m.tag m.entries c.args.buffer) (λ x. IsTrue x ↔ OfDelivery (world_of w) c.args.number P)
+    IfOk-weaker c.has_leaf.result (λ x. IsTrue x ↔ HasLeaf w.net.now found.entrance found.tag m.entries c.args.buffer) (λ x. IsTrue x ↔ OfDelivery (world_of w) c.args.number P)
     (λ x is. (
       λ e. keeping.of_both w.places w.book c.args.number found c.in-Some.ensures m sent P (record { is_open = cc (open_now, c.is_open.ensures); is_leaf = is.0 e; is_new = fresh; can_take = told.0 yes }),
       λ o. is.1 (keeping.both_of w.places w.book c.args.number found c.in-Some.ensures m sent P o).is_leaf,
-    )) leaf
+    )) c.has_leaf.ensures
 
 pub returns-clause-err : goal.returns-clause-err
 returns-clause-err g c =
@@ -78,7 +77,7 @@ returns-clause-err g c =
     let found = c.in-Some.found.now.delivery in
     let m = c.in-Some-message.message.now in
     let sent = rw c.message.ensures at c.in-Some-message.ensures in
-    let Q : Delivery → Message → Type 0 = λ d x. (d.is_open ≡ true) × (¬ Contains d.appended c.args.buffer) × CanTake ((world_of w).buffers d.entrance.relay c.args.buffer) x.tag c.args.serial in
+    let Q : Delivery → Message → Type 0 = λ d x. (d.is_open ≡ true) × (¬ Contains d.appended c.args.buffer) × CanTake ((world_of w).buffers d.entrance.relay c.args.buffer) d.tag c.args.serial in
     let open_now : c.is_open.result ≡ true = grind (arith, common_steps) in
     let fresh : ¬ Contains found.appended c.args.buffer = λ h. let yes = c.has_appended.ensures.1 h in absurd (cc (yes, c.if-has_appended.false)) in
     let yes : c.takes.result ≡ true = grind (arith, common_steps) in

@@ -13,4 +13,4 @@ returns-in-Leaves g c =
     let leaves = rw c.in-Leaves.is at c.in_ok-way.ensures.leaves in
     let cases = cases_from_all _ _ _ (λ (leaf : BufferNo). Contains d.appended leaf.0) (λ (leaf : BufferNo). ¬ Contains d.appended leaf.0) c.all.ensures.ran (YieldsList-from_slice c.deref.result.now cc) (λ x q k. search (rules, tests)) (λ x q k. search (rules, tests)) in
     let found = rw c.deref.ensures.value at (ways.found_all c.deref.result.now d.appended c.all.result cases) in
-    ways.whole_is c.args.self.now.net.now d.entrance m.tag m.entries some c.in-Leaves.leaves.items (rw (c.tag.ensures, c.entrance.ensures) at leaves) d.appended c.all.result found
+    ways.whole_is c.args.self.now.net.now d.entrance d.tag m.entries some c.in-Leaves.leaves.items (rw (c.tag.ensures, c.entrance.ensures) at leaves) d.appended c.all.result found

@@ -6,6 +6,6 @@ use Rattle.forward_core.proofs.client.ClientSession.hear_pong.Goals as goal
 pub returns-in-Refused : goal.returns-in-Refused
 returns-in-Refused g c client e =
     let view = c.self.view_is in
-    pong_refused client c.in-Shaking.client c.args.self.now c.deref.result.now c.self.inside.outgoing c.self.inside.held.items c.in-Refused.fault
+    pong_refused client c.in-Shaking.client c.args.self.now c.as_slice.result.now c.self.inside.outgoing c.self.inside.held c.in-Refused.fault
     (pong_client c.self.inside.phase c.self.inside.greeted c.in-Shaking.client client c.in-Shaking.is c.if-not-self.false (ap (λ (s : ClientState). s.phase) view ∙ e))
-    (c.deref.ensures.value ∙ ap (λ (s : ClientState). s.held) view) (ap (λ (s : ClientState). s.outgoing) view) (ap (λ (s : ClientState). s.held) view) c.in-Refused.ensures
+    (c.as_slice.ensures ∙ ap (λ (s : ClientState). s.held) view) (ap (λ (s : ClientState). s.outgoing) view) (ap (λ (s : ClientState). s.held) view) c.in-Refused.ensures

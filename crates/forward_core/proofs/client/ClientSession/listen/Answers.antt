@@ -8,9 +8,9 @@ returns g c =
     let view = c.self.view_is in
     let greeted = c.self.inside.greeted in
     let says = said c.listen_to-n.result.1 in
-    listened c.chunk.result c.args.self.now c.deref.result.now c.listen_to-n.result.0 says (phase_of c.end_if.new.self greeted) c.drop_front.new.bytes.items c.self.inside.outgoing c.listen_to-n.ensures
-    (sym (c.deref.ensures.value ∙ ap (λ (s : ClientState). s.held) view))
+    listened c.chunk.result c.args.self.now c.as_slice.result.now c.listen_to-n.result.0 says (phase_of c.end_if.new.self greeted) c.drop_front.new.self c.self.inside.outgoing c.listen_to-n.ensures
+    (sym (c.as_slice.ensures ∙ ap (λ (s : ClientState). s.held) view))
     (c.chunk.ensures greeted ∙ ap (λ (s : ClientState). awaited s.phase) view)
     (c.end_if.ensures.ends greeted ∙ ap (λ (s : ClientState). phase_if says s.phase) view)
-    (c.drop_front.ensures ∙ ap (drop c.listen_to-n.result.0) (sym c.deref.ensures.value))
+    (c.drop_front.ensures ∙ ap (drop c.listen_to-n.result.0) (sym c.as_slice.ensures))
     (ap (λ (s : ClientState). s.outgoing) view)

@@ -1,4 +1,7 @@
-use Rattle.std.proofs.Common.{◌≡◌, None, ℕ, ◌+◌, ◌<◌, ◌^◌, List, refl, arith, subst, sym, ◌∙◌}
+use Rattle.std.proofs.Common.{◌≡◌, None, ℕ, ◌+◌, ◌<◌, ◌^◌, List, Err, refl, ap, arith, rules, subst, sym, ◌∙◌}
+use Rattle.disk_files.specs.declared.dir.DirError.{DirError}
+use Rattle.journal_files.specs.Faults.{open_error}
+use Rattle.journal_files.proofs.Steps.{any_err}
 use Rattle.disk_files.specs.Disk.{SameDisk, reads}
 use Rattle.disk_files.specs.Moments.{LeavesOnly, now}
 use Rattle.disk_files.proofs.Moments.{rests, joined}
@@ -7,7 +10,7 @@ use Rattle.journal_files.specs.Folders.{journal_name}
 use Rattle.journal_files.specs.Tellings.{IsOfSome, OpensWithin}
 use Rattle.journal_files.specs.Pieces.{AreOlder, ChangesBelow, IsGoneBut, IsLeftOf}
 use Rattle.journal_files.proofs.Beginning.{of_folder}
-use Rattle.journal_files.proofs.Fresh.{none_above, own_is_above, opened_alone}
+use Rattle.journal_files.proofs.Fresh.{is_next, was_memory, none_above, own_is_above, opened_alone}
 use Rattle.journal_files.proofs.OlderFiles.{still_older}
 use Rattle.journal_files.proofs.OneWay.{one_way}
 use Rattle.journal_files.proofs.OpeningMoments.{recovers_same, quiet, keeps_still, no_stray_still, removed_so}
@@ -16,9 +19,6 @@ use Rattle.journal_files.proofs.journal.Journal.open.Goals as goal
 
 pub returns-in_err-found-clause-moments : goal.returns-in_err-found-clause-moments
 returns-in_err-found-clause-moments g c = λ honest stray t before. quiet c.args.path.now t (g.D.Dir.history c.args.dir.now) (g.D.Dir.history c.find.new.dir) before (c.find.ensures.time honest) (c.find.ensures.same honest)
-
-pub returns-then-found-clause-moments : goal.returns-then-found-clause-moments
-returns-then-found-clause-moments g c = λ honest stray t before. quiet c.args.path.now t (g.D.Dir.history c.args.dir.now) (g.D.Dir.history c.find.new.dir) before (c.find.ensures.time honest) (c.find.ensures.same honest)
 
 pub returns-in_err-older-clause-moments : goal.returns-in_err-older-clause-moments
 returns-in_err-older-clause-moments g c = λ honest stray t before.
@@ -71,9 +71,6 @@ returns-clause-moments g c = λ honest stray t before.
 
 pub returns-in_err-found-clause-stray : goal.returns-in_err-found-clause-stray
 returns-in_err-found-clause-stray g c = λ honest stray. same_stray c.args.path.now (now (g.D.Dir.history c.args.dir.now)) (now (g.D.Dir.history c.find.new.dir)) (c.find.ensures.same honest) stray
-
-pub returns-then-found-clause-stray : goal.returns-then-found-clause-stray
-returns-then-found-clause-stray g c = λ honest stray. same_stray c.args.path.now (now (g.D.Dir.history c.args.dir.now)) (now (g.D.Dir.history c.find.new.dir)) (c.find.ensures.same honest) stray
 
 pub returns-in_err-older-clause-stray : goal.returns-in_err-older-clause-stray
 returns-in_err-older-clause-stray g c = λ honest stray.
@@ -142,7 +139,7 @@ remove-requires g c =
 pub returns-clause-open : goal.returns-clause-open
 returns-clause-open g c =
     let greatest = c.in_ok-found.found.greatest in
-    let small : greatest + 1 < 2 ^ 32 = grind (arith, c.if-found.false, c.find.type_inv, c.in_ok-found.is) in
+    let small : greatest + 1 < 2 ^ 32 = omega (arith, c.in_ok-found.ensures.below) in
     let path_is = c.in_ok-journal.ensures.path ∙ sym c.in_ok-older.ensures.path in
     let number_is = c.in_ok-journal.ensures.number ∙ sym c.in_ok-older.ensures.number in
     c.in_ok-remove.ensures.kept c.in_ok-journal.journal.file _
@@ -155,7 +152,7 @@ returns-in_err-remove-clause-elsewhere g c = λ honest name differs.
     let found_honest = c.in_ok-found.ensures.honest honest in
     let older_honest = c.in_ok-older.ensures.honest found_honest in
     let begun_honest = c.in_ok-journal.ensures.honest older_honest in
-    let small : greatest + 1 < 2 ^ 32 = grind (arith, c.if-found.false, c.find.type_inv, c.in_ok-found.is) in
+    let small : greatest + 1 < 2 ^ 32 = omega (arith, c.in_ok-found.ensures.below) in
     let below : ChangesBelow c.args.path.now (greatest + 1) (now (g.D.Dir.history c.begin.new.dir)) (now (g.D.Dir.history c.remove.new.dir)) = subst (λ (p : List ℕ). ChangesBelow p (greatest + 1) (now (g.D.Dir.history c.begin.new.dir)) (now (g.D.Dir.history c.remove.new.dir))) c.in_ok-older.ensures.path
     (subst (λ (k : ℕ). ChangesBelow c.in_ok-older.older.path.now k (now (g.D.Dir.history c.begin.new.dir)) (now (g.D.Dir.history c.remove.new.dir))) c.in_ok-older.ensures.number (c.remove.ensures.elsewhere begun_honest)) in
     below name (λ n lt. differs n (omega (arith, lt, small)))
@@ -167,7 +164,7 @@ returns-clause-elsewhere g c = λ honest name differs.
     let found_honest = c.in_ok-found.ensures.honest honest in
     let older_honest = c.in_ok-older.ensures.honest found_honest in
     let begun_honest = c.in_ok-journal.ensures.honest older_honest in
-    let small : greatest + 1 < 2 ^ 32 = grind (arith, c.if-found.false, c.find.type_inv, c.in_ok-found.is) in
+    let small : greatest + 1 < 2 ^ 32 = omega (arith, c.in_ok-found.ensures.below) in
     let below : ChangesBelow c.args.path.now (greatest + 1) (now (g.D.Dir.history c.begin.new.dir)) (now (g.D.Dir.history c.remove.new.dir)) = subst (λ (p : List ℕ). ChangesBelow p (greatest + 1) (now (g.D.Dir.history c.begin.new.dir)) (now (g.D.Dir.history c.remove.new.dir))) c.in_ok-older.ensures.path
     (subst (λ (k : ℕ). ChangesBelow c.in_ok-older.older.path.now k (now (g.D.Dir.history c.begin.new.dir)) (now (g.D.Dir.history c.remove.new.dir))) c.in_ok-older.ensures.number (c.remove.ensures.elsewhere begun_honest)) in
     below name (λ n lt. differs n (omega (arith, lt, small)))
@@ -178,7 +175,7 @@ returns-in_err-journal-clause-elsewhere g c = λ honest name differs.
     let greatest = c.in_ok-found.found.greatest in
     let found_honest = c.in_ok-found.ensures.honest honest in
     let older_honest = c.in_ok-older.ensures.honest found_honest in
-    let small : greatest + 1 < 2 ^ 32 = grind (arith, c.if-found.false, c.find.type_inv, c.in_ok-found.is) in
+    let small : greatest + 1 < 2 ^ 32 = omega (arith, c.in_ok-found.ensures.below) in
     c.begin.ensures.elsewhere older_honest name (differs (greatest + 1) small) ∙ c.in_ok-older.ensures.same found_honest name ∙ c.in_ok-found.ensures.same honest name
 
 pub returns-clause-alone : goal.returns-clause-alone
@@ -187,10 +184,24 @@ returns-clause-alone g c = λ honest n from lt.
     let found_honest = c.in_ok-found.ensures.honest honest in
     let older_honest = c.in_ok-older.ensures.honest found_honest in
     let begun_honest = c.in_ok-journal.ensures.honest older_honest in
-    let small : greatest + 1 < 2 ^ 32 = grind (arith, c.if-found.false, c.find.type_inv, c.in_ok-found.is) in
+    let small : greatest + 1 < 2 ^ 32 = omega (arith, c.in_ok-found.ensures.below) in
     let number_is = c.in_ok-journal.ensures.number in
     let under : n < greatest + 1 = omega (arith, lt, number_is) in
     let gone : IsGoneBut c.args.path.now c.in_ok-older.older.files (now (g.D.Dir.history c.begin.new.dir)) n = opened_alone c.args.path.now (greatest + 1) n c.in_ok-older.older.files (now (g.D.Dir.history c.find.new.dir)) (now (g.D.Dir.history c.open.new.dir)) (now (g.D.Dir.history c.begin.new.dir)) small under (c.in_ok-older.ensures.same found_honest)
     (c.in_ok-journal.ensures.elsewhere older_honest) (c.in_ok-older.ensures.all found_honest n from under) in
     subst (λ (p : List ℕ). reads (now (g.D.Dir.history c.remove.new.dir)) (journal_name p n) ≡ None) c.in_ok-older.ensures.path
     (c.in_ok-remove.ensures.gone begun_honest n (omega (arith, under, small)) (subst (λ (p : List ℕ). IsGoneBut p c.in_ok-older.older.files (now (g.D.Dir.history c.begin.new.dir)) n) (sym c.in_ok-older.ensures.path) gone))
+
+pub returns-clause-next : goal.returns-clause-next
+returns-clause-next g c = λ honest.
+    is_next c.args.path.now (reads (now (g.D.Dir.history c.args.dir.now))) c.in_ok-found.found.greatest c.in_ok-journal.journal.number c.in_ok-journal.ensures.number (c.in_ok-found.ensures.greatest honest)
+
+pub returns-in_err-journal-clause-unchanged : goal.returns-in_err-journal-clause-unchanged
+returns-in_err-journal-clause-unchanged g c = λ honest not_fault.
+    let e = c.in_err-journal.field-0.0 in
+    let result : c.from_residual-in_err-journal.result ≡ Err (open_error e) = search rules in
+    let memory : e ≡ DirError.Memory = was_memory e c.from_residual-in_err-journal.result result not_fault in
+    let found_honest = c.in_ok-found.ensures.honest honest in
+    let older_honest = c.in_ok-older.ensures.honest found_honest in
+    let same = c.begin.ensures.memory older_honest (c.in_err-journal.was ∙ ap Err memory) in
+    any_err c.from_residual-in_err-journal.result (λ name. same name ∙ c.open.ensures.same found_honest name ∙ c.find.ensures.same honest name)

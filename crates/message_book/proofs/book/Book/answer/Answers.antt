@@ -1,6 +1,6 @@
 use Rattle.std.proofs.Common.{◌++◌, List, ap, sym, ◌∙◌}
-use Rattle.custody_store.specs.Buffers.{Event}
-use Rattle.custody_store.specs.Contents.{stored_events}
+use Rattle.message_book.specs.Book.{Told}
+use Rattle.message_book.specs.Book.{told_events}
 use Rattle.message_book.specs.Book.{acknowledged_message, book_from}
 use Rattle.message_book.proofs.Changes.{message_changed, told-read, stored-added}
 use Rattle.message_book.proofs.book.Book.answer.Goals as goal
@@ -12,5 +12,5 @@ returns-clause-ok g c =
     let within = rw (← c.self.view_is) at c.requires in
     let messages = message_changed acknowledged_message s.messages.items n c.index_mut-sent.result.now c.acknowledge.new.self within c.index_mut-sent.ensures.value c.acknowledge.ensures in
     let told = c.in_ok-events.ensures ∙ sym (told-read s.messages.items n c.index.result.now within c.index.ensures) in
-    let acknowledged = stored-added s.acknowledged.items c.in_ok-events.events.items _ c.in_ok-append.ensures.items ∙ ap (λ (more : List Event). stored_events s.acknowledged.items ++ more) told in
-    rw (← c.self.view_is) (λ i. record (book_from s.messages.items s.deliveries.items (stored_events s.acknowledged.items)) { messages = messages i; acknowledged = acknowledged i })
+    let acknowledged = stored-added s.acknowledged.items c.in_ok-events.events.items _ c.in_ok-append.ensures.items ∙ ap (λ (more : List Told). told_events s.acknowledged.items ++ more) told in
+    rw (← c.self.view_is) (λ i. record (book_from s.messages.items s.deliveries.items (told_events s.acknowledged.items)) { messages = messages i; acknowledged = acknowledged i })

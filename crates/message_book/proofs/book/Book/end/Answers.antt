@@ -1,4 +1,4 @@
-use Rattle.custody_store.specs.Contents.{stored_events}
+use Rattle.message_book.specs.Book.{told_events}
 use Rattle.message_book.specs.Book.{ended}
 use Rattle.message_book.proofs.Changes.{delivery_changed}
 use Rattle.message_book.proofs.book.Book.end.Goals as goal
@@ -7,5 +7,5 @@ pub returns : goal.returns
 returns g c =
     let s = c.self.inside in
     rw (← c.self.view_is)
-    (delivery_changed s.messages.items s.deliveries.items (stored_events s.acknowledged.items) c.args.delivery c.index_mut-opened.result.now c.end.new.self
+    (delivery_changed s.messages.items s.deliveries.items (told_events s.acknowledged.items) c.args.delivery c.index_mut-opened.result.now c.end.new.self
     (rw (← c.self.view_is) at c.requires) c.index_mut-opened.ensures.value ended c.end.ensures)

@@ -1,120 +1,210 @@
-use Rattle.std.proofs.Common.{ℕ, ◌≡◌, ◌≤◌, List, ◌++◌, length, true, false, Some, refl, sym, subst, ◌∙◌, ap}
+use Rattle.std.proofs.Common.{ℕ, ◌≡◌, ◌≤◌, List, ◌++◌, length, false, Some, refl, sym, subst, ◌∙◌, ap}
 use Rattle.disk_files.specs.Moments.{LeavesOnly, now}
 use Rattle.sink_series.specs.Events.{Event, run_of, under, written_by}
 use Rattle.disk_files.specs.Disk.{kept_file}
 use Rattle.sink_series.specs.Names.{sink_name}
 use Rattle.sink_series.specs.Views.{newest}
-use Rattle.sink_series.specs.Keeping.{IsHonest, IsSafe, FileBegins, IsBeginning}
-use Rattle.sink_series.proofs.Writes.{safe_here, safe_rests, safe_same, safe_joined, begun_rests, begun_joined, begun_next, sound_next, written_file, kept_safe, is_some_of}
+use Rattle.sink_series.specs.Keeping.{IsSafe, StaysSafe, OthersStay, IsBeginning, Keeps}
+use Rattle.sink_series.proofs.Writes.{safe_here, others_here, others_rest, begun_rests, begun_joined, begun_next, sound_next, written_file, kept_safe, is_some_of}
+use Rattle.sink_series.proofs.Kept.{passes_rest, begins_rest, begins_write, wrote, keeps_on, keeps_more}
 use Rattle.sink_series.proofs.series.Series.write_all_entries.Goals as goal
 
-pub returns-then-self-clause-safe_moments : goal.returns-then-self-clause-safe_moments
-returns-then-self-clause-safe_moments g c honest name events safe = safe_here _ name events safe
+-- a sink that had failed
 
-pub returns-in_err-write-clause-safe_moments : goal.returns-in_err-write-clause-safe_moments
-returns-in_err-write-clause-safe_moments g c =
+pub returns-then-self-clause-kept : goal.returns-then-self-clause-kept
+returns-then-self-clause-kept g c = subst (λ s. g.D.Dir.is_honest s.opening → Keeps g.D.Dir.is_honest g.D.Dir.history s) c.self.view_is c.self.invariant.kept
+
+pub returns-then-self-clause-safe : goal.returns-then-self-clause-safe
+returns-then-self-clause-safe g c honest name events safe = safe_here _ name events safe
+
+pub returns-then-self-clause-others : goal.returns-then-self-clause-others
+returns-then-self-clause-others g c honest = others_here _ _
+
+-- no memory
+
+pub invariant_of-self : goal.invariant_of-self
+invariant_of-self g c =
     let p = c.in_err-write.ensures in
-    subst (λ s. g.D.Dir.is_honest s.dir → (name : List ℕ) (events : List Event) → IsSafe (now (g.D.Dir.history s.dir)) name events
-    → LeavesOnly (g.D.Dir.history s.dir) (g.D.Dir.history c.prepare.new.dir) (λ folder. FileBegins folder name events))
+    let sound = c.self.invariant.sound in
+    record {
+      sound = record { named = p.opened c.self.inside.file ∙ sound.named; each = sound.each };
+      kept = λ honest.
+          let k = c.self.invariant.kept honest in
+          keeps_on g.D.Dir.is_honest g.D.Dir.history _ _ k (p.honest k.honest.dir) (passes_rest _ _ (p.time k.honest.dir) (p.same k.honest.dir)) refl refl refl
+          (λ ready. let w = k.honest.written ready in (w.0, p.same k.honest.dir _ ∙ w.1)) k.begun
+          (begins_rest _ _ _ _ _ k.begins (p.time k.honest.dir) (p.same k.honest.dir));
+    }
+
+pub returns-in_err-write-clause-kept : goal.returns-in_err-write-clause-kept
+returns-in_err-write-clause-kept g c honest = (invariant_of-self g c).kept (subst (λ s. g.D.Dir.is_honest s.opening) (sym c.self.view_is) honest)
+
+pub returns-in_err-write-clause-safe : goal.returns-in_err-write-clause-safe
+returns-in_err-write-clause-safe g c =
+    let p = c.in_err-write.ensures in
+    subst (λ s. g.D.Dir.is_honest s.opening → (name : List ℕ) (events : List Event) → IsSafe (now (g.D.Dir.history s.dir)) name events
+    → StaysSafe (g.D.Dir.history s.dir) (g.D.Dir.history c.prepare.new.dir) name events)
     c.self.view_is
-    (λ honest name events safe. safe_rests _ _ name events (p.time honest) (p.same honest) safe)
+    (λ honest.
+    let h = (c.self.invariant.kept honest).honest.dir in
+    (passes_rest _ _ (p.time h) (p.same h)).safe)
+
+pub returns-in_err-write-clause-others : goal.returns-in_err-write-clause-others
+returns-in_err-write-clause-others g c =
+    let p = c.in_err-write.ensures in
+    subst (λ s. g.D.Dir.is_honest s.opening → OthersStay (g.D.Dir.history s.dir) (g.D.Dir.history c.prepare.new.dir) (newest s))
+    c.self.view_is
+    (λ honest.
+    let h = (c.self.invariant.kept honest).honest.dir in
+    others_rest _ _ _ (p.time h) (p.same h))
 
 pub returns-in_err-write-clause-moments : goal.returns-in_err-write-clause-moments
 returns-in_err-write-clause-moments g c =
     let p = c.in_err-write.ensures in
-    subst (λ s. IsHonest g.D.Dir.is_honest g.D.Dir.history s → s.has_failed ≡ false
+    subst (λ s. g.D.Dir.is_honest s.opening → s.has_failed ≡ false
     → LeavesOnly (g.D.Dir.history s.dir) (g.D.Dir.history c.prepare.new.dir) (λ folder. IsBeginning folder (newest s) (length s.begun) (s.begun ++ under c.args.tag.now c.args.entries.now)))
     c.self.view_is
-    (λ honest ready. begun_rests _ _ _ _ _ _ (honest.written ready).1 c.self.invariant.each (p.time honest.dir) (p.same honest.dir))
+    (λ honest ready.
+    let k = (c.self.invariant.kept honest).honest in
+    begun_rests _ _ _ _ _ _ (k.written ready).1 c.self.invariant.sound.each (p.time k.dir) (p.same k.dir))
+
+-- the write
 
 pub put_synced-requires-clause-open : goal.put_synced-requires-clause-open
-put_synced-requires-clause-open g c = is_some_of _ _ (c.in_ok-write.ensures.opened c.self.inside.file ∙ c.self.invariant.named)
+put_synced-requires-clause-open g c = is_some_of _ _ (c.in_ok-write.ensures.opened c.self.inside.file ∙ c.self.invariant.sound.named)
 
 pub put_synced-requires-clause-room : goal.put_synced-requires-clause-room
 put_synced-requires-clause-room g c =
-    subst (λ (b : List ℕ). length b ≤ g.D.Dir.bytes_left c.prepare.new.dir c.self.inside.file) (sym c.deref-2.ensures.value) c.in_ok-write.ensures.room
+    subst (λ (b : List ℕ). length b ≤ g.D.Dir.bytes_left c.prepare.new.dir c.self.inside.file) (sym c.bytes.ensures) c.in_ok-write.ensures.room
 
-pub same-stored : goal.same-stored
-same-stored g c = refl
+pub same-write : goal.same-write
+same-write g c = refl
 
-pub invariant_of-self-in-Ok-1 : goal.invariant_of-self-in-Ok-1
-invariant_of-self-in-Ok-1 g c =
+-- it is answered
+
+pub invariant_of-self-in-Ok : goal.invariant_of-self-in-Ok
+invariant_of-self-in-Ok g c =
     let p = c.in_ok-write.ensures in
-    sound_next _ _ _ c.self.inside.begun c.then.result _ _ c.args.tag.now c.args.entries.now c.self.invariant (c.put_synced.ensures.opened c.self.inside.file ∙ p.opened c.self.inside.file) c.then.ensures p.stored p.events
+    let sound = c.self.invariant.sound in
+    let now_sound =
+    sound_next _ _ _ c.self.inside.begun c.then.result _ _ c.args.tag.now c.args.entries.now sound (c.put_synced.ensures.opened c.self.inside.file ∙ p.opened c.self.inside.file) c.then.ensures p.stored p.events in
+    record {
+      sound = now_sound;
+      kept = λ honest.
+          let k = c.self.invariant.kept honest in
+          let h = k.honest.dir in
+          let named = p.opened c.self.inside.file ∙ sound.named in
+          let file = (let w = k.honest.written c.if-self.false in
+          let name : List ℕ = sink_name c.self.inside.path.items c.self.inside.number in
+          let events : List Event = under c.args.tag.now c.args.entries.now in
+          written_file (now (g.D.Dir.history c.prepare.new.dir)) (now (g.D.Dir.history c.put_synced.new.dir)) name c.bytes.result.now (written_by c.self.inside.begun) events w.0 (p.same h name ∙ w.1) (c.bytes.ensures ∙ p.bytes)
+          (c.in-Ok.ensures.ok (p.honest h) name named)
+          ∙ ap (λ (es : List Event). Some (kept_file (run_of es))) (sym (begun_next c.self.inside.begun c.then.result _ _ c.args.tag.now c.args.entries.now c.then.ensures p.stored))) in
+          keeps_more g.D.Dir.is_honest g.D.Dir.history _ _ c.into_stored-stored.result k (c.in-Ok.ensures.honest (p.honest h))
+          (wrote _ _ _ _ (p.time h) (p.same h) (c.in-Ok.ensures.others (p.honest h) _ named) (λ n es safe. c.in-Ok.ensures.safe (p.honest h) _ n es named safe))
+          refl refl c.then-in-Ok.ensures c.if-self.false
+          (ap written_by c.then.ensures ∙ ap (λ s. written_by c.self.inside.begun ++ under s.tag s.entries) (sym c.into_stored-stored.ensures))
+          file (kept_safe _ _ _ now_sound.each file)
+          (begins_write _ _ _ (sink_name c.self.inside.path.items c.self.inside.number) (written_by c.self.inside.begun) (under c.args.tag.now c.args.entries.now) _ k.begins
+          (let w = k.honest.written c.if-self.false in
+          begun_joined _ _ _ _ _ _ (begun_rests _ _ _ (written_by c.self.inside.begun) (under c.args.tag.now c.args.entries.now) w.0 w.1 sound.each (p.time h) (p.same h))
+          (c.in-Ok.ensures.moments (p.honest h) _ (written_by c.self.inside.begun) (under c.args.tag.now c.args.entries.now) w.0 named (p.same h _ ∙ w.1) sound.each p.events (c.bytes.ensures ∙ p.bytes)))
+          (begun_next c.self.inside.begun c.then.result _ _ c.args.tag.now c.args.entries.now c.then.ensures p.stored));
+    }
 
-pub invariant_of-self-in-Err-1 : goal.invariant_of-self-in-Err-1
-invariant_of-self-in-Err-1 g c =
-    let p = c.in_ok-write.ensures in
-    sound_next _ _ _ c.self.inside.begun c.then.result _ _ c.args.tag.now c.args.entries.now c.self.invariant (c.put_synced.ensures.opened c.self.inside.file ∙ p.opened c.self.inside.file) c.then.ensures p.stored p.events
+pub returns-in-Ok-clause-kept : goal.returns-in-Ok-clause-kept
+returns-in-Ok-clause-kept g c honest = (invariant_of-self-in-Ok g c).kept (subst (λ s. g.D.Dir.is_honest s.opening) (sym c.self.view_is) honest)
 
 pub returns-in-Ok-clause-written : goal.returns-in-Ok-clause-written
 returns-in-Ok-clause-written g c honest =
     let p = c.in_ok-write.ensures in
-    let h = subst (λ s. IsHonest g.D.Dir.is_honest g.D.Dir.history s) (sym c.self.view_is) honest in
-    let w = h.written c.if-self.false in
+    let sound = c.self.invariant.sound in
+    let k = c.self.invariant.kept (subst (λ s. g.D.Dir.is_honest s.opening) (sym c.self.view_is) honest) in
+    let h = k.honest.dir in
+    let named = p.opened c.self.inside.file ∙ sound.named in
+    (let w = k.honest.written c.if-self.false in
     let name : List ℕ = sink_name c.self.inside.path.items c.self.inside.number in
     let events : List Event = under c.args.tag.now c.args.entries.now in
-    written_file (now (g.D.Dir.history c.prepare.new.dir)) (now (g.D.Dir.history c.put_synced.new.dir)) name c.deref-2.result.now (written_by c.self.inside.begun) events w.0 (p.same h.dir name ∙ w.1) (c.deref-2.ensures.value ∙ p.bytes)
-    (c.in-Ok.ensures.ok (p.honest h.dir) name (p.opened c.self.inside.file ∙ c.self.invariant.named))
-    ∙ ap (λ (es : List Event). Some (kept_file (run_of es))) (sym (begun_next c.self.inside.begun c.then.result _ _ c.args.tag.now c.args.entries.now c.then.ensures p.stored))
-
-pub returns-in-Ok-clause-honest : goal.returns-in-Ok-clause-honest
-returns-in-Ok-clause-honest g c honest =
-    let h = subst (λ s. IsHonest g.D.Dir.is_honest g.D.Dir.history s) (sym c.self.view_is) honest in
-    record {
-      dir = c.in-Ok.ensures.honest (c.in_ok-write.ensures.honest h.dir);
-      written = λ ready. (true, returns-in-Ok-clause-written g c honest);
-    }
+    written_file (now (g.D.Dir.history c.prepare.new.dir)) (now (g.D.Dir.history c.put_synced.new.dir)) name c.bytes.result.now (written_by c.self.inside.begun) events w.0 (p.same h name ∙ w.1) (c.bytes.ensures ∙ p.bytes)
+    (c.in-Ok.ensures.ok (p.honest h) name named)
+    ∙ ap (λ (es : List Event). Some (kept_file (run_of es))) (sym (begun_next c.self.inside.begun c.then.result _ _ c.args.tag.now c.args.entries.now c.then.ensures p.stored)))
 
 pub returns-in-Ok-clause-safe : goal.returns-in-Ok-clause-safe
-returns-in-Ok-clause-safe g c honest = kept_safe _ _ _ (invariant_of-self-in-Ok-1 g c).each (returns-in-Ok-clause-written g c honest)
-
-pub returns-in-Ok-clause-safe_moments : goal.returns-in-Ok-clause-safe_moments
-returns-in-Ok-clause-safe_moments g c =
+returns-in-Ok-clause-safe g c =
     let p = c.in_ok-write.ensures in
-    subst (λ s. g.D.Dir.is_honest s.dir → (name : List ℕ) (events : List Event) → IsSafe (now (g.D.Dir.history s.dir)) name events
-    → LeavesOnly (g.D.Dir.history s.dir) (g.D.Dir.history c.put_synced.new.dir) (λ folder. FileBegins folder name events))
+    let named = p.opened c.self.inside.file ∙ c.self.invariant.sound.named in
+    subst (λ s. g.D.Dir.is_honest s.opening → (name : List ℕ) (events : List Event) → IsSafe (now (g.D.Dir.history s.dir)) name events
+    → StaysSafe (g.D.Dir.history s.dir) (g.D.Dir.history c.put_synced.new.dir) name events)
     c.self.view_is
-    (λ honest name events safe.
-    safe_joined _ _ _ name events (safe_rests _ _ name events (p.time honest) (p.same honest) safe)
-    (c.in-Ok.ensures.safe_moments (p.honest honest) _ name events (p.opened c.self.inside.file ∙ c.self.invariant.named) (safe_same _ _ name events (p.same honest) safe)))
+    (λ honest.
+    let h = (c.self.invariant.kept honest).honest.dir in
+    (wrote _ _ _ _ (p.time h) (p.same h) (c.in-Ok.ensures.others (p.honest h) _ named) (λ n es safe. c.in-Ok.ensures.safe (p.honest h) _ n es named safe)).safe)
 
 pub returns-in-Ok-clause-moments : goal.returns-in-Ok-clause-moments
 returns-in-Ok-clause-moments g c =
     let p = c.in_ok-write.ensures in
+    let sound = c.self.invariant.sound in
     let name : List ℕ = sink_name c.self.inside.path.items c.self.inside.number in
-    subst (λ s. IsHonest g.D.Dir.is_honest g.D.Dir.history s → s.has_failed ≡ false
+    let begun = written_by c.self.inside.begun in
+    let events = under c.args.tag.now c.args.entries.now in
+    subst (λ s. g.D.Dir.is_honest s.opening → s.has_failed ≡ false
     → LeavesOnly (g.D.Dir.history s.dir) (g.D.Dir.history c.put_synced.new.dir)
     (λ folder. IsBeginning folder (newest s) (length s.begun) (s.begun ++ under c.args.tag.now c.args.entries.now)))
     c.self.view_is
     (λ honest ready.
-    let w = honest.written ready in
-    begun_joined _ _ _ name (written_by c.self.inside.begun) (under c.args.tag.now c.args.entries.now)
-    (begun_rests _ _ name (written_by c.self.inside.begun) (under c.args.tag.now c.args.entries.now) w.0 w.1 c.self.invariant.each (p.time honest.dir) (p.same honest.dir))
-    (c.in-Ok.ensures.moments (p.honest honest.dir) name (written_by c.self.inside.begun) (under c.args.tag.now c.args.entries.now) w.0 (p.opened c.self.inside.file ∙ c.self.invariant.named)
-    (p.same honest.dir name ∙ w.1) c.self.invariant.each p.events (c.deref-2.ensures.value ∙ p.bytes)))
+    let k = (c.self.invariant.kept honest).honest in
+    let w = k.written ready in
+    begun_joined _ _ _ name begun events (begun_rests _ _ name begun events w.0 w.1 sound.each (p.time k.dir) (p.same k.dir))
+    (c.in-Ok.ensures.moments (p.honest k.dir) name begun events w.0 (p.opened c.self.inside.file ∙ sound.named) (p.same k.dir name ∙ w.1) sound.each p.events (c.bytes.ensures ∙ p.bytes)))
 
-pub returns-in-Err-clause-safe_moments : goal.returns-in-Err-clause-safe_moments
-returns-in-Err-clause-safe_moments g c =
+-- the device failed
+
+pub invariant_of-self-in-Err-1 : goal.invariant_of-self-in-Err-1
+invariant_of-self-in-Err-1 g c =
     let p = c.in_ok-write.ensures in
-    subst (λ s. g.D.Dir.is_honest s.dir → (name : List ℕ) (events : List Event) → IsSafe (now (g.D.Dir.history s.dir)) name events
-    → LeavesOnly (g.D.Dir.history s.dir) (g.D.Dir.history c.put_synced.new.dir) (λ folder. FileBegins folder name events))
+    let sound = c.self.invariant.sound in
+    let named = p.opened c.self.inside.file ∙ sound.named in
+    record {
+      sound = sound_next _ _ _ c.self.inside.begun c.then.result _ _ c.args.tag.now c.args.entries.now sound (c.put_synced.ensures.opened c.self.inside.file ∙ p.opened c.self.inside.file) c.then.ensures p.stored p.events;
+      kept = λ honest.
+          let k = c.self.invariant.kept honest in
+          let h = k.honest.dir in
+          keeps_on g.D.Dir.is_honest g.D.Dir.history _ _ k (c.in-Err.ensures.honest (p.honest h))
+          (wrote _ _ _ _ (p.time h) (p.same h) (c.in-Err.ensures.others (p.honest h) _ named) (λ n es safe. c.in-Err.ensures.safe (p.honest h) _ n es named safe))
+          refl refl refl (λ ready. absurd (cc ready)) (λ ready. absurd (cc ready))
+          (begins_write _ _ _ (sink_name c.self.inside.path.items c.self.inside.number) (written_by c.self.inside.begun) (under c.args.tag.now c.args.entries.now) _ k.begins
+          (let w = k.honest.written c.if-self.false in
+          begun_joined _ _ _ _ _ _ (begun_rests _ _ _ (written_by c.self.inside.begun) (under c.args.tag.now c.args.entries.now) w.0 w.1 sound.each (p.time h) (p.same h))
+          (c.in-Err.ensures.moments (p.honest h) _ (written_by c.self.inside.begun) (under c.args.tag.now c.args.entries.now) w.0 named (p.same h _ ∙ w.1) sound.each p.events (c.bytes.ensures ∙ p.bytes)))
+          (begun_next c.self.inside.begun c.then.result _ _ c.args.tag.now c.args.entries.now c.then.ensures p.stored));
+    }
+
+pub returns-in-Err-clause-kept : goal.returns-in-Err-clause-kept
+returns-in-Err-clause-kept g c honest = (invariant_of-self-in-Err-1 g c).kept (subst (λ s. g.D.Dir.is_honest s.opening) (sym c.self.view_is) honest)
+
+pub returns-in-Err-clause-safe : goal.returns-in-Err-clause-safe
+returns-in-Err-clause-safe g c =
+    let p = c.in_ok-write.ensures in
+    let named = p.opened c.self.inside.file ∙ c.self.invariant.sound.named in
+    subst (λ s. g.D.Dir.is_honest s.opening → (name : List ℕ) (events : List Event) → IsSafe (now (g.D.Dir.history s.dir)) name events
+    → StaysSafe (g.D.Dir.history s.dir) (g.D.Dir.history c.put_synced.new.dir) name events)
     c.self.view_is
-    (λ honest name events safe.
-    safe_joined _ _ _ name events (safe_rests _ _ name events (p.time honest) (p.same honest) safe)
-    (c.in-Err.ensures.safe_moments (p.honest honest) _ name events (p.opened c.self.inside.file ∙ c.self.invariant.named) (safe_same _ _ name events (p.same honest) safe)))
+    (λ honest.
+    let h = (c.self.invariant.kept honest).honest.dir in
+    (wrote _ _ _ _ (p.time h) (p.same h) (c.in-Err.ensures.others (p.honest h) _ named) (λ n es safe. c.in-Err.ensures.safe (p.honest h) _ n es named safe)).safe)
 
 pub returns-in-Err-clause-moments : goal.returns-in-Err-clause-moments
 returns-in-Err-clause-moments g c =
     let p = c.in_ok-write.ensures in
+    let sound = c.self.invariant.sound in
     let name : List ℕ = sink_name c.self.inside.path.items c.self.inside.number in
-    subst (λ s. IsHonest g.D.Dir.is_honest g.D.Dir.history s → s.has_failed ≡ false
+    let begun = written_by c.self.inside.begun in
+    let events = under c.args.tag.now c.args.entries.now in
+    subst (λ s. g.D.Dir.is_honest s.opening → s.has_failed ≡ false
     → LeavesOnly (g.D.Dir.history s.dir) (g.D.Dir.history c.put_synced.new.dir)
     (λ folder. IsBeginning folder (newest s) (length s.begun) (s.begun ++ under c.args.tag.now c.args.entries.now)))
     c.self.view_is
     (λ honest ready.
-    let w = honest.written ready in
-    begun_joined _ _ _ name (written_by c.self.inside.begun) (under c.args.tag.now c.args.entries.now)
-    (begun_rests _ _ name (written_by c.self.inside.begun) (under c.args.tag.now c.args.entries.now) w.0 w.1 c.self.invariant.each (p.time honest.dir) (p.same honest.dir))
-    (c.in-Err.ensures.moments (p.honest honest.dir) name (written_by c.self.inside.begun) (under c.args.tag.now c.args.entries.now) w.0 (p.opened c.self.inside.file ∙ c.self.invariant.named)
-    (p.same honest.dir name ∙ w.1) c.self.invariant.each p.events (c.deref-2.ensures.value ∙ p.bytes)))
+    let k = (c.self.invariant.kept honest).honest in
+    let w = k.written ready in
+    begun_joined _ _ _ name begun events (begun_rests _ _ name begun events w.0 w.1 sound.each (p.time k.dir) (p.same k.dir))
+    (c.in-Err.ensures.moments (p.honest k.dir) name begun events w.0 (p.opened c.self.inside.file ∙ sound.named) (p.same k.dir name ∙ w.1) sound.each p.events (c.bytes.ensures ∙ p.bytes)))

@@ -1,0 +1,48 @@
+use Rattle.std.proofs.Common.{◌≡◌, ◌∙◌, ◌++◌, ◌∷◌, [], ◌<◌, ◌≤◌, ◌+◌, ℕ, List, map, refl, sym, ap, subst, arith, append_assoc}
+use Rattle.std.specs.Prelude.{All}
+use Rattle.std.specs.Vec.Iter.{into_iter_items}
+use Rattle.std.proofs.lemmas.List.{map-append}
+use Rattle.std.proofs.lemmas.List.Elements.{All-head, All-tail}
+use Rattle.buffer_book.specs.Books.{Book}
+use Rattle.ack_receipt.specs.Deliveries.{Appended, Pended}
+use Rattle.ack_receipt.specs.Redeeming.{AreApart, AreBefore, IsRedeemable, Origin, origin_of, origin_of_pending}
+use Rattle.ack_receipt.proofs.Redeem.{apart_head, apart_tail, waits_on}
+use Rattle.ack_receipt.proofs.receipt.made.Goals as goal
+
+pub receipt_of-requires-clause-waits : goal.receipt_of-requires-clause-waits
+receipt_of-requires-clause-waits g c =
+    let rest : List Pended = into_iter_items c.next.new.self in
+    let waits = subst (All (IsRedeemable c.args.leaf c.loop-pending.booked.waiting)) c.in-Some.ensures.items c.loop-pending.invariant.waits in
+    (All-head (IsRedeemable c.args.leaf c.loop-pending.booked.waiting) c.in-Some.pending rest waits).waits
+
+pub receipt_of-requires-clause-synced : goal.receipt_of-requires-clause-synced
+receipt_of-requires-clause-synced g c =
+    let rest : List Pended = into_iter_items c.next.new.self in
+    let before = subst (AreBefore c.loop-pending.booked.synced) c.in-Some.ensures.items c.loop-pending.invariant.before in
+    All-head (λ (p : Pended). p.place < c.loop-pending.booked.synced) c.in-Some.pending rest before
+
+pub loop-pending-preserved : goal.loop-pending-preserved
+loop-pending-preserved g c =
+    let leaf = c.args.leaf in
+    let b = c.loop-pending.booked in
+    let rest : List Pended = into_iter_items c.next.new.self in
+    let p = c.in-Some.pending in
+    let waits = subst (All (IsRedeemable leaf b.waiting)) c.in-Some.ensures.items c.loop-pending.invariant.waits in
+    let apart = subst AreApart c.in-Some.ensures.items c.loop-pending.invariant.apart in
+    let before = subst (AreBefore b.synced) c.in-Some.ensures.items c.loop-pending.invariant.before in
+    let r = c.receipt_of.ensures.rest in
+    let made : map origin_of c.push_reserved.new.self.items ++ map origin_of_pending rest ≡ map origin_of c.loop-pending.receipts.items ++ map origin_of_pending (p ∷ rest) =
+    ap (λ (rs : List Appended). map origin_of rs ++ map origin_of_pending rest) c.push_reserved.ensures.items
+    ∙ ap (λ (os : List Origin). os ++ map origin_of_pending rest) (map-append origin_of c.loop-pending.receipts.items (c.receipt_of.result ∷ []))
+    ∙ append_assoc (map origin_of c.loop-pending.receipts.items) (origin_of c.receipt_of.result ∷ []) (map origin_of_pending rest)
+    ∙ ap (λ (o : Origin). map origin_of c.loop-pending.receipts.items ++ o ∷ map origin_of_pending rest) c.receipt_of.ensures.origin in
+    record {
+      made = made ∙ ap (λ (ps : List Pended). map origin_of c.loop-pending.receipts.items ++ map origin_of_pending ps) (sym c.in-Some.ensures.items) ∙ c.loop-pending.invariant.made;
+      room = omega (arith, c.loop-pending.invariant.room, c.push_reserved.ensures.len, c.push_reserved.ensures.capacity, c.in-Some.ensures.len);
+      waits = waits_on leaf b.waiting c.receipt_of.new.booked.waiting p rest c.receipt_of.ensures.waiting (apart_head p rest apart) (All-tail (IsRedeemable leaf b.waiting) p rest waits);
+      apart = apart_tail p rest apart;
+      before = subst (λ (n : ℕ). AreBefore n rest) (sym (ap (λ (k : Book g.row.D.Denot). k.synced) r)) (All-tail (λ (q : Pended). q.place < b.synced) p rest before);
+      buffer = ap (λ (k : Book g.row.D.Denot). k.buffer) r ∙ c.loop-pending.invariant.buffer;
+      appends = ap (λ (k : Book g.row.D.Denot). k.appends) r ∙ c.loop-pending.invariant.appends;
+      synced = ap (λ (k : Book g.row.D.Denot). k.synced) r ∙ c.loop-pending.invariant.synced;
+    }

@@ -1,0 +1,20 @@
+use Rattle.std.proofs.Common.{◌≡◌, ◌+◌, ◌≤◌, ◌++◌, map, vec_len, vec_capacity}
+use Rattle.std.specs.Prelude.{All}
+use Rattle.std.specs.Vec.Iter.{into_iter_items, into_iter_len}
+use Rattle.ack_receipt.specs.Redeeming.{AreApart, AreBefore, IsRedeemable, origin_of, origin_of_pending}
+use Rattle.ack_receipt.proofs.receipt.made.Given as goal
+
+abbrev pub invariant-loop-pending : goal.invariant-loop-pending
+invariant-loop-pending g l = record {
+  made : map origin_of l.receipts.items ++ map origin_of_pending (into_iter_items l.rest) ≡ map origin_of_pending l.fn.pendings.items;
+  room : vec_len l.receipts + into_iter_len l.rest ≤ vec_capacity l.receipts;
+  waits : All (IsRedeemable l.fn.leaf l.booked.waiting) (into_iter_items l.rest);
+  apart : AreApart (into_iter_items l.rest);
+  before : AreBefore l.booked.synced (into_iter_items l.rest);
+  buffer : l.booked.buffer ≡ l.fn.booked.buffer;
+  appends : l.booked.appends ≡ l.fn.booked.appends;
+  synced : l.booked.synced ≡ l.fn.booked.synced;
+}
+
+abbrev pub decreases-loop-pending : goal.decreases-loop-pending
+decreases-loop-pending g l = into_iter_len l.rest

@@ -1,0 +1,44 @@
+-- Appends that wait for their receipts.
+use Rattle.std.specs.Prelude.{ℕ, ◌≡◌, ◌≢◌, ◌<◌, List, map, All, AllPairs}
+use Rattle.book_audit.specs.declared.line.Leaf.{Leaf}
+use Rattle.book_audit.specs.declared.line.Line.{Line}
+use Rattle.buffer_book.specs.Books.{IsWaiting}
+use Rattle.ack_receipt.specs.Deliveries.{Appended, Pended}
+
+-- what the book says of the append
+abbrev pub line_of : Pended → Line
+line_of pending = record { delivery = pending.delivery; serial = pending.serial; count = pending.count }
+
+-- the append is of the buffer of this name, and waits for a receipt in its book
+pub record IsRedeemable (leaf : Leaf) (waiting : List (ℕ × Line)) (pending : Pended) : Type 0 where
+  pub own : pending.leaf ≡ leaf
+  pub waits : IsWaiting waiting pending.place (line_of pending)
+
+-- no two of them are one append
+abbrev pub AreApart : List Pended → Type 0
+AreApart pendings = AllPairs (λ one other. one.place ≢ other.place) pendings
+
+-- receipts can be made of all of them
+abbrev pub CanRedeem : Leaf → List (ℕ × Line) → List Pended → Type 0
+CanRedeem leaf waiting pendings = All (IsRedeemable leaf waiting) pendings × AreApart pendings
+
+-- their appends are among the first so many
+abbrev pub AreBefore : ℕ → List Pended → Type 0
+AreBefore count pendings = All (λ pending. pending.place < count) pendings
+
+-- what a receipt and its pending have in common: the delivery, the buffer and the chunk
+pub record Origin : Type 0 where
+  pub delivery : ℕ
+  pub leaf : Leaf
+  pub serial : ℕ
+
+abbrev pub origin_of : Appended → Origin
+origin_of receipt = record { delivery = receipt.delivery; leaf = receipt.leaf; serial = receipt.serial }
+
+abbrev pub origin_of_pending : Pended → Origin
+origin_of_pending pending = record { delivery = pending.delivery; leaf = pending.leaf; serial = pending.serial }
+
+-- the receipts are of the buffer of this name, and those of the pendings, in order
+pub record AreReceiptsOf (leaf : Leaf) (pendings : List Pended) (receipts : List Appended) : Type 0 where
+  pub same : map origin_of receipts ≡ map origin_of_pending pendings
+  pub own : All (λ pending. pending.leaf ≡ leaf) pendings

@@ -1,0 +1,64 @@
+//! An append that waits for its receipt.
+
+ghost use Rattle.std.specs.Prelude.{◌≡◌};
+
+use book_audit::{Leaf, Line, Part};
+use std::alloc::Allocator;
+use std::marker::Model;
+
+/// An append of a delivery to a buffer that needn't be synced yet. It has no receipt before `SharedBuffer::redeem` makes one.
+///
+/// It can be neither copied nor dropped: it is redeemed, or given up. Contracts see a `Pended`.
+pub struct Pending<A: Allocator> {
+    pub(crate) delivery: u64,
+    pub(crate) leaf: Leaf,
+    pub(crate) serial: u64,
+    pub(crate) count: u64,
+    pub(crate) place: u64,
+    // Empty, with room for what is left of the receipt.
+    pub(crate) room: Vec<Part, A>,
+}
+
+impl<A: Allocator> Model for Pending<A> {
+    ghost use Rattle.std.specs.Prelude.{◌≡◌, ◌<◌, [], vec_capacity};
+    ghost use Rattle.ack_receipt.specs.Deliveries.{Pended};
+
+    ghost Value = { Pended };
+
+    ghost view = { λ p. record { delivery = p.delivery; leaf = p.leaf; serial = p.serial; count = p.count; place = p.place } };
+
+    ghost invariant = { λ p. (p.room.items ≡ []) × (0 < vec_capacity p.room) };
+}
+
+impl<A: Allocator> Pending<A> {
+    /// The serial of the chunk that has the entries.
+    pub fn serial(&self) -> u64
+        ensures { result ≡ self.now.serial }
+    {
+        self.serial
+    }
+
+    /// Ends an append's wait for a receipt. Its entries stay in the buffer, and so does its note in the book until the buffer is closed,
+    /// some 40 bytes: `SharedBuffer::give_up` takes the note out too. It takes no memory.
+    pub fn give_up(self) {
+        let Pending {
+            delivery: _,
+            leaf: _,
+            serial: _,
+            count: _,
+            place: _,
+            room: _,
+        } = self;
+    }
+
+    // What the book says of the append.
+    pub(crate) fn line(&self) -> Line
+        ensures { result ≡ record { delivery = self.now.delivery; serial = self.now.serial; count = self.now.count } }
+    {
+        Line {
+            delivery: self.delivery,
+            serial: self.serial,
+            count: self.count,
+        }
+    }
+}

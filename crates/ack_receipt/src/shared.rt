@@ -1,0 +1,195 @@
+//! A buffer that threads share.
+
+ghost use Rattle.std.specs.Prelude.{◌≡◌, ◌<◌, true, length, IfOk, IfErr, IfSome, OnOk};
+ghost use Rattle.buffer_book.specs.Evidences.{IsFor};
+ghost use Rattle.ack_receipt.specs.Redeeming.{AreReceiptsOf};
+
+use crate::delivery::Delivery;
+use crate::fault::RedeemFault;
+use crate::pending::Pending;
+use crate::receipt::{Receipt, append, append_pending, redeem};
+use book_audit::{AckFault, Leaf, Stub};
+use buffer_book::{Booked, Claim, Closed, Evidence, PurgeFault, Takes};
+use buffer_store::{Buffer, BufferFault};
+use disk_files::Dir;
+use event_modes::Entries;
+use std::alloc::{AllocError, Allocator};
+use std::marker::Model;
+use std::sync::{Mutex, Wait};
+
+/// One lock over a buffer and its book. The buffer's name and what lets its chunks go lie outside the lock, and never change: contracts see these `Terms`.
+///
+/// What the lock keeps, whoever shares it: the buffer's own facts, and the book's: each append since is accounted for, each line of the book
+/// is of an append that is synced, and chunks leave by `purge` and `drop_oldest` alone. No call holds the lock longer than its own step.
+#[derive(Drop)]
+pub struct SharedBuffer<D: Dir, A: Allocator> {
+    alloc: A,
+    leaf: Leaf,
+    takes: Takes<A>,
+    lock: Mutex<Booked<D, A>>,
+}
+
+impl<D: Dir, A: Allocator> Model for SharedBuffer<D, A> {
+    ghost use Rattle.ack_receipt.specs.Terms.{Terms};
+
+    ghost Value = { Terms A };
+
+    ghost view = { λ s. record { leaf = s.leaf; takes = s.takes } };
+}
+
+impl<D: Dir, A: Allocator + Copy> SharedBuffer<D, A> {
+    /// Shares a buffer under this name, whose chunks go so. Its book begins. It takes no memory.
+    pub fn new(alloc: A, buffer: Buffer<D, A>, leaf: Leaf, takes: Takes<A>) -> SharedBuffer<D, A>
+        ensures { result ≡ record { leaf = leaf; takes = takes } }
+    {
+        let lock = Mutex::new(Booked::new(alloc, buffer));
+        SharedBuffer {
+            alloc,
+            leaf,
+            takes,
+            lock,
+        }
+    }
+
+    /// The buffer's name.
+    pub fn leaf(&self) -> Leaf
+        ensures { result ≡ self.now.leaf }
+    {
+        self.leaf
+    }
+
+    /// What lets its chunks go.
+    pub fn takes(&self) -> &Takes<A>
+        ensures { result.now ≡ self.now.takes }
+    {
+        &self.takes
+    }
+
+    /// Appends a delivery's entries under its tag, and syncs them. Asks for a message with entries.
+    ///
+    /// The first of `Failed`, `TooLarge`, `Full`, `LastSerial`, `Memory` and `Fault` that applies; `TooLarge` also for a tag of more than 1,024 bytes.
+    /// But for `Fault` none changes the chunks or the book; after `Fault` the buffer has failed.
+    pub fn append<R: Wait>(&self, rt: &R, delivery: &Delivery<A>) -> Result<Receipt<A>, BufferFault>
+        requires { 0 < length delivery.now.message.entries }
+        ensures number { IfOk result (λ receipt. receipt.delivery ≡ delivery.now.number) }
+        ensures leaf { IfOk result (λ receipt. receipt.leaf ≡ self.now.leaf) }
+    {
+        append(self.alloc, &mut self.lock.lock(rt), self.leaf, delivery)
+    }
+
+    /// The same without the sync: the receipt is redeemed later.
+    pub fn append_pending<R: Wait>(
+        &self,
+        rt: &R,
+        delivery: &Delivery<A>,
+    ) -> Result<Pending<A>, BufferFault>
+        requires { 0 < length delivery.now.message.entries }
+        ensures number { IfOk result (λ pending. pending.delivery ≡ delivery.now.number) }
+        ensures leaf { IfOk result (λ pending. pending.leaf ≡ self.now.leaf) }
+    {
+        append_pending(self.alloc, &mut self.lock.lock(rt), self.leaf, delivery)
+    }
+
+    /// Makes the receipts of appends that wait for them, in the list's order, with one sync where one of them isn't synced yet, and none otherwise.
+    ///
+    /// The refusals hand the list back: `Stranger` where one is of another buffer; then `Failed`, `Memory` and `Fault`.
+    pub fn redeem<R: Wait>(
+        &self,
+        rt: &R,
+        pendings: Vec<Pending<A>, A>,
+    ) -> Result<Vec<Receipt<A>, A>, (RedeemFault, Vec<Pending<A>, A>)>
+        ensures ok { IfOk result (λ receipts. AreReceiptsOf self.now.leaf pendings.items receipts.items) }
+        ensures back { IfErr result (λ refused. refused.1 ≡ pendings) }
+    {
+        redeem(self.alloc, &mut self.lock.lock(rt), self.leaf, pendings)
+    }
+
+    /// Ends an append's wait for a receipt, and takes its note out of the book where it is of this buffer. Its entries stay in the buffer.
+    pub fn give_up<R: Wait>(&self, rt: &R, pending: Pending<A>) {
+        self.lock.lock(rt).forget(pending.place, &pending.line());
+        pending.give_up();
+    }
+
+    /// Queues the staged chunk of this serial, and syncs the journal.
+    ///
+    /// The first of `Failed`, `Gone`, `LastSerial`, `Memory` and `Fault` that applies. None changes the chunks.
+    pub fn enqueue<R: Wait>(&self, rt: &R, serial: u64) -> Result<(), BufferFault> {
+        self.lock.lock(rt).enqueue(serial)
+    }
+
+    /// Lets the queued chunk of least serial go, and gives its serial.
+    ///
+    /// The first of `Failed`, `Gone`, `Memory` and `Fault` that applies; `Gone` where nothing is queued, or where this buffer's chunks may not be dropped.
+    pub fn drop_oldest<R: Wait>(&self, rt: &R) -> Result<u64, BufferFault>
+        ensures { OnOk result (self.now.takes.drops ≡ true) }
+    {
+        self.lock.lock(rt).drop_oldest(&self.takes)
+    }
+
+    /// Goes on in a new generation of the journal, where it is long enough; else it does nothing.
+    ///
+    /// The first of `Failed`, `LastSerial`, `Memory` and `Fault` that applies.
+    pub fn renew<R: Wait>(&self, rt: &R) -> Result<(), BufferFault> {
+        self.lock.lock(rt).renew()
+    }
+
+    /// Claims the first of the queue, if anything is queued. It goes on after a fault.
+    ///
+    /// The error is want of memory, and changes nothing.
+    pub fn claim<R: Wait>(&self, rt: &R) -> Result<Option<Claim<A>>, AllocError>
+        ensures { IfOk result (λ claim. IfSome claim (λ c. c.leaf ≡ self.now.leaf)) }
+    {
+        self.lock.lock(rt).claim(self.leaf)
+    }
+
+    /// The entries of a claimed chunk of this buffer.
+    ///
+    /// `Gone` where the claim is of another buffer, or its chunk isn't live; `Memory`; `Fault` where a read failed, which leaves the buffer as it was.
+    pub fn body<R: Wait>(&self, rt: &R, claim: &Claim<A>) -> Result<Entries<A>, BufferFault> {
+        self.lock.lock(rt).body(self.leaf, claim)
+    }
+
+    /// Lets the chunk of a claim go, on evidence that it may. The journal isn't synced, so that a stop may bring the chunk back, queued.
+    ///
+    /// `Stranger` where the claim is of another buffer, or the evidence names another chunk, or is of a kind that this buffer doesn't take,
+    /// or is of another sink, tag or entries than the chunk's (in its place `Memory` or `Fault` where the entries couldn't be read).
+    /// Then the first of `Failed`, `Gone`, `Memory` and `Fault` that applies. Each refusal hands claim and evidence back.
+    pub fn purge<R: Wait>(
+        &self,
+        rt: &R,
+        claim: Claim<A>,
+        evidence: Evidence<A>,
+    ) -> Result<(), (PurgeFault, Claim<A>, Evidence<A>)>
+        ensures serves { OnOk result (IsFor self.now.leaf self.now.takes claim evidence) }
+        ensures back { IfErr result (λ refused. (refused.1 ≡ claim) × (refused.2 ≡ evidence)) }
+    {
+        self.lock
+            .lock(rt)
+            .purge(self.leaf, &self.takes, claim, evidence)
+    }
+
+    /// Ends a claim whose chunk wasn't delivered: the chunk goes to the end of the queue where it is claimed, and the claim is of this buffer. It takes no memory.
+    pub fn give_back<R: Wait>(&self, rt: &R, claim: Claim<A>) {
+        self.lock.lock(rt).give_back(self.leaf, claim);
+    }
+
+    /// Closes the lines of the book that the stub's parts of this buffer name. It takes no memory.
+    ///
+    /// The errors, in this order, change nothing: `Stranger` where a part of this buffer isn't in the book; `Double` where a line is named that was settled before, or one is named twice.
+    pub fn settle<R: Wait>(&self, rt: &R, stub: &Stub<A>) -> Result<(), AckFault> {
+        self.lock.lock(rt).settle(self.leaf, stub)
+    }
+
+    /// Ends the sharing. It takes no memory.
+    pub fn close(self) -> Closed<D, A>
+        ensures { result.leaf ≡ self.leaf }
+    {
+        let SharedBuffer {
+            alloc: _,
+            leaf,
+            takes: _,
+            lock,
+        } = self;
+        Closed::new(leaf, lock.into_inner())
+    }
+}

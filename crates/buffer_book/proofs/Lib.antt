@@ -1,0 +1,4 @@
+pub mod Acknowledged
+pub mod Accounts
+pub mod Sound
+pub mod Answered

@@ -1,0 +1,88 @@
+-- What shows that a chunk may leave its buffer, and when it serves.
+use Rattle.std.specs.Prelude.{ℕ, ◌≡◌, true, cond, List, Option, None, Some, IsSomeAnd, IfSome, Result, Ok, Err}
+use Rattle.event_modes.specs.declared.chunk_id.ChunkId.{ChunkId}
+use Rattle.sink_series.specs.Views.{StoredView}
+use Rattle.buffer_state.specs.State.{State, chunk_at}
+use Rattle.buffer_state.specs.Steps.{oldest}
+use Rattle.book_audit.specs.declared.line.Leaf.{Leaf}
+use Rattle.buffer_book.specs.declared.takes.Basis.{Basis}
+use Rattle.buffer_book.specs.declared.takes.Basis.TheVariants as basis
+use Rattle.buffer_book.specs.declared.takes.Takes.{Takes}
+use Rattle.buffer_book.specs.declared.fault.PurgeFault.{PurgeFault}
+use Rattle.buffer_book.specs.Claims.{Claimed, id_of}
+
+-- what an evidence shows: a receiver acknowledged this chunk, or entries are in a sink for it, or it was sent and no acknowledgement is required, or it is given up
+pub data Shows : Type 0 where
+  Acknowledged : (id : ChunkId) → Shows
+  StoredAs : (id : ChunkId) (stored : StoredView) → Shows
+  Written : (id : ChunkId) → Shows
+  Expired : (id : ChunkId) → Shows
+
+-- the chunk that it names
+abbrev pub named : Shows → ChunkId
+named (Acknowledged id) = id
+named (StoredAs id stored) = id
+named (Written id) = id
+named (Expired id) = id
+
+-- the output forwards, and requires acknowledgements
+abbrev pub IsAcknowledging : {A : Type 0} → Basis A → Type 0
+IsAcknowledging basis.Acknowledged = Unit {0}
+IsAcknowledging (basis.Stored sink) = ⊥
+IsAcknowledging basis.Written = ⊥
+
+-- the output writes the sink of this path
+abbrev pub IsSink : {A : Type 0} → Basis A → List ℕ → Type 0
+IsSink basis.Acknowledged path = ⊥
+IsSink (basis.Stored sink) path = path ≡ sink.items
+IsSink basis.Written path = ⊥
+
+-- the output forwards, and requires no acknowledgements
+abbrev pub IsWriting : {A : Type 0} → Basis A → Type 0
+IsWriting basis.Acknowledged = ⊥
+IsWriting (basis.Stored sink) = ⊥
+IsWriting basis.Written = Unit {0}
+
+-- The evidence is of a kind that lets chunks of this buffer go: what its output gives, of its sink's path; or the end of retries, where they end.
+abbrev pub IsOfKind : {A : Type 0} → Takes A → Shows → Type 0
+IsOfKind takes (Acknowledged id) = IsAcknowledging takes.basis
+IsOfKind takes (StoredAs id stored) = IsSink takes.basis stored.path
+IsOfKind takes (Written id) = IsWriting takes.basis
+IsOfKind takes (Expired id) = takes.expires ≡ true
+
+-- The evidence is for the claimed chunk of the buffer of this name: the claim is of this buffer, and the evidence names this chunk, and is of a kind that lets chunks go.
+abbrev pub IsFor : {A : Type 0} → Leaf → Takes A → Claimed → Shows → Type 0
+IsFor leaf takes claim shown = (claim.leaf ≡ leaf) × (named shown ≡ id_of claim) × IsOfKind takes shown
+
+-- what is in the sink are the tag and the entries of the live chunk of this serial
+abbrev pub IsWhole : State → ℕ → StoredView → Type 0
+IsWhole state serial stored = IsSomeAnd (chunk_at state serial) (λ chunk. (chunk.tag ≡ stored.tag) × (chunk.entries ≡ stored.entries))
+
+-- what the evidence shows to be in a sink
+abbrev pub stored_of : Shows → Option StoredView
+stored_of (Acknowledged id) = None
+stored_of (StoredAs id stored) = Some stored
+stored_of (Written id) = None
+stored_of (Expired id) = None
+
+-- where the evidence shows what is in a sink, that is the live chunk of this serial
+abbrev pub ShowsWhole : State → ℕ → Shows → Type 0
+ShowsWhole state serial shown = IfSome (stored_of shown) (IsWhole state serial)
+
+-- The evidence lets the claimed chunk go: it is for it, and what it shows to be in a sink is the chunk's tag and entries.
+abbrev pub Serves : {A : Type 0} → Leaf → Takes A → State → Claimed → Shows → Type 0
+Serves leaf takes state claim shown = IsFor leaf takes claim shown × ShowsWhole state claim.serial shown
+
+-- the chunk to drop to make room: the queued one of least serial, where chunks may be dropped
+abbrev pub to_drop : {A : Type 0} → Takes A → State → Option ℕ
+to_drop takes state = cond takes.drops (oldest state) None
+
+-- the call was refused so
+abbrev pub IsRefused : {T C E : Type 0} → PurgeFault → Result T (PurgeFault × C × E) → Type 0
+IsRefused fault (Ok done) = ⊥
+IsRefused fault (Err refused) = refused.0 ≡ fault
+
+-- the answer, without what a refusal hands back
+abbrev pub answer_of : {T C E : Type 0} → Result T (PurgeFault × C × E) → Result T PurgeFault
+answer_of (Ok done) = Ok done
+answer_of (Err refused) = Err refused.0

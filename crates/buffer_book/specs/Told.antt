@@ -1,0 +1,18 @@
+-- What contracts are told of a book's past. It has no bytes.
+use Rattle.std.specs.Prelude.{ℕ, List, length, map}
+use Rattle.book_audit.specs.declared.line.Line.{Line}
+use Rattle.buffer_state.specs.State.{State}
+use Rattle.buffer_book.specs.declared.past.Written.{Written}
+
+-- What was told so far: how many entries each chunk had that was live when the book began, by serial; each append since, in order; each append that got a receipt, in the order of the receipts;
+-- and the serial of each chunk that was purged or dropped. How many times something was told only says that the past is finite.
+pub record ToldPast : Type 0 where
+  pub times : ℕ
+  pub first : List (ℕ × ℕ)
+  pub appends : List Line
+  pub lines : List Written
+  pub removed : List ℕ
+
+-- how many entries each live chunk has, by serial
+abbrev pub counts_of : State → List (ℕ × ℕ)
+counts_of state = map (λ numbered. (numbered.0, length numbered.1.entries)) state.chunks

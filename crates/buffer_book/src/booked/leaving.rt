@@ -1,0 +1,215 @@
+//! How chunks leave a buffer.
+
+ghost use Rattle.std.specs.Prelude.{◌≡◌, ◌≢◌, ◌↔◌, ◌⊎◌, ◌++◌, ◌∷◌, [], ℕ, true, false, Some, None, Ok, Err, IfOk, IfErr, IfSome, IsSome, IsSomeAnd, OnOk, OnErr, IsTrue, option_map};
+ghost use Rattle.buffer_state.specs.State.{IsAt, chunk_at};
+ghost use Rattle.buffer_state.specs.Steps.{claimed, first_of, queued_last};
+ghost use Rattle.buffer_state.specs.declared.chunk.Stage.TheVariants.{Claimed};
+ghost use Rattle.buffer_store.specs.declared.fault.BufferFault.{BufferFault};
+ghost use Rattle.buffer_book.specs.declared.fault.PurgeFault.{PurgeFault};
+ghost use Rattle.buffer_book.specs.Claims.{IsCopied};
+ghost use Rattle.buffer_book.specs.Evidences.{IsRefused, IsWhole, Serves, stored_of, to_drop};
+ghost use Rattle.buffer_book.specs.Books.{Removes, Steady, Unchanged};
+
+use super::Booked;
+use crate::claim::Claim;
+use crate::evidence::Evidence;
+use crate::fault::PurgeFault;
+use crate::takes::Takes;
+use book_audit::Leaf;
+use buffer_state::{LiveChunks, Stage};
+use buffer_store::BufferFault;
+use disk_files::Dir;
+use event_modes::Entries;
+use sink_series::Stored;
+use std::alloc::{AllocError, Allocator};
+
+impl<D: Dir, A: Allocator + Copy> Booked<D, A> {
+    /// Claims the first of the queue, if anything is queued. The claim has the buffer's name and a copy of the chunk's tag.
+    /// It writes nothing, and goes on after a fault. The book stays as it is.
+    ///
+    /// The error is want of memory, and changes nothing: the order of the queue stays too.
+    pub fn claim(&mut self, leaf: Leaf) -> Result<Option<Claim<A>>, AllocError>
+        ensures first { IfOk result (λ claim. option_map (λ c. c.serial) claim ≡ first_of self.old.buffer.chunks.queue) }
+        ensures leaf { IfOk result (λ claim. IfSome claim (λ c. c.leaf ≡ leaf)) }
+        ensures copied { IfOk result (λ claim. IfSome claim (λ c. IsCopied c self.old.buffer.chunks)) }
+        ensures taken { IfOk result (λ claim. IfSome claim (λ c. IsAt Claimed self.new.buffer.chunks c.serial)) }
+        ensures state { OnOk result (self.new ≡ record self.old { buffer = record self.old.buffer { chunks = claimed self.old.buffer.chunks } }) }
+        ensures err { OnErr result (self.new ≡ self.old) }
+    {
+        let Some(serial) = self.buffer.chunks().first() else {
+            return Ok(None);
+        };
+        let Some(facts) = self.buffer.chunks().facts(serial) else {
+            return Ok(None);
+        };
+        let claim = Claim::of(self.alloc, leaf, serial, facts.tag, facts.count)?;
+        let _ = self.buffer.claim();
+        Ok(Some(claim))
+    }
+
+    /// The entries of a claimed chunk of this buffer, as the journal has them.
+    ///
+    /// `Gone` where the claim is of another buffer, or its chunk isn't live; `Memory`; `Fault` where a read failed, which leaves the buffer as it was.
+    pub fn body(&mut self, leaf: Leaf, claim: &Claim<A>) -> Result<Entries<A>, BufferFault>
+        ensures entries { IfOk result (λ entries. IsSomeAnd (chunk_at self.old.buffer.chunks claim.now.serial) (λ chunk. entries ≡ chunk.entries)) }
+        ensures gone { (result ≡ Err BufferFault.Gone) ↔ ((claim.now.leaf ≢ leaf) ⊎ (chunk_at self.old.buffer.chunks claim.now.serial ≡ None)) }
+        ensures only { OnErr result ((result ≡ Err BufferFault.Gone) ⊎ ((result ≡ Err BufferFault.Memory) ⊎ (result ≡ Err BufferFault.Fault))) }
+        ensures rest { self.new ≡ record self.old { buffer = record self.old.buffer { dir = self.new.buffer.dir } } }
+    {
+        if claim.leaf() != leaf {
+            return Err(BufferFault::Gone);
+        }
+        self.buffer.body(claim.serial())
+    }
+
+    /// Ends a claim whose chunk wasn't delivered: the chunk goes to the end of the queue where it is claimed.
+    /// Nothing changes where it isn't, or where the claim is of another buffer.
+    /// It takes no memory, writes nothing, and goes on after a fault. The book stays as it is.
+    pub fn give_back(&mut self, leaf: Leaf, claim: Claim<A>)
+        ensures back { claim.leaf ≡ leaf → IsAt Claimed self.old.buffer.chunks claim.serial
+            → self.new ≡ record self.old { buffer = record self.old.buffer { chunks = queued_last claim.serial self.old.buffer.chunks } } }
+        ensures other { (IsAt Claimed self.old.buffer.chunks claim.serial → ⊥) → self.new ≡ self.old }
+        ensures stranger { claim.leaf ≢ leaf → self.new ≡ self.old }
+    {
+        let is_of = claim.leaf() == leaf;
+        let serial = claim.serial();
+        claim.end();
+        if is_of && is_claimed(&self.buffer.chunks(), serial) {
+            self.buffer.give_back(serial);
+        }
+    }
+
+    /// Lets the chunk of a claim go, on evidence that it may, and notes that it is removed. The journal isn't synced, so that a stop may bring the chunk back, queued.
+    ///
+    /// `Stranger` where the claim is of another buffer, or the evidence doesn't serve: it names another chunk, or is of a kind that isn't taken,
+    /// or is of another sink, tag or entries than the live chunk's; in its place `Memory` or `Fault` where the entries couldn't be read.
+    /// Then the first of `Failed`, `Gone`, `Memory` and `Fault` that applies; `Gone` where the chunk isn't claimed.
+    /// Each refusal hands claim and evidence back, and changes neither the chunks nor the book.
+    pub fn purge(
+        &mut self,
+        leaf: Leaf,
+        takes: &Takes<A>,
+        claim: Claim<A>,
+        evidence: Evidence<A>,
+    ) -> Result<(), (PurgeFault, Claim<A>, Evidence<A>)>
+        ensures serves { OnOk result (Serves leaf takes.now self.old.buffer.chunks claim evidence) }
+        ensures removes { OnOk result (Removes claim.serial self.old self.new) }
+        ensures stranger { IsRefused PurgeFault.Stranger result → Serves leaf takes.now self.old.buffer.chunks claim evidence → ⊥ }
+        ensures never { (Serves leaf takes.now self.old.buffer.chunks claim evidence → ⊥)
+            → IfErr result (λ e. (e.0 ≡ PurgeFault.Stranger) ⊎ (IsSome (stored_of evidence) × ((e.0 ≡ PurgeFault.Buffer BufferFault.Memory) ⊎ (e.0 ≡ PurgeFault.Buffer BufferFault.Fault)))) }
+        ensures failed { IsRefused (PurgeFault.Buffer BufferFault.Failed) result → self.old.buffer.failed ≡ true }
+        ensures gone { IsRefused (PurgeFault.Buffer BufferFault.Gone) result → (self.old.buffer.failed ≡ false) × (IsAt Claimed self.old.buffer.chunks claim.serial → ⊥) }
+        ensures only { Serves leaf takes.now self.old.buffer.chunks claim evidence → self.old.buffer.failed ≡ false → IsAt Claimed self.old.buffer.chunks claim.serial
+            → IfErr result (λ e. (e.0 ≡ PurgeFault.Buffer BufferFault.Memory) ⊎ (e.0 ≡ PurgeFault.Buffer BufferFault.Fault)) }
+        ensures back { IfErr result (λ e. (e.1 ≡ claim) × (e.2 ≡ evidence)) }
+        ensures same { OnErr result (Unchanged self.old self.new) }
+        ensures limits { self.new.buffer.limits ≡ self.old.buffer.limits }
+    {
+        match self.serves(leaf, takes, &claim, &evidence) {
+            Ok(true) => {}
+            Ok(false) => return Err((PurgeFault::Stranger, claim, evidence)),
+            Err(fault) => return Err((PurgeFault::Buffer(fault), claim, evidence)),
+        }
+        match self.let_go(claim.serial()) {
+            Ok(()) => {
+                claim.end();
+                evidence.waste();
+                Ok(())
+            }
+            Err(fault) => Err((PurgeFault::Buffer(fault), claim, evidence)),
+        }
+    }
+
+    /// Lets the queued chunk of least serial go where chunks may be dropped, notes that it is removed, and gives its serial. The journal isn't synced.
+    ///
+    /// The first of `Failed`, `Gone`, `Memory` and `Fault` that applies; `Gone` where nothing is queued, or where this buffer's chunks may not be dropped.
+    /// None changes the chunks or the book.
+    pub fn drop_oldest(&mut self, takes: &Takes<A>) -> Result<u64, BufferFault>
+        ensures oldest { IfOk result (λ serial. to_drop takes.now self.old.buffer.chunks ≡ Some serial) }
+        ensures removes { IfOk result (λ serial. Removes serial self.old self.new) }
+        ensures gone { (result ≡ Err BufferFault.Gone) ↔ ((self.old.buffer.failed ≡ false) × (to_drop takes.now self.old.buffer.chunks ≡ None)) }
+        ensures only { self.old.buffer.failed ≡ false → (serial : ℕ) → to_drop takes.now self.old.buffer.chunks ≡ Some serial
+            → OnErr result ((result ≡ Err BufferFault.Memory) ⊎ (result ≡ Err BufferFault.Fault)) }
+        ensures same { OnErr result (Unchanged self.old self.new) }
+        ensures steady { Steady self.old.buffer self.new.buffer result }
+    {
+        if self.buffer.has_failed() {
+            return Err(BufferFault::Failed);
+        }
+        if !takes.drops {
+            return Err(BufferFault::Gone);
+        }
+        // No serial is that of two chunks.
+        self.buffer.stays_in_order();
+        let serial = self.buffer.drop_oldest()?;
+        self.past = self.past.then_removed(&serial);
+        Ok(serial)
+    }
+
+    // Whether the evidence lets the claimed chunk go.
+    fn serves(
+        &mut self,
+        leaf: Leaf,
+        takes: &Takes<A>,
+        claim: &Claim<A>,
+        evidence: &Evidence<A>,
+    ) -> Result<bool, BufferFault>
+        ensures serves { IfOk result (λ serves. IsTrue serves ↔ Serves leaf takes.now self.old.buffer.chunks claim.now evidence.now) }
+        ensures read { OnErr result (IsSome (stored_of evidence.now) × ((result ≡ Err BufferFault.Memory) ⊎ (result ≡ Err BufferFault.Fault))) }
+        ensures rest { self.new ≡ record self.old { buffer = record self.old.buffer { dir = self.new.buffer.dir } } }
+    {
+        if !evidence.is_for(leaf, takes, claim) {
+            return Ok(false);
+        }
+        match evidence.stored_in_sink() {
+            Some(stored) => self.is_stored(claim.serial(), stored),
+            None => Ok(true),
+        }
+    }
+
+    // Whether what is in a sink are the tag and the entries of the live chunk of this serial.
+    fn is_stored(&mut self, serial: u64, stored: &Stored<A>) -> Result<bool, BufferFault>
+        ensures whole { IfOk result (λ whole. IsTrue whole ↔ IsWhole self.old.buffer.chunks serial stored.now) }
+        ensures read { OnErr result ((result ≡ Err BufferFault.Memory) ⊎ (result ≡ Err BufferFault.Fault)) }
+        ensures rest { self.new ≡ record self.old { buffer = record self.old.buffer { dir = self.new.buffer.dir } } }
+    {
+        let Some(facts) = self.buffer.chunks().facts(serial) else {
+            return Ok(false);
+        };
+        if facts.tag != stored.tag() {
+            return Ok(false);
+        }
+        let entries = self.buffer.body(serial)?;
+        Ok(are_same(&entries, stored.entries()))
+    }
+
+    // Lets the claimed chunk of this serial go, and notes it.
+    fn let_go(&mut self, serial: u64) -> Result<(), BufferFault>
+        ensures removes { OnOk result (Removes serial self.old self.new) }
+        ensures gone { (result ≡ Err BufferFault.Gone) ↔ ((self.old.buffer.failed ≡ false) × (IsAt Claimed self.old.buffer.chunks serial → ⊥)) }
+        ensures only { self.old.buffer.failed ≡ false → IsAt Claimed self.old.buffer.chunks serial
+            → OnErr result ((result ≡ Err BufferFault.Memory) ⊎ (result ≡ Err BufferFault.Fault)) }
+        ensures same { OnErr result (Unchanged self.old self.new) }
+        ensures steady { Steady self.old.buffer self.new.buffer result }
+    {
+        // No serial is that of two chunks.
+        self.buffer.stays_in_order();
+        self.buffer.purge(serial)?;
+        self.past = self.past.then_removed(&serial);
+        Ok(())
+    }
+}
+
+// Whether the chunk of this serial is live and claimed.
+fn is_claimed<A: Allocator + Copy>(chunks: &LiveChunks<'_, A>, serial: u64) -> bool
+    ensures { IsTrue result ↔ IsAt Claimed chunks.now serial }
+{
+    matches!(chunks.stage(serial), Some(Stage::Claimed))
+}
+
+// Whether the lists have the same entries.
+fn are_same<A: Allocator, B: Allocator>(one: &Entries<A>, other: &Entries<B>) -> bool
+    ensures { IsTrue result ↔ (one.now ≡ other.now) }
+{
+    one.count() == other.count() && one.as_bytes() == other.as_bytes()
+}

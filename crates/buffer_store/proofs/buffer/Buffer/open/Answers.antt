@@ -1,0 +1,22 @@
+use Rattle.std.proofs.Common.{List, ℕ, sym, subst}
+use Rattle.disk_files.specs.Disk.{reads}
+use Rattle.disk_files.specs.Moments.{LeavesOnly, now}
+use Rattle.journal_files.specs.Folders.{Opens}
+use Rattle.journal_files.specs.Tellings.{OpensWithin}
+use Rattle.journal_files.specs.Disks.{HasNoStray}
+use Rattle.buffer_store.specs.Buffers.{Held}
+use Rattle.buffer_store.proofs.buffer.Buffer.open.Goals as goal
+
+pub opened-requires-clause-holds : goal.opened-requires-clause-holds
+opened-requires-clause-holds g c = λ honest stray.
+    let honest0 : g.D.Dir.is_honest c.args.dir = subst g.D.Dir.is_honest c.of-start.ensures honest in
+    let stray0 : HasNoStray c.args.path.now (now (g.D.Dir.history c.args.dir)) = subst (λ (d : g.row.D.Denot). HasNoStray c.args.path.now (now (g.D.Dir.history d))) c.of-start.ensures
+    (subst (λ (p : List ℕ). HasNoStray p (now (g.D.Dir.history c.of-start.result.value))) c.in-Ok.ensures.path stray) in
+    record { keeps = c.in-Ok.ensures.keeps honest0 stray0; means = c.in-Ok.ensures.starts }
+
+pub returns-in-Ok-clause-map : goal.returns-in-Ok-clause-map
+returns-in-Ok-clause-map g c = λ honest. subst (λ (b : Held g.row.D.Denot). Opens c.args.path.now (reads (now (g.D.Dir.history c.args.dir))) b.chunks) (sym c.opened.ensures) (c.in-Ok.ensures.state honest)
+
+pub returns-in-Ok-clause-moments : goal.returns-in-Ok-clause-moments
+returns-in-Ok-clause-moments g c = λ honest stray t before.
+    subst (λ (b : Held g.row.D.Denot). LeavesOnly (g.D.Dir.history c.args.dir) (g.D.Dir.history b.dir) (OpensWithin c.args.path.now t)) (sym c.opened.ensures) (c.open.ensures.moments honest stray t before)

@@ -1,0 +1,85 @@
+use Rattle.std.proofs.Common.{true, false, Ok, Err, inl, inr, refl, ap, subst, ◌∙◌}
+use Rattle.buffer_store.specs.Logs.{Logged, Renews}
+use Rattle.buffer_store.specs.declared.fault.BufferFault.{BufferFault}
+use Rattle.buffer_store.proofs.Logs.{reason_ok, reason_fault, reason_none}
+use Rattle.buffer_store.proofs.log.Log.renew.Goals as goal
+
+pub returns-in-Ok : goal.returns-in-Ok
+returns-in-Ok g c =
+    subst (λ (b : Logged g.row.D.Denot). Renews g.D.Dir.is_honest g.D.Dir.history g.D.Dir.fault_count b
+    (record { dir = c.renew.new.dir; journal = c.renew.new.self; failed = c.self.inside.failed; staged = false; start = c.self.inside.start.value }) c.args.chunks.now (Ok (tt {0}))) c.self.view_is
+    (record {
+      only = tt;
+      last = (λ q. absurd (cc q), λ le. absurd (let q = c.in-Ok.ensures.last.1 le in cc q));
+      flags = record { fails = λ q. absurd (cc q); stays = λ _. refl };
+      kept = tt;
+      staged = refl;
+      path = c.renew.ensures.path;
+      number = c.in-Ok.ensures.number;
+      start = refl;
+      honest = c.renew.ensures.honest;
+      elsewhere = c.renew.ensures.elsewhere;
+      untouched = λ honest no. tt;
+      cause = reason_ok (g.D.Dir.fault_count c.self.inside.dir) (g.D.Dir.fault_count c.renew.new.dir) (tt {0}) c.in-Ok.ensures.cause.passed;
+      gone = c.in-Ok.ensures.gone;
+      starts = c.in-Ok.ensures.state;
+      done = λ honest t keeps. c.in-Ok.ensures.ok honest t keeps;
+      refused = λ honest t keeps no. tt;
+      recovers = λ honest t keeps means q. absurd (cc q);
+      stray = c.renew.ensures.stray;
+      moments = c.renew.ensures.moments;
+    })
+
+pub returns-in-Err-Memory : goal.returns-in-Err-Memory
+returns-in-Err-Memory g c =
+    let is = c.in-Err-Memory.is ∙ ap Err c.in-Err-Memory.field-0-is in
+    subst (λ (b : Logged g.row.D.Denot). Renews g.D.Dir.is_honest g.D.Dir.history g.D.Dir.fault_count b
+    (record { dir = c.renew.new.dir; journal = c.renew.new.self; failed = c.self.inside.failed; staged = c.self.inside.staged; start = c.self.inside.start.value }) c.args.chunks.now (Err BufferFault.Memory)) c.self.view_is
+    (record {
+      only = inr (inl refl);
+      last = (λ q. absurd (cc q), λ le. absurd (let q = c.renew.ensures.last.1 le in cc (q, is)));
+      flags = record { fails = λ q. absurd (cc q); stays = λ _. refl };
+      kept = refl;
+      staged = tt;
+      path = c.renew.ensures.path;
+      number = tt;
+      start = refl;
+      honest = c.renew.ensures.honest;
+      elsewhere = c.renew.ensures.elsewhere;
+      untouched = λ honest no. c.renew.ensures.memory_same honest is;
+      cause = reason_none (g.D.Dir.fault_count c.self.inside.dir) (g.D.Dir.fault_count c.renew.new.dir) BufferFault.Memory (λ q. cc q) (c.renew.ensures.cause.others (λ q. cc (q, is)));
+      gone = λ honest. tt;
+      starts = tt;
+      done = λ honest t keeps. tt;
+      refused = λ honest t keeps no. c.renew.ensures.memory honest t keeps is;
+      recovers = λ honest t keeps means q. absurd (cc q);
+      stray = c.renew.ensures.stray;
+      moments = c.renew.ensures.moments;
+    })
+
+pub returns-in-Err-Fault : goal.returns-in-Err-Fault
+returns-in-Err-Fault g c =
+    let is = c.in-Err-Fault.is ∙ ap Err c.in-Err-Fault.field-0-is in
+    subst (λ (b : Logged g.row.D.Denot). Renews g.D.Dir.is_honest g.D.Dir.history g.D.Dir.fault_count b
+    (record { dir = c.renew.new.dir; journal = c.renew.new.self; failed = true; staged = c.self.inside.staged; start = c.self.inside.start.value }) c.args.chunks.now (Err BufferFault.Fault)) c.self.view_is
+    (record {
+      only = inr (inr refl);
+      last = (λ q. absurd (cc q), λ le. absurd (let q = c.renew.ensures.last.1 le in cc (q, is)));
+      flags = record { fails = λ _. refl; stays = λ no. absurd (no refl) };
+      kept = refl;
+      staged = tt;
+      path = c.renew.ensures.path;
+      number = tt;
+      start = refl;
+      honest = c.renew.ensures.honest;
+      elsewhere = c.renew.ensures.elsewhere;
+      untouched = λ honest no. absurd (no refl);
+      cause = reason_fault (g.D.Dir.fault_count c.self.inside.dir) (g.D.Dir.fault_count c.renew.new.dir) c.renew.ensures.cause.later (c.renew.ensures.cause.failed is);
+      gone = λ honest. tt;
+      starts = tt;
+      done = λ honest t keeps. tt;
+      refused = λ honest t keeps no. absurd (no refl);
+      recovers = λ honest t keeps means q. c.renew.ensures.fault honest t keeps means is;
+      stray = c.renew.ensures.stray;
+      moments = c.renew.ensures.moments;
+    })

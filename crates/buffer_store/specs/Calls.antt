@@ -1,0 +1,48 @@
+-- What the calls of a buffer have in common.
+use Rattle.std.specs.Prelude.{ℕ, ◌≡◌, ◌≢◌, ◌↔◌, Bool, true, List, Option, Result, OnOk, OnErr, Err}
+use Rattle.disk_files.specs.Disk.{SameDisk}
+use Rattle.disk_files.specs.Moments.{History, LeavesOnly, now}
+use Rattle.chunk_journal.specs.Records.{Record}
+use Rattle.journal_files.specs.Folders.{journal_name}
+use Rattle.journal_files.specs.Tellings.{Telling, IsTelling, OpensWithin}
+use Rattle.journal_files.specs.Disks.{Recovers, HasNoStray}
+use Rattle.journal_files.specs.Faults.{HasReason}
+use Rattle.buffer_store.specs.Buffers.{Held, HoldsNow, with_more}
+use Rattle.buffer_store.specs.declared.fault.BufferFault.{BufferFault}
+
+-- how a call leaves the failed flag: it rises with a `Fault`, and stays at all else
+pub record Flags {T : Type 0} (old new : Bool) (result : Result T BufferFault) : Type 0 where
+  pub fails : result ≡ Err BufferFault.Fault → new ≡ true
+  pub stays : result ≢ Err BufferFault.Fault → new ≡ old
+
+-- What each call that writes leaves alone. A refusal keeps the chunks, and but for a fault the folder too; a buffer that the device failed before refuses the call.
+pub record Stays {D T : Type 0} (is_honest : D → Type 0) (history : D → History) (fault_count : D → ℕ) (old new : Held D) (result : Result T BufferFault) : Type 0 where
+  pub err : OnErr result (new.chunks ≡ old.chunks)
+  pub failed : (result ≡ Err BufferFault.Failed) ↔ (old.failed ≡ true)
+  pub flags : Flags old.failed new.failed result
+  pub staged : OnErr result (new.staged ≡ old.staged)
+  pub limits : new.limits ≡ old.limits
+  pub renewed_past : new.renewed_past ≡ old.renewed_past
+  pub path : new.journal.path ≡ old.journal.path
+  pub start : new.start ≡ old.start
+  pub honest : is_honest old.dir → is_honest new.dir
+  pub untouched : is_honest old.dir → result ≢ Err BufferFault.Fault → OnErr result (SameDisk (now (history new.dir)) (now (history old.dir)))
+  pub cause : HasReason (fault_count old.dir) (fault_count new.dir) result BufferFault.Fault
+
+-- the same of a call that stays within the generation: it keeps the files of all other names too
+pub record StaysWithin {D T : Type 0} (is_honest : D → Type 0) (history : D → History) (fault_count : D → ℕ) (old new : Held D) (result : Result T BufferFault) : Type 0 where
+  pub rest : Stays is_honest history fault_count old new result
+  pub number : new.journal.number ≡ old.journal.number
+  pub elsewhere : is_honest old.dir → (name : List ℕ) → name ≢ journal_name old.journal.path old.journal.number → now (history new.dir) name ≡ now (history old.dir) name
+
+-- What a call makes of what the journal tells, where it begins this step, or none. After `Ok` the journal tells what is answered. After `Fault` each stop leaves
+-- the steps told before, with the one begun or without it, and no stray generation. After any other refusal the journal tells what it told.
+-- A stop at any moment of the call, whatever it answers, leaves a folder that opens to the state after some of these steps, all sure ones among them.
+pub record Begins {D T : Type 0} (history : D → History) (old new : Held D) (more : Option Record) (answered : Telling → Telling) (result : Result T BufferFault) : Type 0 where
+  pub done : (t : Telling) → HoldsNow history old t → OnOk result (HoldsNow history new (answered (with_more more t)))
+  pub refused : (t : Telling) → HoldsNow history old t → result ≢ Err BufferFault.Fault → OnErr result (HoldsNow history new t)
+  pub recovers : (t : Telling) → HoldsNow history old t → result ≡ Err BufferFault.Fault → Recovers old.journal.path (now (history new.dir)) (with_more more t)
+  pub could : (t : Telling) → HoldsNow history old t → result ≡ Err BufferFault.Fault → IsTelling (with_more more t)
+  pub stray : (t : Telling) → HoldsNow history old t → result ≡ Err BufferFault.Fault → HasNoStray old.journal.path (now (history new.dir))
+  pub moments : (t : Telling) → HoldsNow history old t → LeavesOnly (history old.dir) (history new.dir) (OpensWithin old.journal.path (with_more more t))
+  pub quiet : (t : Telling) → HoldsNow history old t → result ≢ Err BufferFault.Fault → OnErr result (LeavesOnly (history old.dir) (history new.dir) (OpensWithin old.journal.path t))

@@ -1,0 +1,118 @@
+-- The journal of a buffer in its folder, and what one record more makes of it. (Words of private functions.)
+use Rattle.std.specs.Prelude.{ℕ, ◌≡◌, ◌≢◌, ◌⊎◌, ◌↔◌, ◌≤◌, ◌+◌, ◌^◌, ◌||◌, Bool, true, false, cond, List, Option, None, Result, OnOk, OnErr, Err}
+use Rattle.disk_files.specs.Disk.{SameDisk, reads}
+use Rattle.disk_files.specs.Moments.{History, LeavesOnly, now}
+use Rattle.disk_files.specs.declared.dir.FileNo.{FileNo}
+use Rattle.buffer_state.specs.Steps.{settled, reopened}
+use Rattle.chunk_journal.specs.Records.{Record, Seal, Append, Queue, Purge}
+use Rattle.chunk_journal.specs.Meaning.{Allows}
+use Rattle.journal_files.specs.Folders.{journal_name}
+use Rattle.journal_files.specs.Tellings.{Telling, IsTelling, OpensWithin, begun, all_sure, opening, state_of}
+use Rattle.journal_files.specs.Views.{OpenJournal, IsOpenIn}
+use Rattle.journal_files.specs.Disks.{Keeps, Recovers, HasNoStray}
+use Rattle.journal_files.specs.Faults.{HasReason}
+use Rattle.buffer_state.specs.State.{State}
+use Rattle.buffer_store.specs.Buffers.{Held, sure_if}
+use Rattle.buffer_store.specs.declared.settings.Settings.{Settings}
+use Rattle.buffer_store.specs.Calls.{Flags}
+use Rattle.buffer_store.specs.declared.fault.BufferFault.{BufferFault}
+
+-- the folder, the journal that is open in it, how the device has done since, and the folder as the opening found it
+pub record Logged (D : Type 0) : Type 0 where
+  pub dir : D
+  pub journal : OpenJournal
+  pub failed : Bool
+  pub staged : Bool
+  pub start : D
+
+-- the buffer of this log, these chunks and settings
+abbrev pub held_of : {D : Type 0} → Logged D → State → Settings → Held D
+held_of log chunks settings = record {
+  dir = log.dir;
+  journal = log.journal;
+  chunks = chunks;
+  limits = settings.limits;
+  renewed_past = settings.renewed_past;
+  failed = log.failed;
+  staged = log.staged;
+  start = log.start;
+}
+
+-- the journal is open until the device fails
+abbrev pub IsGoing : {D : Type 0} → (D → FileNo → Option (List ℕ)) → Logged D → Type 0
+IsGoing opened log = log.failed ≡ false → IsOpenIn log.journal (opened log.dir)
+
+-- whether the record tells an append
+abbrev pub is_append : Record → Bool
+is_append (Seal next) = false
+is_append (Append serial tag entries) = true
+is_append (Queue serial) = false
+is_append (Purge serial) = false
+
+-- the disk has the journal so
+abbrev pub KeepsNow : {D : Type 0} → (D → History) → Logged D → Telling → Type 0
+KeepsNow history log t = Keeps log.journal (now (history log.dir)) t
+
+-- One record more is told, and synced or not. The error is want of memory or the device's fault.
+pub record Writes {D T : Type 0} (is_honest : D → Type 0) (history : D → History) (fault_count : D → ℕ) (old new : Logged D) (item : Record) (synced : Bool) (result : Result T BufferFault) : Type 0 where
+  pub only : OnErr result ((result ≡ Err BufferFault.Memory) ⊎ (result ≡ Err BufferFault.Fault))
+  pub flags : Flags old.failed new.failed result
+  pub kept : OnErr result (new.staged ≡ old.staged)
+  pub staged : OnOk result (new.staged ≡ cond synced false (is_append item || old.staged))
+  pub path : new.journal.path ≡ old.journal.path
+  pub number : new.journal.number ≡ old.journal.number
+  pub start : new.start ≡ old.start
+  pub honest : is_honest old.dir → is_honest new.dir
+  pub elsewhere : is_honest old.dir → (name : List ℕ) → name ≢ journal_name old.journal.path old.journal.number → now (history new.dir) name ≡ now (history old.dir) name
+  pub untouched : is_honest old.dir → result ≢ Err BufferFault.Fault → OnErr result (SameDisk (now (history new.dir)) (now (history old.dir)))
+  pub cause : HasReason (fault_count old.dir) (fault_count new.dir) result BufferFault.Fault
+  pub done : is_honest old.dir → (t : Telling) → KeepsNow history old t → Allows (state_of t) item → OnOk result (KeepsNow history new (sure_if synced (begun item t)))
+  pub refused : is_honest old.dir → (t : Telling) → KeepsNow history old t → result ≢ Err BufferFault.Fault → OnErr result (KeepsNow history new t)
+  pub recovers : is_honest old.dir → (t : Telling) → KeepsNow history old t → Allows (state_of t) item → result ≡ Err BufferFault.Fault
+      → Recovers old.journal.path (now (history new.dir)) (begun item t)
+  pub could : is_honest old.dir → (t : Telling) → KeepsNow history old t → Allows (state_of t) item → result ≡ Err BufferFault.Fault → IsTelling (begun item t)
+  pub stray : is_honest old.dir → (t : Telling) → KeepsNow history old t → Allows (state_of t) item → result ≡ Err BufferFault.Fault → HasNoStray old.journal.path (now (history new.dir))
+  pub moments : is_honest old.dir → (t : Telling) → KeepsNow history old t → Allows (state_of t) item
+      → LeavesOnly (history old.dir) (history new.dir) (OpensWithin old.journal.path (begun item t))
+  pub quiet : is_honest old.dir → (t : Telling) → KeepsNow history old t → result ≢ Err BufferFault.Fault
+      → OnErr result (LeavesOnly (history old.dir) (history new.dir) (OpensWithin old.journal.path t))
+
+-- All that was told is synced. The error is the device's fault.
+pub record Syncs {D T : Type 0} (is_honest : D → Type 0) (history : D → History) (fault_count : D → ℕ) (old new : Logged D) (result : Result T BufferFault) : Type 0 where
+  pub only : OnErr result (result ≡ Err BufferFault.Fault)
+  pub flags : Flags old.failed new.failed result
+  pub kept : OnErr result (new.staged ≡ old.staged)
+  pub staged : OnOk result (new.staged ≡ false)
+  pub journal : new.journal ≡ old.journal
+  pub start : new.start ≡ old.start
+  pub honest : is_honest old.dir → is_honest new.dir
+  pub elsewhere : is_honest old.dir → (name : List ℕ) → name ≢ journal_name old.journal.path old.journal.number → now (history new.dir) name ≡ now (history old.dir) name
+  pub cause : HasReason (fault_count old.dir) (fault_count new.dir) result BufferFault.Fault
+  pub done : is_honest old.dir → (t : Telling) → KeepsNow history old t → OnOk result (KeepsNow history new (all_sure t))
+  pub failed : is_honest old.dir → (t : Telling) → KeepsNow history old t → OnErr result (KeepsNow history new t)
+  pub moments : is_honest old.dir → (t : Telling) → KeepsNow history old t → LeavesOnly (history old.dir) (history new.dir) (OpensWithin old.journal.path t)
+
+-- The journal goes on in a new generation that tells these chunks.
+pub record Renews {D T : Type 0} (is_honest : D → Type 0) (history : D → History) (fault_count : D → ℕ) (old new : Logged D) (chunks : State) (result : Result T BufferFault) : Type 0 where
+  pub only : OnErr result ((result ≡ Err BufferFault.LastSerial) ⊎ ((result ≡ Err BufferFault.Memory) ⊎ (result ≡ Err BufferFault.Fault)))
+  pub last : (result ≡ Err BufferFault.LastSerial) ↔ (2 ^ 32 ≤ old.journal.number + 1)
+  pub flags : Flags old.failed new.failed result
+  pub kept : OnErr result (new.staged ≡ old.staged)
+  pub staged : OnOk result (new.staged ≡ false)
+  pub path : new.journal.path ≡ old.journal.path
+  pub number : OnOk result (new.journal.number ≡ old.journal.number + 1)
+  pub start : new.start ≡ old.start
+  pub honest : is_honest old.dir → is_honest new.dir
+  pub elsewhere : is_honest old.dir → (name : List ℕ) → name ≢ journal_name old.journal.path old.journal.number → name ≢ journal_name old.journal.path (old.journal.number + 1)
+      → now (history new.dir) name ≡ now (history old.dir) name
+  pub untouched : is_honest old.dir → result ≢ Err BufferFault.Fault → OnErr result (SameDisk (now (history new.dir)) (now (history old.dir)))
+  pub cause : HasReason (fault_count old.dir) (fault_count new.dir) result BufferFault.Fault
+  pub gone : is_honest old.dir → OnOk result (reads (now (history new.dir)) (journal_name old.journal.path old.journal.number) ≡ None)
+  pub starts : OnOk result (settled (state_of (opening chunks)) ≡ reopened chunks)
+  pub done : is_honest old.dir → (t : Telling) → KeepsNow history old t → OnOk result (KeepsNow history new (opening chunks))
+  pub refused : is_honest old.dir → (t : Telling) → KeepsNow history old t → result ≢ Err BufferFault.Fault → OnErr result (KeepsNow history new t)
+  pub recovers : is_honest old.dir → (t : Telling) → KeepsNow history old t → settled (state_of t) ≡ reopened chunks → result ≡ Err BufferFault.Fault
+      → Recovers old.journal.path (now (history new.dir)) t
+  pub stray : is_honest old.dir → (t : Telling) → KeepsNow history old t → HasNoStray old.journal.path (now (history new.dir))
+  pub moments : is_honest old.dir → (t : Telling) → KeepsNow history old t → settled (state_of t) ≡ reopened chunks
+      → LeavesOnly (history old.dir) (history new.dir) (OpensWithin old.journal.path t)

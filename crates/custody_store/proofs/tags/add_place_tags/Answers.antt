@@ -1,0 +1,18 @@
+use Rattle.std.proofs.Common.{◌≡◌, sym, arith}
+use Rattle.std.proofs.lemmas.List.{take_all}
+use Rattle.step_lines.specs.Texts.{texts_of}
+use Rattle.custody_store.specs.Contents.{buffer_of}
+use Rattle.custody_store.specs.Tags.{Covers, OfOne, HoldsUnder}
+use Rattle.custody_store.proofs.Covering.{taken_more, covers_none, covers_more, covers_as}
+use Rattle.custody_store.proofs.tags.add_place_tags.Goals as goal
+
+pub loop-place-init : goal.loop-place-init
+loop-place-init g c = covers_none (λ place t. OfOne (λ buffer u. HoldsUnder (buffer_of buffer) u) place.buffers.items t) (texts_of c.args.tags.now.items)
+
+pub loop-place-preserved : goal.loop-place-preserved
+loop-place-preserved g c =
+    let more = taken_more c.args.places.now c.loop-place.place-index c.place-item.result (omega arith) c.place-item.is in
+    rw more (covers_more (λ place t. OfOne (λ buffer u. HoldsUnder (buffer_of buffer) u) place.buffers.items t) _ c.place-item.result _ _ _ c.loop-place.invariant ((rw c.as_slice.ensures.value at c.in_ok-add_buffer_tags.ensures)))
+
+pub returns : goal.returns
+returns g c = rw (take_all c.loop-place.place-index c.args.places.now (omega arith)) at c.loop-place.invariant

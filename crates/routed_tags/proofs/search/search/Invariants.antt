@@ -1,0 +1,9 @@
+use Rattle.std.proofs.Common.{◌≤◌, ◌-◌, ◌^◌, length, vec_len}
+use Rattle.routed_tags.proofs.Reaching.{IsSearched}
+use Rattle.routed_tags.proofs.search.search.Given as goal
+
+abbrev pub invariant-loop-next : goal.invariant-loop-next
+invariant-loop-next g l = (l.next ≤ vec_len l.found) × (length l.wanted ≤ 1024) × IsSearched l.net (record { host = l.host; port = l.port }) l.tag l.wanted l.found.items l.next
+
+abbrev pub decreases-loop-next : goal.decreases-loop-next
+decreases-loop-next g l = 2 ^ 64 - l.next
