@@ -1,9 +1,7 @@
 //! The program: words of the command line, each of which reads, answers and gives a status.
 #![tactic(auto)]
 
-mod conf;
 mod decode;
-mod flush;
 mod folder;
 mod hex_text;
 mod laws;
@@ -14,7 +12,6 @@ mod network_tests;
 mod opening;
 mod output;
 mod reading;
-mod relay;
 mod replay;
 mod status;
 #[cfg(test)]
@@ -24,7 +21,6 @@ mod words;
 use decode::run_decode;
 use folder::Folder;
 use network::{run_check, run_replay};
-use relay::run_relay;
 use status::Status;
 use std::io::ErrorKind;
 use std::process::ExitCode;
@@ -38,11 +34,11 @@ fn usage(rt: &impl Eprint) -> Status {
     Status::Usage
 }
 
-// Does what a word asks for that ends by itself.
-fn run(rt: &HostRuntime, word: Option<Word<'_>>) -> Status {
+// Does what the words ask for.
+fn run(rt: &HostRuntime, words: &[String]) -> Status {
     let folder = Folder::new(rt);
     let out = &mut io::writer(rt);
-    match word {
+    match read_word(words) {
         Some(Word::Decode) => run_decode(rt.alloc(), &mut rt.stdin(), out),
         Some(Word::Check(net)) => run_check(rt.alloc(), &mut folder.text(net), &folder, out),
         Some(Word::Replay(net, steps)) => run_replay(
@@ -63,16 +59,7 @@ fn called_with(rt: &HostRuntime) -> io::Result<Vec<String>> {
 
 fn main(rt: HostRuntime) -> ExitCode {
     let status = match called_with(&rt) {
-        Ok(words) => match read_word(&words) {
-            Some(Word::Relay(conf, number, path)) => {
-                let mut conf = Folder::new(&rt).text(conf);
-                match run_relay(&rt, &mut conf, number, path) {
-                    Some(status) => status,
-                    None => usage(&rt),
-                }
-            }
-            word => run(&rt, word),
-        },
+        Ok(words) => run(&rt, &words),
         Err(e) if e.kind() == ErrorKind::OutOfMemory => {
             let _ = rt.println("fault memory");
             Status::Usage
