@@ -1,172 +1,348 @@
+//! Buffers in a folder, over stops and over a device that fails.
+
+use crate::script::{Answer, Failing, OPENING, Row, Sitting, Step, WIDE, Went, play, sit, sit_all};
 use buffer_state::{Limits, Stage};
-use buffer_store::{Buffer, BufferFault, RENEWED_PAST_IN_MEMORY, Settings};
-use disk_files::{Dir, Fuse, Keep, MemoryDir};
-use event_modes::Entries;
-use std::alloc::{AllocError, Global};
+use buffer_store::BufferFault;
+use disk_files::{Dir, DirError, Keep, MemoryDir};
+use std::alloc::Global;
 
-const ENTRY: [u8; 3] = [0x92, 0x01, 0x80];
-
-const WIDE: Limits = Limits {
-    chunk: u64::MAX,
-    total: u64::MAX,
-};
-
-// So many entries of three bytes.
-fn entries(alloc: Global, count: usize) -> Result<Entries<Global>, AllocError> {
-    let mut entries = Entries::new(alloc);
-    for _ in 0..count {
-        if let Some(one) = Entries::read(alloc, &ENTRY, 1)? {
-            entries.append(&one)?;
-        }
-    }
-    Ok(entries)
-}
-
-fn settings(limits: Limits) -> Settings {
-    Settings {
-        limits,
-        renewed_past: RENEWED_PAST_IN_MEMORY,
-    }
-}
-
-fn open<D: Dir + Drop>(
-    alloc: Global,
-    dir: D,
-    limits: Limits,
-) -> Result<Buffer<D, Global>, BufferFault> {
-    match Buffer::open(alloc, dir, b"buf", settings(limits)) {
-        Ok(buffer) => Ok(buffer),
-        Err((fault, _dir)) => Err(fault),
-    }
-}
-
-// Appends so many entries of the tag `a`, and gives the serial.
-fn append<D: Dir>(
-    alloc: Global,
-    buffer: &mut Buffer<D, Global>,
-    count: usize,
-) -> Result<u64, BufferFault> {
-    let some = entries(alloc, count)?;
-    if some.count() == 0 {
-        return Err(BufferFault::Memory);
-    }
-    Ok(buffer.append(b"a", &some)?.serial)
-}
-
-// What a buffer leaves whose first append fails after so many calls of the folder; none where it doesn't.
-fn torn_at(alloc: Global, passes: u64) -> Result<Option<MemoryDir<Global>>, BufferFault> {
-    let fuse = Fuse::once(MemoryDir::new(alloc), passes);
-    let Ok(mut buffer) = Buffer::open(alloc, fuse, b"buf", settings(WIDE)) else {
-        return Ok(None);
-    };
-    let first = append(alloc, &mut buffer, 1);
-    if first != Err(BufferFault::Fault) || buffer.chunks().next_serial() != 0 {
-        return Ok(None);
-    }
-    if append(alloc, &mut buffer, 1) != Err(BufferFault::Failed) {
-        return Ok(None);
-    }
-    Ok(Some(buffer.into_dir().into_inner()))
-}
-
-// The folder of a buffer whose first append failed as late as can be, in its sync, after this stop.
-fn torn(alloc: Global, keep: Keep) -> Result<Buffer<MemoryDir<Global>, Global>, BufferFault> {
-    let mut last = None;
-    for passes in 0..40u64 {
-        if let Some(dir) = torn_at(alloc, passes)? {
-            last = Some(dir);
-        }
-    }
-    match last {
-        Some(dir) => open(alloc, dir.stop(keep), WIDE),
-        None => Err(BufferFault::Gone),
-    }
-}
+const STEPS: [Sitting; 3] = [
+    Sitting {
+        calls: Failing::Never,
+        rows: &[
+            (Step::WantsRenewal, Answer::Is(false)),
+            (Step::Append(b'a', 1), Answer::Serial(0)),
+            (Step::Enqueue(7), Answer::Refused(BufferFault::Gone)),
+            (Step::Enqueue(0), Answer::Done),
+            (Step::Enqueue(0), Answer::Refused(BufferFault::Gone)),
+            (Step::Purge(0), Answer::Refused(BufferFault::Gone)),
+            (Step::Claim, Answer::Serial(0)),
+            (Step::GiveBack(0), Answer::Done),
+            (Step::Claim, Answer::Serial(0)),
+            (Step::Claim, Answer::Nothing),
+        ],
+        keep: Keep::Least,
+    },
+    Sitting {
+        calls: Failing::Never,
+        rows: &[
+            (Step::Look(0), Answer::At(Stage::Queued)),
+            (Step::Next, Answer::Serial(1)),
+            (Step::Claim, Answer::Serial(0)),
+            (Step::Purge(0), Answer::Done),
+            (Step::Look(0), Answer::Nothing),
+        ],
+        keep: Keep::Least,
+    },
+    Sitting {
+        calls: Failing::Never,
+        rows: &[(Step::Look(0), Answer::At(Stage::Queued))],
+        keep: Keep::Least,
+    },
+];
 
 #[test]
-fn steps_and_opening_again(rt: HostRuntime) -> Result<(), BufferFault> {
-    let alloc = rt.alloc();
-    let mut buffer = open(alloc, MemoryDir::new(alloc), WIDE)?;
-    assert!(rt; append(alloc, &mut buffer, 1)? == 0);
-    assert!(rt; buffer.enqueue(7) == Err(BufferFault::Gone));
-    buffer.enqueue(0)?;
-    assert!(rt; buffer.enqueue(0) == Err(BufferFault::Gone));
-    assert!(rt; buffer.purge(0) == Err(BufferFault::Gone));
-    let Some(claimed) = buffer.claim() else {
-        return Err(BufferFault::Gone);
-    };
-    buffer.give_back(claimed);
-    assert!(rt; buffer.claim() == Some(0) && buffer.claim().is_none());
-    let mut buffer = open(alloc, buffer.into_dir().stop(Keep::Least), WIDE)?;
-    assert!(rt; buffer.chunks().stage(0) == Some(Stage::Queued));
-    assert!(rt; buffer.chunks().next_serial() == 1);
-    assert!(rt; buffer.claim() == Some(0));
-    buffer.purge(0)?;
-    assert!(rt; buffer.chunks().stage(0).is_none());
-    let buffer = open(alloc, buffer.into_dir().stop(Keep::Least), WIDE)?;
-    assert!(rt; buffer.chunks().stage(0) == Some(Stage::Queued));
-    Ok(())
-}
-
-#[test]
-fn oldest_goes_first(rt: HostRuntime) -> Result<(), BufferFault> {
-    let alloc = rt.alloc();
-    let mut buffer = open(alloc, MemoryDir::new(alloc), WIDE)?;
-    assert!(rt; append(alloc, &mut buffer, 1)? == 0);
-    buffer.enqueue(0)?;
-    assert!(rt; append(alloc, &mut buffer, 2)? == 1);
-    assert!(rt; append(alloc, &mut buffer, 2)? == 1);
-    buffer.enqueue(1)?;
-    assert!(rt; buffer.drop_oldest() == Ok(0) && buffer.drop_oldest() == Ok(1));
-    assert!(rt; buffer.drop_oldest() == Err(BufferFault::Gone));
-    let buffer = open(alloc, buffer.into_dir().stop(Keep::Greatest), WIDE)?;
-    assert!(rt; buffer.chunks().next_serial() == 2 && buffer.chunks().stage(1).is_none());
-    Ok(())
-}
-
-#[test]
-fn renewed(rt: HostRuntime) -> Result<(), BufferFault> {
-    let alloc = rt.alloc();
-    let mut buffer = open(alloc, MemoryDir::new(alloc), WIDE)?;
-    assert!(rt; append(alloc, &mut buffer, 1)? == 0);
-    buffer.enqueue(0)?;
-    assert!(rt; !buffer.wants_renewal());
-    buffer.renew()?;
-    assert!(rt;
-        buffer.chunks().stage(0) == Some(Stage::Queued) && buffer.chunks().next_serial() == 1
+fn steps_and_opening_again(rt: HostRuntime) {
+    assert_eq!(rt;
+        sit_all(rt.alloc(), WIDE, &STEPS),
+        (STEPS.len(), Went::Through)
     );
-    let mut dir = buffer.into_dir();
-    let names = dir.list(alloc)?;
-    assert!(rt; names.len() == 1);
-    assert!(rt; names[0].as_bytes() == b"buf.0000000002.journal".as_slice());
-    Ok(())
 }
 
+const OLDEST: [Sitting; 2] = [
+    Sitting {
+        calls: Failing::Never,
+        rows: &[
+            (Step::Append(b'a', 1), Answer::Serial(0)),
+            (Step::Enqueue(0), Answer::Done),
+            (Step::Append(b'a', 2), Answer::Serial(1)),
+            (Step::Append(b'a', 2), Answer::Serial(1)),
+            (Step::Body(1), Answer::Entries(4)),
+            (Step::Append(b'b', 1), Answer::Serial(2)),
+            (Step::Enqueue(2), Answer::Done),
+            (Step::Enqueue(1), Answer::Done),
+            (Step::Claim, Answer::Serial(0)),
+            (Step::GiveBack(0), Answer::Done),
+            (Step::First, Answer::Serial(2)),
+            (Step::DropOldest, Answer::Serial(0)),
+            (Step::DropOldest, Answer::Serial(1)),
+            (Step::DropOldest, Answer::Serial(2)),
+            (Step::DropOldest, Answer::Refused(BufferFault::Gone)),
+        ],
+        keep: Keep::Greatest,
+    },
+    Sitting {
+        calls: Failing::Never,
+        rows: &[
+            (Step::Next, Answer::Serial(3)),
+            (Step::Look(1), Answer::Nothing),
+        ],
+        keep: Keep::Least,
+    },
+];
+
 #[test]
-fn limits(rt: HostRuntime) -> Result<(), BufferFault> {
-    let alloc = rt.alloc();
+fn oldest_goes_first(rt: HostRuntime) {
+    assert_eq!(rt;
+        sit_all(rt.alloc(), WIDE, &OLDEST),
+        (OLDEST.len(), Went::Through)
+    );
+}
+
+const SHOWN: [Sitting; 1] = [Sitting {
+    calls: Failing::Never,
+    rows: &[
+        (Step::Append(b'a', 1), Answer::Serial(0)),
+        (Step::Enqueue(0), Answer::Done),
+        (Step::Append(b'b', 2), Answer::Serial(1)),
+        (Step::Facts(0), Answer::Facts(b'a', 1, 3)),
+        (Step::Facts(1), Answer::Facts(b'b', 2, 6)),
+        (Step::Facts(2), Answer::Nothing),
+        (Step::Total, Answer::Bytes(9)),
+        (Step::Sum, Answer::Bytes(9)),
+        (Step::First, Answer::Serial(0)),
+        (Step::Look(1), Answer::At(Stage::Staged)),
+    ],
+    keep: Keep::Least,
+}];
+
+#[test]
+fn chunks_without_their_entries(rt: HostRuntime) {
+    assert_eq!(rt;
+        sit_all(rt.alloc(), WIDE, &SHOWN),
+        (SHOWN.len(), Went::Through)
+    );
+}
+
+const LIMITED: [Sitting; 1] = [Sitting {
+    calls: Failing::Never,
+    rows: &[
+        (
+            Step::Append(b'a', 342),
+            Answer::Refused(BufferFault::TooLarge),
+        ),
+        (Step::Append(b'a', 1), Answer::Serial(0)),
+        (Step::Append(b'a', 1), Answer::Refused(BufferFault::Full)),
+        (
+            Step::Append(b'a', 342),
+            Answer::Refused(BufferFault::TooLarge),
+        ),
+        (Step::Enqueue(0), Answer::Done),
+        (Step::Claim, Answer::Serial(0)),
+        (Step::Purge(0), Answer::Done),
+        (Step::Append(b'a', 1), Answer::Serial(1)),
+    ],
+    keep: Keep::Least,
+}];
+
+const NARROW: [Sitting; 1] = [Sitting {
+    calls: Failing::Never,
+    rows: &[
+        (Step::Append(b'a', 1), Answer::Serial(0)),
+        (Step::Append(b'a', 1), Answer::Serial(1)),
+        (Step::Append(b'a', 1), Answer::Serial(2)),
+        (Step::Append(b'a', 1), Answer::Refused(BufferFault::Full)),
+    ],
+    keep: Keep::Least,
+}];
+
+#[test]
+fn limits(rt: HostRuntime) {
     let small = Limits {
         chunk: 1024,
         total: 5,
     };
-    let mut buffer = open(alloc, MemoryDir::new(alloc), small)?;
-    assert!(rt; append(alloc, &mut buffer, 342) == Err(BufferFault::TooLarge));
-    assert!(rt; append(alloc, &mut buffer, 1) == Ok(0));
-    assert!(rt; append(alloc, &mut buffer, 1) == Err(BufferFault::Full));
-    buffer.enqueue(0)?;
-    assert!(rt; buffer.claim() == Some(0));
-    buffer.purge(0)?;
-    assert!(rt; append(alloc, &mut buffer, 1) == Ok(1));
-    Ok(())
+    assert_eq!(rt;
+        sit_all(rt.alloc(), small, &LIMITED),
+        (LIMITED.len(), Went::Through)
+    );
+    // A chunk of three bytes takes no second entry.
+    let narrow = Limits { chunk: 5, total: 9 };
+    assert_eq!(rt;
+        sit_all(rt.alloc(), narrow, &NARROW),
+        (NARROW.len(), Went::Through)
+    );
+}
+
+const FAILED: [Row; 2] = [
+    (Step::Append(b'a', 1), Answer::Refused(BufferFault::Fault)),
+    (Step::Append(b'a', 1), Answer::Refused(BufferFault::Failed)),
+];
+
+// The append's sync fails once, and the buffer stays failed.
+const LOST_APPEND: [Sitting; 2] = [
+    Sitting {
+        calls: Failing::At(OPENING + 1),
+        rows: &FAILED,
+        keep: Keep::Least,
+    },
+    Sitting {
+        calls: Failing::Never,
+        rows: &[
+            (Step::Next, Answer::Serial(0)),
+            (Step::Append(b'a', 1), Answer::Serial(0)),
+        ],
+        keep: Keep::Least,
+    },
+];
+
+const KEPT_APPEND: [Sitting; 2] = [
+    Sitting {
+        calls: Failing::At(OPENING + 1),
+        rows: &FAILED,
+        keep: Keep::Greatest,
+    },
+    Sitting {
+        calls: Failing::Never,
+        rows: &[
+            (Step::Next, Answer::Serial(1)),
+            (Step::Look(0), Answer::At(Stage::Staged)),
+        ],
+        keep: Keep::Least,
+    },
+];
+
+#[test]
+fn sync_that_fails(rt: HostRuntime) {
+    assert_eq!(rt;
+        sit_all(rt.alloc(), WIDE, &LOST_APPEND),
+        (LOST_APPEND.len(), Went::Through)
+    );
+    assert_eq!(rt;
+        sit_all(rt.alloc(), WIDE, &KEPT_APPEND),
+        (KEPT_APPEND.len(), Went::Through)
+    );
+}
+
+// A buffer's file, which is all that its folder has, and how the buffer goes on.
+struct Folder {
+    name: &'static [u8],
+    bytes: &'static [u8],
+    rows: &'static [Row],
+    went: Went,
+}
+
+const FOLDERS: [Folder; 4] = [
+    Folder {
+        name: b"buf.0000000007.journal",
+        bytes: b"\0\0\0\0",
+        rows: &[],
+        went: Went::Unopened(BufferFault::Damaged),
+    },
+    Folder {
+        name: b"buf.4294967295.journal",
+        bytes: b"",
+        rows: &[],
+        went: Went::Unopened(BufferFault::LastSerial),
+    },
+    Folder {
+        name: b"buf.0000000001.journal",
+        bytes: b"",
+        rows: &[(Step::Next, Answer::Serial(0))],
+        went: Went::Through,
+    },
+    // A Seal of the last serial.
+    Folder {
+        name: b"buf.0000000001.journal",
+        bytes: b"\0\0\0\x09\x01\xff\xff\xff\xff\xff\xff\xff\xff",
+        rows: &[(
+            Step::Append(b'a', 1),
+            Answer::Refused(BufferFault::LastSerial),
+        )],
+        went: Went::Through,
+    },
+];
+
+fn with_file(alloc: Global, name: &[u8], bytes: &[u8]) -> Result<MemoryDir<Global>, DirError> {
+    let mut dir = MemoryDir::new(alloc);
+    let file = dir.create(name, bytes.len())?;
+    dir.append(file, bytes)?;
+    Ok(dir)
+}
+
+fn went_with(alloc: Global, folder: &Folder) -> Result<Went, DirError> {
+    let dir = with_file(alloc, folder.name, folder.bytes)?;
+    let (went, _left) = play(alloc, dir, WIDE, folder.rows);
+    Ok(went)
 }
 
 #[test]
-fn sync_that_fails(rt: HostRuntime) -> Result<(), BufferFault> {
-    let alloc = rt.alloc();
-    let mut least = torn(alloc, Keep::Least)?;
-    assert!(rt; least.chunks().next_serial() == 0 && append(alloc, &mut least, 1) == Ok(0));
-    let greatest = torn(alloc, Keep::Greatest)?;
-    assert!(rt; greatest.chunks().next_serial() == 1);
-    assert!(rt; greatest.chunks().stage(0) == Some(Stage::Staged));
+fn folders_that_are_there(rt: HostRuntime) -> Result<(), DirError> {
+    for folder in &FOLDERS {
+        assert_eq!(rt; went_with(rt.alloc(), folder)?, folder.went);
+    }
+    Ok(())
+}
+
+// Whether the folder has this file alone, with these bytes.
+fn has_alone<D: Dir>(
+    alloc: Global,
+    dir: &mut D,
+    name: &[u8],
+    bytes: &[u8],
+) -> Result<bool, DirError> {
+    let names = dir.list(alloc)?;
+    let [only] = names.as_slice() else {
+        return Ok(false);
+    };
+    if only.as_bytes() != name {
+        return Ok(false);
+    }
+    let file = dir.open(name)?;
+    let mut into = [0; 100];
+    let read = dir.read_at(file, 0, &mut into)?;
+    Ok(into.get(..read) == Some(bytes))
+}
+
+// What a buffer tells its journal, and the one file that is left then.
+struct Told {
+    rows: &'static [Row],
+    name: &'static [u8],
+    bytes: &'static [u8],
+}
+
+const TOLD: [Told; 2] = [
+    // A Seal of 0, one entry for chunk 0 of tag `a`, its Queue, and its Purge.
+    Told {
+        rows: &[
+            (Step::Append(b'a', 1), Answer::Serial(0)),
+            (Step::Enqueue(0), Answer::Done),
+            (Step::Claim, Answer::Serial(0)),
+            (Step::Purge(0), Answer::Done),
+        ],
+        name: b"buf.0000000001.journal",
+        bytes: b"\0\0\0\x09\x01\0\0\0\0\0\0\0\0\0\0\0\x13\x02\0\0\0\0\0\0\0\0\0\x01a\0\0\0\x01\x92\x01\x80\0\0\0\x09\x03\0\0\0\0\0\0\0\0\0\0\0\x09\x04\0\0\0\0\0\0\0\0",
+    },
+    // A new generation begins with what is live, and then has the Seal of the next serial.
+    Told {
+        rows: &[
+            (Step::Append(b'a', 1), Answer::Serial(0)),
+            (Step::Enqueue(0), Answer::Done),
+            (Step::Renew, Answer::Done),
+            (Step::Look(0), Answer::At(Stage::Queued)),
+            (Step::Next, Answer::Serial(1)),
+        ],
+        name: b"buf.0000000002.journal",
+        bytes: b"\0\0\0\x13\x02\0\0\0\0\0\0\0\0\0\x01a\0\0\0\x01\x92\x01\x80\0\0\0\x09\x03\0\0\0\0\0\0\0\0\0\0\0\x09\x01\0\0\0\0\0\0\0\x01",
+    },
+];
+
+// Whether the buffer tells that.
+fn is_told(alloc: Global, told: &Told) -> Result<bool, DirError> {
+    let sitting = Sitting {
+        calls: Failing::Never,
+        rows: told.rows,
+        keep: Keep::Greatest,
+    };
+    let (went, left) = sit(alloc, MemoryDir::new(alloc), WIDE, &sitting);
+    let mut dir = left;
+    Ok(went == Went::Through && has_alone(alloc, &mut dir, told.name, told.bytes)?)
+}
+
+#[test]
+fn records_are_spelled_so(rt: HostRuntime) -> Result<(), DirError> {
+    for told in &TOLD {
+        assert!(rt; is_told(rt.alloc(), told)?);
+    }
     Ok(())
 }

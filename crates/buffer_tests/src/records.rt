@@ -1,8 +1,7 @@
-//! Journals to the byte, and each record that can't stand where it does.
+//! Journals by their bytes, and each record that can't stand where it does.
 
 use buffer_state::Stage;
-use chunk_journal::{Record, ReplayError, put_record, replay};
-use event_modes::Entries;
+use chunk_journal::{ReplayError, replay};
 use std::alloc::{AllocError, Global};
 use std::test::Fail;
 
@@ -10,65 +9,39 @@ use std::test::Fail;
 const JOURNAL: [u8; 49] =
     *b"\0\0\0\x09\x01\0\0\0\0\0\0\0\0\0\0\0\x13\x02\0\0\0\0\0\0\0\0\0\x01a\0\0\0\x01\x92\x01\x80\0\0\0\x09\x03\0\0\0\0\0\0\0\0";
 
-// Appends an Append; tag and entries are short.
-fn put_entries(
-    bytes: &mut Vec<u8>,
-    serial: u64,
-    tag: &[u8],
-    entries: &Entries<Global>,
-) -> Result<(), AllocError> {
-    if tag.len() > 9 || entries.as_bytes().len() > 99 {
-        return Ok(());
-    }
-    put_record(
-        bytes,
-        &Record::Append {
-            serial,
-            tag,
-            entries,
-        },
-    )
-}
+// Records of one serial; an Append has one entry, of tag `a`, or `b` in the others.
+const SEAL_0: &[u8] = b"\0\0\0\x09\x01\0\0\0\0\0\0\0\0";
 
-// Appends a record; an Append has these entries.
-fn put_step(bytes: &mut Vec<u8>, step: Step, entries: &Entries<Global>) -> Result<(), AllocError> {
-    match step {
-        Step::Seal(next) => put_record::<Global, Global>(bytes, &Record::Seal { next }),
-        Step::Append(serial) => put_entries(bytes, serial, b"a", entries),
-        Step::Other(serial) => put_entries(bytes, serial, b"b", entries),
-        Step::Queue(serial) => put_record::<Global, Global>(bytes, &Record::Queue { serial }),
-        Step::Purge(serial) => put_record::<Global, Global>(bytes, &Record::Purge { serial }),
-    }
-}
+const SEAL_9: &[u8] = b"\0\0\0\x09\x01\0\0\0\0\0\0\0\x09";
 
-// A journal of these records, each with one entry if it is an Append.
-fn journal(alloc: Global, steps: &[Step]) -> Result<Vec<u8>, Fail> {
+const SEAL_LAST: &[u8] = b"\0\0\0\x09\x01\xff\xff\xff\xff\xff\xff\xff\xff";
+
+const APPEND_0: &[u8] = b"\0\0\0\x13\x02\0\0\0\0\0\0\0\0\0\x01a\0\0\0\x01\x92\x01\x80";
+
+const APPEND_1: &[u8] = b"\0\0\0\x13\x02\0\0\0\0\0\0\0\x01\0\x01a\0\0\0\x01\x92\x01\x80";
+
+const APPEND_3: &[u8] = b"\0\0\0\x13\x02\0\0\0\0\0\0\0\x03\0\x01a\0\0\0\x01\x92\x01\x80";
+
+const APPEND_LAST: &[u8] =
+    b"\0\0\0\x13\x02\xff\xff\xff\xff\xff\xff\xff\xff\0\x01a\0\0\0\x01\x92\x01\x80";
+
+const OTHER_0: &[u8] = b"\0\0\0\x13\x02\0\0\0\0\0\0\0\0\0\x01b\0\0\0\x01\x92\x01\x80";
+
+const OTHER_9: &[u8] = b"\0\0\0\x13\x02\0\0\0\0\0\0\0\x09\0\x01b\0\0\0\x01\x92\x01\x80";
+
+const QUEUE_0: &[u8] = b"\0\0\0\x09\x03\0\0\0\0\0\0\0\0";
+
+const QUEUE_3: &[u8] = b"\0\0\0\x09\x03\0\0\0\0\0\0\0\x03";
+
+const PURGE_0: &[u8] = b"\0\0\0\x09\x04\0\0\0\0\0\0\0\0";
+
+// These records, one after another.
+fn journal(alloc: Global, records: &[&[u8]]) -> Result<Vec<u8>, AllocError> {
     let mut bytes = Vec::new(alloc);
-    let Some(entries) = Entries::read(alloc, b"\x92\x01\x80", 1)? else {
-        return Ok(bytes);
-    };
-    for step in steps {
-        put_step(&mut bytes, *step, &entries)?;
+    for record in records {
+        bytes.extend_from_slice(record)?;
     }
     Ok(bytes)
-}
-
-#[derive(Clone, Copy)]
-enum Step {
-    Seal(u64),
-    Append(u64),
-    // To tag `b`.
-    Other(u64),
-    Queue(u64),
-    Purge(u64),
-}
-
-#[test]
-fn records_are_spelled_so(rt: HostRuntime) -> Result<(), Fail> {
-    let alloc = rt.alloc();
-    let bytes = journal(alloc, &[Step::Seal(0), Step::Append(0), Step::Queue(0)])?;
-    assert_eq!(rt; bytes.as_slice(), JOURNAL.as_slice());
-    Ok(())
 }
 
 // What replaying gives: how many bytes, the next serial, and the stage of chunk 0.
@@ -126,19 +99,10 @@ fn each_cut_of_a_journal(rt: HostRuntime) -> Result<(), Fail> {
 #[test]
 fn a_generation_with_chunks(rt: HostRuntime) -> Result<(), Fail> {
     let alloc = rt.alloc();
-    let bytes = journal(
-        alloc,
-        &[
-            Step::Append(0),
-            Step::Queue(0),
-            Step::Append(3),
-            Step::Seal(9),
-            Step::Append(3),
-            Step::Other(9),
-            Step::Queue(3),
-            Step::Purge(0),
-        ],
-    )?;
+    let records = [
+        APPEND_0, QUEUE_0, APPEND_3, SEAL_9, APPEND_3, OTHER_9, QUEUE_3, PURGE_0,
+    ];
+    let bytes = journal(alloc, &records)?;
     let expected = Outcome {
         used: bytes.len(),
         next: 10,
@@ -149,47 +113,31 @@ fn a_generation_with_chunks(rt: HostRuntime) -> Result<(), Fail> {
 }
 
 // The last record of each can't stand there.
-const MISPLACED: [&[Step]; 17] = [
-    &[Step::Append(0), Step::Append(0)],
-    &[Step::Append(1), Step::Append(0)],
-    &[Step::Queue(0)],
-    &[Step::Append(0), Step::Append(1), Step::Queue(0)],
-    &[Step::Append(0), Step::Queue(0), Step::Queue(0)],
-    &[Step::Append(0), Step::Queue(0), Step::Purge(0)],
-    &[Step::Append(0), Step::Seal(0)],
-    &[Step::Append(u64::MAX)],
-    &[Step::Seal(0), Step::Seal(0)],
-    &[Step::Seal(0), Step::Append(1)],
-    &[Step::Seal(0), Step::Append(0), Step::Other(0)],
-    &[
-        Step::Seal(0),
-        Step::Append(0),
-        Step::Queue(0),
-        Step::Append(0),
-    ],
-    &[Step::Seal(0), Step::Queue(0)],
-    &[Step::Seal(0), Step::Append(0), Step::Purge(0)],
-    &[
-        Step::Seal(0),
-        Step::Append(0),
-        Step::Queue(0),
-        Step::Queue(0),
-    ],
-    &[
-        Step::Seal(0),
-        Step::Append(0),
-        Step::Queue(0),
-        Step::Purge(0),
-        Step::Purge(0),
-    ],
-    &[Step::Seal(u64::MAX), Step::Append(u64::MAX)],
+const MISPLACED: [&[&[u8]]; 17] = [
+    &[APPEND_0, APPEND_0],
+    &[APPEND_1, APPEND_0],
+    &[QUEUE_0],
+    &[APPEND_0, APPEND_1, QUEUE_0],
+    &[APPEND_0, QUEUE_0, QUEUE_0],
+    &[APPEND_0, QUEUE_0, PURGE_0],
+    &[APPEND_0, SEAL_0],
+    &[APPEND_LAST],
+    &[SEAL_0, SEAL_0],
+    &[SEAL_0, APPEND_1],
+    &[SEAL_0, APPEND_0, OTHER_0],
+    &[SEAL_0, APPEND_0, QUEUE_0, APPEND_0],
+    &[SEAL_0, QUEUE_0],
+    &[SEAL_0, APPEND_0, PURGE_0],
+    &[SEAL_0, APPEND_0, QUEUE_0, QUEUE_0],
+    &[SEAL_0, APPEND_0, QUEUE_0, PURGE_0, PURGE_0],
+    &[SEAL_LAST, APPEND_LAST],
 ];
 
 #[test]
 fn misplaced_records(rt: HostRuntime) -> Result<(), Fail> {
     let alloc = rt.alloc();
-    for steps in MISPLACED {
-        let bytes = journal(alloc, steps)?;
+    for records in MISPLACED {
+        let bytes = journal(alloc, records)?;
         assert_eq!(rt; seen(alloc, &bytes), Err(ReplayError::BadRecord));
     }
     Ok(())

@@ -4,8 +4,6 @@
 #[cfg(test)]
 mod elements;
 #[cfg(test)]
-mod faults;
-#[cfg(test)]
 mod patterns;
 #[cfg(test)]
 mod relays;

@@ -1,35 +1,36 @@
-use std::alloc::Global;
-use std::process::Abort;
+use std::alloc::{AllocError, Global};
 use std::test::Fail;
 use tag_pattern::{
-    Pattern, PatternError, PatternItem, Plain, Prefix, Tag, TagError, apart, fits, matches,
+    Pattern, PatternError, PatternItem, Plain, Prefix, PrefixError, Tag, TagError, apart, fits,
+    matches,
 };
 
-fn one(rt: &(impl Abort + AllocGlobal), text: &str) -> Result<Plain<Global>, Fail> {
-    let mut plains = Pattern::read(rt.alloc(), text)?;
-    assert_eq!(rt; plains.len(), 1, "{text}");
-    match plains.pop() {
-        Some(plain) => Ok(plain),
-        None => panic!(rt; "no pattern"),
+// A pattern that stands for itself alone.
+fn one(alloc: Global, text: &str) -> Result<Plain<Global>, PatternError> {
+    let mut plains = Pattern::read(alloc, text)?;
+    if plains.len() > 1 {
+        return Err(PatternError::TooMany);
+    }
+    plains.pop().ok_or(PatternError::BraceFault)
+}
+
+fn show_item(text: &mut Vec<u8>, item: &PatternItem<Vec<u8>>) -> Result<(), AllocError> {
+    match item {
+        PatternItem::Literal(part) => text.extend_from_slice(part),
+        PatternItem::AnyPart => text.extend_from_slice(b"*"),
+        PatternItem::AnyParts => text.extend_from_slice(b"**"),
     }
 }
 
-fn shown(rt: &impl AllocGlobal, plains: &[Plain<Global>]) -> Result<Vec<u8>, Fail> {
-    let mut text = Vec::new(rt.alloc());
-    for (place, plain) in plains.iter().enumerate() {
-        if place > 0 {
-            text.push(b' ')?;
+// The plain patterns with a blank behind each, and their items with a dot behind each.
+fn shown(alloc: Global, pattern: &str) -> Result<Vec<u8>, PatternError> {
+    let mut text = Vec::new(alloc);
+    for plain in &Pattern::read(alloc, pattern)? {
+        for item in plain.items() {
+            show_item(&mut text, item)?;
+            text.push(b'.')?;
         }
-        for (at, item) in plain.items().iter().enumerate() {
-            if at > 0 {
-                text.push(b'.')?;
-            }
-            match item {
-                PatternItem::Literal(part) => text.extend_from_slice(part)?,
-                PatternItem::AnyPart => text.push(b'*')?,
-                PatternItem::AnyParts => text.extend_from_slice(b"**")?,
-            }
-        }
+        text.push(b' ')?;
     }
     Ok(text)
 }
@@ -61,128 +62,158 @@ static TAGS: [(&str, &str, bool); 23] = [
     ("a.**.b", "ab", false),
 ];
 
+// Whether the tag is of the pattern.
+fn matched(alloc: Global, pattern: &str, tag: &str) -> Result<bool, Fail> {
+    let plain = one(alloc, pattern)?;
+    let read = Tag::read(alloc, tag.as_bytes())?;
+    Ok(matches(&plain, &read))
+}
+
 #[test]
 fn tags_of_patterns(rt: HostRuntime) -> Result<(), Fail> {
-    for (pattern, tag, want) in TAGS {
-        let plain = one(&rt, pattern)?;
-        let read = Tag::read(rt.alloc(), tag.as_bytes())?.copied(rt.alloc())?;
-        assert_eq!(rt; matches(&plain, &read), want, "{pattern} and {tag}");
+    for (pattern, tag, want) in &TAGS {
+        assert_eq!(rt; matched(rt.alloc(), pattern, tag)?, *want);
     }
     Ok(())
 }
 
+// Patterns, and those without braces that they stand for.
 static PLAINS: [(&str, &str); 8] = [
-    ("a.{b,c.**}", "a.b a.c.**"),
-    ("{a,b}.{c,d}", "a.c a.d b.c b.d"),
-    ("{a,b.*}.x.{c}", "a.x.c b.*.x.c"),
-    ("{a}", "a"),
-    ("", ""),
-    ("a..b", "a..b"),
-    ("a.", "a."),
-    ("{.,a}.*", "..* a.*"),
+    ("a.{b,c.**}", "a.b. a.c.**. "),
+    ("{a,b}.{c,d}", "a.c. a.d. b.c. b.d. "),
+    ("{a,b.*}.x.{c}", "a.x.c. b.*.x.c. "),
+    ("{a}", "a. "),
+    ("", ". "),
+    ("a..b", "a..b. "),
+    ("a.", "a.. "),
+    ("{.,a}.*", "..*. a.*. "),
 ];
 
 #[test]
 fn plain_patterns(rt: HostRuntime) -> Result<(), Fail> {
-    for (text, want) in PLAINS {
-        let plains = Pattern::read(rt.alloc(), text)?;
-        assert!(rt;
-            shown(&rt, &plains)?.as_slice() == want.as_bytes(),
-            "{text}"
-        );
+    for (text, want) in &PLAINS {
+        assert_eq!(rt; shown(rt.alloc(), text)?.as_slice(), want.as_bytes());
     }
-    let (first, second) = (one(&rt, "a.*.**")?, one(&rt, "")?);
-    assert_eq!(rt; first.items().len(), 3);
-    assert_eq!(rt; second.items().len(), 1);
     Ok(())
 }
 
-fn fault(rt: &(impl Abort + AllocGlobal), text: &str) -> Result<PatternError, Fail> {
-    match Pattern::read(rt.alloc(), text) {
-        Ok(_) => panic!(rt; "{text} is read"),
-        Err(fault) => Ok(fault),
+// Patterns at a limit, and how many plain ones there are, and items in the first.
+static SIZES: [(&str, usize, usize); 4] = [
+    ("a.*.**", 1, 3),
+    ("", 1, 1),
+    ("{a,b}.{a,b}.{a,b}.{a,b}.{a,b}.{a,b}", 64, 6),
+    ("...............................", 1, 32),
+];
+
+fn sizes(alloc: Global, text: &str) -> Option<(usize, usize)> {
+    let plains = Pattern::read(alloc, text).ok()?;
+    let first = plains.get(0)?;
+    Some((plains.len(), first.items().len()))
+}
+
+#[test]
+fn sizes_of_patterns(rt: HostRuntime) {
+    for (text, plains, items) in &SIZES {
+        assert_eq!(rt; sizes(rt.alloc(), text), Some((*plains, *items)));
     }
 }
 
-static FAULTS: [(&str, &str); 20] = [
-    ("a*", "P2"),
-    ("***", "P2"),
-    ("a.{b*,c}", "P2"),
-    ("{a,{b}}", "P3"),
-    ("{", "P3"),
-    ("}", "P3"),
-    ("{}", "P3"),
-    ("{a", "P3"),
-    ("a}", "P3"),
-    ("a{b}", "P3"),
-    ("{a}b", "P3"),
-    ("{a}{b}", "P3"),
-    ("{a,}", "P3"),
-    ("{,a}", "P3"),
-    ("a,b", "P3"),
-    ("a*.{", "P3"),
-    ("{a,b}.{a,b}.{a,b}.{a,b}.{a,b}.{a,b}.{a,b}", "P4"),
-    ("{a,b}.{a,b}.{a,b}.{a,b}.{a,b}.{a,b}.{a,b}.a*", "P2"),
-    ("{a,b}.{a,b}.{a,b}.{a,b}.{a,b}.{a,b}.{a,b}.,", "P3"),
+// No patterns, and why.
+static FAULTS: [(&str, PatternError); 20] = [
+    ("a*", PatternError::PartialWildcard),
+    ("***", PatternError::PartialWildcard),
+    ("a.{b*,c}", PatternError::PartialWildcard),
+    ("{a,{b}}", PatternError::BraceFault),
+    ("{", PatternError::BraceFault),
+    ("}", PatternError::BraceFault),
+    ("{}", PatternError::BraceFault),
+    ("{a", PatternError::BraceFault),
+    ("a}", PatternError::BraceFault),
+    ("a{b}", PatternError::BraceFault),
+    ("{a}b", PatternError::BraceFault),
+    ("{a}{b}", PatternError::BraceFault),
+    ("{a,}", PatternError::BraceFault),
+    ("{,a}", PatternError::BraceFault),
+    ("a,b", PatternError::BraceFault),
+    ("a*.{", PatternError::BraceFault),
+    (
+        "{a,b}.{a,b}.{a,b}.{a,b}.{a,b}.{a,b}.{a,b}",
+        PatternError::TooMany,
+    ),
+    (
+        "{a,b}.{a,b}.{a,b}.{a,b}.{a,b}.{a,b}.{a,b}.a*",
+        PatternError::PartialWildcard,
+    ),
+    (
+        "{a,b}.{a,b}.{a,b}.{a,b}.{a,b}.{a,b}.{a,b}.,",
+        PatternError::BraceFault,
+    ),
     (
         "1.2.3.4.5.6.7.8.9.10.11.12.13.14.15.16.17.18.19.20.21.22.23.24.25.26.27.28.29.30.31.{32,32.33}",
-        "P4",
+        PatternError::TooMany,
     ),
 ];
 
 #[test]
-fn faults_in_order(rt: HostRuntime) -> Result<(), Fail> {
-    for (text, want) in FAULTS {
-        let found = format!(in rt.alloc(); "{}", fault(&rt, text)?)?;
-        assert!(rt; found.as_str() == want, "{text}");
+fn faults_in_order(rt: HostRuntime) {
+    for (text, want) in &FAULTS {
+        assert_eq!(rt; Pattern::read(rt.alloc(), text).err(), Some(*want));
     }
-    let most = Pattern::read(rt.alloc(), "{a,b}.{a,b}.{a,b}.{a,b}.{a,b}.{a,b}")?;
-    assert_eq!(rt; most.len(), 64);
-    let longest = one(&rt, "...............................")?;
-    assert_eq!(rt; longest.items().len(), 32);
-    Ok(())
+}
+
+fn tag_fault(alloc: Global, length: usize) -> Result<Option<TagError>, AllocError> {
+    let mut bytes = Vec::new(alloc);
+    bytes.resize(length, b'.')?;
+    Ok(Tag::read(alloc, &bytes).err())
 }
 
 #[test]
-fn lengths_of_tags(rt: HostRuntime) -> Result<(), Fail> {
-    let bytes = [b'.'; 1_025];
-    assert_eq!(rt;
-        Tag::read(rt.alloc(), &bytes[..1_024])?.as_bytes().len(),
-        1_024
-    );
-    match Tag::read(rt.alloc(), &bytes) {
-        Ok(_) => panic!(rt; "too long"),
-        Err(fault) => {
-            let found = format!(in rt.alloc(); "{fault}")?;
-            assert!(rt; found.as_str() == "P1");
-        }
-    }
-    let memory = format!(in rt.alloc(); "{} {}", TagError::Memory, PatternError::Memory)?;
-    assert!(rt; memory.as_str() == "memory memory");
+fn lengths_of_tags(rt: HostRuntime) -> Result<(), AllocError> {
+    assert_eq!(rt; tag_fault(rt.alloc(), 1_024)?, None);
+    assert_eq!(rt; tag_fault(rt.alloc(), 1_025)?, Some(TagError::TagTooLong));
     Ok(())
 }
 
-// What is no prefix, and what tags have in front.
+// A tag behind a prefix, copied.
+fn prefixed(alloc: Global, prefix: &[u8], tag: &[u8]) -> Option<Tag<Global>> {
+    let prefix = Prefix::read(alloc, prefix).ok()?;
+    let tag = Tag::read(alloc, tag).ok()?.prefixed(alloc, &prefix).ok()?;
+    tag.copied(alloc).ok()
+}
+
+fn is_prefixed(alloc: Global, prefix: &[u8], tag: &[u8], wanted: &[u8]) -> bool {
+    match prefixed(alloc, prefix, tag) {
+        None => false,
+        Some(tag) => tag.as_bytes() == wanted,
+    }
+}
+
 #[test]
-fn prefixes_of_tags(rt: HostRuntime) -> Result<(), Fail> {
+fn prefixes_of_tags(rt: HostRuntime) {
     let alloc = rt.alloc();
-    let long = [b'a'; 65];
-    let wrong: [&[u8]; 3] = [b"a*", b"", &long];
+    assert!(rt; is_prefixed(alloc, b"x.y", b"a", b"x.y.a"));
+    assert!(rt; prefixed(alloc, b"x", &[b'.'; 1_022]).is_some());
+    assert!(rt; prefixed(alloc, b"x", &[b'.'; 1_023]).is_none());
+    let wrong: [&[u8]; 3] = [b"a*", b"", &[b'a'; 65]];
     for text in wrong {
-        let found = match Prefix::read(alloc, text) {
-            Ok(_) => panic!(rt; "a prefix"),
-            Err(fault) => format!(in alloc; "{fault}")?,
-        };
-        assert!(rt; found.as_str() == "P5");
+        assert_eq!(rt;
+            Prefix::read(alloc, text).err(),
+            Some(PrefixError::BadPrefix)
+        );
     }
-    let tag = Tag::read(alloc, b"a")?;
-    let prefixed = tag.prefixed(alloc, &Prefix::read(alloc, b"x.y")?)?;
-    assert_eq!(rt; prefixed.as_bytes(), b"x.y.a".as_slice());
-    let longest = Tag::read(alloc, &[b'.'; 1_024])?;
-    match longest.prefixed(alloc, &Prefix::read(alloc, b"x")?) {
-        Ok(_) => panic!(rt; "too long"),
-        Err(fault) => assert!(rt; format!(in alloc; "{fault}")?.as_str() == "P1"),
-    }
+}
+
+#[test]
+fn faults_are_printed_so(rt: HostRuntime) -> Result<(), Fail> {
+    let found = format!(in rt.alloc();
+        "{} {} {} {} {}",
+        TagError::TagTooLong,
+        PatternError::PartialWildcard,
+        PatternError::BraceFault,
+        PatternError::TooMany,
+        PrefixError::BadPrefix
+    )?;
+    assert_eq!(rt; found.as_str(), "P1 P2 P3 P4 P5");
     Ok(())
 }
 
@@ -203,12 +234,8 @@ static PAIRS: [(&str, &str, bool, bool); 12] = [
 ];
 
 // Whether the first pattern fits the second, and whether they are apart, the one way and the other.
-fn compared(
-    rt: &(impl Abort + AllocGlobal),
-    left: &str,
-    right: &str,
-) -> Result<(bool, bool, bool), Fail> {
-    let (first, second) = (one(rt, left)?, one(rt, right)?);
+fn compared(alloc: Global, left: &str, right: &str) -> Result<(bool, bool, bool), PatternError> {
+    let (first, second) = (one(alloc, left)?, one(alloc, right)?);
     let fit = fits(&first, &second);
     Ok((fit, apart(&first, &second), apart(&second, &first)))
 }
@@ -216,31 +243,39 @@ fn compared(
 #[test]
 fn pairs_of_patterns(rt: HostRuntime) -> Result<(), Fail> {
     for (left, right, fit, far) in &PAIRS {
-        assert_eq!(rt;
-            compared(&rt, left, right)?,
-            (*fit, *far, *far),
-            "{left} {right}"
-        );
+        assert_eq!(rt; compared(rt.alloc(), left, right)?, (*fit, *far, *far));
     }
     Ok(())
 }
 
 // Texts on which a search or a product without bounds wouldn't end.
-#[test]
-fn hostile_texts(rt: HostRuntime) -> Result<(), Fail> {
-    let mut text = String::new(rt.alloc());
+static MANY: [&str; 2] = [
+    "**.**.**.**.**.**.**.**.**.**.**.**.**.**.**.**.b",
+    "**.**.**.**.**.**.**.**.**.**.**.**.**.**.**.**.c",
+];
+
+fn many_braces(alloc: Global) -> Result<String, AllocError> {
+    let mut text = String::new(alloc);
     for _ in 0..10_000u32 {
         text.push_str("{a,a}.")?;
     }
     text.push_str("a")?;
-    let found = format!(in rt.alloc(); "{}", fault(&rt, text.as_str())?)?;
-    assert!(rt; found.as_str() == "P4");
+    Ok(text)
+}
 
-    let many = one(&rt, "**.**.**.**.**.**.**.**.**.**.**.**.**.**.**.**.b")?;
+#[test]
+fn hostile_texts(rt: HostRuntime) -> Result<(), Fail> {
+    let text = many_braces(rt.alloc())?;
+    assert_eq!(rt;
+        Pattern::read(rt.alloc(), text.as_str()).err(),
+        Some(PatternError::TooMany)
+    );
+    let many = one(rt.alloc(), MANY[0])?;
     let tag = Tag::read(rt.alloc(), &[b'.'; 500])?;
     assert!(rt; !matches(&many, &tag));
-    let other = one(&rt, "**.**.**.**.**.**.**.**.**.**.**.**.**.**.**.**.c")?;
-    assert!(rt; !fits(&many, &other));
-    assert!(rt; apart(&many, &other));
+    assert_eq!(rt;
+        compared(rt.alloc(), MANY[0], MANY[1])?,
+        (false, true, true)
+    );
     Ok(())
 }

@@ -1,17 +1,40 @@
-use relay_conf::{BufferKind, FileSettings, ForwardSettings, MatchRule, Output, Relay, RelayError};
+use relay_conf::{
+    BufferKind, BufferSettings, FileSettings, ForwardSettings, MatchRule, Output, Relay, Source,
+};
 use std::alloc::Global;
-use std::process::Abort;
-use std::test::Fail;
 
-fn read(rt: &impl AllocGlobal, text: &str) -> Result<Result<Relay<Global>, RelayError>, Fail> {
-    let elements = conf_text::read(rt.alloc(), text.as_bytes())?;
-    Ok(Relay::read(rt.alloc(), &elements))
+fn relay(alloc: Global, text: &str) -> Option<Relay<Global>> {
+    let elements = conf_text::read(alloc, text.as_bytes()).ok()?;
+    Relay::read(alloc, &elements).ok()
 }
 
-fn relay(rt: &(impl Abort + AllocGlobal), text: &str) -> Result<Relay<Global>, Fail> {
-    match read(rt, text)? {
-        Ok(relay) => Ok(relay),
-        Err(error) => panic!(rt; "{error}"),
+fn rule(relay: &Relay<Global>, scope: usize, place: usize) -> Option<&MatchRule<Global>> {
+    relay.scopes.get(scope)?.matches.get(place)
+}
+
+fn forward(relay: &Relay<Global>) -> Option<&ForwardSettings<Global>> {
+    match rule(relay, 0, 0)?.outputs.get(0)? {
+        Output::Forward { settings, line: _ } => Some(settings),
+        _ => None,
+    }
+}
+
+fn file(
+    relay: &Relay<Global>,
+    scope: usize,
+    place: usize,
+    output: usize,
+) -> Option<&FileSettings<Global>> {
+    match rule(relay, scope, place)?.outputs.get(output)? {
+        Output::File { settings, line: _ } => Some(settings),
+        _ => None,
+    }
+}
+
+fn has_path(buffer: &BufferSettings<Global>, wanted: &str) -> bool {
+    match &buffer.kind {
+        BufferKind::Memory => false,
+        BufferKind::File { path } => path.as_str() == wanted,
     }
 }
 
@@ -34,121 +57,69 @@ static EDGE: &str = "<source>
 </match>
 ";
 
-fn rule<'r>(
-    rt: &impl Abort,
-    relay: &'r Relay<Global>,
-    scope: usize,
-    place: usize,
-) -> &'r MatchRule<Global> {
-    let Some(scope) = relay.scopes.get(scope) else {
-        panic!(rt; "no such scope");
-    };
-    match scope.matches.get(place) {
-        Some(rule) => rule,
-        None => panic!(rt; "no such match"),
-    }
+fn is_the_source(source: &Source<Global>) -> bool {
+    source.port == 24224
+        && source.bind.as_str() == "0.0.0.0"
+        && source.label.0 == 0
+        && source.prefix.is_none()
+        && source.line == 1
 }
 
-fn forward<'r>(
-    rt: &impl Abort,
-    rule: &'r MatchRule<Global>,
-    place: usize,
-) -> &'r ForwardSettings<Global> {
-    match rule.outputs.get(place) {
-        Some(Output::Forward { settings, line: _ }) => settings,
-        _ => panic!(rt; "no forward output"),
-    }
-}
-
-fn file<'r>(
-    rt: &impl Abort,
-    rule: &'r MatchRule<Global>,
-    place: usize,
-) -> &'r FileSettings<Global> {
-    match rule.outputs.get(place) {
-        Some(Output::File { settings, line: _ }) => settings,
-        _ => panic!(rt; "no file output"),
-    }
-}
-
-fn path_of<'r>(kind: &'r BufferKind<Global>) -> &'r str {
-    match kind {
-        BufferKind::Memory => "",
-        BufferKind::File { path } => path.as_str(),
-    }
+fn has_the_source(alloc: Global) -> Option<bool> {
+    let relay = relay(alloc, EDGE)?;
+    Some(is_the_source(relay.sources.get(0)?) && relay.sources.len() == 1)
 }
 
 #[test]
-fn a_source(rt: HostRuntime) -> Result<(), Fail> {
-    let relay = relay(&rt, EDGE)?;
-    let [source] = relay.sources.as_slice() else {
-        panic!(rt; "not one source");
-    };
-    assert_eq!(rt; source.port, 24224);
-    assert_eq!(rt; source.bind.as_str(), "0.0.0.0");
-    assert_eq!(rt; source.label.0, 0);
-    assert!(rt; source.prefix.is_none());
-    assert_eq!(rt; source.line, 1);
-    Ok(())
+fn a_source(rt: HostRuntime) {
+    assert_eq!(rt; has_the_source(rt.alloc()), Some(true));
 }
 
-// A source's prefix, and a value that is none.
-#[test]
-fn a_prefixed_source(rt: HostRuntime) -> Result<(), Fail> {
-    let relay = relay(
-        &rt,
-        "<source>\n  @type forward\n  add_tag_prefix edge.a\n</source>\n",
-    )?;
-    let [source] = relay.sources.as_slice() else {
-        panic!(rt; "not one source");
-    };
-    match &source.prefix {
-        Some(prefix) => assert_eq!(rt; prefix.as_bytes(), b"edge.a".as_slice()),
-        None => panic!(rt; "no prefix"),
-    }
-    match read(
-        &rt,
-        "<source>\n  @type forward\n  add_tag_prefix a*\n</source>\n",
-    )? {
-        Ok(_relay) => panic!(rt; "read"),
-        Err(error) => assert_eq!(rt; format!(in rt.alloc(); "{error}")?.as_str(), "G3 line 3"),
-    }
-    Ok(())
+static PREFIXED: &str = "<source>\n  @type forward\n  add_tag_prefix edge.a\n</source>\n";
+
+fn has_the_prefix(alloc: Global) -> Option<bool> {
+    let relay = relay(alloc, PREFIXED)?;
+    let prefix = relay.sources.get(0)?.prefix.as_ref()?;
+    Some(prefix.as_bytes() == b"edge.a".as_slice())
 }
 
 #[test]
-fn a_relay_that_sends_on(rt: HostRuntime) -> Result<(), Fail> {
-    let relay = relay(&rt, EDGE)?;
-    let settings = forward(&rt, rule(&rt, &relay, 0, 0), 0);
-    assert!(rt; settings.require_ack_response);
-    assert_eq!(rt; settings.ack_response_timeout, 190);
-    let Some(server) = settings.servers.get(0) else {
-        panic!(rt; "no server");
-    };
-    assert_eq!(rt; server.host.as_str(), "127.0.0.1");
-    assert_eq!(rt; server.port, 24225);
-    assert_eq!(rt; server.line, 8);
-    Ok(())
+fn a_prefixed_source(rt: HostRuntime) {
+    assert_eq!(rt; has_the_prefix(rt.alloc()), Some(true));
+}
+
+fn has_the_server(alloc: Global) -> Option<bool> {
+    let relay = relay(alloc, EDGE)?;
+    let settings = forward(&relay)?;
+    let server = settings.servers.get(0)?;
+    Some(
+        settings.require_ack_response
+            && settings.ack_response_timeout == 190
+            && server.host.as_str() == "127.0.0.1"
+            && server.port == 24225
+            && server.line == 8,
+    )
 }
 
 #[test]
-fn a_buffer_in_files(rt: HostRuntime) -> Result<(), Fail> {
-    let relay = relay(&rt, EDGE)?;
-    let buffer = &forward(&rt, rule(&rt, &relay, 0, 0), 0).buffer;
-    assert_eq!(rt; path_of(&buffer.kind), "out");
-    assert!(rt; buffer.retry.forever);
-    assert_eq!(rt; buffer.chunk_limit_size, 268_435_456);
-    assert_eq!(rt; buffer.total_limit_size, 68_719_476_736);
-    Ok(())
+fn a_relay_that_sends_on(rt: HostRuntime) {
+    assert_eq!(rt; has_the_server(rt.alloc()), Some(true));
+}
+
+fn has_the_buffer(alloc: Global) -> Option<bool> {
+    let relay = relay(alloc, EDGE)?;
+    let buffer = &forward(&relay)?.buffer;
+    Some(
+        has_path(buffer, "out")
+            && buffer.retry.forever
+            && buffer.chunk_limit_size == 268_435_456
+            && buffer.total_limit_size == 68_719_476_736,
+    )
 }
 
 #[test]
-fn a_fault(rt: HostRuntime) -> Result<(), Fail> {
-    match read(&rt, "<match app.**>\n</match>\n")? {
-        Ok(_relay) => panic!(rt; "read"),
-        Err(error) => assert_eq!(rt; format!(in rt.alloc(); "{error}")?.as_str(), "G4 line 1"),
-    }
-    Ok(())
+fn a_buffer_in_files(rt: HostRuntime) {
+    assert_eq!(rt; has_the_buffer(rt.alloc()), Some(true));
 }
 
 static LABELLED: &str = "<source>
@@ -185,28 +156,34 @@ static LABELLED: &str = "<source>
 </match>
 ";
 
-#[test]
-fn a_label(rt: HostRuntime) -> Result<(), Fail> {
-    let relay = relay(&rt, LABELLED)?;
-    assert_eq!(rt; relay.scopes.len(), 2);
-    let first = rule(&rt, &relay, 0, 0);
-    assert_eq!(rt; first.patterns.len(), 2);
-    assert_eq!(rt; first.line, 15);
-    match first.outputs.get(0) {
-        Some(Output::Relabel { target, line: _ }) => assert_eq!(rt; target.0, 1),
-        _ => panic!(rt; "no relabel"),
-    }
-    Ok(())
+fn has_the_label(alloc: Global) -> Option<bool> {
+    let relay = relay(alloc, LABELLED)?;
+    let first = rule(&relay, 0, 0)?;
+    let leads = match first.outputs.get(0)? {
+        Output::Relabel { target, line: _ } => target.0 == 1,
+        _ => false,
+    };
+    Some(leads && relay.scopes.len() == 2 && first.patterns.len() == 2 && first.line == 15)
 }
 
 #[test]
-fn numbers_of_buffers(rt: HostRuntime) -> Result<(), Fail> {
-    let relay = relay(&rt, LABELLED)?;
-    let inner = file(&rt, rule(&rt, &relay, 1, 0), 0);
-    assert_eq!(rt; inner.number.0, 0);
-    let outer = file(&rt, rule(&rt, &relay, 0, 1), 1);
-    assert_eq!(rt; outer.number.0, 1);
-    assert_eq!(rt; path_of(&outer.buffer.kind), "");
-    assert_eq!(rt; outer.buffer.flush_interval, 120);
-    Ok(())
+fn a_label(rt: HostRuntime) {
+    assert_eq!(rt; has_the_label(rt.alloc()), Some(true));
+}
+
+fn has_the_numbers(alloc: Global) -> Option<bool> {
+    let relay = relay(alloc, LABELLED)?;
+    let inner = file(&relay, 1, 0, 0)?;
+    let outer = file(&relay, 0, 1, 1)?;
+    Some(
+        inner.number.0 == 0
+            && outer.number.0 == 1
+            && matches!(&outer.buffer.kind, BufferKind::Memory)
+            && outer.buffer.flush_interval == 120,
+    )
+}
+
+#[test]
+fn numbers_of_buffers(rt: HostRuntime) {
+    assert_eq!(rt; has_the_numbers(rt.alloc()), Some(true));
 }

@@ -1,7 +1,7 @@
 use conf_values::{boolean, has_slash, is_host_name, is_label_name, is_path, port, seconds, size};
 
 // Texts, and the size and the time of each.
-const AMOUNTS: [(&str, Option<u64>, Option<u64>); 34] = [
+static AMOUNTS: [(&str, Option<u64>, Option<u64>); 34] = [
     ("", None, None),
     ("0", Some(0), Some(0)),
     ("007", Some(7), Some(7)),
@@ -44,14 +44,14 @@ const AMOUNTS: [(&str, Option<u64>, Option<u64>); 34] = [
 
 #[test]
 fn amounts_are_read(rt: HostRuntime) {
-    for (text, bytes, time) in AMOUNTS {
-        assert_eq!(rt; size(text.as_bytes()), bytes, "{text}");
-        assert_eq!(rt; seconds(text.as_bytes()), time, "{text}");
+    for (text, bytes, time) in &AMOUNTS {
+        assert_eq!(rt; size(text.as_bytes()), *bytes);
+        assert_eq!(rt; seconds(text.as_bytes()), *time);
     }
 }
 
 // Texts, and the boolean and the port of each.
-const WORDS: [(&str, Option<bool>, Option<u16>); 19] = [
+static WORDS: [(&str, Option<bool>, Option<u16>); 19] = [
     ("true", Some(true), None),
     ("yes", Some(true), None),
     ("", Some(true), None),
@@ -75,9 +75,9 @@ const WORDS: [(&str, Option<bool>, Option<u16>); 19] = [
 
 #[test]
 fn words_are_read(rt: HostRuntime) {
-    for (text, truth, number) in WORDS {
-        assert_eq!(rt; boolean(text.as_bytes()), truth, "{text}");
-        assert_eq!(rt; port(text.as_bytes()), number, "{text}");
+    for (text, truth, number) in &WORDS {
+        assert_eq!(rt; boolean(text.as_bytes()), *truth);
+        assert_eq!(rt; port(text.as_bytes()), *number);
     }
 }
 
@@ -87,7 +87,7 @@ const LONG: &str = "abcdefghijklmnopqrstuvwxyzABCDEFGHIJKLMNOPQRSTUVWXYZ01234567
 const TOO_LONG: &str = "abcdefghijklmnopqrstuvwxyzABCDEFGHIJKLMNOPQRSTUVWXYZ0123456789_-.";
 
 // Texts, and whether each is a path, has a slash, and is a label's name.
-const NAMES: [(&str, bool, bool, bool); 19] = [
+static NAMES: [(&str, bool, bool, bool); 19] = [
     ("", false, false, false),
     ("a", true, false, false),
     ("a.b-c_9", true, false, false),
@@ -111,10 +111,10 @@ const NAMES: [(&str, bool, bool, bool); 19] = [
 
 #[test]
 fn names_are_told_apart(rt: HostRuntime) {
-    for (text, path, slash, label) in NAMES {
-        assert_eq!(rt; is_path(text.as_bytes()), path, "{text}");
-        assert_eq!(rt; has_slash(text.as_bytes()), slash, "{text}");
-        assert_eq!(rt; is_label_name(text.as_bytes()), label, "{text}");
+    for (text, path, slash, label) in &NAMES {
+        assert_eq!(rt; is_path(text.as_bytes()), *path);
+        assert_eq!(rt; has_slash(text.as_bytes()), *slash);
+        assert_eq!(rt; is_label_name(text.as_bytes()), *label);
     }
 }
 

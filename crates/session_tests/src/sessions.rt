@@ -11,7 +11,7 @@ use forward_core::{
     ClientSession, Demand, Heard, Security, ServerSession, SessionError, SessionFault,
 };
 use msgpack_bytes::MsgFault;
-use std::alloc::Global;
+use std::alloc::{AllocError, Global};
 use std::test::Fail;
 
 const ZEROS: [u8; 16] = [0; 16];
@@ -52,82 +52,142 @@ fn client_side(key: &'static [u8]) -> Security<'static>
     }
 }
 
-// The message of the only demand.
-fn delivered(demands: Vec<Demand<Global>, Global>) -> Result<Message<Global>, Fail> {
-    let mut demands = demands;
-    let Some(Demand::Deliver(message)) = demands.pop() else {
-        return Err(Fail::from("a message is to be delivered"));
-    };
-    if !demands.is_empty() {
-        return Err(Fail::from("nothing else is wanted"));
-    }
-    Ok(message)
+// A nonce of zeros, no authentication of users, and connections that stay.
+const HELO: &[u8] =
+    b"\x92\xa4HELO\x83\xa5nonce\xc4\x10\0\0\0\0\0\0\0\0\0\0\0\0\0\0\0\0\xa4auth\xa0\xa9keepalive\xc3";
+
+// What a server's session says to a piece.
+#[derive(Clone, Copy, Debug, PartialEq, Eq)]
+enum Wants {
+    Nothing,
+    // A message with so many bytes of entries is to be delivered.
+    Delivery(usize),
+    Close(SessionFault),
+    More,
+    Refused(SessionError),
 }
 
-// The fault of the only demand.
-fn closing(demands: &[Demand<Global>]) -> Option<SessionFault> {
+fn wanted(demands: &[Demand<Global>]) -> Wants {
     match demands {
-        [Demand::Close(fault)] => Some(*fault),
-        _ => None,
+        [] => Wants::Nothing,
+        [Demand::Deliver(message)] => Wants::Delivery(message.entries.as_bytes().len()),
+        [Demand::Close(fault)] => Wants::Close(*fault),
+        _ => Wants::More,
     }
 }
 
-// Feeds a client in two pieces, of which the first has at most so many bytes.
-fn feed_twice(client: &mut ClientSession<Global>, bytes: &[u8], at: usize) -> Result<(), Fail> {
-    let (front, back) = bytes.split_at(at.min(bytes.len()));
-    for piece in [front, back] {
-        match client.feed(piece)? {
-            Heard::Wait => {}
-            Heard::Seen(evidence) => {
-                evidence.waste();
-                return Err("nothing was sent yet")?;
-            }
-            Heard::Fault(_) => return Err("the client refuses")?,
-        }
+fn feed_server(server: &mut ServerSession<Global>, piece: &[u8]) -> Wants {
+    match server.feed(piece) {
+        Ok(demands) => wanted(&demands),
+        Err(error) => Wants::Refused(error),
     }
-    Ok(())
+}
+
+// What a client's session says to a piece.
+#[derive(Clone, Copy, Debug, PartialEq, Eq)]
+enum Says {
+    Wait,
+    Seen,
+    Fault(SessionFault),
+    Memory,
+}
+
+fn feed_client(client: &mut ClientSession<Global>, piece: &[u8]) -> Says {
+    match client.feed(piece) {
+        Ok(Heard::Wait) => Says::Wait,
+        Ok(Heard::Seen(evidence)) => {
+            evidence.waste();
+            Says::Seen
+        }
+        Ok(Heard::Fault(fault)) => Says::Fault(fault),
+        Err(_) => Says::Memory,
+    }
+}
+
+fn open_server(alloc: Global, secure: bool) -> Result<ServerSession<Global>, AllocError> {
+    if secure {
+        ServerSession::open(alloc, Some(server_side()), ZEROS)
+    } else {
+        ServerSession::open(alloc, None, ZEROS)
+    }
+}
+
+fn open_client(alloc: Global, key: &'static [u8]) -> Result<ClientSession<Global>, AllocError> {
+    ClientSession::open(alloc, Some(client_side(key)), ZEROS)
+}
+
+// What the server sends is sent.
+fn send_all(server: &mut ServerSession<Global>) {
+    let all = server.outgoing().len();
+    server.sent(all);
+}
+
+// Whether a client that gets these bytes in two pieces, of which the first has at most so many, waits for more behind each.
+fn waits(client: &mut ClientSession<Global>, bytes: &[u8], at: usize) -> bool {
+    let (front, back) = bytes.split_at(at.min(bytes.len()));
+    feed_client(client, front) == Says::Wait && feed_client(client, back) == Says::Wait
+}
+
+// The same of a server, which wants nothing.
+fn wants_nothing(server: &mut ServerSession<Global>, bytes: &[u8], at: usize) -> bool {
+    let (front, back) = bytes.split_at(at.min(bytes.len()));
+    feed_server(server, front) == Wants::Nothing && feed_server(server, back) == Wants::Nothing
 }
 
 // Whether a client and a server shake hands where each item comes in two pieces, of which the first has at most so many bytes.
-fn shake_hands(alloc: Global, at: usize) -> Result<bool, Fail> {
-    let mut server = ServerSession::open(alloc, Some(server_side()), ZEROS)?;
-    let mut client = ClientSession::open(alloc, Some(client_side(b"c")), ZEROS)?;
-    feed_twice(&mut client, server.outgoing(), at)?;
-    let helo = server.outgoing().len();
-    server.sent(helo);
+fn shake_hands(alloc: Global, at: usize) -> Result<bool, AllocError> {
+    let mut server = open_server(alloc, true)?;
+    let mut client = open_client(alloc, b"c")?;
+    let helo = server.outgoing() == HELO && waits(&mut client, server.outgoing(), at);
+    send_all(&mut server);
     let ping = client.outgoing();
-    if ping.len() != 158 {
-        return Ok(false);
-    }
-    let (front, back) = ping.split_at(at.min(ping.len()));
-    if !server.feed(front)?.is_empty() || !server.feed(back)?.is_empty() {
-        return Ok(false);
-    }
-    feed_twice(&mut client, server.outgoing(), at)?;
-    Ok(server.outgoing().len() == 140 && client.ready())
+    let asked = ping.len() == 158 && wants_nothing(&mut server, ping, at);
+    let pong = server.outgoing();
+    let let_in = pong.len() == 140 && waits(&mut client, pong, at);
+    Ok(helo && asked && let_in && client.ready())
 }
 
 #[test]
-fn hands_are_shaken_wherever_an_item_is_cut(rt: HostRuntime) -> Result<(), Fail> {
+fn hands_are_shaken_wherever_an_item_is_cut(rt: HostRuntime) -> Result<(), AllocError> {
     for at in 0..160 {
         assert!(rt; shake_hands(rt.alloc(), at)?);
     }
     Ok(())
 }
 
+// A PONG that refuses.
+const MISMATCH: &[u8] = b"\x95\xa4PONG\xc2\xb3shared_key mismatch\xa0\xa0";
+
+#[test]
+fn a_wrong_key_is_refused_by_both(rt: HostRuntime) -> Result<(), AllocError> {
+    let mut server = open_server(rt.alloc(), true)?;
+    let mut client = open_client(rt.alloc(), b"d")?;
+    assert!(rt; waits(&mut client, server.outgoing(), 0));
+    send_all(&mut server);
+    assert_eq!(rt;
+        feed_server(&mut server, client.outgoing()),
+        Wants::Close(SessionFault::Handshake(HandshakeFault::WrongDigest))
+    );
+    assert_eq!(rt; server.outgoing(), MISMATCH);
+    assert_eq!(rt;
+        feed_client(&mut client, server.outgoing()),
+        Says::Fault(SessionFault::Handshake(HandshakeFault::RefusedByServer))
+    );
+    Ok(())
+}
+
 // Whether the message is delivered that comes in two pieces, the first of at most so many bytes.
-fn deliver_cut(alloc: Global, at: usize) -> Result<bool, Fail> {
+fn deliver_cut(alloc: Global, at: usize) -> Result<bool, AllocError> {
     let (front, back) = MESSAGE.split_at(at.min(MESSAGE.len()));
-    let mut session = ServerSession::open(alloc, None, ZEROS)?;
-    if !session.feed(front)?.is_empty() {
-        return Ok(false);
-    }
-    let message = delivered(session.feed(back)?)?;
-    Ok(message.entries.as_bytes() == b"\x92\x01\x80".as_slice())
+    let mut server = open_server(alloc, false)?;
+    Ok(
+        feed_server(&mut server, front) == Wants::Nothing
+            && feed_server(&mut server, back) == Wants::Delivery(3),
+    )
 }
 
 #[test]
-fn a_message_is_delivered_wherever_it_is_cut(rt: HostRuntime) -> Result<(), Fail> {
+fn a_message_is_delivered_wherever_it_is_cut(rt: HostRuntime) -> Result<(), AllocError> {
     for at in 0..MESSAGE.len() {
         assert!(rt; deliver_cut(rt.alloc(), at)?);
     }
@@ -178,61 +238,44 @@ fn a_message_without_entries_is_answered(rt: HostRuntime) -> Result<(), Fail> {
     Ok(())
 }
 
-#[test]
-fn bad_bytes_close_a_server(rt: HostRuntime) -> Result<(), Fail> {
-    let mut session = ServerSession::open(rt.alloc(), None, ZEROS)?;
-    let demands = session.feed(b"\xc1")?;
-    let fault = ModeFault::Bytes(MsgFault::Reserved);
-    assert_eq!(rt; closing(&demands), Some(SessionFault::BadStream(fault)));
-    let again = session.feed(MESSAGE);
-    assert!(rt; matches!(&again, Err(SessionError::Fault(SessionFault::Closed))));
-    assert_eq!(rt; session.outgoing().len(), 0);
-    Ok(())
+// What bytes begin with, and the fault of it, at a server with security or without.
+static CLOSING: [(bool, &[u8], SessionFault); 4] = [
+    (
+        false,
+        b"\xc1",
+        SessionFault::BadStream(ModeFault::Bytes(MsgFault::Reserved)),
+    ),
+    (
+        true,
+        MESSAGE,
+        SessionFault::Handshake(HandshakeFault::NotPing),
+    ),
+    (
+        true,
+        b"\xc1",
+        SessionFault::Handshake(HandshakeFault::NotPing),
+    ),
+    (
+        true,
+        b"\xc0",
+        SessionFault::Handshake(HandshakeFault::NotPing),
+    ),
+];
+
+// What a server wants of these bytes, and of a message behind them.
+fn wanted_of(alloc: Global, secure: bool, bytes: &[u8]) -> Result<(Wants, Wants), AllocError> {
+    let mut server = open_server(alloc, secure)?;
+    let first = feed_server(&mut server, bytes);
+    Ok((first, feed_server(&mut server, MESSAGE)))
 }
 
 #[test]
-fn a_wrong_key_is_refused_by_both(rt: HostRuntime) -> Result<(), Fail> {
-    let mut server = ServerSession::open(rt.alloc(), Some(server_side()), ZEROS)?;
-    let mut client = ClientSession::open(rt.alloc(), Some(client_side(b"d")), ZEROS)?;
-    let helo = server.outgoing().len();
-    assert_eq!(rt; helo, 48);
-    match client.feed(server.outgoing())? {
-        Heard::Wait => {}
-        _ => panic!(rt; "a PONG has to come"),
-    }
-    server.sent(helo);
-    let demands = server.feed(client.outgoing())?;
-    assert_eq!(rt;
-        closing(&demands),
-        Some(SessionFault::Handshake(HandshakeFault::WrongDigest))
-    );
-    assert!(rt; server.outgoing().starts_with(b"\x95\xa4PONG\xc2"));
-    match client.feed(server.outgoing())? {
-        Heard::Fault(fault) => {
-            assert_eq!(rt;
-                fault,
-                SessionFault::Handshake(HandshakeFault::RefusedByServer)
-            );
-        }
-        _ => panic!(rt; "the client was refused"),
-    }
-    Ok(())
-}
-
-// The fault that a server with security meets in these bytes, if it wants nothing else.
-fn fault_in(alloc: Global, bytes: &[u8]) -> Result<Option<SessionFault>, Fail> {
-    let mut session = ServerSession::open(alloc, Some(server_side()), ZEROS)?;
-    let demands = session.feed(bytes)?;
-    Ok(closing(&demands))
-}
-
-#[test]
-fn other_bytes_are_no_ping(rt: HostRuntime) -> Result<(), Fail> {
-    let bytes: [&[u8]; 3] = [MESSAGE, b"\xc1", b"\xc0"];
-    for other in bytes {
+fn bad_bytes_close_a_server(rt: HostRuntime) -> Result<(), AllocError> {
+    let over = Wants::Refused(SessionError::Fault(SessionFault::Closed));
+    for (secure, bytes, fault) in &CLOSING {
         assert_eq!(rt;
-            fault_in(rt.alloc(), other)?,
-            Some(SessionFault::Handshake(HandshakeFault::NotPing))
+            wanted_of(rt.alloc(), *secure, bytes)?,
+            (Wants::Close(*fault), over)
         );
     }
     Ok(())
@@ -250,89 +293,79 @@ fn send_one(alloc: Global, session: &mut ClientSession<Global>, ask: bool) -> Re
     Ok(())
 }
 
+// A client that sent the message; whether it was ready before, and isn't now.
+fn after_sending(alloc: Global, ask: bool) -> Result<(ClientSession<Global>, bool), Fail> {
+    let mut client = ClientSession::open(alloc, None, ZEROS)?;
+    let before = client.ready();
+    send_one(alloc, &mut client, ask)?;
+    let after = client.ready();
+    Ok((client, before && !after))
+}
+
+// What the client says to two pieces.
+fn said_to(alloc: Global, ask: bool, front: &[u8], back: &[u8]) -> Result<(Says, Says), Fail> {
+    let (mut client, _) = after_sending(alloc, ask)?;
+    let first = feed_client(&mut client, front);
+    Ok((first, feed_client(&mut client, back)))
+}
+
+#[test]
+fn a_message_is_sent_so(rt: HostRuntime) -> Result<(), Fail> {
+    let (client, is_busy) = after_sending(rt.alloc(), true)?;
+    assert!(rt; is_busy);
+    assert_eq!(rt; client.outgoing(), PACKED);
+    Ok(())
+}
+
+// A heartbeat and another chunk's acknowledgement come first.
+const REPLY: &[u8] = b"\xc0\x81\xa3ack\xa2c1\x81\xa3ack\xb8AAAAAgAAAAEAAAAAAAAAAw==";
+
 #[test]
 fn an_acknowledgement_is_seen_however_it_is_cut(rt: HostRuntime) -> Result<(), Fail> {
-    // A heartbeat and another chunk's acknowledgement come first.
-    let reply = b"\xc0\x81\xa3ack\xa2c1\x81\xa3ack\xb8AAAAAgAAAAEAAAAAAAAAAw==".as_slice();
-    for at in 0..reply.len() {
-        let (front, back) = reply.split_at(at);
-        let mut session = ClientSession::open(rt.alloc(), None, ZEROS)?;
-        assert!(rt; session.ready());
-        send_one(rt.alloc(), &mut session, true)?;
-        assert!(rt; !session.ready());
-        assert_eq!(rt; session.outgoing(), PACKED);
-        match session.feed(front)? {
-            Heard::Wait => {}
-            _ => panic!(rt; "the rest has to come"),
-        }
-        match session.feed(back)? {
-            Heard::Seen(evidence) => evidence.waste(),
-            _ => panic!(rt; "it was acknowledged"),
-        }
+    for at in 0..REPLY.len() {
+        let (front, back) = REPLY.split_at(at.min(REPLY.len()));
+        assert_eq!(rt;
+            said_to(rt.alloc(), true, front, back)?,
+            (Says::Wait, Says::Seen)
+        );
     }
     Ok(())
 }
 
 #[test]
-fn bad_bytes_close_a_client(rt: HostRuntime) -> Result<(), Fail> {
-    let mut session = ClientSession::open(rt.alloc(), None, ZEROS)?;
-    send_one(rt.alloc(), &mut session, true)?;
-    match session.feed(b"\xc1")? {
-        Heard::Fault(fault) => assert_eq!(rt; fault, SessionFault::BadAck),
-        _ => panic!(rt; "that is no acknowledgement"),
-    }
-    match session.feed(b"")? {
-        Heard::Fault(fault) => assert_eq!(rt; fault, SessionFault::Closed),
-        _ => panic!(rt; "it is over"),
-    }
-    Ok(())
-}
-
-#[test]
-fn what_was_not_asked_for_is_not_seen(rt: HostRuntime) -> Result<(), Fail> {
-    let mut session = ClientSession::open(rt.alloc(), None, ZEROS)?;
-    send_one(rt.alloc(), &mut session, false)?;
-    match session.feed(b"\x81\xa3ack\xb8AAAAAgAAAAEAAAAAAAAAAw==")? {
-        Heard::Wait => {}
-        _ => panic!(rt; "no acknowledgement is awaited"),
-    }
-    Ok(())
-}
-
-#[test]
-fn faults_are_printed_by_their_codes(rt: HostRuntime) -> Result<(), Fail> {
-    let torn = SessionFault::BadStream(ModeFault::Bytes(MsgFault::Reserved));
-    let ping = SessionFault::Handshake(HandshakeFault::WrongDigest);
-    assert_eq!(rt; format!(in rt.alloc(); "{torn}")?.as_str(), "Q1 V9 M1");
-    assert_eq!(rt; format!(in rt.alloc(); "{ping}")?.as_str(), "Q2 H2");
+fn other_replies(rt: HostRuntime) -> Result<(), Fail> {
     assert_eq!(rt;
-        format!(in rt.alloc(); "{}", SessionFault::BadAck)?.as_str(),
-        "Q3"
+        said_to(rt.alloc(), true, b"\xc1", b"")?,
+        (
+            Says::Fault(SessionFault::BadAck),
+            Says::Fault(SessionFault::Closed)
+        )
     );
+    // No acknowledgement was asked for.
     assert_eq!(rt;
-        format!(in rt.alloc(); "{}", SessionError::Fault(SessionFault::Closed))?.as_str(),
-        "Q4"
-    );
-    assert_eq!(rt;
-        format!(in rt.alloc(); "{}", SessionError::Memory)?.as_str(),
-        "memory"
+        said_to(rt.alloc(), false, REPLY, b"")?,
+        (Says::Wait, Says::Wait)
     );
     Ok(())
 }
 
-// A message of a million bytes in pieces of one byte: the session looks at each byte once.
-#[test]
-fn a_long_message_comes_byte_by_byte(rt: HostRuntime) -> Result<(), Fail> {
-    let mut bytes = vec![in rt.alloc();
-        0x93, 0xa1, b'a', 0, 0x81, 0xa1, b'k', 0xdb, 0, 0x0f, 0x42, 0x40,
-    ]?;
+// A message of one entry of a million and ten bytes.
+fn long_message(alloc: Global) -> Result<Vec<u8>, AllocError> {
+    let mut bytes = Vec::from_slice(alloc, b"\x93\xa1a\0\x81\xa1k\xdb\0\x0f\x42\x40")?;
     bytes.resize(1_000_012, b'v')?;
-    let mut session = ServerSession::open(rt.alloc(), None, ZEROS)?;
-    let (front, last) = bytes.split_at(1_000_011);
-    for byte in front {
-        assert!(rt; session.feed(&[*byte])?.is_empty());
+    Ok(bytes)
+}
+
+// It comes in pieces of one byte: the session looks at each byte once.
+#[test]
+fn a_long_message_comes_byte_by_byte(rt: HostRuntime) -> Result<(), AllocError> {
+    let bytes = long_message(rt.alloc())?;
+    let mut server = open_server(rt.alloc(), false)?;
+    let mut wants = Wants::Nothing;
+    for byte in &bytes {
+        assert_eq!(rt; wants, Wants::Nothing);
+        wants = feed_server(&mut server, &[*byte]);
     }
-    let message = delivered(session.feed(last)?)?;
-    assert_eq!(rt; message.entries.count(), 1);
+    assert_eq!(rt; wants, Wants::Delivery(1_000_010));
     Ok(())
 }
