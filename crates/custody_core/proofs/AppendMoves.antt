@@ -131,3 +131,29 @@ module _ {A : Type 0} (net : Network A) (labelled : Labelling) (ranks : Ranking)
   append_ranked can =
       let o = (w.buffers place buffer).chunks serial in
       taken net labelled ranks clock w is place buffer tag entries serial (chunk_with o tag entries) (next_after o serial (w.buffers place buffer).next) (takes_at o refl can) (appended_to tag entries serial) refl
+
+  -- what was held in the buffer is
+  pub append_held : CanTake (w.buffers place buffer) tag serial → (rank : ℕ) (event : Event) → IsHeldFrom (ranks place buffer) rank (w.buffers place buffer) event → IsHeldFrom (ranks place buffer) rank (appended_to tag entries serial (w.buffers place buffer)) event
+  append_held can rank event held =
+      let o = (w.buffers place buffer).chunks serial in
+      take_held net labelled ranks clock w is place buffer tag entries serial (chunk_with o tag entries) (next_after o serial (w.buffers place buffer).next) (takes_at o refl can) (appended_to tag entries serial) refl rank event held
+
+  -- the entries are, above every rank
+  pub append_here : CanTake (w.buffers place buffer) tag serial → (rank : ℕ) (entry : List ℕ) → Contains entries entry → IsHeldFrom (ranks place buffer) rank (appended_to tag entries serial (w.buffers place buffer)) (event_of tag entry)
+  append_here can rank entry inside =
+      let o = (w.buffers place buffer).chunks serial in
+      let takes = takes_at o refl can in
+      elim (now_at net labelled ranks clock w is place buffer tag entries serial (chunk_with o tag entries) (next_after o serial (w.buffers place buffer).next) takes (appended_to tag entries serial) refl serial) [
+        | inl here ↦ record { serial = serial; chunk = chunk_with o tag entries; there = here.1; inside = record { tag = takes.tagged; entry = takes.has entry inside }; ranked = inl takes.staged }
+        | inr apart ↦ absurd (apart.0 refl)
+      ]
+
+  -- a chunk with evidence is one that was there
+  pub append_evident : CanTake (w.buffers place buffer) tag serial → KeepsAt net place buffer → (other : ℕ) (now : Chunk) → (appended_to tag entries serial (w.buffers place buffer)).chunks other ≡ Some now → now.evidence ≡ true → (w.buffers place buffer).chunks other ≡ Some now
+  append_evident can keeps other now at sure =
+      let o = (w.buffers place buffer).chunks serial in
+      let takes = takes_at o refl can in
+      elim (now_at net labelled ranks clock w is place buffer tag entries serial (chunk_with o tag entries) (next_after o serial (w.buffers place buffer).next) takes (appended_to tag entries serial) refl other) [
+        | inl here ↦ absurd (let is_now : chunk_with o tag entries ≡ now = same_Some (chunk_with o tag entries) now (sym here.1 ∙ at) in takes.young keeps (rw (← is_now) at sure))
+        | inr apart ↦ sym apart.1 ∙ at
+      ]

@@ -47,10 +47,10 @@ module _ {A : Type 0} (net : Network A) (labelled : Labelling) (ranks : Ranking)
 
   -- The chunk is marked: it has what it had, and is staged if it was.
   module _ (mark : Chunk → Chunk) (like : IsLike chunk (mark chunk)) where
-    abbrev marked : BufferState → BufferState
+    abbrev pub marked : BufferState → BufferState
     marked = put (λ c. Some (mark c))
 
-    mark_held : (rank : ℕ) (event : Event) → IsHeldFrom (ranks place buffer) rank before event → IsHeldFrom (ranks place buffer) rank (marked before) event
+    pub mark_held : (rank : ℕ) (event : Event) → IsHeldFrom (ranks place buffer) rank before event → IsHeldFrom (ranks place buffer) rank (marked before) event
     mark_held rank event held = elim (put_at (λ c. Some (mark c)) held.serial) [
       | inl here ↦ (let same : held.chunk ≡ chunk = same_Some held.chunk chunk (sym held.there ∙ ap before.chunks here.0 ∙ at) in record {
         serial = held.serial;
@@ -109,7 +109,7 @@ module _ {A : Type 0} (net : Network A) (labelled : Labelling) (ranks : Ranking)
 
   -- The chunk goes, which no buffer that keeps allows before its events are safe elsewhere.
   module _ (delivered : KeepsAt net place buffer → (chunk.stage ≢ Staged) × AreSafeOnward net ranks clock w.buffers (ranks place buffer serial + 1) place buffer chunk.tag chunk.entries) where
-    abbrev gone : BufferState → BufferState
+    abbrev pub gone : BufferState → BufferState
     gone = put (λ c. None)
 
     abbrev without : Buffers

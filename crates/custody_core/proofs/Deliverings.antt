@@ -28,7 +28,7 @@ use Rattle.custody_core.proofs.SinkMoves.{oldest_ranked, IsAgain, as_before, aga
 use Rattle.custody_core.proofs.Sendings.{deliveries_ranked, pushed_ranked, ended_known}
 
 -- a buffer of the relay that stopped, or of another
-chosen_again : (b memory : Bool) (state : BufferState) → IsAgain state memory (cond b (started_again memory state) state)
+pub chosen_again : (b memory : Bool) (state : BufferState) → IsAgain state memory (cond b (started_again memory state) state)
 chosen_again true memory state = again
 chosen_again false memory state = as_before
 
@@ -63,7 +63,7 @@ module _ {A : Type 0} (net : Network A) (labelled : Labelling) (ranks : Ranking)
       go None = is
       go (Some place) = restarted_at place
 
-state_here : (w : World) (place buffer : ℕ) (change : BufferState → BufferState) → (with_buffer w place buffer change).buffers place buffer ≡ change (w.buffers place buffer)
+pub state_here : (w : World) (place buffer : ℕ) (change : BufferState → BufferState) → (with_buffer w place buffer change).buffers place buffer ≡ change (w.buffers place buffer)
 state_here w place buffer change = rw (eq-eqb place place refl, eq-eqb buffer buffer refl) refl
 
 written_at : {A : Type 0} (net : Network A) (labelled : Labelling) (ranks : Ranking) (clock : ℕ) (w : World) → IsRanked net labelled ranks clock w → (name : ChunkName) (P : Chunk → Type 0) (place : ℕ) (chunk : Chunk)

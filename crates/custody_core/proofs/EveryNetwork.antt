@@ -23,10 +23,10 @@ pub record IsKept {A : Type 0} (net : Network A) (labelled : Labelling) (w : Wor
 
 module _ {A : Type 0} (net : Network A) (labelled : Labelling) (leads : LeadOn net labelled) where
   -- each step but the one that queues a chunk leaves the ranks as they were
-  ranks_stay : (w : World) (kept : IsKept net labelled w) (after : World) → IsRanked net labelled kept.ranks kept.clock after → IsKept net labelled after
+  abbrev pub ranks_stay : (w : World) (kept : IsKept net labelled w) (after : World) → IsRanked net labelled kept.ranks kept.clock after → IsKept net labelled after
   ranks_stay w kept after ranked = record { ranks = kept.ranks; clock = kept.clock; ranked = ranked }
 
-  step_keeps : (w : World) (next : Step A) → IsKept net labelled w → Allowed net w next → IsKept net labelled (effect net w next)
+  unfoldable pub step_keeps : (w : World) (next : Step A) → IsKept net labelled w → Allowed net w next → IsKept net labelled (effect net w next)
   step_keeps w (step.Send client tag entries) kept h = ranks_stay w kept _ (sent net labelled leads kept.ranks kept.clock w kept.ranked client tag entries h)
   step_keeps w (step.Begin message) kept h = ranks_stay w kept _ (begun net labelled leads kept.ranks kept.clock w kept.ranked message h)
   step_keeps w (step.Append delivery buffer serial) kept h = ranks_stay w kept _ (appended net labelled leads kept.ranks kept.clock w kept.ranked delivery buffer serial h)
@@ -46,11 +46,11 @@ module _ {A : Type 0} (net : Network A) (labelled : Labelling) (leads : LeadOn n
   step_keeps w (step.Oldest relay buffer) kept h = ranks_stay w kept _ (oldest_gone net labelled kept.ranks kept.clock w kept.ranked relay buffer h)
   step_keeps w (step.Restart relay) kept h = ranks_stay w kept _ (restarted net labelled kept.ranks kept.clock w kept.ranked relay)
 
-  run_keeps : (steps : List (Step A)) (before after : World) → IsKept net labelled before → Steps net before steps after → IsKept net labelled after
+  pub run_keeps : (steps : List (Step A)) (before after : World) → IsKept net labelled before → Steps net before steps after → IsKept net labelled after
   run_keeps [] before after kept is = rw is kept
   run_keeps (next ∷ steps) before after kept run = run_keeps steps (effect net before next) after (step_keeps before next kept run.1) run.2
 
-  opening_kept : IsKept net labelled opening
+  pub opening_kept : IsKept net labelled opening
   opening_kept = record {
     ranks = λ place buffer serial. 0;
     clock = 0;

@@ -1,10 +1,16 @@
+pub mod Along
+pub mod AlongMoves
+pub mod AlongRanked
 pub mod AppendMoves
 pub mod Borne
 pub mod ChunkMoves
 pub mod Deliverings
+pub mod EachStep
+pub mod EveryBranch
 pub mod EveryNetwork
 pub mod Going
 pub mod Headline
+pub mod HeldOnward
 pub mod Leads
 pub mod Lists
 pub mod Made
@@ -16,7 +22,7 @@ pub mod Safe
 pub mod Sendings
 pub mod Serials
 pub mod Shape
-pub mod SinkMoves
 pub mod SingleLabels
+pub mod SinkMoves
 pub mod Sourced
 pub mod StepsMore

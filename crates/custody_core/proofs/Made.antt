@@ -1,5 +1,5 @@
 -- After every list of steps whatever a sink holds a client sent, under a tag of which its tag is a routed one.
-use Rattle.std.proofs.Common.{◌≡◌, ◌≢◌, ℕ, ◌≤◌, ◌==◌, ◌&&◌, Bool, true, false, cond, List, [], ◌∷◌, ◌++◌, length, take, map, Option, Some, None, slice_get, slice_set, refl, sym, ap, ◌∙◌, inl, inr, arith, Contains, IsSomeAnd}
+use Rattle.std.proofs.Common.{◌≡◌, ℕ, ◌≤◌, ◌==◌, ◌&&◌, Bool, true, false, cond, List, [], ◌∷◌, ◌++◌, length, take, map, Option, Some, None, slice_get, slice_set, refl, sym, ap, ◌∙◌, inl, inr, arith, Contains}
 use Rattle.std.proofs.lemmas.Option.{same_Some}
 use Rattle.std.proofs.lemmas.Bool.{and_parts, eqb-true}
 use Rattle.std.specs.Option.{option_and_then, option_map_or}
@@ -13,17 +13,16 @@ use Rattle.relay_net.specs.Ways.{HasLoop}
 use Rattle.routed_tags.specs.Routed.{SendsTo, Follows, sent}
 use Rattle.custody_store.specs.Buffers.{Event, Chunk, BufferState, with_chunk, events_of, started_again, without_oldest, appended_to}
 use Rattle.message_book.specs.Book.{Message, Delivery, Told, ended}
-use Rattle.message_book.specs.declared.sender.Sender.{Sender}
 use Rattle.custody_steps.specs.World.{World, opening, with_buffer}
 use Rattle.custody_steps.specs.Steps.{Allowed, effect, Steps, CanBegin, CanAppend, tag_of, with_named, with_stored, with_delivery, forwarded_to, chunk_named}
-use Rattle.custody_core.specs.Custody.{IsClient, IsOriginOf, NothingIsMadeUp}
+use Rattle.custody_core.specs.Custody.{IsClient, NothingIsMadeUp}
 use Rattle.message_book.specs.declared.sender.Sender.TheVariants as sender
 use Rattle.step_lines.specs.declared.step.ChunkName.{ChunkName}
 use Rattle.step_lines.specs.declared.step.Step.{Step}
 use Rattle.step_lines.specs.declared.step.Step.TheVariants as step
 use Rattle.custody_core.proofs.Borne.{IsBorne, borne_first, borne_on, borne_onward, borne_routed}
 use Rattle.custody_core.proofs.Lists.{get-push, get-more, get-set, get-after_set, get-map, get-contains, contains-take}
-use Rattle.custody_core.proofs.Sendings.{IsMessageOf, Follow}
+use Rattle.custody_core.proofs.Sendings.{Follow}
 use Rattle.custody_core.proofs.Deliverings.{server_of}
 use Rattle.custody_core.proofs.Sourced.{AllSent, IsSourced, sourced_more, chunk_changes, sink_takes, takes_sent, oldest_goes, starts_again}
 

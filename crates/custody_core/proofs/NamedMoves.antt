@@ -45,13 +45,13 @@ named net w name level P h = named_at net w name level P (place_of net name.rela
 
 -- What an output that keeps never does.
 
-keeps_asks : {A : Type 0} (o : Output A) → Keeps o → Forwards false o → ⊥
+pub keeps_asks : {A : Type 0} (o : Output A) → Keeps o → Forwards false o → ⊥
 keeps_asks (output.Null line) keeps forwards = keeps
 keeps_asks (output.Relabel target line) keeps forwards = keeps
 keeps_asks (output.Forward settings line) keeps forwards = let g = sym keeps.1 ∙ forwards in cc
 keeps_asks (output.File settings line) keeps forwards = forwards
 
-keeps_for_ever : {A : Type 0} (o : Output A) → Keeps o → GivesUp o → ⊥
+pub keeps_for_ever : {A : Type 0} (o : Output A) → Keeps o → GivesUp o → ⊥
 keeps_for_ever (output.Null line) keeps up = keeps
 keeps_for_ever (output.Relabel target line) keeps up = keeps
 keeps_for_ever (output.Forward settings line) keeps up = let g = sym keeps.0.for_ever ∙ up in cc
@@ -76,7 +76,7 @@ module _ {A : Type 0} (net : Network A) (labelled : Labelling) (ranks : Ranking)
   marks level P n mark like evident = rw n.is_place (mark_ranked net labelled ranks clock w is n.place name.buffer name.serial n.chunk n.is_chunk mark like evident)
 
   -- the evidence of a chunk that has it stays true
-  evident_still : (stage : Stage) (P : Chunk → Type 0) (n : IsNamed net w name stage P) → KeepsAt net n.place name.buffer → n.chunk.evidence ≡ true
+  pub evident_still : (stage : Stage) (P : Chunk → Type 0) (n : IsNamed net w name stage P) → KeepsAt net n.place name.buffer → n.chunk.evidence ≡ true
       → (n.chunk.stage ≢ Staged) × AreSafeOnward net ranks clock w.buffers (ranks n.place name.buffer name.serial + 1) n.place name.buffer n.chunk.tag n.chunk.entries
   evident_still level P n keeps evident = (is.chunks n.place name.buffer name.serial n.chunk n.is_chunk).evident keeps evident
 
@@ -95,7 +95,7 @@ module _ {A : Type 0} (net : Network A) (labelled : Labelling) (ranks : Ranking)
   given_back h = restaged Claimed Queued (λ e. cc) (λ e. cc) h
 
   -- the time becomes the rank of a staged chunk
-  pub enqueued : Allowed net w (step.Enqueue name) → (later : Ranking) × IsRanked net labelled later (clock + 1) (effect net w (step.Enqueue name))
+  unfoldable pub enqueued : Allowed net w (step.Enqueue name) → (later : Ranking) × IsRanked net labelled later (clock + 1) (effect net w (step.Enqueue name))
   enqueued h =
       let n = named net w name Staged (λ _. Unit {0}) h in
       (ranked_at ranks clock n.place name.buffer name.serial, rw n.is_place (queue_ranked net labelled ranks clock w is n.place name.buffer name.serial n.chunk n.is_chunk n.stage_is))
@@ -108,7 +108,7 @@ module _ {A : Type 0} (net : Network A) (labelled : Labelling) (ranks : Ranking)
   purged h = let n = named net w name Claimed (λ chunk. chunk.evidence ≡ true) h in goes (λ chunk. chunk.evidence ≡ true) n (λ keeps. n.holds)
 
   -- what is asked of the output of a named chunk is asked of the output of its buffer
-  output_is : (P : Chunk → Type 0) (n : IsNamed net w name Claimed P) (Q : Output A → Type 0) → IsSomeAnd (output_named net name) Q → IsSomeAnd (output_at net n.place name.buffer) Q
+  pub output_is : (P : Chunk → Type 0) (n : IsNamed net w name Claimed P) (Q : Output A → Type 0) → IsSomeAnd (output_named net name) Q → IsSomeAnd (output_at net n.place name.buffer) Q
   output_is P n Q h = rw n.is_place at h
 
   pub done : Allowed net w (step.Done name) → IsRanked net labelled ranks clock (effect net w (step.Done name))

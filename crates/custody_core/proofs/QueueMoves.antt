@@ -17,10 +17,10 @@ abbrev pub ranked_at : Ranking → ℕ → ℕ → ℕ → ℕ → Ranking
 ranked_at ranks clock place buffer serial = λ p b s. cond ((p == place) && ((b == buffer) && (s == serial))) clock (ranks p b s)
 
 module _ (ranks : Ranking) (clock place buffer serial : ℕ) where
-  rank_here : ranked_at ranks clock place buffer serial place buffer serial ≡ clock
+  pub rank_here : ranked_at ranks clock place buffer serial place buffer serial ≡ clock
   rank_here = rw (eq-eqb place place refl, eq-eqb buffer buffer refl, eq-eqb serial serial refl) refl
 
-  rank_unless : (p b s : ℕ) → ((p ≡ place) → (b ≡ buffer) → (s ≡ serial) → ⊥) → ranked_at ranks clock place buffer serial p b s ≡ ranks p b s
+  pub rank_unless : (p b s : ℕ) → ((p ≡ place) → (b ≡ buffer) → (s ≡ serial) → ⊥) → ranked_at ranks clock place buffer serial p b s ≡ ranks p b s
   rank_unless p b s other = unless ((p == place) && ((b == buffer) && (s == serial)))
       (λ e. (let first = and_parts (p == place) ((b == buffer) && (s == serial)) e in
       let second = and_parts (b == buffer) (s == serial) first.1 in
@@ -31,22 +31,22 @@ module _ (ranks : Ranking) (clock place buffer serial : ℕ) where
       unless false never = refl
 
 module _ {A : Type 0} (net : Network A) (labelled : Labelling) (ranks : Ranking) (clock : ℕ) (w : World) (is : IsRanked net labelled ranks clock w) (place buffer serial : ℕ) (chunk : Chunk) (at : (w.buffers place buffer).chunks serial ≡ Some chunk) (staged : chunk.stage ≡ Staged) where
-  abbrev later : Ranking
+  abbrev pub later : Ranking
   later = ranked_at ranks clock place buffer serial
 
-  abbrev enqueued : BufferState → BufferState
+  abbrev pub enqueued : BufferState → BufferState
   enqueued = put net labelled ranks clock w is place buffer serial chunk at (λ c. Some (record c { stage = Queued }))
 
   abbrev before : BufferState
   before = w.buffers place buffer
 
-  now_at : (other : ℕ) → ((other ≡ serial) × ((enqueued before).chunks other ≡ Some (record chunk { stage = Queued }))) ⊎ ((other ≢ serial) × ((enqueued before).chunks other ≡ before.chunks other))
+  pub now_at : (other : ℕ) → ((other ≡ serial) × ((enqueued before).chunks other ≡ Some (record chunk { stage = Queued }))) ⊎ ((other ≢ serial) × ((enqueued before).chunks other ≡ before.chunks other))
   now_at other = put_at net labelled ranks clock w is place buffer serial chunk at (λ c. Some (record c { stage = Queued })) other
 
-  rank_apart : (other : ℕ) → other ≢ serial → later place buffer other ≡ ranks place buffer other
+  pub rank_apart : (other : ℕ) → other ≢ serial → later place buffer other ≡ ranks place buffer other
   rank_apart other apart = rank_unless ranks clock place buffer serial place buffer other (λ p b s. apart s)
 
-  queue_held : (rank : ℕ) (event : Event) → rank ≤ clock → IsHeldFrom (ranks place buffer) rank before event → IsHeldFrom (later place buffer) rank (enqueued before) event
+  pub queue_held : (rank : ℕ) (event : Event) → rank ≤ clock → IsHeldFrom (ranks place buffer) rank before event → IsHeldFrom (later place buffer) rank (enqueued before) event
   queue_held rank event le held = elim (now_at held.serial) [
     | inl here ↦ (let same : held.chunk ≡ chunk = same_Some held.chunk chunk (sym held.there ∙ ap before.chunks here.0 ∙ at) in record {
       serial = held.serial;

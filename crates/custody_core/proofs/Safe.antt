@@ -43,7 +43,7 @@ pub record IsSafe {A : Type 0} (net : Network A) (ranks : Ranking) (buffers : Bu
   pub borne : Bears net origin place buffer tag
   pub held : Contains (buffers place buffer).sink (event_of tag origin.entry) ⊎ (KeepsAt net place buffer × IsHeldFrom (ranks place buffer) rank (buffers place buffer) (event_of tag origin.entry))
 
-lower : (level : Stage) (queued rank less : ℕ) → less ≤ rank → RanksFrom level queued rank → RanksFrom level queued less
+pub lower : (level : Stage) (queued rank less : ℕ) → less ≤ rank → RanksFrom level queued rank → RanksFrom level queued less
 lower level queued rank less le ranked = elim ranked [
   | inl staged ↦ inl staged
   | inr high ↦ inr (omega arith)

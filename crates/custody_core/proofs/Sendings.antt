@@ -33,7 +33,7 @@ abbrev pub Follow : List Message → List Message → Type 0
 Follow old new = (number : ℕ) (message : Message) → slice_get old number ≡ Some message → IsMessageOf new number message
 
 -- an entry that was acknowledged to a client
-abbrev told_entry : ℕ → List ℕ → List ℕ → Told
+abbrev pub told_entry : ℕ → List ℕ → List ℕ → Told
 told_entry client tag entry = record { client = client; event = record { tag = tag; entry = entry } }
 
 -- the delivery of this number, with its message
@@ -44,7 +44,7 @@ pub record IsOf (w : World) (number : ℕ) (P : Delivery → Message → Type 0)
   pub is_message : slice_get w.messages delivery.message ≡ Some message
   pub holds : P delivery message
 
-of_delivery : (w : World) (number : ℕ) (P : Delivery → Message → Type 0) → OfDelivery w number P → IsOf w number P
+pub of_delivery : (w : World) (number : ℕ) (P : Delivery → Message → Type 0) → OfDelivery w number P → IsOf w number P
 of_delivery w number P h =
     let d = some_and (slice_get w.deliveries number) (λ delivery. IsSomeAnd (slice_get w.messages delivery.message) (P delivery)) h in
     let m = some_and (slice_get w.messages d.0.message) (P d.0) d.2 in
@@ -85,7 +85,7 @@ module _ {A : Type 0} (net : Network A) (labelled : Labelling) (ranks : Ranking)
       ])
 
   -- a message was acknowledged, whose events are safe
-  answered_ranked : (w : World) → IsRanked net labelled ranks clock w → (number : ℕ) (message : Message) → slice_get w.messages number ≡ Some message → ArePassedOn net ranks clock w.buffers message.sender message.address message.tag message.entries
+  pub answered_ranked : (w : World) → IsRanked net labelled ranks clock w → (number : ℕ) (message : Message) → slice_get w.messages number ≡ Some message → ArePassedOn net ranks clock w.buffers message.sender message.address message.tag message.entries
       → IsRanked net labelled ranks clock (record w { messages = slice_set w.messages number (record message { acknowledged = true }) })
   answered_ranked w is number message at passed = messages_ranked w is (slice_set w.messages number (record message { acknowledged = true }))
       (λ k old there. elim (get-after_set w.messages (record message { acknowledged = true }) old number k there) [
@@ -99,7 +99,7 @@ module _ {A : Type 0} (net : Network A) (labelled : Labelling) (ranks : Ranking)
       ])
 
   -- events were acknowledged to clients, which are safe
-  told_ranked : (w : World) → IsRanked net labelled ranks clock w → (more : List Told) → ((told : Told) → Contains more told → IsToldSafe net ranks clock w.buffers told) → IsRanked net labelled ranks clock (record w { acknowledged = w.acknowledged ++ more })
+  pub told_ranked : (w : World) → IsRanked net labelled ranks clock w → (more : List Told) → ((told : Told) → Contains more told → IsToldSafe net ranks clock w.buffers told) → IsRanked net labelled ranks clock (record w { acknowledged = w.acknowledged ++ more })
   told_ranked w is more each = record {
     below = is.below;
     chunks = is.chunks;
@@ -112,7 +112,7 @@ module _ {A : Type 0} (net : Network A) (labelled : Labelling) (ranks : Ranking)
   }
 
   -- what becomes acknowledged to a client is safe
-  newly_safe : (w : World) (s : Sender) (address : Address) (before : Bool) (tag : List ℕ) (entries : List (List ℕ)) → IsSentFrom net s address → ArePassedOn net ranks clock w.buffers s address tag entries
+  pub newly_safe : (w : World) (s : Sender) (address : Address) (before : Bool) (tag : List ℕ) (entries : List (List ℕ)) → IsSentFrom net s address → ArePassedOn net ranks clock w.buffers s address tag entries
       → (told : Told) → Contains (newly_acknowledged s before tag entries) told → IsToldSafe net ranks clock w.buffers told
   newly_safe w (sender.Client client) address false tag entries from passed told inside =
       let e = contains-map (λ entry. told_entry client tag entry) entries told inside in
@@ -206,7 +206,7 @@ module _ {A : Type 0} (net : Network A) (labelled : Labelling) (leads : LeadOn n
       rw o.is_delivery (rw o.is_message (appended_at number buffer serial o.delivery o.message o.is_delivery o.is_message o.holds))
 
   -- The events of a message whose delivery was appended to each leaf are safe: one of the leaves keeps.
-  whole_safe : (number : ℕ) (d : Delivery) (m : Message) → slice_get w.deliveries number ≡ Some d → slice_get w.messages d.message ≡ Some m → CanAcknowledge net d m → ArePassedOn net ranks clock w.buffers m.sender m.address m.tag m.entries
+  pub whole_safe : (number : ℕ) (d : Delivery) (m : Message) → slice_get w.deliveries number ≡ Some d → slice_get w.messages d.message ≡ Some m → CanAcknowledge net d m → ArePassedOn net ranks clock w.buffers m.sender m.address m.tag m.entries
   whole_safe number d m at there can counts entry inside =
       let known = is.deliveries number d at in
       let leaf = leads.keeps d.entrance d.tag known.taken in

@@ -21,7 +21,7 @@ use Rattle.custody_core.proofs.Going.{GoesOn, IsLike, like_itself, Changes, chan
 module _ {A : Type 0} (net : Network A) (labelled : Labelling) (ranks : Ranking) (clock : ℕ) (w : World) (is : IsRanked net labelled ranks clock w) (place buffer : ℕ) where
   -- More is stored in the sink of the buffer's output.
   module _ (more : BufferState → List Event) where
-    abbrev fuller : BufferState → BufferState
+    abbrev pub fuller : BufferState → BufferState
     fuller state = record state { sink = state.sink ++ more state }
 
     fuller_changes : Changes net labelled ranks clock w ranks clock place buffer fuller
@@ -57,7 +57,7 @@ module _ {A : Type 0} (net : Network A) (labelled : Labelling) (ranks : Ranking)
         is
 
 -- what is left at a serial after the oldest queued chunk went
-left_by : (b : Bool) (o : Option Chunk) (chunk : Chunk) → cond b None o ≡ Some chunk → o ≡ Some chunk
+pub left_by : (b : Bool) (o : Option Chunk) (chunk : Chunk) → cond b None o ≡ Some chunk → o ≡ Some chunk
 left_by true o chunk e = absurd (cc)
 left_by false o chunk e = e
 
@@ -121,13 +121,13 @@ module _ (old : BufferState) where
   again_below true new again below serial le = refl
   again_below false new again below serial le = none_restarted (old.chunks serial) (below serial le)
 
-  again_sink : (memory : Bool) (new : BufferState) → IsAgain old memory new → new.sink ≡ old.sink
+  pub again_sink : (memory : Bool) (new : BufferState) → IsAgain old memory new → new.sink ≡ old.sink
   again_sink memory new as_before = refl
   again_sink true new again = refl
   again_sink false new again = refl
 
   -- each chunk that is there was there, and has what it had
-  again_from : (memory : Bool) (new : BufferState) → IsAgain old memory new → (serial : ℕ) (now : Chunk) → new.chunks serial ≡ Some now → (chunk : Chunk) × (old.chunks serial ≡ Some chunk) × IsLike chunk now × (now.evidence ≡ true → chunk.evidence ≡ true)
+  pub again_from : (memory : Bool) (new : BufferState) → IsAgain old memory new → (serial : ℕ) (now : Chunk) → new.chunks serial ≡ Some now → (chunk : Chunk) × (old.chunks serial ≡ Some chunk) × IsLike chunk now × (now.evidence ≡ true → chunk.evidence ≡ true)
   again_from memory new as_before serial now at = (now, at, like_itself now, λ e. e)
   again_from true new again serial now at = absurd (cc)
   again_from false new again serial now at =
@@ -135,7 +135,7 @@ module _ (old : BufferState) where
       (r.0, r.1, subst (λ (x : Chunk). IsLike r.0 x) (sym r.2) (like_restarted r.0), λ e. absurd (let f : now.evidence ≡ false = ap (λ (c : Chunk). c.evidence) r.2 in let g = sym e ∙ f in cc))
 
   -- in a file each chunk stays
-  again_to : (new : BufferState) → IsAgain old false new → (serial : ℕ) (chunk : Chunk) → old.chunks serial ≡ Some chunk → (now : Chunk) × (new.chunks serial ≡ Some now) × IsLike chunk now
+  pub again_to : (new : BufferState) → IsAgain old false new → (serial : ℕ) (chunk : Chunk) → old.chunks serial ≡ Some chunk → (now : Chunk) × (new.chunks serial ≡ Some now) × IsLike chunk now
   again_to new as_before serial chunk at = (chunk, at, like_itself chunk)
   again_to new again serial chunk at = (restarted chunk, ap (option_map restarted) at, like_restarted chunk)
 

@@ -1,5 +1,5 @@
 -- Whatever buffers and sinks hold, and whatever relays send, a client sent: of every network.
-use Rattle.std.proofs.Common.{◌≡◌, ℕ, ◌==◌, ◌≤◌, ◌&&◌, Bool, true, false, cond, List, [], ◌++◌, take, Option, Some, None, option_map, slice_get, refl, sym, ◌∙◌, ◌⊎◌, inl, inr, arith, Contains}
+use Rattle.std.proofs.Common.{◌≡◌, ℕ, ◌==◌, ◌≤◌, ◌&&◌, Bool, true, false, cond, List, [], ◌++◌, take, Option, Some, None, option_map, refl, sym, ◌∙◌, ◌⊎◌, inl, inr, arith, Contains}
 use Rattle.std.proofs.lemmas.Option.{same_Some}
 use Rattle.std.proofs.lemmas.Bool.{eqb-true}
 use Rattle.std.specs.Option.{option_and_then, option_map_or}

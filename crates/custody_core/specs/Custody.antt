@@ -6,6 +6,7 @@ use Rattle.message_book.specs.declared.sender.Sender.{Sender}
 use Rattle.message_book.specs.declared.sender.Sender.TheVariants as sender
 use Rattle.relay_net.specs.Network.{Network}
 use Rattle.routed_tags.specs.Routed.{IsRoutedTag}
+use Rattle.custody_steps.specs.Branches.{IsKeptEvery}
 use Rattle.custody_steps.specs.Held.{IsKept}
 use Rattle.custody_steps.specs.World.{World}
 
@@ -27,6 +28,10 @@ WasSent net w event = Any (IsOriginOf net event) w.messages
 -- Every event that was acknowledged to a client is held, under a tag that it may bear.
 abbrev pub NothingIsLost : {A : Type 0} → Network A → World → Type 0
 NothingIsLost net w = All (IsKept net w) w.acknowledged
+
+-- Every event that was acknowledged to a client comes to a buffer, and is kept by each buffer that it comes to, or further on from there.
+abbrev pub EachBranchKeeps : {A : Type 0} → Network A → World → Type 0
+EachBranchKeeps net w = All (IsKeptEvery net w) w.acknowledged
 
 -- Whatever is in a sink was sent by a client.
 abbrev pub NothingIsMadeUp : {A : Type 0} → Network A → World → Type 0

@@ -1,3 +1,4 @@
 pub mod Custody
+pub mod Onward
 pub mod Premise
 pub mod SingleFile

@@ -1,12 +1,13 @@
 // Whole runs of a network, and what they never lose.
 ghost use Rattle.std.specs.Prelude.{◌≡◌, true, List, IfOk, IfErr};
-ghost use Rattle.custody_core.specs.Custody.{NothingIsLost, NothingIsMadeUp};
+ghost use Rattle.custody_core.specs.Custody.{EachBranchKeeps, NothingIsLost, NothingIsMadeUp};
+ghost use Rattle.custody_core.specs.Onward.{AreHeldOnward};
 ghost use Rattle.custody_core.specs.Premise.{ClientsFit};
 ghost use Rattle.custody_core.specs.SingleFile.{is_single_file_net};
 ghost use Rattle.custody_steps.specs.Steps.{Steps, IsRefusedAt};
 ghost use Rattle.custody_steps.specs.World.{opening};
 ghost use Rattle.custody_steps.specs.WorldOf.{world_of, net_of};
-ghost use Rattle.loss_rules.specs.Rules.{AreRulesKept};
+ghost use Rattle.loss_rules.specs.Rules.{AreRulesKept, EachOutputKeeps};
 ghost use Rattle.loss_rules.specs.Sites.{BuffersAreDistinct};
 ghost use Rattle.loss_rules.specs.declared.label.Label.{Label};
 ghost use Rattle.loss_rules.specs.declared.label.Reach.{Reach};
@@ -24,6 +25,10 @@ use step_lines::Step;
 /// output's buffer once, each event that was acknowledged to a client is then in a live chunk of a buffer or in a sink, under such
 /// a tag and with its bytes unchanged. So it is in a network of one relay with one match and one file output that keeps, if each
 /// pattern of a client fits one of the match and no source has a prefix.
+/// What was acknowledged, to chunks too, is held by sinks and by chunks of buffers that keep, which are staged or were queued later than
+/// the chunk that sent it.
+/// Where besides each output of each reached match keeps or is a relabel, each buffer that the event comes to keeps it, or what it was
+/// forwarded to does.
 pub fn run<'n, A: Allocator + Copy>(
     alloc: A,
     net: &'n Net<A>,
@@ -34,6 +39,8 @@ pub fn run<'n, A: Allocator + Copy>(
     ensures refused { IfErr result (λ e. IsRefusedAt net.now steps.now e.0 e.1) }
     ensures nothing_is_lost { is_single_file_net net.now.relays net.now.clients ≡ true → ClientsFit net.now → IfOk result (λ w. NothingIsLost net.now (world_of w)) }
     ensures labelled_nothing_is_lost { (labels : List (Label A)) (reaches : List (Reach A)) → BuffersAreDistinct net.now → AreRulesKept net.now labels reaches → IfOk result (λ w. NothingIsLost net.now (world_of w)) }
+    ensures held_onward { (labels : List (Label A)) (reaches : List (Reach A)) → BuffersAreDistinct net.now → AreRulesKept net.now labels reaches → IfOk result (λ w. AreHeldOnward net.now (world_of w)) }
+    ensures each_branch_keeps { (labels : List (Label A)) (reaches : List (Reach A)) → BuffersAreDistinct net.now → AreRulesKept net.now labels reaches → EachOutputKeeps net.now reaches → IfOk result (λ w. EachBranchKeeps net.now (world_of w)) }
     ensures nothing_is_made_up { IfOk result (λ w. NothingIsMadeUp net.now (world_of w)) }
 {
     let mut world = World::new(alloc, net);

@@ -6,5 +6,6 @@ pub mod Keeping
 pub mod Named
 pub mod Oldest
 pub mod StartingAgain
+pub mod Tellings
 pub mod Views
 pub mod Ways

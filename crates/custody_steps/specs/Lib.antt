@@ -1,4 +1,5 @@
 pub mod Answers
+pub mod Branches
 pub mod Found
 pub mod Held
 pub mod Open

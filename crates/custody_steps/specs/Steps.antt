@@ -230,7 +230,7 @@ Steps net before [] after = after ≡ before
 Steps net before (first ∷ steps) after = Names net before first × Allowed net before first × Steps net (effect net before first) steps after
 
 -- Memory may run out in this step. Where an event goes is looked for in memory, so that it may before it is known
--- whether the way allows the step; all else that the step asks for holds.
+-- whether the way, or the length of the tag with its prefix, allows the step; all else that the step asks for holds.
 abbrev pub MayRunOut : {A : Type 0} → Network A → World → Step A → Type 0
 MayRunOut net w (step.Begin message) = IsSomeAnd (slice_get w.messages message) (λ m. IsSome (entrance net m.address))
 MayRunOut net w (step.Append delivery buffer serial) = OfDelivery w delivery (λ d m. (d.is_open ≡ true) × (¬ Contains d.appended buffer) × CanTake (w.buffers d.entrance.relay buffer) d.tag serial)

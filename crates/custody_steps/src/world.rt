@@ -10,6 +10,7 @@ ghost use Rattle.message_book.specs.Book.{told_events};
 use crate::fault::StepFault;
 use crate::found::Found;
 use custody_store::{Event, Places, Stage};
+use kept_branches::each_branch_keeps;
 use message_book::{Acknowledged, Book};
 use relay_net::Net;
 use routed_tags::is_routed_tag;
@@ -33,6 +34,8 @@ impl<'n, A: Allocator + Copy> World<'n, A> {
     ghost use Rattle.custody_steps.specs.Found.{IsFound};
     ghost use Rattle.custody_store.specs.Contents.{event_of};
     ghost use Rattle.routed_tags.specs.Routed.{IsRoutedTag};
+    ghost use Rattle.kept_branches.specs.Branches.{EachKeeps};
+    ghost use Rattle.custody_steps.specs.Branches.{IsKeptEveryAnswer};
     ghost use Rattle.custody_steps.specs.Held.{Held, HeldAs, IsKeptAnswer};
     ghost use Rattle.custody_steps.specs.Steps.{Answers, Names, Allowed, IsRefused, chunk_named, effect, sink_named};
     ghost use Rattle.custody_steps.specs.World.{opening};
@@ -112,6 +115,42 @@ impl<'n, A: Allocator + Copy> World<'n, A> {
             return Ok(false);
         }
         is_routed_tag(self.alloc, self.net, host, port, event.tag.as_slice(), tag)
+    }
+
+    /// Whether the event of this number, counted from 0, that was acknowledged to a client comes to a buffer, and is kept along each branch
+    /// of its way: each buffer that it comes to has it in a live chunk or in its sink, or was given an acknowledgement of a message with
+    /// it by a relay of the plan where it is kept so. `None` where no event has this number.
+    /// It goes through all messages that were sent once for each that is found to be kept.
+    pub fn kept_every(&self, number: usize) -> Result<Option<bool>, AllocError>
+        ensures { IfOk result (λ answer. IsKeptEveryAnswer (net_of self.now) (world_of self.now) number answer) }
+    {
+        let Some(told) = self.book.acknowledged().get(number) else {
+            return Ok(None);
+        };
+        let Some(client) = self.net.client(told.client) else {
+            return Ok(Some(false));
+        };
+        let Some(host) = self.net.client_host(told.client) else {
+            return Ok(Some(false));
+        };
+        let yes = self.is_kept_each(host, client.port, &told.event)?;
+        Ok(Some(yes))
+    }
+
+    // Whether the event is kept along each branch of its way, if a message with it was sent to this host and port.
+    fn is_kept_each(&self, host: &[u8], port: u16, event: &Event<A>) -> Result<bool, AllocError>
+        ensures { IfOk result (λ yes. IsTrue yes ↔ EachKeeps (net_of self.now) (world_of self.now).buffers (world_of self.now).messages (record { host = host.now; port = port }) event.now.tag.items event.now.entry.items) }
+    {
+        each_branch_keeps(
+            self.alloc,
+            self.net,
+            &self.places,
+            &self.book,
+            host,
+            port,
+            event.tag.as_slice(),
+            event.entry.as_slice(),
+        )
     }
 
     /// What is in the sink of this output, by the number of its relay and its buffer; nothing where there is none.

@@ -50,7 +50,7 @@ pub fn copy_events<A: Allocator + Copy>(
 }
 
 /// Whether the text is among the texts.
-pub(crate) fn has_text<A: Allocator>(texts: &[Vec<u8, A>], text: &[u8]) -> bool
+pub fn has_text<A: Allocator>(texts: &[Vec<u8, A>], text: &[u8]) -> bool
     ensures { IsTrue result ↔ Contains (texts_of texts.now) text.now }
 {
     for one in texts {

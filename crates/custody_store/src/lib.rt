@@ -9,5 +9,5 @@ mod tags;
 
 pub use buffer::Buffer;
 pub use chunk::{Copied, Look, Stage};
-pub use event::{Event, copy_events, copy_texts};
+pub use event::{Event, copy_events, copy_texts, has_text};
 pub use places::Places;

@@ -115,6 +115,16 @@ impl<A: Allocator + Copy> Places<A> {
         hold_any(self.list.as_slice(), tag, entry)
     }
 
+    /// Whether the event is in a live chunk of this buffer, or in the sink of its output. It looks at each of them.
+    pub fn holds(&self, place: usize, buffer: usize, tag: &[u8], entry: &[u8]) -> bool
+        ensures { IsTrue result ↔ Holds (buffer_of (contents_at self.now place buffer)) (record { tag = tag.now; entry = entry.now }) }
+    {
+        match self.buffer(place, buffer) {
+            Some(found) => found.holds(tag, entry),
+            None => false,
+        }
+    }
+
     /// All tags under which something is held in a live chunk of some buffer or in a sink, and maybe others, each once.
     pub fn tags(&self) -> Result<Vec<Vec<u8, A>, A>, AllocError>
         ensures { IfOk result (λ tags. (event : Event) → HoldAnywhere self.now event → Contains (texts_of tags.items) event.tag) }

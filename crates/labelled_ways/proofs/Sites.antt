@@ -39,7 +39,8 @@ find-some {X} test (y ∷ xs) x c h = by (test y) refl (λ rest. find-some test 
       | inr rest ↦ more rest
     ]
 
-place-contains : {X : Type 0} (xs : List X) (i : ℕ) (x : X) → slice_get xs i ≡ Some x → Contains xs x
+-- what stands at a place is in the list
+pub place-contains : {X : Type 0} (xs : List X) (i : ℕ) (x : X) → slice_get xs i ≡ Some x → Contains xs x
 place-contains [] i x e = absurd (cc)
 place-contains (y ∷ xs) zero x e = subst (λ z. Contains (y ∷ xs) z) (same_Some y x e) (cons-head y xs)
 place-contains (y ∷ xs) (suc i) x e = cons-tail y xs x (place-contains xs i x e)

@@ -1,6 +1,7 @@
 -- The way of an event whose tag is one of a label.
 use Rattle.std.proofs.Common.{◌≡◌, ℕ, zero, suc, ◌+◌, ◌<◌, ◌≤◌, List, [], ◌∷◌, length, Option, Some, None, slice_get, refl, sym, ap, subst, ◌∙◌, ◌⊎◌, inl, inr, arith, Contains, IsSomeAnd}
 use Rattle.std.specs.Option.{option_and_then}
+use Rattle.std.proofs.lemmas.List.Elements.{All-contains}
 use Rattle.std.proofs.lemmas.Option.{same_Some, slice_get_read}
 use Rattle.relay_conf.specs.declared.output.Output.{Output}
 use Rattle.relay_conf.specs.declared.relay.MatchRule.{MatchRule}
@@ -13,15 +14,15 @@ use Rattle.route_graph.specs.declared.hop.Hop.{Hop}
 use Rattle.route_graph.proofs.Members.{cons-cases, nil-none}
 use Rattle.route_graph.proofs.WalkLaws.{leads-on}
 use Rattle.loss_rules.specs.Labels.{IsLabelledTag, IsReachedTag}
-use Rattle.loss_rules.specs.Rules.{AreRulesKept, GoesOn, GoesTo, here as arrived, onward as going, KeepsOrRelabels}
-use Rattle.loss_rules.specs.Sites.{output_in_rule, BuffersAreDistinct}
+use Rattle.loss_rules.specs.Rules.{AreRulesKept, GoesOn, GoesTo, here as arrived, onward as going, KeepsOrRelabels, AllKeepOrRelabel, EachOutputKeeps}
+use Rattle.loss_rules.specs.Sites.{rule_at, output_in_rule, BuffersAreDistinct, RelabelsTo}
 use Rattle.loss_rules.specs.declared.label.Label.{Label}
 use Rattle.loss_rules.specs.declared.label.Reach.{Reach}
 use Rattle.labelled_ways.specs.SafeWays.{IsFirstTaker, IsLabelledOnward, IsSafeWay}
 use Rattle.labelled_ways.proofs.Counts.{AreApart, apart-few}
 use Rattle.labelled_ways.proofs.Hops.{to_buffer, to_scope, hop-output, output-hop, buffer-number, number-buffer, scope-relabel, relabel-scope, keeps-number}
 use Rattle.labelled_ways.proofs.Passing.{reached-tag, reach-labelled, label-pattern, pattern-taken, taken-reached}
-use Rattle.labelled_ways.proofs.Sites.{output-found, scope_count, scope-within}
+use Rattle.labelled_ways.proofs.Sites.{output-found, place-contains, scope_count, scope-within}
 use Rattle.labelled_ways.proofs.Takers.{taker-first, first-taker}
 
 -- The hop is that of an output in a match that has a reach with the tag.
@@ -49,6 +50,12 @@ record IsBehind {A : Type 0} (net : Network A) (place : ℕ) (tag : List ℕ) (s
 -- Each of these scopes was.
 abbrev AreBehind : {A : Type 0} → Network A → ℕ → List ℕ → List ℕ → ℕ → Type 0
 AreBehind net place tag seen scope = (before : ℕ) → Contains seen before → IsBehind net place tag scope before
+
+-- an output of a match whose outputs all keep or are relabels is one of these
+each-output : {A : Type 0} (o : Option (MatchRule A)) (output : ℕ) (found : Output A) → option_and_then (λ r. slice_get r.outputs.items output) o ≡ Some found → ((r : MatchRule A) → o ≡ Some r → AllKeepOrRelabel r)
+    → Keeps found ⊎ ((scope : ℕ) × RelabelsTo found scope)
+each-output None output found e all = absurd (cc)
+each-output (Some r) output found e all = All-contains (λ found. Keeps found ⊎ ((scope : ℕ) × RelabelsTo found scope)) r.outputs.items found (all r refl) (place-contains r.outputs.items output found e)
 
 -- ---- the way, under the rules
 
@@ -114,6 +121,22 @@ module _ {A : Type 0} (net : Network A) (labels : List (Label A)) (reaches : Lis
   leaf-onward : {scope buffer : ℕ} → IsLeaf (table_at net place) tag scope buffer → IsLabelledTag labels place scope tag → IsLabelledOnward net labels place buffer tag
   leaf-onward (own {scope = scope} {buffer = buffer} h) labelled = own-onward scope buffer labelled h
   leaf-onward (further {scope = scope} {target = target} r l) labelled = leaf-onward l (relabel-labelled scope target labelled r)
+
+  -- where each output keeps or is a relabel, each leaf keeps
+  own-keeps : EachOutputKeeps net reaches → (scope buffer : ℕ) → IsLabelledTag labels place scope tag → IsHandedTo (table_at net place) tag scope (to_buffer buffer) → IsSomeAnd (output_at net place buffer) Keeps
+  own-keeps each scope buffer labelled handed =
+      let by = handed-by scope (to_buffer buffer) labelled handed in
+      let there = output-found net distinct place scope by.rule by.output by.found buffer by.there (buffer-number by.found buffer by.is) in
+      let does = each-output (rule_at net place scope by.rule) by.output by.found by.there (λ r at. each place scope by.rule r at (reached-tag reaches place scope by.rule tag by.reached)) in
+      let keeps : Keeps by.found = elim does [
+        | inl keeps ↦ keeps
+        | inr (target, relabels) ↦ absurd (let e = sym by.is ∙ relabel-scope by.found target relabels in cc)
+      ] in
+      subst (λ (x : Option (Output A)). IsSomeAnd x Keeps) (sym there) keeps
+
+  pub leaf-keeps : EachOutputKeeps net reaches → {scope buffer : ℕ} → IsLeaf (table_at net place) tag scope buffer → IsLabelledTag labels place scope tag → IsSomeAnd (output_at net place buffer) Keeps
+  leaf-keeps each (own {scope = scope} {buffer = buffer} h) labelled = own-keeps each scope buffer labelled h
+  leaf-keeps each (further {scope = scope} {target = target} r l) labelled = leaf-keeps each l (relabel-labelled scope target labelled r)
 
   -- an output of the match that takes the event hands it on
   handed-on : (scope rule : ℕ) → (first : IsFirstTaker net place scope tag rule) → (o : ℕ) (found : Output A) (hop : Hop) → slice_get first.found.outputs.items o ≡ Some found → hop_of found ≡ Some hop → IsHandedTo (table_at net place) tag scope hop
@@ -197,3 +220,8 @@ module _ {A : Type 0} (net : Network A) (labels : List (Label A)) (reaches : Lis
 -- under the rules each tag of a label has a safe way from the label's scope
 pub labelled_safe : {A : Type 0} (net : Network A) (labels : List (Label A)) (reaches : List (Reach A)) → BuffersAreDistinct net → AreRulesKept net labels reaches → (place scope : ℕ) (tag : List ℕ) → IsLabelledTag labels place scope tag → IsSafeWay net labels reaches place scope tag
 labelled_safe net labels reaches distinct kept place scope tag labelled = safe-way net labels reaches distinct kept place tag scope labelled
+
+-- where each output of each reached match keeps or is a relabel besides, each leaf of the way keeps
+pub labelled_kept : {A : Type 0} (net : Network A) (labels : List (Label A)) (reaches : List (Reach A)) → BuffersAreDistinct net → AreRulesKept net labels reaches → EachOutputKeeps net reaches
+    → (place scope : ℕ) (tag : List ℕ) → IsLabelledTag labels place scope tag → (buffer : ℕ) → IsLeaf (table_at net place) tag scope buffer → IsSomeAnd (output_at net place buffer) Keeps
+labelled_kept net labels reaches distinct kept each place scope tag labelled buffer leaf = leaf-keeps net labels reaches distinct kept place tag each leaf labelled

@@ -3,4 +3,4 @@
 
 mod laws;
 
-pub use laws::labelled_tags_are_safe;
+pub use laws::{labelled_leaves_keep, labelled_tags_are_safe};

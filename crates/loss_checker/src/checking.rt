@@ -1,11 +1,11 @@
 // The checker's answer.
 ghost use Rattle.std.specs.Prelude.{◌≡◌, ◌+◌, IfOk, IfErr, IfSome, IfNone, OnOk};
 ghost use Rattle.loss_rules.specs.Breaks.{IsKept, IsBrokenAt, IsAnswer, rule_number};
-ghost use Rattle.loss_rules.specs.Rules.{AreRulesKept};
+ghost use Rattle.loss_rules.specs.Rules.{AreRulesKept, EachOutputKeeps};
 ghost use Rattle.loss_checker.specs.Kept.{AreKeptBefore};
 
 use loss_rules::{
-    Answer, Place, Rule, addresses_are_distinct, clients_are_labelled, forwards_are_labelled,
+    Answer, Duty, Place, Rule, addresses_are_distinct, clients_are_labelled, forwards_are_labelled,
     labels_are_matched, paths_are_distinct, reached_matches_keep, reaches_cover,
     relabels_are_labelled, servers_are_sources,
 };
@@ -22,6 +22,8 @@ pub fn check<A: Allocator + Copy>(alloc: A, plan: &Plan<A>) -> Result<Answer, Al
     ensures answer { IfOk result (IsAnswer plan.now) }
     // A yes means that the rules hold under which nothing is lost.
     ensures rules_kept { IfOk result (λ answer. answer ≡ Answer.Yes → AreRulesKept plan.now.net plan.now.labels plan.now.reaches) }
+    // Under the duty every it means besides that each output of each reached match keeps, or is a relabel.
+    ensures each_keeps { IfOk result (λ answer. answer ≡ Answer.Yes → plan.now.duty ≡ Duty.Every → EachOutputKeeps plan.now.net plan.now.reaches) }
 {
     if let Err(answer) = keep_all_but_the_last(plan) {
         return Ok(answer);
@@ -50,7 +52,7 @@ fn keep_all_but_the_last<A: Allocator + Copy>(plan: &Plan<A>) -> Result<(), Answ
     keep(plan, Rule::LabelsAreMatched, matched)?;
     let covered = reaches_cover(net, labels, reaches);
     keep(plan, Rule::ReachesCover, covered)?;
-    let kept = reached_matches_keep(net, reaches);
+    let kept = reached_matches_keep(net, plan.duty(), reaches);
     keep(plan, Rule::ReachedMatchesKeep, kept)?;
     let relabels = relabels_are_labelled(net, labels, reaches);
     keep(plan, Rule::RelabelsAreLabelled, relabels)?;

@@ -4,5 +4,5 @@
 mod checking;
 
 pub use checking::check;
-pub use loss_rules::{Answer, Place, Rule};
+pub use loss_rules::{Answer, Duty, Place, Rule};
 pub use plan_lines::{Plan, PlanError, conf_names};

@@ -10,24 +10,26 @@ use Rattle.relay_net.specs.declared.node.Client.{Client}
 use Rattle.relay_net.specs.declared.node.Node.{Node}
 use Rattle.loss_rules.specs.Labels.{IsReached}
 use Rattle.loss_rules.specs.Sites.{rule_at, output_in_rule, line_of}
-use Rattle.loss_rules.specs.Rules.{RelayIsNew, source_in, SourceIsNew, AddressesAreDistinct, ServersAreSources, IsLabelledClient, ClientsAreLabelled, IsMatched, LabelsAreMatched, ReachesCoverLabel, ReachesCover, KeepsOrRelabels, ReachedMatchesKeep, IsLabelledRelabel, RelabelsAreLabelled, IsLabelledServer, ForwardsAreLabelled, IsFirstOfPath, PathsAreDistinct, IsOnNoCycle, NoRelabelCycle}
+use Rattle.loss_rules.specs.Rules.{RelayIsNew, source_in, SourceIsNew, AddressesAreDistinct, ServersAreSources, IsLabelledClient, ClientsAreLabelled, IsMatched, LabelsAreMatched, ReachesCoverLabel, ReachesCover, DoesDuty, ReachedMatchesDo, IsLabelledRelabel, RelabelsAreLabelled, IsLabelledServer, ForwardsAreLabelled, IsFirstOfPath, PathsAreDistinct, IsOnNoCycle, NoRelabelCycle}
 use Rattle.loss_rules.specs.declared.answer.Answer.{Answer}
 use Rattle.loss_rules.specs.declared.answer.Answer.TheVariants as answer
 use Rattle.loss_rules.specs.declared.answer.Place.{Place}
 use Rattle.loss_rules.specs.declared.answer.Place.TheVariants as place
 use Rattle.loss_rules.specs.declared.answer.Rule.{Rule}
 use Rattle.loss_rules.specs.declared.answer.Rule.TheVariants as rule
+use Rattle.loss_rules.specs.declared.label.Duty.{Duty}
 use Rattle.loss_rules.specs.declared.label.Label.{Label}
 use Rattle.loss_rules.specs.declared.label.Reach.{Reach}
 use Rattle.loss_rules.specs.declared.label.RelayLine.{RelayLine}
 
--- All that the rules speak of: a network, the lines of its relays and clients in the plan, labels and reaches.
+-- All that the rules speak of: a network, the lines of its relays and clients in the plan, labels, reaches, and what is asked of matches.
 pub record Subject (A : Type 0) : Type 0 where
   pub net : Network A
   pub relay_lines : List (RelayLine A)  -- for each relay of the network
   pub client_lines : List ℕ  -- for each client of the network
   pub labels : List (Label A)
   pub reaches : List (Reach A)
+  pub duty : Duty
 
 -- In configurations: by relays in the order of the plan, and by lines.
 
@@ -110,7 +112,7 @@ IsKept s rule.ServersAreSources = ServersAreSources s.net
 IsKept s rule.ClientsAreLabelled = ClientsAreLabelled s.net s.labels
 IsKept s rule.LabelsAreMatched = LabelsAreMatched s.net s.labels
 IsKept s rule.ReachesCover = ReachesCover s.net s.labels s.reaches
-IsKept s rule.ReachedMatchesKeep = ReachedMatchesKeep s.net s.reaches
+IsKept s rule.ReachedMatchesKeep = ReachedMatchesDo s.net s.duty s.reaches
 IsKept s rule.RelabelsAreLabelled = RelabelsAreLabelled s.net s.labels s.reaches
 IsKept s rule.ForwardsAreLabelled = ForwardsAreLabelled s.net s.labels s.reaches
 IsKept s rule.PathsAreDistinct = PathsAreDistinct s.net
@@ -123,7 +125,7 @@ IsBrokenAt s rule.ServersAreSources = IsInConf s.net (BreaksAtServer s.net (λ p
 IsBrokenAt s rule.ClientsAreLabelled = IsInPlan (BreaksAtClient s.net s.client_lines (IsLabelledClient s.net s.labels))
 IsBrokenAt s rule.LabelsAreMatched = IsInPlan (BreaksAtLabel s.labels (λ label. All (IsMatched s.net label.place label.scope) label.patterns.items))
 IsBrokenAt s rule.ReachesCover = IsInPlan (BreaksAtLabel s.labels (λ label. All (ReachesCoverLabel s.net s.reaches label.place label.scope) label.patterns.items))
-IsBrokenAt s rule.ReachedMatchesKeep = IsInConf s.net (BreaksAtMatch s.net (λ p scope r found. IsReached s.reaches p scope r → KeepsOrRelabels found))
+IsBrokenAt s rule.ReachedMatchesKeep = IsInConf s.net (BreaksAtMatch s.net (λ p scope r found. IsReached s.reaches p scope r → DoesDuty s.duty found))
 IsBrokenAt s rule.RelabelsAreLabelled = IsInConf s.net (BreaksAtOutput s.net (λ p scope r output found. IsLabelledRelabel s.labels s.reaches p scope r found))
 IsBrokenAt s rule.ForwardsAreLabelled = IsInConf s.net (BreaksAtServer s.net (λ p scope r server. IsLabelledServer s.net s.labels s.reaches p scope r (address_of_server server)))
 IsBrokenAt s rule.PathsAreDistinct = IsInConf s.net (BreaksAtOutput s.net (IsFirstOfPath s.net))

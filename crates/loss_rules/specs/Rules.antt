@@ -17,6 +17,8 @@ use Rattle.tag_pattern.specs.Items.{Item}
 use Rattle.tag_pattern.specs.Patterns.{Fits, Meets}
 use Rattle.loss_rules.specs.Labels.{FitsLabel, FitsLabelWith, FitsReach, IsReached, EachReach}
 use Rattle.loss_rules.specs.Sites.{rule_at, output_in_rule, EachMatch, EachOutput, EachServer, line_of, RelabelsTo}
+use Rattle.loss_rules.specs.declared.label.Duty.{Duty}
+use Rattle.loss_rules.specs.declared.label.Duty.TheVariants as duty
 use Rattle.loss_rules.specs.declared.label.Label.{Label}
 use Rattle.loss_rules.specs.declared.label.Reach.{Reach}
 use Rattle.loss_rules.specs.declared.label.RelayLine.{RelayLine}
@@ -111,6 +113,23 @@ KeepsOrRelabels rule = Any (λ found. Keeps found ⊎ ((scope : ℕ) × Relabels
 -- This is so of each reached match.
 abbrev pub ReachedMatchesKeep : {A : Type 0} → Network A → List (Reach A) → Type 0
 ReachedMatchesKeep net reaches = EachMatch net (λ place scope rule found. IsReached reaches place scope rule → KeepsOrRelabels found)
+
+-- Each of the match's outputs keeps, or sends events on to another scope.
+abbrev pub AllKeepOrRelabel : {A : Type 0} → MatchRule A → Type 0
+AllKeepOrRelabel rule = All (λ found. Keeps found ⊎ ((scope : ℕ) × RelabelsTo found scope)) rule.outputs.items
+
+-- The match does what the plan asks of it: one of its outputs keeps or sends events on, and under the duty every each of them.
+abbrev pub DoesDuty : {A : Type 0} → Duty → MatchRule A → Type 0
+DoesDuty duty.Any rule = KeepsOrRelabels rule
+DoesDuty duty.Every rule = KeepsOrRelabels rule × AllKeepOrRelabel rule
+
+-- This is so of each reached match.
+abbrev pub ReachedMatchesDo : {A : Type 0} → Network A → Duty → List (Reach A) → Type 0
+ReachedMatchesDo net duty reaches = EachMatch net (λ place scope rule found. IsReached reaches place scope rule → DoesDuty duty found)
+
+-- Each output of each reached match keeps, or sends events on to another scope.
+abbrev pub EachOutputKeeps : {A : Type 0} → Network A → List (Reach A) → Type 0
+EachOutputKeeps net reaches = EachMatch net (λ place scope rule found. IsReached reaches place scope rule → AllKeepOrRelabel found)
 
 -- 7. Relabels are labelled.
 

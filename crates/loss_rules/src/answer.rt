@@ -13,7 +13,7 @@ pub enum Rule {
     LabelsAreMatched,
     /// Of each match, up to and with the first that a label fits, the reaches cover what label and match may have in common.
     ReachesCover,
-    /// Each reached match has an output that keeps, or a relabel.
+    /// Each reached match has an output that keeps, or a relabel; under the duty every each of its outputs is one of these.
     ReachedMatchesKeep,
     /// Each reach of a match with a relabel fits a label of the relabel's target.
     RelabelsAreLabelled,

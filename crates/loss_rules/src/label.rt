@@ -30,6 +30,15 @@ pub struct Reach<A: Allocator> {
     pub line: usize,
 }
 
+/// What a plan asks of each match that is reached.
+#[derive(Clone, Copy, Debug, PartialEq, Eq)]
+pub enum Duty {
+    /// One of its outputs keeps what the match takes, or sends it on to another scope.
+    Any,
+    /// Each of its outputs does.
+    Every,
+}
+
 /// What a plan says of a relay beside its number, host and configuration.
 #[derive(Drop)]
 pub struct RelayLine<A: Allocator> {

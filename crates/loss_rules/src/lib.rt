@@ -16,7 +16,7 @@ mod text;
 
 pub use addresses::addresses_are_distinct;
 pub use answer::{Answer, Place, Rule};
-pub use label::{Label, Reach, RelayLine};
+pub use label::{Duty, Label, Reach, RelayLine};
 pub use outputs::{reached_matches_keep, relabels_are_labelled};
 pub use paths::paths_are_distinct;
 pub use plan::{clients_are_labelled, labels_are_matched, reaches_cover};

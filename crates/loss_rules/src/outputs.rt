@@ -1,30 +1,31 @@
 // The rules on a relay's own matches and outputs: reached matches keep, relabels are labelled, paths are distinct.
-ghost use Rattle.std.specs.Prelude.{◌↔◌, ◌⊎◌, ℕ, IfNone, IfSome, IsTrue, Any};
+ghost use Rattle.std.specs.Prelude.{◌↔◌, ◌⊎◌, ℕ, IfNone, IfSome, IsTrue, All, Any};
 ghost use Rattle.relay_net.specs.Outputs.{Keeps};
 ghost use Rattle.loss_rules.specs.Breaks.{IsInConf, BreaksAtMatch, BreaksAtOutput};
 ghost use Rattle.loss_rules.specs.Labels.{IsReached};
-ghost use Rattle.loss_rules.specs.Rules.{ReachedMatchesKeep, KeepsOrRelabels, RelabelsAreLabelled, IsLabelledRelabel};
+ghost use Rattle.loss_rules.specs.Rules.{ReachedMatchesDo, DoesDuty, RelabelsAreLabelled, IsLabelledRelabel};
 ghost use Rattle.loss_rules.specs.Sites.{RelabelsTo};
 
 use crate::answer::Place;
 use crate::fitting::{is_reached, no_prefix, reaches_fit_label};
-use crate::label::{Label, Reach};
+use crate::label::{Duty, Label, Reach};
 use crate::requirement::{OfOutputs, Requirement, first_place, line_unless};
 use crate::site::Site;
 use relay_conf::{MatchRule, Output};
 use relay_net::{Entrance, Net, keeps};
 use std::alloc::Allocator;
 
-/// Where a match is first found that has a reach, and neither an output that keeps nor a relabel.
-/// For each match all reaches are gone through.
+/// Where a match is first found that has a reach, and neither an output that keeps nor a relabel; or, under the duty every, with
+/// an output that is none of these. For each match all reaches are gone through.
 pub fn reached_matches_keep<A: Allocator + Copy>(
     net: &Net<A>,
+    duty: Duty,
     reaches: &[Reach<A>],
 ) -> Option<Place>
-    ensures kept { IfNone result (ReachedMatchesKeep net.now reaches.now) }
-    ensures broken { IfSome result (IsInConf net.now (BreaksAtMatch net.now (λ place scope rule found. IsReached reaches.now place scope rule → KeepsOrRelabels found))) }
+    ensures kept { IfNone result (ReachedMatchesDo net.now duty reaches.now) }
+    ensures broken { IfSome result (IsInConf net.now (BreaksAtMatch net.now (λ place scope rule found. IsReached reaches.now place scope rule → DoesDuty duty found))) }
 {
-    first_place(net, &KeepsIfReached { reaches })
+    first_place(net, &KeepsIfReached { duty, reaches })
 }
 
 /// Where a relabel is first found with a reach of its match that fits no label of the relabel's target.
@@ -40,23 +41,24 @@ pub fn relabels_are_labelled<A: Allocator + Copy>(
     first_place(net, &OfOutputs(RelabelsToLabel { labels, reaches }))
 }
 
-// The match has an output that keeps or a relabel, if it has a reach.
+// The match does what is asked of it, if it has a reach.
 #[derive(Drop)]
 struct KeepsIfReached<'a, A: Allocator> {
+    duty: Duty,
     reaches: &'a [Reach<A>],
 }
 
 impl<A: Allocator> Requirement<MatchRule<A>> for KeepsIfReached<'_, A> {
     ghost use Rattle.std.specs.Prelude.{◌≡◌};
     ghost use Rattle.loss_rules.specs.Labels.{IsReached};
-    ghost use Rattle.loss_rules.specs.Rules.{KeepsOrRelabels};
+    ghost use Rattle.loss_rules.specs.Rules.{DoesDuty};
 
-    ghost keeps = { λ asked at found. IsReached asked.reaches.now at.place at.scope at.rule → KeepsOrRelabels found };
+    ghost keeps = { λ asked at found. IsReached asked.reaches.now at.place at.scope at.rule → DoesDuty asked.duty found };
 
-    ghost breaks = { λ asked at found line. (found.line ≡ line) × ¬ (IsReached asked.reaches.now at.place at.scope at.rule → KeepsOrRelabels found) };
+    ghost breaks = { λ asked at found line. (found.line ≡ line) × ¬ (IsReached asked.reaches.now at.place at.scope at.rule → DoesDuty asked.duty found) };
 
     fn broken_line(&self, at: Site, found: &MatchRule<A>) -> Option<usize> {
-        let kept = !is_reached(self.reaches, at) || keep_or_relabel(&found.outputs);
+        let kept = !is_reached(self.reaches, at) || does_duty(self.duty, found);
         line_unless(kept, found.line)
     }
 }
@@ -89,6 +91,29 @@ impl<A: Allocator> Requirement<Output<A>> for RelabelsToLabel<'_, A> {
         let kept = reaches_fit_label(self.labels, self.reaches, at, scope, none);
         line_unless(kept, *line)
     }
+}
+
+// Whether the match does what is asked of it.
+fn does_duty<A: Allocator>(duty: Duty, found: &MatchRule<A>) -> bool
+    ensures { IsTrue result ↔ DoesDuty duty found.now }
+{
+    let one = keep_or_relabel(&found.outputs);
+    match duty {
+        Duty::Any => one,
+        Duty::Every => one && all_keep_or_relabel(&found.outputs),
+    }
+}
+
+// Whether each of the outputs keeps, or sends events on to another scope.
+fn all_keep_or_relabel<A: Allocator>(outputs: &[Output<A>]) -> bool
+    ensures { IsTrue result ↔ All (λ found. Keeps found ⊎ ((scope : ℕ) × RelabelsTo found scope)) outputs.now }
+{
+    for output in outputs {
+        if !keeps_or_relabels(output) {
+            return false;
+        }
+    }
+    true
 }
 
 // Whether one of the outputs keeps, or sends events on to another scope.

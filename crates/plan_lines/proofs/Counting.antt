@@ -6,8 +6,9 @@ use Rattle.std.proofs.lemmas.Bool.{false≢true, eqb-true}
 use Rattle.std.proofs.lemmas.List.{length-append}
 use Rattle.std.proofs.lemmas.List.Elements.{filter_map-append}
 use Rattle.relay_faults.specs.Examined.{words_of}
+use Rattle.loss_rules.specs.declared.label.Duty.TheVariants.{Any, Every}
 use Rattle.plan_lines.specs.Drafts.{HasItsConf}
-use Rattle.plan_lines.specs.Forms.{LineForm, nothing, a_relay, a_client, a_label, a_reach, no_form, is_folder, is_comment, relay_form, client_form, label_form, reach_form, named_form, form_of, line_form, conf_field, conf_named}
+use Rattle.plan_lines.specs.Forms.{LineForm, nothing, a_relay, a_client, a_label, a_reach, a_duty, no_form, is_folder, is_comment, relay_form, client_form, label_form, reach_form, duty_form, named_form, form_of, line_form, conf_field, conf_named}
 
 -- how many configurations a line of this form names
 abbrev pub confs_in : LineForm → ℕ
@@ -37,6 +38,16 @@ no_reach (a ∷ []) = refl
 no_reach (a ∷ b ∷ []) = refl
 no_reach (a ∷ b ∷ c ∷ []) = refl
 no_reach (a ∷ b ∷ c ∷ d ∷ more) = refl
+
+duty_by : (any every : Bool) → confs_in (if any then a_duty Any else (if every then a_duty Every else no_form)) ≡ 0
+duty_by true every = refl
+duty_by false true = refl
+duty_by false false = refl
+
+no_duty : (fields : List (List ℕ)) → confs_in (duty_form fields) ≡ 0
+no_duty [] = refl
+no_duty (a ∷ []) = duty_by (bytes_eq a (codes "any")) (bytes_eq a (codes "every"))
+no_duty (a ∷ b ∷ more) = refl
 
 -- what five fields name, where the first is a relay's or not
 abbrev named_if : Bool → List (List ℕ) → Option (List ℕ)
@@ -72,15 +83,17 @@ relay_named (a ∷ b ∷ c ∷ d ∷ []) formed = folder_named (is_folder c) a b
 relay_named (a ∷ b ∷ c ∷ d ∷ e ∷ more) formed = absurd (formed refl)
 
 -- the form of a line by the tests of its first field
-abbrev form_by : Bool → Bool → Bool → Bool → List (List ℕ) → LineForm
-form_by is_relay is_client is_label is_reach fields = if is_relay then relay_form fields else (if is_client then client_form fields else (if is_label then label_form fields else (if is_reach then reach_form fields else no_form)))
+abbrev form_by : Bool → Bool → Bool → Bool → Bool → List (List ℕ) → LineForm
+form_by is_relay is_client is_label is_reach is_duty fields =
+    if is_relay then relay_form fields else (if is_client then client_form fields else (if is_label then label_form fields else (if is_reach then reach_form fields else (if is_duty then duty_form fields else no_form))))
 
-by_tests : (a b c d : Bool) (fields : List (List ℕ)) → (form_by a b c d fields ≡ no_form → ⊥) → one_name (named_if a fields) ≡ confs_in (form_by a b c d fields)
-by_tests true b c d fields formed = relay_named fields formed
-by_tests false true c d fields formed = none_named fields ∙ sym (no_client fields)
-by_tests false false true d fields formed = none_named fields ∙ sym (no_label fields)
-by_tests false false false true fields formed = none_named fields ∙ sym (no_reach fields)
-by_tests false false false false fields formed = absurd (formed refl)
+by_tests : (a b c d e : Bool) (fields : List (List ℕ)) → (form_by a b c d e fields ≡ no_form → ⊥) → one_name (named_if a fields) ≡ confs_in (form_by a b c d e fields)
+by_tests true b c d e fields formed = relay_named fields formed
+by_tests false true c d e fields formed = none_named fields ∙ sym (no_client fields)
+by_tests false false true d e fields formed = none_named fields ∙ sym (no_label fields)
+by_tests false false false true e fields formed = none_named fields ∙ sym (no_reach fields)
+by_tests false false false false true fields formed = none_named fields ∙ sym (no_duty fields)
+by_tests false false false false false fields formed = absurd (formed refl)
 
 -- a comment's first field isn't `relay`
 remark : (word : List ℕ) → is_comment word ≡ true → bytes_eq word (codes "relay") ≡ false
@@ -94,7 +107,7 @@ fields_count (word ∷ fields) formed = ap one_name (named_so word fields) ∙ b
     by : (b : Bool) → is_comment word ≡ b → ((if b then nothing else named_form word fields) ≡ no_form → ⊥)
         → one_name (named_if (bytes_eq word (codes "relay")) fields) ≡ confs_in (if b then nothing else named_form word fields)
     by true e formed = ap (λ r. one_name (named_if r fields)) (remark word e) ∙ none_named fields
-    by false e formed = by_tests (bytes_eq word (codes "relay")) (bytes_eq word (codes "client")) (bytes_eq word (codes "label")) (bytes_eq word (codes "reach")) fields formed
+    by false e formed = by_tests (bytes_eq word (codes "relay")) (bytes_eq word (codes "client")) (bytes_eq word (codes "label")) (bytes_eq word (codes "reach")) (bytes_eq word (codes "duty")) fields formed
 
 one_line : (line : List ℕ) → (line_form line ≡ no_form → ⊥) → one_name (conf_named line) ≡ confs_in (line_form line)
 one_line line formed = by (is_utf8 line) formed
@@ -133,4 +146,5 @@ has_its_conf line before others relays e = by (line_form line) refl
     by (a_client number port patterns) is = tt
     by (a_label number scope patterns) is = tt
     by (a_reach number scope index patterns) is = tt
+    by (a_duty asked) is = tt
     by no_form is = tt

@@ -13,7 +13,7 @@ use Rattle.relay_conf.proofs.OwnBuffers.{own_buffers}
 use Rattle.relay_net.specs.Network.{Network}
 use Rattle.relay_net.specs.Outputs.{number_of}
 use Rattle.relay_net.specs.declared.node.Node.{Node}
-use Rattle.plan_lines.specs.Forms.{nothing, a_relay, a_client, a_label, a_reach, no_form, line_form}
+use Rattle.plan_lines.specs.Forms.{nothing, a_relay, a_client, a_label, a_reach, a_duty, no_form, line_form}
 use Rattle.plan_lines.specs.Plans.{Say, none, one_more}
 use Rattle.plan_lines.proofs.Saying.{Kept}
 
@@ -56,6 +56,7 @@ own_buffers_kept confs line (a_relay number host folder conf) before after h e =
 own_buffers_kept confs line (a_client number port patterns) before after h e = subst HasOwnBuffers (sym h.after_is) e
 own_buffers_kept confs line (a_label number scope patterns) before after h e = subst HasOwnBuffers (sym h.after_is) e
 own_buffers_kept confs line (a_reach number scope index patterns) before after h e = subst HasOwnBuffers (sym h.after_is) e
+own_buffers_kept confs line (a_duty asked) before after h e = subst HasOwnBuffers (sym h) e
 own_buffers_kept confs line no_form before after h e = absurd h
 
 own_buffers_said : {A : Type 0} {confs lines : List (List ℕ)} {plan : Subject A} → Say confs lines plan → HasOwnBuffers plan

@@ -13,7 +13,7 @@ use Rattle.relay_net.specs.declared.node.Node.{Node}
 use Rattle.plan_lines.specs.declared.error.PlanError.{PlanError}
 use Rattle.plan_lines.specs.declared.error.PlanError.TheVariants as error
 use Rattle.plan_lines.specs.Faults.{IsRefusedLine, IsRefusal}
-use Rattle.plan_lines.specs.Forms.{LineForm, nothing, a_relay, a_client, a_label, a_reach, no_form, line_form, conf_named}
+use Rattle.plan_lines.specs.Forms.{LineForm, nothing, a_relay, a_client, a_label, a_reach, a_duty, no_form, line_form, conf_named}
 use Rattle.plan_lines.specs.Plans.{Adds, Say, none, one_more}
 use Rattle.plan_lines.proofs.Counting.{confs_in, names_counted}
 
@@ -43,6 +43,7 @@ relay_lines_kept confs line (a_relay number host folder conf) before after h e =
 relay_lines_kept confs line (a_client number port patterns) before after h e = subst HasRelayLines (sym h.after_is) e
 relay_lines_kept confs line (a_label number scope patterns) before after h e = subst HasRelayLines (sym h.after_is) e
 relay_lines_kept confs line (a_reach number scope index patterns) before after h e = subst HasRelayLines (sym h.after_is) e
+relay_lines_kept confs line (a_duty asked) before after h e = subst HasRelayLines (sym h) e
 relay_lines_kept confs line no_form before after h e = absurd h
 
 client_lines_kept : {A : Type 0} → Kept A HasClientLines
@@ -51,6 +52,7 @@ client_lines_kept confs line (a_relay number host folder conf) before after h e 
 client_lines_kept confs line (a_client number port patterns) before after h e = subst HasClientLines (sym h.after_is) (one_longer before.client_lines before.net.clients line h.client e)
 client_lines_kept confs line (a_label number scope patterns) before after h e = subst HasClientLines (sym h.after_is) e
 client_lines_kept confs line (a_reach number scope index patterns) before after h e = subst HasClientLines (sym h.after_is) e
+client_lines_kept confs line (a_duty asked) before after h e = subst HasClientLines (sym h) e
 client_lines_kept confs line no_form before after h e = absurd h
 
 -- a source of a relay is one still where more relays follow
@@ -91,6 +93,7 @@ sources_kept confs line (a_client number port patterns) before after h e =
     subst HasSources (sym h.after_is) (list_all-append (enters before.net.relays) before.net.clients (h.client ∷ []) ∙ both (all_enter before.net.relays before.net.clients) (enters before.net.relays h.client && true) e (both (enters before.net.relays h.client) true h.source_is refl))
 sources_kept confs line (a_label number scope patterns) before after h e = subst HasSources (sym h.after_is) e
 sources_kept confs line (a_reach number scope index patterns) before after h e = subst HasSources (sym h.after_is) e
+sources_kept confs line (a_duty asked) before after h e = subst HasSources (sym h) e
 sources_kept confs line no_form before after h e = absurd h
 
 pub relay_lines_said : {A : Type 0} {confs lines : List (List ℕ)} {plan : Subject A} → Say confs lines plan → HasRelayLines plan
@@ -112,6 +115,7 @@ relays_added confs line (a_relay number host folder conf) before after h = subst
 relays_added confs line (a_client number port patterns) before after h = subst (λ x. length x.net.relays ≡ length before.net.relays + 0) (sym h.after_is) (omega arith)
 relays_added confs line (a_label number scope patterns) before after h = subst (λ x. length x.net.relays ≡ length before.net.relays + 0) (sym h.after_is) (omega arith)
 relays_added confs line (a_reach number scope index patterns) before after h = subst (λ x. length x.net.relays ≡ length before.net.relays + 0) (sym h.after_is) (omega arith)
+relays_added confs line (a_duty asked) before after h = subst (λ x. length x.net.relays ≡ length before.net.relays + 0) (sym h) (omega arith)
 relays_added confs line no_form before after h = absurd h
 
 -- a line that adds something has a form

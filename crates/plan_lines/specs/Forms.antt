@@ -5,16 +5,20 @@ use Rattle.std.specs.List.{filter_map, list_all}
 use Rattle.std.specs.Option.{option_and_then}
 use Rattle.std.specs.Str.{bytes_eq, is_utf8}
 use Rattle.conf_values.specs.Numbers.{number_of}
+use Rattle.loss_rules.specs.declared.label.Duty.{Duty}
+use Rattle.loss_rules.specs.declared.label.Duty.TheVariants.{Any, Every}
 use Rattle.relay_faults.specs.Examined.{words_of}
 use Rattle.text_lines.specs.Lines.{text_lines}
 
--- What a line is by its fields: it says nothing, names a relay, a client, tags that may reach a scope or a match, or is none of these.
+-- What a line is by its fields: it says nothing, names a relay, a client, tags that may reach a scope or a match, says what is asked of
+-- matches, or is none of these.
 pub data LineForm : Type 0 where
   nothing : LineForm
   a_relay : (number host folder conf : List ℕ) → LineForm
   a_client : (number port : List ℕ) (patterns : List (List ℕ)) → LineForm
   a_label : (number scope : List ℕ) (patterns : List (List ℕ)) → LineForm
   a_reach : (number scope index : List ℕ) (patterns : List (List ℕ)) → LineForm
+  a_duty : Duty → LineForm
   no_form : LineForm
 
 -- a letter, a digit, `_` or `-`
@@ -45,13 +49,19 @@ abbrev pub reach_form : List (List ℕ) → LineForm
 reach_form (number ∷ scope ∷ index ∷ pattern ∷ more) = a_reach number scope index (pattern ∷ more)
 reach_form _ = no_form
 
+-- `duty any` or `duty every`
+abbrev pub duty_form : List (List ℕ) → LineForm
+duty_form (word ∷ []) = if bytes_eq word (codes "any") then a_duty Any else (if bytes_eq word (codes "every") then a_duty Every else no_form)
+duty_form _ = no_form
+
 -- a line that begins with this word and goes on with these fields
 abbrev pub named_form : List ℕ → List (List ℕ) → LineForm
 named_form word fields =
     if bytes_eq word (codes "relay") then relay_form fields
     else (if bytes_eq word (codes "client") then client_form fields
     else (if bytes_eq word (codes "label") then label_form fields
-    else (if bytes_eq word (codes "reach") then reach_form fields else no_form)))
+    else (if bytes_eq word (codes "reach") then reach_form fields
+    else (if bytes_eq word (codes "duty") then duty_form fields else no_form))))
 
 -- whether a word begins a comment
 abbrev pub is_comment : List ℕ → Bool

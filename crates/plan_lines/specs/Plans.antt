@@ -14,19 +14,20 @@ use Rattle.relay_net.specs.declared.node.Client.{Client}
 use Rattle.relay_net.specs.declared.node.Node.{Node}
 use Rattle.loss_rules.specs.Breaks.{Subject}
 use Rattle.loss_rules.specs.Sites.{rule_at}
+use Rattle.loss_rules.specs.declared.label.Duty.TheVariants as duty
 use Rattle.loss_rules.specs.declared.label.Label.{Label}
 use Rattle.loss_rules.specs.declared.label.Reach.{Reach}
 use Rattle.loss_rules.specs.declared.label.RelayLine.{RelayLine}
-use Rattle.plan_lines.specs.Forms.{LineForm, nothing, a_relay, a_client, a_label, a_reach, no_form, line_form, relay_number}
+use Rattle.plan_lines.specs.Forms.{LineForm, nothing, a_relay, a_client, a_label, a_reach, a_duty, no_form, line_form, relay_number}
 use Rattle.text_lines.specs.Lines.{text_lines}
 
 -- a network by its relays and its clients
 abbrev pub network : {A : Type 0} → List (Node A) → List (Client A) → Network A
 network relays clients = record { relays = relays; clients = clients }
 
--- the plan that says nothing
+-- the plan that says nothing: it asks for one output
 abbrev pub empty_plan : (A : Type 0) → Subject A
-empty_plan A = record { net = network [] []; relay_lines = []; client_lines = []; labels = []; reaches = [] }
+empty_plan A = record { net = network [] []; relay_lines = []; client_lines = []; labels = []; reaches = []; duty = duty.Any }
 
 -- Where the relay, the scope or the match stands that a line names. Relays and matches are counted from 0, and so are
 -- scopes, of which the main one is the first.
@@ -109,6 +110,7 @@ Adds confs line (a_relay number host folder conf) before after = AddsRelay confs
 Adds confs line (a_client number port patterns) before after = AddsClient line number port patterns before after
 Adds confs line (a_label number scope patterns) before after = AddsLabel line number scope patterns before after
 Adds confs line (a_reach number scope index patterns) before after = AddsReach line number scope index patterns before after
+Adds confs line (a_duty asked) before after = after ≡ record before { duty = asked }
 Adds confs line no_form before after = ⊥
 
 -- These lines, from the first of the text on, say this plan: no lines say nothing, and each line adds to what those

@@ -16,7 +16,7 @@ use crate::error::PlanError;
 use crate::form::{Form, form_of, relay_number};
 use conf_text::ConfError;
 use conf_values::whole_number;
-use loss_rules::{Label, Reach, RelayLine};
+use loss_rules::{Duty, Label, Reach, RelayLine};
 use relay_conf::{Relay, RelayError, Scope, Source};
 use relay_faults::words;
 use relay_net::{Client, Node};
@@ -33,6 +33,7 @@ pub(crate) struct Draft<A: Allocator> {
     pub client_lines: Vec<usize, A>,
     pub labels: Vec<Label<A>, A>,
     pub reaches: Vec<Reach<A>, A>,
+    pub duty: Duty,
 }
 
 impl<A: Allocator + Copy> Draft<A> {
@@ -47,6 +48,7 @@ impl<A: Allocator + Copy> Draft<A> {
             client_lines: Vec::new(alloc),
             labels: Vec::new(alloc),
             reaches: Vec::new(alloc),
+            duty: Duty::Any,
         }
     }
 
@@ -120,6 +122,10 @@ impl<A: Allocator + Copy> Draft<A> {
                 index,
                 patterns,
             } => self.add_reach(alloc, line, number, scope, index, patterns),
+            Form::Duty { duty } => {
+                self.duty = duty;
+                Ok(())
+            }
             Form::Bad => Err(PlanError::BadLine(line)),
         }
     }

@@ -1,9 +1,10 @@
 // The forms of a plan's lines.
-ghost use Rattle.std.specs.Prelude.{◌≡◌, map};
-ghost use Rattle.plan_lines.specs.Forms.{is_folder_byte as is_byte, is_folder as is_name, is_comment as is_remark, relay_form as relay_line, client_form as client_line, label_form as label_line, reach_form as reach_line, named_form as named_line, form_of as form_by, relay_number as number_by};
+ghost use Rattle.std.specs.Prelude.{◌≡◌, ◌∷◌, [], map};
+ghost use Rattle.plan_lines.specs.Forms.{is_folder_byte as is_byte, is_folder as is_name, is_comment as is_remark, relay_form as relay_line, client_form as client_line, label_form as label_line, reach_form as reach_line, duty_form as duty_line, named_form as named_line, form_of as form_by, relay_number as number_by};
 ghost use Rattle.plan_lines.specs.Views.{form_view};
 
 use conf_values::whole_number;
+use loss_rules::Duty as Asked;
 
 /// What a line is by its fields.
 #[derive(Clone, Copy)]
@@ -35,6 +36,10 @@ pub(crate) enum Form<'w, 't> {
         scope: &'t str,
         index: &'t str,
         patterns: &'w [&'t str],
+    },
+    /// `duty any` or `duty every`
+    Duty {
+        duty: Asked,
     },
     /// It is none of these.
     Bad,
@@ -75,6 +80,7 @@ fn named_form<'w, 't>(word: &str, fields: &'w [&'t str]) -> Form<'w, 't>
         "client" => client_form(fields),
         "label" => label_form(fields),
         "reach" => reach_form(fields),
+        "duty" => duty_form(fields),
         _ => Form::Bad,
     }
 }
@@ -129,6 +135,25 @@ fn reach_form<'w, 't>(fields: &'w [&'t str]) -> Form<'w, 't>
             index,
             patterns,
         },
+        _ => Form::Bad,
+    }
+}
+
+fn duty_form<'w, 't>(fields: &'w [&'t str]) -> Form<'w, 't>
+    ensures { form_view result ≡ duty_line (map (λ field. field.now) fields.now) }
+{
+    match fields {
+        [word] => asked_form(word),
+        _ => Form::Bad,
+    }
+}
+
+fn asked_form<'w, 't>(word: &'t str) -> Form<'w, 't>
+    ensures { form_view result ≡ duty_line (word.now ∷ []) }
+{
+    match word {
+        "any" => Form::Duty { duty: Asked::Any },
+        "every" => Form::Duty { duty: Asked::Every },
         _ => Form::Bad,
     }
 }

@@ -10,13 +10,13 @@ ghost use Rattle.plan_lines.specs.Plans.{texts, IsPlanOf};
 
 use crate::draft::Draft;
 use crate::error::PlanError;
-use loss_rules::{Label, Reach, RelayLine};
+use loss_rules::{Duty, Label, Reach, RelayLine};
 use relay_net::Net;
 use std::alloc::Allocator;
 use std::marker::Model;
 use text_lines::lines;
 
-/// A network of relays with its clients, and the tags that may reach each scope and each match. To contracts it is what
+/// A network of relays with its clients, the tags that may reach each scope and each match, and what is asked of matches. To contracts it is what
 /// the rules of a network speak of.
 #[derive(Drop)]
 pub struct Plan<A: Allocator> {
@@ -25,6 +25,7 @@ pub struct Plan<A: Allocator> {
     client_lines: Vec<usize, A>,
     labels: Vec<Label<A>, A>,
     reaches: Vec<Reach<A>, A>,
+    duty: Duty,
 }
 
 impl<A: Allocator> Model for Plan<A> {
@@ -34,7 +35,7 @@ impl<A: Allocator> Model for Plan<A> {
 
     ghost Value = { Subject A };
 
-    ghost view = { λ plan. record { net = plan.net; relay_lines = plan.relay_lines.items; client_lines = plan.client_lines.items; labels = plan.labels.items; reaches = plan.reaches.items } };
+    ghost view = { λ plan. record { net = plan.net; relay_lines = plan.relay_lines.items; client_lines = plan.client_lines.items; labels = plan.labels.items; reaches = plan.reaches.items; duty = plan.duty } };
 
     ghost invariant = { λ plan. (length plan.relay_lines.items ≡ length plan.net.relays) × (length plan.client_lines.items ≡ length plan.net.clients) × BuffersAreDistinct plan.net };
 }
@@ -49,6 +50,8 @@ impl<A: Allocator + Copy> Plan<A> {
     /// - `client NUMBER PORT PATTERN ..`: clients that send tags of these patterns to that source.
     /// - `label NUMBER SCOPE PATTERN ..`: tags that may reach the scope; `.` is the main scope.
     /// - `reach NUMBER SCOPE INDEX PATTERN ..`: tags that may reach the match of the scope, counted from 0.
+    /// - `duty any` or `duty every`: whether one output of each reached match has to keep, or each. The last one counts; without one it
+    ///   is `any`.
     ///
     /// A relay stands before those that name it. An error is that of the first line that can't stand where it does: one
     /// of another form, then a bad number, a fault of its configuration, something that isn't there, and a bad pattern.
@@ -107,6 +110,13 @@ impl<A: Allocator + Copy> Plan<A> {
     {
         &self.reaches
     }
+
+    /// What is asked of each reached match.
+    pub fn duty(&self) -> Duty
+        ensures { result ≡ self.now.duty }
+    {
+        self.duty
+    }
 }
 
 // The plan that was read: each of its clients sends to a source, and no two outputs of a relay share a buffer.
@@ -125,6 +135,7 @@ fn plan_of<A: Allocator + Copy>(alloc: A, draft: Draft<A>) -> Result<Plan<A>, Pl
         client_lines,
         labels,
         reaches,
+        duty,
     } = draft;
     match Net::new(alloc, relays, clients) {
         Ok(net) => Ok(Plan {
@@ -133,6 +144,7 @@ fn plan_of<A: Allocator + Copy>(alloc: A, draft: Draft<A>) -> Result<Plan<A>, Pl
             client_lines,
             labels,
             reaches,
+            duty,
         }),
         Err(_refused) => Err(PlanError::Memory),
     }

@@ -4,12 +4,14 @@ use Rattle.relay_net.specs.Network.{Network}
 use Rattle.custody_steps.specs.Steps.{Names, Allowed, IsRefused, effect}
 use Rattle.custody_steps.specs.World.{opening}
 use Rattle.custody_steps.specs.WorldOf.{world_of}
+use Rattle.custody_core.proofs.EveryBranch.{each_branch}
 use Rattle.custody_core.proofs.EveryNetwork.{nothing_lost}
 use Rattle.custody_core.proofs.Headline.{kept}
+use Rattle.custody_core.proofs.HeldOnward.{held_onward}
 use Rattle.custody_core.proofs.Leads.{labelled, lead_on}
 use Rattle.custody_core.proofs.Made.{sourced}
 use Rattle.custody_core.proofs.StepsMore.{steps_more}
-use Rattle.labelled_ways.proofs.Ways.{labelled_safe}
+use Rattle.labelled_ways.proofs.Ways.{labelled_safe, labelled_kept}
 use Rattle.step_lines.proofs.Places.{split_at, take_next}
 use Rattle.custody_core.proofs.runs.run.Goals as goal
 
@@ -56,7 +58,20 @@ returns-clause-labelled_nothing_is_lost g c =
     let taken = rw (take_all c.loop-place.place c.args.steps.now c.loop-place-test.false) at c.loop-place.invariant.1 in
     λ labels reaches distinct rules. nothing_lost net (labelled net labels reaches labelled_safe distinct rules) (lead_on net labels reaches labelled_safe distinct rules) c.args.steps.now _ taken
 
+pub returns-clause-held_onward : goal.returns-clause-held_onward
+returns-clause-held_onward g c =
+    let net = c.args.net.now in
+    let taken = rw (take_all c.loop-place.place c.args.steps.now c.loop-place-test.false) at c.loop-place.invariant.1 in
+    λ labels reaches distinct rules. held_onward net (labelled net labels reaches labelled_safe distinct rules) (lead_on net labels reaches labelled_safe distinct rules) c.args.steps.now _ taken
+
 pub returns-clause-nothing_is_made_up : goal.returns-clause-nothing_is_made_up
 returns-clause-nothing_is_made_up g c =
     let taken = rw (take_all c.loop-place.place c.args.steps.now c.loop-place-test.false) at c.loop-place.invariant.1 in
     sourced c.args.net.now c.args.steps.now _ taken
+
+pub returns-clause-each_branch_keeps : goal.returns-clause-each_branch_keeps
+returns-clause-each_branch_keeps g c =
+    let net = c.args.net.now in
+    let taken = rw (take_all c.loop-place.place c.args.steps.now c.loop-place-test.false) at c.loop-place.invariant.1 in
+    λ labels reaches distinct rules each. each_branch net (labelled net labels reaches labelled_safe distinct rules) (lead_on net labels reaches labelled_safe distinct rules)
+    (λ at tag is buffer leaf. labelled_kept net labels reaches distinct rules each at.relay at.scope tag is buffer leaf) c.args.steps.now _ taken

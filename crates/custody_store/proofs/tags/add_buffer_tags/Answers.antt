@@ -1,9 +1,9 @@
-use Rattle.std.proofs.Common.{◌≡◌, sym, arith}
+use Rattle.std.proofs.Common.{arith}
 use Rattle.std.proofs.lemmas.List.{take_all}
 use Rattle.step_lines.specs.Texts.{texts_of}
 use Rattle.custody_store.specs.Contents.{buffer_of}
-use Rattle.custody_store.specs.Tags.{Covers, OfOne, HoldsUnder}
-use Rattle.custody_store.proofs.Covering.{taken_more, covers_none, covers_more, covers_as}
+use Rattle.custody_store.specs.Tags.{HoldsUnder}
+use Rattle.custody_store.proofs.Covering.{taken_more, covers_none, covers_more}
 use Rattle.custody_store.proofs.tags.add_buffer_tags.Goals as goal
 
 pub loop-buffer-init : goal.loop-buffer-init

@@ -1,4 +1,4 @@
-use Rattle.std.proofs.Common.{◌≡◌, take}
+use Rattle.std.proofs.Common.{take}
 use Rattle.step_lines.specs.Texts.{texts_of}
 use Rattle.custody_store.specs.Tags.{Covers, OfOne, IsTagOfSlot}
 use Rattle.custody_store.proofs.tags.add_chunk_tags.Given as goal

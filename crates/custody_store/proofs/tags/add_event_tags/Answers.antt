@@ -1,7 +1,6 @@
 use Rattle.std.proofs.Common.{◌≡◌, sym, arith}
 use Rattle.std.proofs.lemmas.List.{take_all}
 use Rattle.step_lines.specs.Texts.{texts_of}
-use Rattle.custody_store.specs.Tags.{Covers, OfOne}
 use Rattle.custody_store.proofs.Covering.{taken_more, covers_none, covers_more, covers_as}
 use Rattle.custody_store.proofs.tags.add_event_tags.Goals as goal
 

@@ -1,4 +1,3 @@
-use Rattle.std.proofs.Common.{Contains}
 use Rattle.custody_store.proofs.Covering.{covers_one}
 use Rattle.custody_store.proofs.tags.add_tag.Goals as goal
 

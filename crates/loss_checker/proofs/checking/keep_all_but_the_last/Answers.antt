@@ -37,12 +37,12 @@ keep-requires-5-clause-breaks g c =
 pub keep-requires-6-clause-holds : goal.keep-requires-6-clause-holds
 keep-requires-6-clause-holds g c =
     in_plan c.args.plan.now c.net-net.result.now c.labels-labels.result.now c.reaches-reaches.result.now c.net-net.ensures.net c.labels-labels.ensures c.reaches-reaches.ensures
-    (λ s. IfNone c.reached_matches_keep-kept.result (IsKept s rule.ReachedMatchesKeep)) c.reached_matches_keep-kept.ensures.kept
+    (λ s. IfNone c.reached_matches_keep-kept.result (IsKept s rule.ReachedMatchesKeep)) (rw c.duty.ensures at c.reached_matches_keep-kept.ensures.kept)
 
 pub keep-requires-6-clause-breaks : goal.keep-requires-6-clause-breaks
 keep-requires-6-clause-breaks g c =
     in_plan c.args.plan.now c.net-net.result.now c.labels-labels.result.now c.reaches-reaches.result.now c.net-net.ensures.net c.labels-labels.ensures c.reaches-reaches.ensures
-    (λ s. IfSome c.reached_matches_keep-kept.result (IsBrokenAt s rule.ReachedMatchesKeep)) c.reached_matches_keep-kept.ensures.broken
+    (λ s. IfSome c.reached_matches_keep-kept.result (IsBrokenAt s rule.ReachedMatchesKeep)) (rw c.duty.ensures at c.reached_matches_keep-kept.ensures.broken)
 
 pub keep-requires-7-clause-holds : goal.keep-requires-7-clause-holds
 keep-requires-7-clause-holds g c =

@@ -1,4 +1,4 @@
-use Rattle.std.proofs.Common.{◌≡◌, ◌<◌, ℕ, List, length, get_or, subst, sym, ap, ◌∙◌, arith, below_more, refl}
+use Rattle.std.proofs.Common.{◌≡◌, ℕ, List, length, get_or, subst, sym, ap, ◌∙◌, arith, below_more, refl}
 use Rattle.std.specs.declared.vec.Vec.{Vec}
 use Rattle.std.proofs.lemmas.Bool.{both_ways}
 use Rattle.std.proofs.lemmas.List.{get_or_read}

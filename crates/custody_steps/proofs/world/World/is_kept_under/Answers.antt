@@ -1,4 +1,4 @@
-use Rattle.std.proofs.Common.{◌≡◌, ◌↔◌, IsTrue, true, refl}
+use Rattle.std.proofs.Common.{◌↔◌, IsTrue, refl}
 use Rattle.std.proofs.lemmas.Result.{IfOk-weaker}
 use Rattle.relay_net.specs.Addresses.{Address}
 use Rattle.routed_tags.specs.Routed.{IsRoutedTag}

@@ -1,15 +1,15 @@
 use Rattle.std.proofs.Common.{◌↔◌, IsTrue, refl}
 use Rattle.loss_rules.proofs.Lines.{one_first}
 use Rattle.loss_rules.specs.Labels.{IsReached}
-use Rattle.loss_rules.specs.Rules.{KeepsOrRelabels}
+use Rattle.loss_rules.specs.Rules.{DoesDuty}
 use Rattle.loss_rules.proofs.Seeks.{not_true}
 use Rattle.loss_rules.proofs.outputs.KeepsIfReachedRequirementMatchRule.broken_line.Goals as goal
 use Rattle.loss_rules.proofs.outputs.KeepsIfReachedRequirementMatchRule.broken_line.Goals.{then-not-is_reached, else-not-is_reached}
 
 pub returns : goal.returns
 returns g c =
-    let iff : IsTrue c.if-not-is_reached.kept ↔ (IsReached c.args.self.now.reaches.now c.args.at.place c.args.at.scope c.args.at.rule → KeepsOrRelabels c.args.found.now) = elim c.if-not-is_reached.branch [
+    let iff : IsTrue c.if-not-is_reached.kept ↔ (IsReached c.args.self.now.reaches.now c.args.at.place c.args.at.scope c.args.at.rule → DoesDuty c.args.self.now.duty c.args.found.now) = elim c.if-not-is_reached.branch [
       | then-not-is_reached w ↦ rw (w.kept-is, w.if-not-is_reached.true) (λ _ r. absurd (not_true (w.if-not-is_reached.ensures.1 r)), λ _. refl)
-      | else-not-is_reached w ↦ rw w.kept-is (let e = rw w.deref.ensures.value at w.keep_or_relabel-kept.ensures in (λ t _. e.0 t, λ h. e.1 (h (w.if-not-is_reached.ensures.0 refl))))
+      | else-not-is_reached w ↦ rw w.kept-is (let e = w.does_duty-kept.ensures in (λ t _. e.0 t, λ h. e.1 (h (w.if-not-is_reached.ensures.0 refl))))
     ] in
-    rw c.line_unless.ensures (one_first (IsReached c.args.self.now.reaches.now c.args.at.place c.args.at.scope c.args.at.rule → KeepsOrRelabels c.args.found.now) c.if-not-is_reached.kept c.args.found.now.line iff)
+    rw c.line_unless.ensures (one_first (IsReached c.args.self.now.reaches.now c.args.at.place c.args.at.scope c.args.at.rule → DoesDuty c.args.self.now.duty c.args.found.now) c.if-not-is_reached.kept c.args.found.now.line iff)

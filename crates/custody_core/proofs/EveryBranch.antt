@@ -1,0 +1,173 @@
+-- After every list of steps each branch keeps what was acknowledged to a client, in a network in which each leaf of each labelled tag's way keeps.
+use Rattle.std.proofs.Common.{◌≡◌, ◌≢◌, ℕ, ◌≤◌, Bool, true, false, List, [], ◌∷◌, ◌++◌, length, Some, get_or, slice_get, slice_set, refl, sym, ap, subst, ◌∙◌, inl, inr, arith, Contains}
+use Rattle.std.proofs.lemmas.Option.{same_Some}
+use Rattle.std.proofs.lemmas.List.Elements.{Contains-append_cases, All-contains_itself}
+use Rattle.custody_store.specs.Buffers.{appended_to}
+use Rattle.message_book.specs.Book.{Message, Delivery, Told, newly_acknowledged}
+use Rattle.message_book.specs.declared.sender.Sender.{Sender}
+use Rattle.message_book.specs.declared.sender.Sender.TheVariants as sender
+use Rattle.relay_net.specs.Addresses.{Address}
+use Rattle.relay_net.specs.Network.{Network, entrance, tag_at, address_of_client}
+use Rattle.relay_net.specs.declared.address.Entrance.{Entrance}
+use Rattle.routed_tags.specs.Routed.{ComesTo}
+use Rattle.step_lines.specs.declared.step.Step.{Step}
+use Rattle.step_lines.specs.declared.step.Step.TheVariants as step
+use Rattle.kept_branches.specs.Branches.{EachKeeps}
+use Rattle.custody_steps.specs.World.{World, opening, with_buffer}
+use Rattle.custody_steps.specs.Steps.{Allowed, effect, Steps, CanAppend, CanAcknowledge}
+use Rattle.custody_core.specs.Custody.{EachBranchKeeps}
+use Rattle.custody_core.proofs.Serials.{some_and, and_some}
+use Rattle.custody_core.proofs.Lists.{get-set, contains-map}
+use Rattle.custody_core.proofs.Safe.{Buffers, Ranking}
+use Rattle.custody_core.proofs.Ranked.{Labelling, LeadOn, IsSentFrom, Counts, rank_of, IsRanked}
+use Rattle.custody_core.proofs.AppendMoves.{append_here, append_ranked}
+use Rattle.custody_core.proofs.Sendings.{told_entry, of_delivery, answered_ranked, told_ranked, newly_safe, whole_safe, never_foreign}
+use Rattle.custody_core.proofs.NamedMoves.{enqueued}
+use Rattle.custody_core.proofs.EveryNetwork.{IsKept, step_keeps, opening_kept}
+use Rattle.custody_core.proofs.Along.{KeepsFrom, EachFrom, AnsweredStay, moved, each_along}
+use Rattle.custody_core.proofs.AlongRanked.{ArePassedAlong, IsToldAlong, IsEach, ids_stay}
+use Rattle.custody_core.proofs.AlongMoves.{same_moves, held_here, append_each}
+use Rattle.custody_core.proofs.EachStep.{LeavesKeep, old_delivery, deliveries_each, ended_each, stays_answered, answered_each, told_each, claimed_each, given_back_each, purged_each, done_each, discarded_each, enqueued_each, seen_each, parted_each, oldest_each, sent_each, begun_each, abandoned_each, written_each, forwarded_each, restarted_each}
+
+only_one : (x y : ℕ) → Contains (x ∷ []) y → y ≡ x
+only_one x y c = let e : c.0 ≡ 0 = (let less = c.1 in omega arith) in sym (rw e at c.2)
+
+-- what becomes acknowledged to a client is kept along each branch
+newly_along : {A : Type 0} (net : Network A) (ranks : Ranking) (buffers : Buffers) (messages : List Message) (s : Sender) (address : Address) (before : Bool) (tag : List ℕ) (entries : List (List ℕ)) → IsSentFrom net s address
+    → (Counts net s → (entry : List ℕ) → Contains entries entry → EachFrom net ranks buffers messages (rank_of ranks s) address tag entry) → (told : Told) → Contains (newly_acknowledged s before tag entries) told → IsToldAlong net ranks buffers messages told
+newly_along net ranks buffers messages (sender.Client client) address false tag entries from passed told inside =
+    let e = contains-map (λ entry. told_entry client tag entry) entries told inside in
+    rw e.2 (and_some (slice_get net.clients client) (λ found. EachFrom net ranks buffers messages 0 (address_of_client net found) tag e.0) from.0 from.1 (rw from.2 at (passed tt e.0 e.1)))
+newly_along net ranks buffers messages (sender.Client client) address true tag entries from passed told inside = absurd (let less = inside.1 in omega arith)
+newly_along net ranks buffers messages (sender.Chunk place buffer serial) address before tag entries from passed told inside = absurd (let less = inside.1 in omega arith)
+
+module _ {A : Type 0} (net : Network A) (labelled : Labelling) (leads : LeadOn net labelled) (leaves : LeavesKeep net labelled) where
+  module _ (ranks : Ranking) (clock : ℕ) (w : World) (is : IsRanked net labelled ranks clock w) (each : IsEach net ranks w) where
+    -- An open delivery was appended to a leaf.
+    appended_at : (number buffer serial : ℕ) (d : Delivery) (m : Message) → slice_get w.deliveries number ≡ Some d → slice_get w.messages d.message ≡ Some m → CanAppend net w d m buffer serial
+        → IsEach net ranks (record w {
+          buffers = (with_buffer w d.entrance.relay buffer (appended_to d.tag m.entries serial)).buffers;
+          deliveries = slice_set w.deliveries number (record d { appended = d.appended ++ buffer ∷ [] });
+        })
+    appended_at number buffer serial d m at there can =
+        let taken = (is.deliveries number d at).taken in
+        let sends = leads.sends d.entrance d.tag taken buffer can.is_leaf.1 in
+        let keeps = leaves d.entrance d.tag taken buffer can.is_leaf.1 in
+        let change = appended_to d.tag m.entries serial in
+        let v = with_buffer w d.entrance.relay buffer change in
+        let ranked : IsRanked net labelled ranks clock v = (append_ranked net labelled ranks clock w is d.entrance.relay buffer d.tag m.entries serial sends can.can_take).ranked in
+        let each_then : IsEach net ranks v = append_each net labelled ranks clock w is each d.entrance.relay buffer d.tag m.entries serial sends can.can_take in
+        deliveries_each net labelled ranks clock v ranked each_then (slice_set w.deliveries number (record d { appended = d.appended ++ buffer ∷ [] }))
+        (λ k x e found is_found b inside. elim (get-set w.deliveries (record d { appended = d.appended ++ buffer ∷ [] }) x number k e) [
+          | inl old ↦ inl (old_delivery net labelled ranks clock v ranked each_then k x old found is_found b inside)
+          | inr new ↦ (let is_d : slice_get w.messages d.message ≡ Some found = subst (λ (y : Delivery). slice_get w.messages y.message ≡ Some found) new.1 is_found in
+              let same : m ≡ found = same_Some m found (sym there ∙ is_d) in
+              let inside_d : Contains (d.appended ++ buffer ∷ []) b = subst (λ (y : Delivery). Contains y.appended b) new.1 inside in
+              elim (Contains-append_cases d.appended (buffer ∷ []) b inside_d) [
+                | inl before ↦ inl (rw new.1 (old_delivery net labelled ranks clock v ranked each_then number d at found is_d b before))
+                | inr last ↦ (let b_is = only_one buffer b last in
+                    inr (rw (new.1, b_is) (λ counts entry among. held_here net labelled ranks clock w is ranks 0 d.entrance.relay buffer change (λ p q other s. refl) entry (rank_of ranks found.sender) d.tag keeps
+                    (append_here net labelled ranks clock w is d.entrance.relay buffer d.tag m.entries serial sends can.can_take (rank_of ranks found.sender) entry (rw (← same) at among)))))
+              ])
+        ])
+
+    pub appended_each : (number buffer serial : ℕ) → Allowed net w (step.Append number buffer serial) → IsEach net ranks (effect net w (step.Append number buffer serial))
+    appended_each number buffer serial h =
+        let o = of_delivery w number (λ d m. CanAppend net w d m buffer serial) h in
+        rw o.is_delivery (rw o.is_message (appended_at number buffer serial o.delivery o.message o.is_delivery o.is_message o.holds))
+
+    sender_below : (number : ℕ) (m : Message) (s : Sender) → slice_get w.messages number ≡ Some m → m.sender ≡ s → Counts net s → rank_of ranks s ≤ clock
+    sender_below number m (sender.Client client) at from counts = omega arith
+    sender_below number m (sender.Chunk p b s) at from counts = let less = ids_stay net labelled ranks clock w is number m p b s at from counts in omega (arith, less)
+
+    -- The events of a message whose delivery was appended to each leaf are kept by each buffer that they come to.
+    whole_along : (number : ℕ) (d : Delivery) (m : Message) → slice_get w.deliveries number ≡ Some d → slice_get w.messages d.message ≡ Some m → CanAcknowledge net d m
+        → (messages : List Message) → AnsweredStay w.messages messages → ArePassedAlong net ranks w.buffers messages m
+    whole_along number d m at there can messages stay counts entry inside =
+        let known = is.deliveries number d at in
+        let leaf = leads.keeps d.entrance d.tag known.taken in
+        let same : known.message ≡ m = same_Some known.message m (sym known.there ∙ there) in
+        let enters : entrance net m.address ≡ Some d.entrance = rw same at known.enters in
+        let tag_is : d.tag ≡ tag_at net m.address m.tag = rw same at known.tag_is in
+        let some : m.entries ≢ [] = λ none. (let less = inside.1 in let z : length m.entries ≡ 0 = ap length none in omega arith) in
+        let below = sender_below d.message m m.sender there refl counts in
+        record {
+          place = d.entrance.relay;
+          buffer = leaf.0;
+          borne = d.tag;
+          leaf = record { at = d.entrance; enters = enters; place_is = refl; borne_is = tag_is; short = known.short; comes = record { ends = leads.ends d.entrance d.tag known.taken; leaf = leaf.1 } };
+          each = λ p b t r. (let at_is : r.at ≡ d.entrance = same_Some r.at d.entrance (sym r.enters ∙ enters) in
+              let t_is : t ≡ d.tag = r.borne_is ∙ sym tag_is in
+              let comes : ComesTo net d.entrance d.tag b = subst (λ (x : Entrance). ComesTo net x d.tag b) at_is (subst (λ (y : List ℕ). ComesTo net r.at y b) t_is r.comes) in
+              let kept = each.deliveries number d at m there b (can.is_whole b (some, comes.leaf)) counts entry inside in
+              let went = moved net ranks ranks 0 clock w.buffers w.buffers w.messages messages (same_moves net labelled ranks clock w is messages stay) (omega arith) below kept in
+              let p_is : p ≡ d.entrance.relay = r.place_is ∙ ap (λ (x : Entrance). x.relay) at_is in
+              subst (λ q. KeepsFrom net ranks w.buffers messages entry (rank_of ranks m.sender) q b t) (sym p_is) (subst (λ (y : List ℕ). KeepsFrom net ranks w.buffers messages entry (rank_of ranks m.sender) d.entrance.relay b y) (sym t_is) went));
+        }
+
+    pub acknowledged_each : (number : ℕ) → Allowed net w (step.Ack number) → IsEach net ranks (effect net w (step.Ack number))
+    acknowledged_each number h =
+        let o = of_delivery w number (CanAcknowledge net) h in
+        let passed = whole_along number o.delivery o.message o.is_delivery o.is_message o.holds in
+        let safe = whole_safe net labelled leads ranks clock w is number o.delivery o.message o.is_delivery o.is_message o.holds in
+        let from = (is.messages o.delivery.message o.message o.is_message).from in
+        let more = newly_acknowledged o.message.sender o.message.acknowledged o.message.tag o.message.entries in
+        let marked : World = record w { messages = slice_set w.messages o.delivery.message (record o.message { acknowledged = true }) } in
+        let after : World = record marked { acknowledged = w.acknowledged ++ more } in
+        let marked_ranked : IsRanked net labelled ranks clock marked = answered_ranked net labelled ranks clock w is o.delivery.message o.message o.is_message safe in
+        let marked_each : IsEach net ranks marked = answered_each net labelled ranks clock w is each o.delivery.message o.message o.is_message passed in
+        let after_ranked : IsRanked net labelled ranks clock after = told_ranked net labelled ranks clock marked marked_ranked more
+        (newly_safe net labelled ranks clock w o.message.sender o.message.address o.message.acknowledged o.message.tag o.message.entries from safe) in
+        let after_each : IsEach net ranks after = told_each net labelled ranks clock marked marked_ranked marked_each more
+        (newly_along net ranks w.buffers marked.messages o.message.sender o.message.address o.message.acknowledged o.message.tag o.message.entries from
+        (passed marked.messages (stays_answered net labelled ranks clock w is each o.delivery.message o.message o.is_message))) in
+        rw o.is_delivery (rw o.is_message (ended_each net labelled ranks clock after after_ranked after_each number o.delivery o.is_delivery))
+
+  step_each : (w : World) (next : Step A) (kept : IsKept net labelled w) → IsEach net kept.ranks w → (h : Allowed net w next) → IsEach net (step_keeps net labelled leads w next kept h).ranks (effect net w next)
+  unfolding step_keeps enqueued
+  step_each w (step.Send client tag entries) kept each h = sent_each net labelled kept.ranks kept.clock w kept.ranked each client tag entries h
+  step_each w (step.Begin message) kept each h = begun_each net labelled kept.ranks kept.clock w kept.ranked each message h
+  step_each w (step.Append delivery buffer serial) kept each h = appended_each kept.ranks kept.clock w kept.ranked each delivery buffer serial h
+  step_each w (step.Ack delivery) kept each h = acknowledged_each kept.ranks kept.clock w kept.ranked each delivery h
+  step_each w (step.Abandon delivery) kept each h = abandoned_each net labelled kept.ranks kept.clock w kept.ranked each delivery h
+  step_each w (step.Foreign message) kept each h = absurd (never_foreign net labelled leads kept.ranks kept.clock w kept.ranked message h)
+  step_each w (step.Enqueue name) kept each h = enqueued_each net labelled kept.ranks kept.clock w kept.ranked each name h
+  step_each w (step.Claim name) kept each h = claimed_each net labelled kept.ranks kept.clock w kept.ranked each name h
+  step_each w (step.Back name) kept each h = given_back_each net labelled kept.ranks kept.clock w kept.ranked each name h
+  step_each w (step.Forward name server) kept each h = forwarded_each net labelled kept.ranks kept.clock w kept.ranked each name server h
+  step_each w (step.Seen name) kept each h = seen_each net labelled kept.ranks kept.clock w kept.ranked each name h
+  step_each w (step.Write name) kept each h = written_each net labelled kept.ranks kept.clock w kept.ranked each name h
+  step_each w (step.Part name count) kept each h = parted_each net labelled kept.ranks kept.clock w kept.ranked each name count h
+  step_each w (step.Purge name) kept each h = purged_each net labelled kept.ranks kept.clock w kept.ranked each name h
+  step_each w (step.Done name) kept each h = done_each net labelled kept.ranks kept.clock w kept.ranked each name h
+  step_each w (step.Discard name) kept each h = discarded_each net labelled kept.ranks kept.clock w kept.ranked each name h
+  step_each w (step.Oldest relay buffer) kept each h = oldest_each net labelled kept.ranks kept.clock w kept.ranked each relay buffer h
+  step_each w (step.Restart relay) kept each h = restarted_each net labelled kept.ranks kept.clock w kept.ranked each relay
+
+  -- what every run keeps, and what it keeps besides
+  abbrev KeptEach : World → Type 0
+  KeptEach w = (kept : IsKept net labelled w) × IsEach net kept.ranks w
+
+  run_each : (steps : List (Step A)) (before after : World) → KeptEach before → Steps net before steps after → KeptEach after
+  run_each [] before after both is = rw is both
+  run_each (next ∷ steps) before after both run = run_each steps (effect net before next) after (step_keeps net labelled leads before next both.0 run.1, step_each before next both.0 both.1 run.1) run.2
+
+  opening_each : KeptEach opening
+  opening_each = (
+    opening_kept net labelled leads,
+    record {
+      chunks = λ place buffer serial chunk at. absurd (cc);
+      messages = λ number message at. absurd (cc);
+      deliveries = λ number d at. absurd (cc);
+      acknowledged = λ told inside. absurd (let less = inside.1 in omega arith);
+    },
+  )
+
+  -- Each branch keeps every event that was acknowledged to a client, after every list of steps.
+  pub each_branch : (steps : List (Step A)) (w : World) → Steps net opening steps w → EachBranchKeeps net w
+  each_branch steps w run k d less =
+      let both = run_each steps opening w opening_each run in
+      let told = get_or w.acknowledged k d in
+      let c = some_and (slice_get net.clients told.client) _ (both.1.acknowledged told (All-contains_itself w.acknowledged k d less)) in
+      and_some (slice_get net.clients told.client) (λ client. EachKeeps net w.buffers w.messages (address_of_client net client) told.event.tag told.event.entry) c.0 c.1
+      (each_along net both.0.ranks w.buffers w.messages told.event.entry 0 (address_of_client net c.0) told.event.tag c.2)
