@@ -10,7 +10,7 @@ use Rattle.relay_conf.specs.declared.buffer.FlushMode.{FlushMode}
 use Rattle.relay_conf.specs.declared.buffer.FlushMode.TheVariants.{Interval}
 use Rattle.relay_conf.specs.declared.buffer.OverflowAction.{OverflowAction}
 use Rattle.relay_conf.specs.declared.buffer.OverflowAction.TheVariants.{ThrowException}
-use Rattle.relay_conf.specs.declared.buffer.RetrySettings.{RetrySettings}
+use Rattle.retry_waits.specs.declared.settings.RetrySettings.{RetrySettings}
 use Rattle.relay_faults.specs.declared.form.OutputType.{OutputType}
 use Rattle.relay_faults.specs.declared.form.OutputType.TheVariants as outputs
 use Rattle.relay_faults.specs.Elements.{heading_of, settings_of, children_of, value_of, or_else, is_named}

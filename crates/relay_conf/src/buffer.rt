@@ -1,4 +1,5 @@
 // How an output keeps what it has not yet delivered (Fluentd, "Config: Buffer Section").
+use retry_waits::RetrySettings;
 use std::alloc::Allocator;
 
 /// The settings of one buffer.
@@ -38,23 +39,6 @@ pub enum FlushMode {
     Interval,
     /// In the turn that appended to it.
     Immediate,
-}
-
-/// When a chunk whose delivery failed is delivered again, and when it is given up.
-#[derive(Clone, Copy, Debug, PartialEq, Eq)]
-pub struct RetrySettings {
-    /// The wait after the first failure, in seconds.
-    pub wait: u64,
-    /// What the wait is multiplied by after each further failure.
-    pub exponential_backoff_base: u64,
-    /// The longest wait, in seconds, if there is one.
-    pub max_interval: Option<u64>,
-    /// How many failures a chunk may have before it is given up at the next, if there is a limit.
-    pub max_times: Option<u64>,
-    /// How long after its first failure a chunk is given up, in seconds.
-    pub timeout: u64,
-    /// No chunk is ever given up, whatever the other limits are.
-    pub forever: bool,
 }
 
 /// What follows where a buffer is full.

@@ -12,7 +12,7 @@ mod settings;
 mod target;
 mod values;
 
-pub use buffer::{BufferKind, BufferSettings, FlushMode, OverflowAction, RetrySettings};
+pub use buffer::{BufferKind, BufferSettings, FlushMode, OverflowAction};
 pub use defaults::{
     DEFAULT_ACK_RESPONSE_TIMEOUT, DEFAULT_BIND, DEFAULT_FILE_CHUNK_LIMIT, DEFAULT_FILE_TOTAL_LIMIT,
     DEFAULT_FLUSH_INTERVAL, DEFAULT_FLUSH_THREADS, DEFAULT_MEMORY_CHUNK_LIMIT,
@@ -22,3 +22,4 @@ pub use defaults::{
 pub use output::{BufferNo, FileSettings, ForwardSettings, Output, Server};
 pub use relay::{MatchRule, Relay, Scope, ScopeNo, Security, Source};
 pub use relay_faults::{MOST_FLUSH_THREADS, RelayError, RelayFault, RelayFaultKind};
+pub use retry_waits::RetrySettings;

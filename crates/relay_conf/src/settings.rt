@@ -6,7 +6,7 @@ ghost use Rattle.relay_faults.specs.Elements.{settings_of, is_named};
 ghost use Rattle.relay_conf.specs.Meaning.{security_of, security_in, server_of, retry_of, path_of, chunk_limit, total_limit, buffer_of, buffer_in, last_child, settings_in};
 ghost use Rattle.relay_conf.specs.Views.{security_view, server_view, kind_view, buffer_view};
 
-use crate::buffer::{BufferKind, BufferSettings, FlushMode, OverflowAction, RetrySettings};
+use crate::buffer::{BufferKind, BufferSettings, FlushMode, OverflowAction};
 use crate::defaults::{
     DEFAULT_FILE_CHUNK_LIMIT, DEFAULT_FILE_TOTAL_LIMIT, DEFAULT_FLUSH_INTERVAL,
     DEFAULT_FLUSH_THREADS, DEFAULT_MEMORY_CHUNK_LIMIT, DEFAULT_MEMORY_TOTAL_LIMIT, DEFAULT_PORT,
@@ -20,6 +20,7 @@ use crate::values::{
 };
 use conf_text::{Element, Pair};
 use relay_faults::{has_files, is_named, line_of, pairs_of};
+use retry_waits::RetrySettings;
 use std::alloc::{AllocError, Allocator};
 
 fn security<A: Allocator + Copy>(alloc: A, pairs: &[Pair<A>]) -> Result<Security<A>, AllocError>

@@ -8,3 +8,5 @@ pub mod FaultLaws
 pub mod Listings
 pub mod Fates
 pub mod NetworkSteps
+pub mod StartingSteps
+pub mod Crossings

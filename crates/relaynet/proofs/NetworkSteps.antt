@@ -90,7 +90,7 @@ printed_behind a b c front behind meant status takes printed = (
 
 -- steps are listed behind the answer's line
 pub whole_replay : (A : Type 0) (net : Option (List ℕ)) (named : List ℕ → Option (List ℕ)) (steps old mid new : Option (List ℕ)) (plan : Subject A) (found : Answer) (front behind : List ℕ) (after status : Status)
-    → IsAnswered A net named plan found → front ≡ answer_line found → TakesPart old mid front [] → AreReplayed plan.net steps behind after → IsPrinted mid new behind (joined_status found after) status
+    → IsAnswered A net named plan found → front ≡ answer_line found → TakesPart old mid front [] → AreReplayed plan.duty plan.net steps behind after → IsPrinted mid new behind (joined_status found after) status
     → PrintsReplay A net named steps old new status
 whole_replay A net named steps old mid new plan found front behind after status answered is takes replayed printed = inl (record {
   lines = front ++ behind;

@@ -7,3 +7,5 @@ pub mod Laws
 pub mod Networks
 pub mod Replays
 pub mod Texts
+pub mod Starting
+pub mod Delivering

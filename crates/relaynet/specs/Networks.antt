@@ -5,6 +5,7 @@ use Rattle.loss_rules.specs.Breaks.{Subject, IsAnswer}
 use Rattle.loss_rules.specs.Printed.{answer_text}
 use Rattle.loss_rules.specs.declared.answer.Answer.{Answer}
 use Rattle.loss_rules.specs.declared.answer.Answer.TheVariants as answer
+use Rattle.loss_rules.specs.declared.label.Duty.{Duty}
 use Rattle.plan_lines.specs.Faults.{IsRefusal}
 use Rattle.plan_lines.specs.Forms.{confs_named}
 use Rattle.plan_lines.specs.Plans.{IsPlanOf}
@@ -98,11 +99,11 @@ pub record PrintsStop (stopped : Stop) (old new : Option (List ℕ)) (status : S
   pub said : SaysStop stopped lines
   pub printed : IsPrinted old new lines Usage status
 
--- Steps of a text are taken in the network, and this is listed of them.
-pub record AreReplayed {A : Type 0} (net : Network A) (steps : Option (List ℕ)) (lines : List ℕ) (status : Status) : Type 0 where
+-- Steps of a text are taken in the network, of whose matches this is asked, and this is listed of them.
+pub record AreReplayed {A : Type 0} (asked : Duty) (net : Network A) (steps : Option (List ℕ)) (lines : List ℕ) (status : Status) : Type 0 where
   pub text : List ℕ
   pub text_is : IsTextOf steps text
-  pub replayed : IsReplayed net text lines status
+  pub replayed : IsReplayed asked net text lines status
 
 -- All that is printed, in lines.
 
@@ -137,7 +138,7 @@ pub record IsBehindAnswer (A : Type 0) (net : Option (List ℕ)) (named : List �
   pub answered : IsAnswered A net named plan found
   pub behind : List ℕ
   pub lines_are : lines ≡ answer_line found ++ behind
-  pub said : ((after : Status) × AreReplayed plan.net steps behind after × (status ≡ joined_status found after)) ⊎ IsStopLine behind status
+  pub said : ((after : Status) × AreReplayed plan.duty plan.net steps behind after × (status ≡ joined_status found after)) ⊎ IsStopLine behind status
 
 -- what `replay` prints of a plan and steps
 abbrev pub IsReplayedIn : (A : Type 0) → Option (List ℕ) → (List ℕ → Option (List ℕ)) → Option (List ℕ) → List ℕ → Status → Type 0

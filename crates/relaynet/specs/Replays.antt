@@ -1,12 +1,15 @@
 -- What is printed of steps that are taken in a network.
 use Rattle.std.specs.Prelude.{◌≡◌, ◌==◌, ℕ, List, ◌++◌, codes, decimal, length, map, flat_map, cond, not, count_by, All, Bool, true, IsTrue, ◌↔◌, ◌⊎◌}
 use Rattle.hex.specs.Hex.{encode_lower}
+use Rattle.custody_steps.specs.Branches.{IsKeptEvery}
 use Rattle.custody_steps.specs.Held.{IsKept}
 use Rattle.custody_steps.specs.Steps.{Steps, IsRefusedAt}
 use Rattle.custody_steps.specs.World.{World, opening}
 use Rattle.custody_steps.specs.declared.fault.StepFault.{StepFault}
 use Rattle.custody_steps.specs.declared.fault.StepFault.TheVariants as refusal
 use Rattle.custody_store.specs.Buffers.{Event}
+use Rattle.loss_rules.specs.declared.label.Duty.{Duty}
+use Rattle.loss_rules.specs.declared.label.Duty.TheVariants as duty
 use Rattle.message_book.specs.Book.{Told}
 use Rattle.relay_net.specs.Network.{Network}
 use Rattle.step_lines.specs.StepLines.{SayAll, IsRefusedLine}
@@ -16,15 +19,21 @@ use Rattle.relaynet.specs.declared.status.Status.{Status}
 use Rattle.relaynet.specs.declared.status.Status.TheVariants.{Done, No, Usage}
 use Rattle.relaynet.specs.Listing.{line}
 
--- an acknowledged event, and whether a buffer or a sink has it, under a tag that it may bear
+-- An acknowledged event is kept as a plan asks: a buffer or a sink has it, under a tag that it may bear; or, under the duty every, it is
+-- kept along each branch of its way.
+abbrev pub IsKeptAs : {A : Type 0} → Duty → Network A → World → Told → Type 0
+IsKeptAs duty.Any net w told = IsKept net w told
+IsKeptAs duty.Every net w told = IsKeptEvery net w told
+
+-- an acknowledged event, and whether it is kept as the plan asks
 pub record Fate : Type 0 where
   pub told : Told
   pub is_held : Bool
 
 -- These are the events of the world that were acknowledged to clients, in that order, each with what became of it.
-pub record AreFates {A : Type 0} (net : Network A) (w : World) (fates : List Fate) : Type 0 where
+pub record AreFates {A : Type 0} (asked : Duty) (net : Network A) (w : World) (fates : List Fate) : Type 0 where
   pub events : map (λ fate. fate.told) fates ≡ w.acknowledged
-  pub held : All (λ fate. IsTrue fate.is_held ↔ IsKept net w fate.told) fates
+  pub held : All (λ fate. IsTrue fate.is_held ↔ IsKeptAs asked net w fate.told) fates
 
 -- how many of the events are lost
 abbrev pub lost_among : List Fate → ℕ
@@ -47,21 +56,21 @@ abbrev pub lost_status : ℕ → Status
 lost_status lost = cond (lost == 0) Done No
 
 -- These lines are those of the world's acknowledged events, one each, and so many of them are lost.
-pub record AreListed {A : Type 0} (net : Network A) (w : World) (lines : List ℕ) (lost : ℕ) : Type 0 where
+pub record AreListed {A : Type 0} (asked : Duty) (net : Network A) (w : World) (lines : List ℕ) (lost : ℕ) : Type 0 where
   pub fates : List Fate
-  pub are_fates : AreFates net w fates
+  pub are_fates : AreFates asked net w fates
   pub lines_are : lines ≡ flat_map fate_line fates
   pub lost_is : lost ≡ lost_among fates
 
 -- The listing of a world after so many steps: a line for each event that was acknowledged, and the last line.
-pub record IsWorldListing {A : Type 0} (net : Network A) (w : World) (steps : ℕ) (written : List ℕ) (status : Status) : Type 0 where
+pub record IsWorldListing {A : Type 0} (asked : Duty) (net : Network A) (w : World) (steps : ℕ) (written : List ℕ) (status : Status) : Type 0 where
   pub lines : List ℕ
   pub lost : ℕ
-  pub listed : AreListed net w lines lost
+  pub listed : AreListed asked net w lines lost
   pub written_is : written ≡ lines ++ summary_line steps (length w.acknowledged) lost
   pub is_status : status ≡ lost_status lost
 
--- the line of an event that a buffer or a sink has
+-- the line of an event that is kept
 abbrev pub held_line : Event → List ℕ
 held_line event = told_line true event
 
@@ -86,12 +95,12 @@ pub record IsRefusalLine (number : ℕ) (fault : StepFault) (written : List ℕ)
   pub is_status : status ≡ No
 
 -- The steps of the text were all taken, and this is listed of what they lead to.
-pub record AreTaken {A : Type 0} (net : Network A) (text written : List ℕ) (status : Status) : Type 0 where
+pub record AreTaken {A : Type 0} (asked : Duty) (net : Network A) (text written : List ℕ) (status : Status) : Type 0 where
   pub steps : List (Step A)
   pub read : SayAll (text_lines text) steps
   pub world : World
   pub taken : Steps net opening steps world
-  pub listed : IsWorldListing net world (length steps) written status
+  pub listed : IsWorldListing asked net world (length steps) written status
 
 -- A step of the text is refused, and this is its line.
 pub record IsRefusal {A : Type 0} (net : Network A) (text written : List ℕ) (status : Status) : Type 0 where
@@ -113,9 +122,9 @@ pub record IsBadText (A : Type 0) (text written : List ℕ) (status : Status) : 
   pub refused : IsRefusedLine A text number
   pub said : IsBadLineSaid number written status
 
--- the listing of the steps that a text says
-abbrev pub IsReplayed : {A : Type 0} → Network A → List ℕ → List ℕ → Status → Type 0
-IsReplayed {A} net text written status = AreTaken net text written status ⊎ (IsRefusal net text written status ⊎ IsBadText A text written status)
+-- the listing of the steps that a text says, where this is asked of the network's matches
+abbrev pub IsReplayed : {A : Type 0} → Duty → Network A → List ℕ → List ℕ → Status → Type 0
+IsReplayed {A} asked net text written status = AreTaken asked net text written status ⊎ (IsRefusal net text written status ⊎ IsBadText A text written status)
 
 -- What is listed says of no event that it is lost: each is held, or one line says that a step is refused, or that a line is of no step's form.
 abbrev pub SaysNoLoss : List ℕ → Status → Type 0

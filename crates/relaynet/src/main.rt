@@ -1,7 +1,9 @@
 //! The program: words of the command line, each of which reads, answers and gives a status.
 #![tactic(auto)]
 
+mod conf;
 mod decode;
+mod flush;
 mod folder;
 mod hex_text;
 mod laws;
@@ -12,6 +14,7 @@ mod network_tests;
 mod opening;
 mod output;
 mod reading;
+mod relay;
 mod replay;
 mod status;
 #[cfg(test)]
@@ -19,8 +22,10 @@ mod tests;
 mod words;
 
 use decode::run_decode;
+use flush::Home;
 use folder::Folder;
 use network::{run_check, run_replay};
+use relay::Runner;
 use status::Status;
 use std::io::ErrorKind;
 use std::process::ExitCode;
@@ -34,11 +39,11 @@ fn usage(rt: &impl Eprint) -> Status {
     Status::Usage
 }
 
-// Does what the words ask for.
-fn run(rt: &HostRuntime, words: &[String]) -> Status {
+// Does what a word asks for that ends by itself.
+fn run(rt: &HostRuntime, word: Option<Word<'_>>) -> Status {
     let folder = Folder::new(rt);
     let out = &mut io::writer(rt);
-    match read_word(words) {
+    match word {
         Some(Word::Decode) => run_decode(rt.alloc(), &mut rt.stdin(), out),
         Some(Word::Check(net)) => run_check(rt.alloc(), &mut folder.text(net), &folder, out),
         Some(Word::Replay(net, steps)) => run_replay(
@@ -59,7 +64,18 @@ fn called_with(rt: &HostRuntime) -> io::Result<Vec<String>> {
 
 fn main(rt: HostRuntime) -> ExitCode {
     let status = match called_with(&rt) {
-        Ok(words) => run(&rt, &words),
+        Ok(words) => match read_word(&words) {
+            Some(Word::Relay(conf, number, path)) => {
+                let mut conf = Folder::new(&rt).text(conf);
+                let home = Home { files: &rt, path };
+                let runner = Runner::new(&rt, home);
+                match runner.run_relay(&mut conf, number, &mut io::writer(&rt)) {
+                    Some(status) => status,
+                    None => usage(&rt),
+                }
+            }
+            word => run(&rt, word),
+        },
         Err(e) if e.kind() == ErrorKind::OutOfMemory => {
             let _ = rt.println("fault memory");
             Status::Usage

@@ -1,7 +1,7 @@
 //! The words `check` and `replay`: what the checker says of a plan, and what becomes of the events that steps send.
 ghost use Rattle.std.specs.Prelude.{◌≡◌, length, map, string_bytes, IfOk, IfErr};
 ghost use Rattle.std.specs.List.{AllZip};
-ghost use Rattle.loss_rules.specs.Rules.{AreRulesKept};
+ghost use Rattle.loss_rules.specs.Rules.{AreRulesKept, EachOutputKeeps};
 ghost use Rattle.plan_lines.specs.Plans.{texts as texts_of};
 ghost use Rattle.relaynet.specs.Networks.{answer_line, answer_status, joined_status, unread_line as unread_line_of, AreReplayed, IsAnswered, IsPlanRead, IsStopOf, PrintsCheck, PrintsNoLossUnderYes, PrintsReplay, PrintsStop, StopsWith};
 ghost use Rattle.relaynet.specs.Replays.{SaysNoLoss};
@@ -12,7 +12,7 @@ use crate::output::{OutputFault, put_all, put_last};
 use crate::reading::{ReadFault, read_whole};
 use crate::replay::{Said, replay};
 use crate::status::Status;
-use loss_checker::{Answer, Plan, PlanError, check, conf_names};
+use loss_checker::{Answer, Duty, Plan, PlanError, check, conf_names};
 use std::alloc::{AllocError, Allocator};
 use std::io::{ErrorKind, Read, Write};
 
@@ -107,6 +107,7 @@ fn read_checked<A: Allocator + Copy, R: Read, O: Open>(
 ) -> Result<Checked<A>, Stop>
     ensures answered { IfOk result (λ checked. IsAnswered A (R.remaining net.old) (O.text_of files.now) checked.plan checked.answer) }
     ensures rules_kept { IfOk result (λ checked. checked.answer ≡ Answer.Yes → AreRulesKept checked.plan.net checked.plan.labels checked.plan.reaches) }
+    ensures each_keeps { IfOk result (λ checked. checked.answer ≡ Answer.Yes → checked.plan.duty ≡ Duty.Every → EachOutputKeeps checked.plan.net checked.plan.reaches) }
     ensures line { IfOk result (λ checked. string_bytes checked.line ≡ answer_line checked.answer) }
     ensures stop { IfErr result (IsStopOf A (R.remaining net.old) (O.text_of files.now)) }
 {
@@ -182,11 +183,11 @@ fn replay_read<A: Allocator + Copy, S: Read>(
     plan: &Plan<A>,
     steps: &mut S,
 ) -> Result<Said<A>, ReadFault>
-    ensures replayed { IfOk result (λ said. AreReplayed plan.now.net (S.remaining steps.old) said.lines.items said.status) }
-    ensures nothing_is_lost { AreRulesKept plan.now.net plan.now.labels plan.now.reaches → IfOk result (λ said. SaysNoLoss said.lines.items said.status) }
+    ensures replayed { IfOk result (λ said. AreReplayed plan.now.duty plan.now.net (S.remaining steps.old) said.lines.items said.status) }
+    ensures nothing_is_lost { AreRulesKept plan.now.net plan.now.labels plan.now.reaches → (plan.now.duty ≡ Duty.Every → EachOutputKeeps plan.now.net plan.now.reaches) → IfOk result (λ said. SaysNoLoss said.lines.items said.status) }
 {
     let text = read_whole(alloc, steps)?;
-    let said = replay(alloc, plan.net(), &text)?;
+    let said = replay(alloc, plan.net(), plan.duty(), &text)?;
     Ok(said)
 }
 

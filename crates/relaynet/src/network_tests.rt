@@ -1,6 +1,7 @@
 use crate::network::{run_check, run_replay};
 use crate::opening::Open;
 use crate::status::Status;
+use std::alloc::Global;
 use std::io;
 use std::io::{ErrorKind, Read};
 use std::test::Fail;
@@ -9,6 +10,15 @@ const PLAN: &str = "relay 1 127.0.0.1 one one.conf
 client 1 24224 **
 label 1 . **
 reach 1 . 0 **
+";
+
+// The same, where each output has to keep: the last line on that counts.
+const EVERY: &str = "relay 1 127.0.0.1 one one.conf
+client 1 24224 **
+label 1 . **
+reach 1 . 0 **
+duty any
+duty every
 ";
 
 const CONF: &str = "<source>
@@ -97,19 +107,23 @@ fn a_missing_configuration_is_not_read(rt: HostRuntime) -> Result<(), Fail> {
     Ok(())
 }
 
+// What is printed of the steps in this plan.
+fn replayed(alloc: Global, plan: &str) -> (Vec<u8>, Status) {
+    let mut out = Vec::new(alloc);
+    let mut steps = STEPS.as_bytes();
+    let status = run_replay(alloc, &mut plan.as_bytes(), &mut steps, &OneText, &mut out);
+    (out, status)
+}
+
+// Under both duties.
 #[test]
 fn steps_are_replayed(rt: HostRuntime) -> Result<(), Fail> {
-    let mut out = Vec::new(rt.alloc());
-    let mut steps = STEPS.as_bytes();
-    let status = run_replay(
-        rt.alloc(),
-        &mut PLAN.as_bytes(),
-        &mut steps,
-        &OneText,
-        &mut out,
-    );
     let wanted = b"yes\nheld app.x e1\nsteps 4 acknowledged 1 lost 0\n";
-    assert_eq!(rt; out.as_slice(), wanted.as_slice());
+    let (any, status) = replayed(rt.alloc(), PLAN);
+    assert_eq!(rt; any.as_slice(), wanted.as_slice());
+    assert_eq!(rt; status, Status::Done);
+    let (every, status) = replayed(rt.alloc(), EVERY);
+    assert_eq!(rt; every.as_slice(), wanted.as_slice());
     assert_eq!(rt; status, Status::Done);
     Ok(())
 }

@@ -1,18 +1,18 @@
 //! The listing of steps that are taken in a network.
 ghost use Rattle.std.specs.Prelude.{◌≡◌, ◌↔◌, ◌++◌, List, slice_get, string_bytes, IsTrue, IfOk, IfSome, OnOk};
 ghost use Rattle.std.specs.Option.{ForSome};
-ghost use Rattle.custody_steps.specs.Held.{IsKept};
 ghost use Rattle.custody_steps.specs.WorldOf.{world_of, net_of};
 ghost use Rattle.custody_store.specs.Contents.{event_of};
-ghost use Rattle.loss_rules.specs.Rules.{AreRulesKept};
+ghost use Rattle.loss_rules.specs.Rules.{AreRulesKept, EachOutputKeeps};
 ghost use Rattle.loss_rules.specs.Sites.{BuffersAreDistinct};
 ghost use Rattle.loss_rules.specs.declared.label.Label.{Label};
 ghost use Rattle.loss_rules.specs.declared.label.Reach.{Reach};
-ghost use Rattle.relaynet.specs.Replays.{told_line, lost_status, summary_line, AreListed, IsBadLineSaid, IsCodeOf, IsRefusalLine, IsWorldListing, IsReplayed, SaysNoLoss};
+ghost use Rattle.relaynet.specs.Replays.{told_line, IsKeptAs, lost_status, summary_line, AreListed, IsBadLineSaid, IsCodeOf, IsRefusalLine, IsWorldListing, IsReplayed, SaysNoLoss};
 
 use crate::lines::put_hex;
 use crate::status::Status;
 use custody_core::{Event, Net, Step, StepFault, StepsError, World, run};
+use loss_checker::Duty;
 use std::alloc::{AllocError, Allocator};
 
 /// Lines to be printed, and the status that goes with them.
@@ -24,14 +24,16 @@ pub struct Said<A: Allocator> {
 
 /// Takes the steps of the text, one after another, in the network before its first step, and lists what becomes of
 /// the events that they acknowledge; or which step is refused first; or which line is of no step's form. The only
-/// error is want of memory. In a network that keeps the rules for some labels and reaches none of the events is lost.
+/// error is want of memory. An event is lost where it isn't kept as is asked. In a network that keeps the rules for some labels and
+/// reaches, with what is asked of each match, none of the events is lost.
 pub fn replay<A: Allocator + Copy>(
     alloc: A,
     net: &Net<A>,
+    duty: Duty,
     text: &[u8],
 ) -> Result<Said<A>, AllocError>
-    ensures replayed { IfOk result (λ said. IsReplayed net.now text.now said.lines.items said.status) }
-    ensures nothing_is_lost { (labels : List (Label A)) (reaches : List (Reach A)) → BuffersAreDistinct net.now → AreRulesKept net.now labels reaches → IfOk result (λ said. SaysNoLoss said.lines.items said.status) }
+    ensures replayed { IfOk result (λ said. IsReplayed duty net.now text.now said.lines.items said.status) }
+    ensures nothing_is_lost { (labels : List (Label A)) (reaches : List (Reach A)) → BuffersAreDistinct net.now → AreRulesKept net.now labels reaches → (duty ≡ Duty.Every → EachOutputKeeps net.now reaches) → IfOk result (λ said. SaysNoLoss said.lines.items said.status) }
 {
     let steps = match Step::read_all(alloc, text) {
         Ok(steps) => steps,
@@ -39,7 +41,7 @@ pub fn replay<A: Allocator + Copy>(
         Err(StepsError::Memory) => return Err(AllocError),
     };
     match run(alloc, net, &steps) {
-        Ok(world) => list_world(alloc, &world, steps.len()),
+        Ok(world) => list_world(alloc, &world, duty, steps.len()),
         Err((step, fault)) => list_refusal(alloc, step, fault),
     }
 }
@@ -92,11 +94,12 @@ fn list_refusal<A: Allocator + Copy>(
 fn list_world<A: Allocator + Copy>(
     alloc: A,
     world: &World<'_, A>,
+    duty: Duty,
     steps: usize,
 ) -> Result<Said<A>, AllocError>
-    ensures { IfOk result (λ said. IsWorldListing (net_of world.now) (world_of world.now) steps said.lines.items said.status) }
+    ensures { IfOk result (λ said. IsWorldListing duty (net_of world.now) (world_of world.now) steps said.lines.items said.status) }
 {
-    let mut said = list_fates(alloc, world)?;
+    let mut said = list_fates(alloc, world, duty)?;
     let lost = said.lost;
     let acknowledged = world.acknowledged().len();
     let summary = summary(alloc, steps, acknowledged, lost)?;
@@ -134,14 +137,18 @@ struct Fates<A: Allocator> {
 }
 
 // Lists what became of the events that were acknowledged.
-fn list_fates<A: Allocator + Copy>(alloc: A, world: &World<'_, A>) -> Result<Fates<A>, AllocError>
-    ensures { IfOk result (λ listed. AreListed (net_of world.now) (world_of world.now) listed.lines.items listed.lost) }
+fn list_fates<A: Allocator + Copy>(
+    alloc: A,
+    world: &World<'_, A>,
+    duty: Duty,
+) -> Result<Fates<A>, AllocError>
+    ensures { IfOk result (λ listed. AreListed duty (net_of world.now) (world_of world.now) listed.lines.items listed.lost) }
 {
     let mut lines = Vec::new(alloc);
     let mut lost = 0usize;
     let events = world.acknowledged();
     for (number, told) in events.iter().enumerate() {
-        let is_held = is_held(world, number)?;
+        let is_held = is_held(world, duty, number)?;
         put_fate(&mut lines, &told.event, is_held)?;
         if !is_held {
             lost += 1;
@@ -150,11 +157,18 @@ fn list_fates<A: Allocator + Copy>(alloc: A, world: &World<'_, A>) -> Result<Fat
     Ok(Fates { lines, lost })
 }
 
-// Whether the acknowledged event of this number is held under a tag that it may bear.
-fn is_held<A: Allocator + Copy>(world: &World<'_, A>, number: usize) -> Result<bool, AllocError>
-    ensures { IfOk result (λ yes. ForSome (slice_get (world_of world.now).acknowledged number) (λ told. IsTrue yes ↔ IsKept (net_of world.now) (world_of world.now) told)) }
+// Whether the acknowledged event of this number is kept as is asked.
+fn is_held<A: Allocator + Copy>(
+    world: &World<'_, A>,
+    duty: Duty,
+    number: usize,
+) -> Result<bool, AllocError>
+    ensures { IfOk result (λ yes. ForSome (slice_get (world_of world.now).acknowledged number) (λ told. IsTrue yes ↔ IsKeptAs duty (net_of world.now) (world_of world.now) told)) }
 {
-    Ok(world.kept(number)?.unwrap_or(false))
+    match duty {
+        Duty::Any => Ok(world.kept(number)?.unwrap_or(false)),
+        Duty::Every => Ok(world.kept_every(number)?.unwrap_or(false)),
+    }
 }
 
 // Adds the line of an event.

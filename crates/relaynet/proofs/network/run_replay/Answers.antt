@@ -22,7 +22,7 @@ returns-in-Ok-replay_read g c =
     let checked = c.in-Ok.checked in
     let said = c.in-Ok-replay_read.said in
     let line = c.as_bytes.ensures.value ∙ c.in-Ok.ensures.line in
-    let replayed = subst (λ (l : List ℕ). AreReplayed checked.plan.net steps l said.status) (sym c.deref.ensures.value) c.in-Ok-replay_read.ensures.replayed in
+    let replayed = subst (λ (l : List ℕ). AreReplayed checked.plan.duty checked.plan.net steps l said.status) (sym c.deref.ensures.value) c.in-Ok-replay_read.ensures.replayed in
     let printed = subst (λ (m : Status). IsPrinted (out c.put_all.new.out) (out c.put_last.new.out) c.deref.result.now m c.put_last.result) c.joined.ensures c.put_last.ensures in
     record {
       replayed = whole_replay g.row.A.Denot (g.R.Read.remaining c.args.net.now) (g.O.Open.text_of c.args.files.now) steps
@@ -32,7 +32,7 @@ returns-in-Ok-replay_read g c =
       nothing_is_lost = whole_no_loss (out c.args.out.now) (out c.put_all.new.out) (out c.put_last.new.out)
           checked.answer c.as_bytes.result.now c.deref.result.now said.status c.put_last.result
           line c.in_default.ensures.ok
-          (λ is. subst (λ (l : List ℕ). SaysNoLoss l said.status) (sym c.deref.ensures.value) (c.in-Ok-replay_read.ensures.nothing_is_lost (c.in-Ok.ensures.rules_kept is)))
+          (λ is. subst (λ (l : List ℕ). SaysNoLoss l said.status) (sym c.deref.ensures.value) (c.in-Ok-replay_read.ensures.nothing_is_lost (c.in-Ok.ensures.rules_kept is) (c.in-Ok.ensures.each_keeps is)))
           printed;
     }
 

@@ -1,7 +1,6 @@
 use Rattle.std.proofs.Common.{◌≡◌, ◌<◌, ℕ, List, [], ◌++◌, ap, length, take, subst, sym, refl, arith, rules, append-nil}
 use Rattle.std.specs.Io.KnownBytes.{Consumes, ReadConsumes}
-use Rattle.std.proofs.KnownBytes.{Consumes-nil, Consumes-trans, Consumes-kept, Consumes-whole}
-use Rattle.relaynet.specs.Texts.{IsTextOf}
+use Rattle.std.proofs.KnownBytes.{Consumes-trans, Consumes-kept, Consumes-whole}
 use Rattle.relaynet.proofs.reading.read_pieces.Goals.{in-Ok+in_ok-extend_from_slice-in-Ok, in-Err}
 use Rattle.relaynet.proofs.reading.read_pieces.Goals as goal
 

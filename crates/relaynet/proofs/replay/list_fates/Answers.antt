@@ -17,7 +17,7 @@ loop-number-preserved g c =
       | then-not-is_held w ↦ omega (arith, w.lost-is, c.loop-number.invariant.few)
       | else-not-is_held w ↦ omega (arith, w.lost-is, c.loop-number.invariant.few)
     ] in
-    let held = held_event net w c.acknowledged-events.result.now c.loop-number.number c.index-events-number.result is_held c.acknowledged-events.ensures c.loop-number-test.true c.index-events-number.is c.in_ok-is_held.ensures in
-    listed_more net w c.acknowledged-events.result.now c.loop-number.number c.loop-number.lines.items c.loop-number.lost c.index-events-number.result is_held
+    let held = held_event c.args.duty net w c.acknowledged-events.result.now c.loop-number.number c.index-events-number.result is_held c.acknowledged-events.ensures c.loop-number-test.true c.index-events-number.is c.in_ok-is_held.ensures in
+    listed_more c.args.duty net w c.acknowledged-events.result.now c.loop-number.number c.loop-number.lines.items c.loop-number.lost c.index-events-number.result is_held
     c.put_fate.new.lines.items c.if-not-is_held.lost c.loop-number.invariant c.loop-number-test.true c.index-events-number.is held
     c.in_ok-put_fate.ensures lost few

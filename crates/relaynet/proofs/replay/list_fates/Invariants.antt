@@ -3,4 +3,4 @@ use Rattle.relaynet.proofs.Fates.{AreListedTo}
 use Rattle.relaynet.proofs.replay.list_fates.Given as goal
 
 abbrev pub invariant-loop-number : goal.invariant-loop-number
-invariant-loop-number g l = AreListedTo (net_of l.fn.world) (world_of l.fn.world) l.events l.number l.lines.items l.lost
+invariant-loop-number g l = AreListedTo l.duty (net_of l.fn.world) (world_of l.fn.world) l.events l.number l.lines.items l.lost

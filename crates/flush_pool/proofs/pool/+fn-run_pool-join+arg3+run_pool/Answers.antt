@@ -1,0 +1,21 @@
+use denote.Param.{param, copied}
+use denote.Param.Send.{IsSync, IsSend, Frees, sendable, copied_sync}
+use Rattle.std.proofs.Crossing.{crosses}
+use Rattle.ack_receipt.specs.contracts.shared.SharedBuffer as Shared
+use Rattle.flush_pool.specs.contracts.retries.Retries as Retries
+use Rattle.flush_pool.proofs.Sharing.{Shared-sync}
+use Rattle.flush_pool.proofs.retries.Retries.TheSendSync as retries
+use Rattle.flush_pool.proofs.pool.+fn-run_pool-join+arg3+run_pool.Goals as goal
+
+pub join-one-requires-send-F : goal.join-one-requires-send-F
+join-one-requires-send-F g t c κs within =
+    let r : IsSync g.row.R = search sendable in
+    let sd : IsSend (param 1 g.row.D) = search sendable in
+    let sa : IsSend (copied 2 g.row.A) = search sendable in
+    let ya : IsSync g.row.A = search sendable in
+    let f : Frees g.A.Allocator g.A.Allocator.dealloc_token = search sendable in
+    let yc : IsSync g.row.C = search sendable in
+    let yg : IsSync g.row.G = search sendable in
+    let b : IsSync (Shared.the_field (param 1 g.row.D) (copied 2 g.row.A) g.D.Dir g.A.Allocator).row = Shared-sync (param 1 g.row.D) (copied 2 g.row.A) g.D.Dir g.A.Allocator sd sa (copied_sync 2 g.row.A ya) f in
+    let k : IsSync (Retries.the_field (copied 2 g.row.A) g.A.Allocator).row = retries.the_field_sync (copied 2 g.row.A) g.A.Allocator sa f in
+    search (crosses, sendable) depth 20

@@ -1,0 +1,23 @@
+-- How many chunks workers dealt with.
+use Rattle.std.specs.Prelude.{ℕ, ◌+◌, ◌-◌, ◌^◌, min}
+use Rattle.flush_pool.specs.declared.acts.Outcome.{Outcome}
+use Rattle.flush_pool.specs.declared.acts.Outcome.TheVariants.{Purged, Failed, Waits}
+use Rattle.flush_pool.specs.declared.worked.Worked.{Worked}
+
+-- a sum that stays at the greatest u64
+abbrev pub capped : ℕ → ℕ → ℕ
+capped m n = min (m + n) (2 ^ 64 - 1)
+
+-- nothing yet
+abbrev pub none : Worked
+none = record { purged = 0; failed = 0 }
+
+-- one chunk more, by what came of it; a chunk that waits isn't counted
+abbrev pub counted : Outcome → Worked → Worked
+counted Purged worked = record { purged = capped worked.purged 1; failed = worked.failed }
+counted Failed worked = record { purged = worked.purged; failed = capped worked.failed 1 }
+counted (Waits chunks) worked = worked
+
+-- what two workers did
+abbrev pub added : Worked → Worked → Worked
+added one other = record { purged = capped one.purged other.purged; failed = capped one.failed other.failed }

@@ -1,0 +1,26 @@
+-- What a worker did, as its diary has it.
+use Rattle.std.specs.Prelude.{List, [], ◌∷◌}
+use Rattle.flush_pool.specs.Acts as acts
+use Rattle.flush_pool.specs.Acts.{Act}
+use Rattle.flush_pool.specs.declared.diary.Deed.{Deed}
+use Rattle.flush_pool.specs.declared.diary.Deed.TheVariants as deed
+use Rattle.flush_pool.specs.declared.diary.Link.{Link}
+use Rattle.flush_pool.specs.declared.diary.Link.TheVariants.{Start, Then}
+
+-- an entry of the diary
+abbrev pub act_of : {A : Type 0} → Deed A → Act
+act_of (deed.Claimed serial) = acts.Claimed serial
+act_of (deed.Judged serial verdict) = acts.Judged serial verdict
+act_of (deed.Asked serial answer) = acts.Asked serial answer
+act_of (deed.Carried serial evidence) = acts.Carried serial evidence.value
+act_of (deed.NotCarried serial) = acts.NotCarried serial
+act_of (deed.Purged serial evidence) = acts.Purged serial evidence.value
+act_of (deed.NotPurged serial evidence) = acts.NotPurged serial evidence.value
+act_of (deed.Noted serial) = acts.Noted serial
+act_of (deed.Forgot serial) = acts.Forgot serial
+act_of (deed.GaveBack serial) = acts.GaveBack serial
+
+-- the whole diary, the last act first
+abbrev pub acts_in : {A : Type 0} → Link A → List Act
+acts_in Start = []
+acts_in (Then entry before) = act_of entry.value ∷ before.value

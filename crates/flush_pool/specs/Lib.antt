@@ -1,0 +1,9 @@
+pub mod Verdicts
+pub mod Faults
+pub mod Carriages
+pub mod Counts
+pub mod Passes
+pub mod Acts
+pub mod Diaries
+pub mod Answers
+pub mod Rounds

@@ -1,0 +1,73 @@
+//! What a worker did, for the proofs alone.
+ghost use Rattle.std.specs.Prelude.{◌≡◌, [], ◌∷◌};
+ghost use Rattle.flush_pool.specs.Diaries.{act_of};
+
+use crate::verdict::Verdict;
+use buffer_book::Evidence;
+use std::alloc::Allocator;
+use std::marker::Model;
+use std::snapshot::Snapshot;
+
+/// One act of a worker, on the chunk of this serial.
+#[derive(Drop)]
+pub(crate) enum Deed<A: Allocator> {
+    Claimed(u64),
+    Judged(u64, Verdict),
+    Asked(u64, bool),
+    Carried(u64, Snapshot<Evidence<A>>),
+    NotCarried(u64),
+    Purged(u64, Snapshot<Evidence<A>>),
+    NotPurged(u64, Snapshot<Evidence<A>>),
+    Noted(u64),
+    Forgot(u64),
+    GaveBack(u64),
+}
+
+/// What a worker did, the last first. A snapshot has no bytes, so at run time there is no list.
+#[derive(Drop)]
+#[cycle(diary)]
+pub(crate) struct Diary<A: Allocator> {
+    link: Link<A>,
+}
+
+#[derive(Drop)]
+#[cycle(diary)]
+enum Link<A: Allocator> {
+    Start,
+    Then(Snapshot<Deed<A>>, Snapshot<Diary<A>>),
+}
+
+impl<A: Allocator> Model for Diary<A> {
+    ghost use Rattle.std.specs.Prelude.{List, length};
+    ghost use Rattle.flush_pool.specs.Acts.{Act};
+
+    ghost Value = { List Act };
+
+    ghost use Rattle.flush_pool.specs.Diaries.{acts_in};
+
+    ghost view = { λ d. acts_in d.link };
+
+    ghost size = { length };
+
+    ghost use Rattle.std.proofs.Common.{arith};
+
+    ghost size_decreases = { λ d h. Prim.grind arith };
+}
+
+impl<A: Allocator> Diary<A> {
+    /// Nothing yet.
+    pub(crate) fn new() -> Diary<A>
+        ensures { result ≡ [] }
+    {
+        Diary { link: Link::Start }
+    }
+
+    /// These, and one act more.
+    pub(crate) fn then(&self, deed: &Deed<A>) -> Diary<A>
+        ensures { result ≡ act_of deed.now ∷ self.now }
+    {
+        Diary {
+            link: Link::Then(Snapshot::of(deed), Snapshot::of(self)),
+        }
+    }
+}

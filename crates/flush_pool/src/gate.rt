@@ -1,0 +1,30 @@
+//! Which chunks may be carried now.
+
+/// Lets chunks through to be carried. Workers ask it again while it says no.
+pub trait Gate {
+    /// Whether the chunk of this serial may be carried now.
+    fn pass(&self, serial: u64) -> bool;
+}
+
+/// A gate that always says yes.
+#[derive(Clone, Copy, Debug)]
+pub struct OpenGate;
+
+impl Gate for OpenGate {
+    fn pass(&self, _serial: u64) -> bool {
+        true
+    }
+}
+
+/// How often a worker asks for one chunk, before its delivery counts as failed.
+const MOST_ASKED: u32 = 1_000_000;
+
+/// Whether the gate says yes at one of the times that a worker asks.
+pub(crate) fn passes<G: Gate>(gate: &G, serial: u64) -> bool {
+    for _ in 0..MOST_ASKED {
+        if gate.pass(serial) {
+            return true;
+        }
+    }
+    false
+}

@@ -1,0 +1,14 @@
+use Rattle.std.proofs.Common.{◌≡◌}
+use Rattle.std.specs.List.{All}
+use Rattle.std.specs.Vec.Iter.{into_iter_items, into_iter_len}
+use Rattle.loop_core.specs.Peers.{IsOwed, IsFaithful}
+use Rattle.loop_core.proofs.peer.settle_all.Given as goal
+
+abbrev pub invariant-loop-waiting : goal.invariant-loop-waiting
+invariant-loop-waiting g l = record {
+  owed : All (IsOwed l.inlet l.session.asked) (into_iter_items l.rest);
+  kept : IsFaithful l.inlet l.session.asked l.session.taken l.later.items;
+}
+
+abbrev pub decreases-loop-waiting : goal.decreases-loop-waiting
+decreases-loop-waiting g l = into_iter_len l.rest

@@ -1,0 +1,48 @@
+//! Why a relay's loop ends.
+ghost use Rattle.std.specs.Prelude.{◌≡◌};
+
+use buffer_store::BufferFault;
+use std::alloc::{AllocError, AllocFailed};
+use thiserror::Error;
+
+/// Why a relay's loop can't be opened, or ends. Each is printed by its name.
+#[derive(Clone, Copy, Debug, Drop, PartialEq, Eq, Error)]
+pub enum LoopFault {
+    /// The relay can't listen at the address of one of its sources.
+    #[error("Bind")]
+    Bind,
+    /// The system can't wait for sockets.
+    #[error("Poll")]
+    Poll,
+    /// A buffer's device failed, and the buffer is to be opened again; or it can't be opened.
+    #[error("Buffer")]
+    Buffer(BufferFault),
+    /// The numbers of deliveries have run out.
+    #[error("NoNumber")]
+    NoNumber,
+    /// There was no memory.
+    #[error("Memory")]
+    Memory,
+}
+
+impl From<AllocError> for LoopFault {
+    ghost use Rattle.std.specs.Prelude.{◌≡◌};
+    ghost use Rattle.loop_core.specs.declared.fault.LoopFault.TheVariants.{Memory};
+
+    ghost from_gives = { λ _ e. e ≡ Memory };
+
+    fn from(_refused: AllocError) -> LoopFault {
+        LoopFault::Memory
+    }
+}
+
+impl<T: Drop> From<AllocFailed<T>> for LoopFault {
+    ghost use Rattle.std.specs.Prelude.{◌≡◌};
+    ghost use Rattle.loop_core.specs.declared.fault.LoopFault.TheVariants.{Memory};
+
+    ghost from_gives = { λ _ e. e ≡ Memory };
+
+    fn from(_refused: AllocFailed<T>) -> LoopFault {
+        LoopFault::Memory
+    }
+}

@@ -1,0 +1,305 @@
+//! A client's connection, without its socket.
+
+ghost use Rattle.std.specs.Prelude.{◌≡◌, ◌≤◌, [], drop, length, All, Contains, IfOk};
+ghost use Rattle.ack_receipt.specs.Reservations.{asked_of};
+ghost use Rattle.event_modes.specs.Reading.{meaning};
+ghost use Rattle.loop_core.specs.Peers.{IsEarned, IsFaithful, IsOwed};
+ghost use Rattle.std.specs.Arc.{arc_value};
+ghost use Rattle.forward_core.specs.Handshakes.{IsHosted};
+ghost use Rattle.forward_core.specs.Demands.{wanted};
+ghost use Rattle.forward_core.specs.Server.{IsAskedIn, opening};
+
+use crate::fault::LoopFault;
+use crate::inlet::{Branches, Inlet};
+use crate::lanes::Lanes;
+use crate::waiting::{Collected, Waiting};
+use ack_receipt::{Delivery, Numbers, Reserved};
+use disk_files::Dir;
+use event_modes::Message;
+use forward_core::{Demand, Security, ServerSession, SessionError};
+use std::alloc::{AllocError, Allocator};
+use std::marker::Model;
+use std::mem;
+use std::sync::{Arc, Wait};
+
+/// A client's session, the source that its messages come in at, and their deliveries that wait for receipts, in order.
+pub struct Peer<A: Allocator> {
+    inlet: Arc<Inlet<A>, A>,
+    session: ServerSession<A>,
+    waiting: Vec<Waiting<A>, A>,
+    // Nothing more is read.
+    is_closing: bool,
+}
+
+impl<A: Allocator> Model for Peer<A> {
+    ghost use Rattle.std.specs.Arc.{arc_value};
+    ghost use Rattle.loop_core.specs.Peers.{PeerState, IsFaithful};
+
+    ghost Value = { PeerState };
+
+    ghost view = { λ p. record { entry = arc_value p.inlet; session = p.session; waits = p.waiting.items } };
+
+    ghost invariant = { λ p. IsFaithful (arc_value p.inlet) p.session.asked p.session.taken p.waiting.items };
+}
+
+impl<A: Allocator + Copy> Peer<A> {
+    /// A connection to this source that was opened.
+    ///
+    /// The error is want of memory.
+    pub fn open(
+        alloc: A,
+        inlet: &Arc<Inlet<A>, A>,
+        security: Option<Security<'_>>,
+        nonce: [u8; 16],
+    ) -> Result<Peer<A>, AllocError>
+        requires { IsHosted security }
+        ensures { IfOk result (λ peer. peer ≡ record { entry = arc_value inlet.now; session = opening security.entry nonce; waits = [] }) }
+    {
+        let session = ServerSession::open(alloc, security, nonce)?;
+        let inlet = Arc::try_clone(inlet)?;
+        Ok(Peer {
+            inlet,
+            session,
+            waiting: Vec::new(alloc),
+            is_closing: false,
+        })
+    }
+
+    /// Takes a piece of what the client sent, and begins a delivery of each message that is whole now.
+    ///
+    /// A fault of the stream or the handshake ends the reading. `NoNumber`: the numbers of deliveries have run out. `Memory`:
+    /// the connection is to be closed, since what came may be lost; what began before stands.
+    pub fn receive<R: Wait, D: Dir + Drop>(
+        &mut self,
+        rt: &R,
+        alloc: A,
+        piece: &[u8],
+        lanes: &mut Lanes<D, A>,
+        numbers: &mut Numbers,
+    ) -> Result<(), LoopFault>
+        ensures entry { self.new.entry ≡ self.old.entry }
+    {
+        let demands = match self.session.feed(piece) {
+            Ok(demands) => demands,
+            Err(SessionError::Memory) => return Err(LoopFault::Memory),
+            Err(SessionError::Fault(_)) => {
+                self.is_closing = true;
+                return Ok(());
+            }
+        };
+        self.deliver_all(rt, alloc, demands, lanes, numbers)
+    }
+
+    // Does what is demanded.
+    fn deliver_all<R: Wait, D: Dir + Drop>(
+        &mut self,
+        rt: &R,
+        alloc: A,
+        demands: Vec<Demand<A>, A>,
+        lanes: &mut Lanes<D, A>,
+        numbers: &mut Numbers,
+    ) -> Result<(), LoopFault>
+        requires { All (λ demand. IsAskedIn self.old.session.asked (wanted demand)) demands.items }
+        ensures entry { self.new.entry ≡ self.old.entry }
+    {
+        let mut rest = demands.into_iter();
+        while let Some(demand) = rest.next() {
+            match demand {
+                Demand::Deliver(message) => self.deliver(rt, alloc, message, lanes, numbers)?,
+                Demand::Close(_) => self.close(),
+            }
+        }
+        Ok(())
+    }
+
+    // Nothing more is read.
+    fn close(&mut self)
+        ensures { self.new ≡ self.old }
+    {
+        self.is_closing = true;
+    }
+
+    // Begins the delivery of a message, unless its way is a loop. Where a buffer refuses, it is abandoned.
+    fn deliver<R: Wait, D: Dir + Drop>(
+        &mut self,
+        rt: &R,
+        alloc: A,
+        message: Message<A>,
+        lanes: &mut Lanes<D, A>,
+        numbers: &mut Numbers,
+    ) -> Result<(), LoopFault>
+        requires { Contains self.old.session.asked (asked_of (meaning message)) }
+        ensures entry { self.new.entry ≡ self.old.entry }
+        ensures session { self.new.session ≡ self.old.session }
+    {
+        let Some(branches) = self.inlet.branches(alloc, &message)? else {
+            return Ok(());
+        };
+        let Branches {
+            tag,
+            buffers,
+            leaves,
+        } = branches;
+        let reserved = Reserved::for_message(alloc, &message)?;
+        self.waiting.reserve(1)?;
+        let Some(number) = numbers.draw() else {
+            return Err(LoopFault::NoNumber);
+        };
+        let delivery = match Delivery::begin_as(alloc, number, message, tag.as_bytes(), leaves) {
+            Ok(delivery) => delivery,
+            Err(_) => return Err(LoopFault::Memory),
+        };
+        if lanes.append(rt, &buffers, &delivery) {
+            self.waiting
+                .push_reserved(Waiting::new(delivery, reserved, buffers));
+            return Ok(());
+        }
+        lanes.settle(rt, delivery.abandon());
+        Ok(())
+    }
+
+    /// Answers, in the order of their messages, the deliveries that have all their receipts, and ends those that a buffer
+    /// refused. Without memory for an answer nothing more is read: its client is to send again.
+    pub fn settle<R: Wait, D: Dir + Drop>(&mut self, rt: &R, alloc: A, lanes: &mut Lanes<D, A>)
+        ensures entry { self.new.entry ≡ self.old.entry }
+    {
+        if self.waiting.is_empty() {
+            return;
+        }
+        let list = mem::replace(&mut self.waiting, Vec::new(alloc));
+        let (later, answered) = settle_all(rt, alloc, &self.inlet, &mut self.session, list, lanes);
+        let none = mem::replace(&mut self.waiting, later);
+        none.destroy_empty();
+        if !answered {
+            self.is_closing = true;
+        }
+    }
+
+    /// What is to be sent.
+    pub fn outgoing(&self) -> &[u8]
+        ensures { result.now ≡ self.now.session.outgoing }
+    {
+        self.session.outgoing()
+    }
+
+    /// The first n bytes of what is outgoing were sent.
+    pub fn sent(&mut self, n: usize)
+        requires { n ≤ length self.old.session.outgoing }
+        ensures { self.new ≡ record self.old { session = record self.old.session { outgoing = drop n self.old.session.outgoing } } }
+    {
+        self.session.sent(n);
+    }
+
+    /// Whether nothing more is read: send what is outgoing, and close the connection.
+    pub fn is_closing(&self) -> bool {
+        self.is_closing
+    }
+
+    /// Whether deliveries wait for receipts.
+    pub fn is_waiting(&self) -> bool {
+        !self.waiting.is_empty()
+    }
+
+    /// Each answer that the session took names the tag and the buffers that its message had to be stored under and in, by the relay's matches and the
+    /// connection's source. The call does nothing: it stands for what the type keeps.
+    pub fn answers_are_earned(&self)
+        ensures { All (IsEarned self.now.entry) self.now.session.taken }
+    {
+        let _ = &self.session;
+    }
+
+    /// Ends the connection; what waits is abandoned.
+    pub fn end<R: Wait, D: Dir + Drop>(self, rt: &R, lanes: &mut Lanes<D, A>) {
+        let Peer {
+            inlet: _,
+            session: _,
+            waiting,
+            is_closing: _,
+        } = self;
+        abandon_all(rt, waiting, lanes);
+    }
+}
+
+// Ends these deliveries without an answer.
+fn abandon_all<R: Wait, D: Dir + Drop, A: Allocator + Copy>(
+    rt: &R,
+    list: Vec<Waiting<A>, A>,
+    lanes: &mut Lanes<D, A>,
+) {
+    let mut rest = list.into_iter();
+    while let Some(waiting) = rest.next() {
+        lanes.settle(rt, waiting.abandon());
+    }
+    rest.destroy_empty();
+}
+
+// Settles these deliveries of a session whose messages come in here. Gives those that wait on, and whether the session
+// took each answer.
+fn settle_all<R: Wait, D: Dir + Drop, A: Allocator + Copy>(
+    rt: &R,
+    alloc: A,
+    inlet: &Inlet<A>,
+    session: &mut ServerSession<A>,
+    list: Vec<Waiting<A>, A>,
+    lanes: &mut Lanes<D, A>,
+) -> (Vec<Waiting<A>, A>, bool)
+    requires { IsFaithful inlet.now session.old.asked session.old.taken list.items }
+    ensures { IsFaithful inlet.now session.new.asked session.new.taken result.0.items }
+{
+    let mut later = Vec::new(alloc);
+    let mut answered = true;
+    let mut rest = list.into_iter();
+    while let Some(waiting) = rest.next() {
+        answered = settle_one(rt, inlet, session, waiting, &mut later, lanes) && answered;
+    }
+    rest.destroy_empty();
+    (later, answered)
+}
+
+// Settles a delivery behind those that wait on, and says whether the session took the answer, if there is one.
+fn settle_one<R: Wait, D: Dir + Drop, A: Allocator + Copy>(
+    rt: &R,
+    inlet: &Inlet<A>,
+    session: &mut ServerSession<A>,
+    waiting: Waiting<A>,
+    later: &mut Vec<Waiting<A>, A>,
+    lanes: &mut Lanes<D, A>,
+) -> bool
+    requires owed { IsOwed inlet.now session.old.asked waiting }
+    requires before { IsFaithful inlet.now session.old.asked session.old.taken later.old.items }
+    ensures asked { session.new.asked ≡ session.old.asked }
+    ensures kept { IsFaithful inlet.now session.new.asked session.new.taken later.new.items }
+{
+    let held = !later.is_empty();
+    match waiting.collect(rt, lanes, held) {
+        Collected::Answered(reserved, stub) => {
+            lanes.settle(rt, stub);
+            answer(inlet, session, reserved)
+        }
+        Collected::Abandoned(stub) => {
+            lanes.settle(rt, stub);
+            true
+        }
+        Collected::Later(waiting) => {
+            if let Err(failed) = later.push(waiting) {
+                lanes.settle(rt, failed.value.abandon());
+            }
+            true
+        }
+    }
+}
+
+// Gives the session an answer, and says whether it took it: there may be no memory.
+fn answer<A: Allocator + Copy>(
+    inlet: &Inlet<A>,
+    session: &mut ServerSession<A>,
+    reserved: Reserved<A>,
+) -> bool
+    requires demanded { Contains session.old.asked reserved.asked }
+    requires earned { IsEarned inlet.now reserved }
+    ensures asked { session.new.asked ≡ session.old.asked }
+    ensures taken { All (IsEarned inlet.now) session.old.taken → All (IsEarned inlet.now) session.new.taken }
+{
+    let _ = inlet.number();
+    session.answer(reserved).is_ok()
+}

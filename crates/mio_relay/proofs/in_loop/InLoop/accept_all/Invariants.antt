@@ -1,0 +1,5 @@
+use Rattle.mio_relay.specs.Loops.{Stays}
+use Rattle.mio_relay.proofs.in_loop.InLoop.accept_all.Given as goal
+
+abbrev pub invariant-loop-place : goal.invariant-loop-place
+invariant-loop-place g l = Stays l.initial.self l.self

@@ -1,0 +1,193 @@
+//! What bench/pool times: workers at a shared buffer in memory, with a courier that does nothing, and claims while many chunks wait.
+//!
+//!     pool_bench purge WORKERS THOUSANDS    purges so many thousand queued chunks by so many workers, and prints how many a second
+//!     pool_bench claim QUEUED THOUSANDS     claims and gives back so many thousand times while so many thousand chunks are queued
+#![tactic(auto)]
+
+use ack_receipt::{Basis, Evidence, Leaf, SharedBuffer, Takes};
+use buffer_state::Limits;
+use buffer_store::{Buffer, RENEWED_PAST_IN_MEMORY, Settings};
+use disk_files::{Dir, MemoryDir};
+use event_modes::Entries;
+use flush_pool::{CarryFault, ClaimView, Courier, OpenGate, Retries, run_pool};
+use retry_waits::RetrySettings;
+use std::alloc::Global;
+use std::io::Print;
+use std::process::ExitCode;
+use std::sync::Wait;
+use std::sync::atomic::{AtomicBool, AtomicU64, Ordering};
+use std::thread::Threads;
+use std::time::{Clock, Duration, Instant};
+use std::{env, io};
+
+const LEAF: Leaf = Leaf {
+    relay: 1,
+    buffer: 0,
+};
+
+const SETTINGS: Settings = Settings {
+    limits: Limits {
+        chunk: 8_388_608,
+        total: 536_870_912,
+    },
+    renewed_past: RENEWED_PAST_IN_MEMORY,
+};
+
+const RETRIES: RetrySettings = RetrySettings {
+    wait: 1,
+    exponential_backoff_base: 2,
+    max_interval: None,
+    max_times: None,
+    timeout: 259_200,
+    forever: true,
+};
+
+type Shelf = SharedBuffer<MemoryDir<Global>, Global>;
+
+// Carries nothing anywhere, and stops the workers at the last chunk.
+#[derive(Drop)]
+struct Idle<'a> {
+    left: AtomicU64,
+    stop: &'a AtomicBool,
+}
+
+impl<'a, R: Wait, D: Dir> Courier<R, D, Global> for Idle<'a> {
+    fn carry(
+        &self,
+        _rt: &R,
+        chunk: &ClaimView<'_, D, Global>,
+    ) -> Result<Evidence<Global>, CarryFault> {
+        if self.left.fetch_sub(1, Ordering::SeqCst) <= 1 {
+            self.stop.store(true, Ordering::SeqCst);
+        }
+        Ok(Evidence::written(chunk.claim()))
+    }
+}
+
+// Appends an entry and queues its chunk.
+fn put(
+    buffer: &mut Buffer<MemoryDir<Global>, Global>,
+    entries: &Entries<Global>,
+) -> io::Result<()> {
+    if entries.count() == 0 {
+        return Err(io::ErrorKind::InvalidData.into());
+    }
+    let Ok(appended) = buffer.append(b"bench", entries) else {
+        return Err(io::ErrorKind::Other.into());
+    };
+    match buffer.enqueue(appended.serial) {
+        Ok(()) => Ok(()),
+        Err(_) => Err(io::ErrorKind::Other.into()),
+    }
+}
+
+// A buffer in memory with so many queued chunks of one entry.
+fn filled(alloc: Global, chunks: u64) -> io::Result<Shelf> {
+    let Some(entries) = Entries::read(alloc, &[0x92, 0x01, 0x80], 1)? else {
+        return Err(io::ErrorKind::InvalidData.into());
+    };
+    let Ok(mut buffer) = Buffer::open(alloc, MemoryDir::new(alloc), b"bench", SETTINGS) else {
+        return Err(io::ErrorKind::Other.into());
+    };
+    for _ in 0..chunks {
+        put(&mut buffer, &entries)?;
+    }
+    let takes = Takes {
+        basis: Basis::Written,
+        expires: false,
+        drops: false,
+    };
+    Ok(SharedBuffer::new(alloc, buffer, LEAF, takes))
+}
+
+// How many of so many are done in a second that took so long.
+fn a_second(count: u64, time: Duration) -> u128 {
+    u128::from(count) * 1_000_000 / time.as_micros().max(1)
+}
+
+fn purge<R: Wait + Clock + Threads + Print + Sync>(
+    rt: &R,
+    alloc: Global,
+    workers: usize,
+    chunks: u64,
+) -> io::Result<u8> {
+    let shelf = filled(alloc, chunks)?;
+    let stop = AtomicBool::new(chunks == 0);
+    let courier = Idle {
+        left: AtomicU64::new(chunks),
+        stop: &stop,
+    };
+    let retries = Retries::new(alloc, RETRIES);
+    let start = Instant::now(rt)?;
+    let worked = run_pool(rt, workers, &shelf, &courier, &OpenGate, &retries, &stop);
+    let speed = a_second(chunks, start.elapsed(rt)?);
+    match worked {
+        Ok(worked) => {
+            println!(rt;
+                "{workers} workers: {} purged, {speed} a second",
+                worked.purged
+            )?;
+            Ok(0)
+        }
+        Err(fault) => {
+            println!(rt; "fault {fault}")?;
+            Ok(1)
+        }
+    }
+}
+
+fn claim<R: Wait + Clock + Print>(
+    rt: &R,
+    alloc: Global,
+    chunks: u64,
+    count: u64,
+) -> io::Result<u8> {
+    let shelf = filled(alloc, chunks)?;
+    let start = Instant::now(rt)?;
+    for _ in 0..count {
+        let Some(claim) = shelf.claim(rt)? else {
+            return Ok(1);
+        };
+        shelf.give_back(rt, claim);
+    }
+    let speed = a_second(count, start.elapsed(rt)?);
+    println!(rt; "{chunks} queued: {speed} claims a second")?;
+    Ok(0)
+}
+
+// A number of decimal digits below 65,536.
+fn number(word: &str) -> Option<u16> {
+    word.parse().ok()
+}
+
+// What the words ask for, and the exit status of it.
+fn answer<R: Wait + Clock + Threads + Print + Sync>(
+    rt: &R,
+    alloc: Global,
+    words: &[String],
+) -> io::Result<u8> {
+    let [_, word, first, second] = words else {
+        return Ok(2);
+    };
+    let (Some(first), Some(second)) = (number(first.as_str()), number(second.as_str())) else {
+        return Ok(2);
+    };
+    let thousands = 1_000 * u64::from(second);
+    match word.as_str() {
+        "purge" => purge(rt, alloc, usize::from(first), thousands),
+        "claim" => claim(rt, alloc, 1_000 * u64::from(first), thousands),
+        _ => Ok(2),
+    }
+}
+
+fn words(rt: &HostRuntime) -> io::Result<Vec<String>> {
+    let words: Vec<String> = env::args(rt)?.collect(rt.alloc())?;
+    Ok(words)
+}
+
+fn main(rt: HostRuntime) -> ExitCode {
+    let Ok(words) = words(&rt) else {
+        return ExitCode::from(2);
+    };
+    ExitCode::from(answer(&rt, rt.alloc(), words.as_slice()).unwrap_or(2))
+}

@@ -1,0 +1,149 @@
+// Couriers and gates that the tests need.
+use ack_receipt::{Evidence, SharedBuffer};
+use auth_handshake::digest_hex;
+use disk_files::Dir;
+use flush_pool::{CarryFault, ClaimView, Courier, Gate, SinkCourier};
+use std::alloc::Global;
+use std::sync::Wait;
+use std::sync::atomic::{AtomicBool, AtomicU64, Ordering};
+
+// How many digests a courier makes at most while it waits for the other.
+const MOST_DIGESTS: u32 = 1_000_000;
+
+// Works at each of two chunks until the other's carry has begun too, and stops the workers once both are carried.
+#[derive(Drop)]
+pub struct Meeting<'a> {
+    pub first: AtomicBool,
+    pub second: AtomicBool,
+    pub carried: AtomicU64,
+    pub stop: &'a AtomicBool,
+}
+
+// Whether the other's carry began, while this one worked.
+fn meets(mine: &AtomicBool, other: &AtomicBool) -> bool {
+    mine.store(true, Ordering::SeqCst);
+    for _ in 0..MOST_DIGESTS {
+        let digest = digest_hex(&[0; 1024], b"", b"", b"");
+        if other.load(Ordering::SeqCst) && digest[0] != 0 {
+            return true;
+        }
+    }
+    false
+}
+
+impl<'a, R: Wait, D: Dir> Courier<R, D, Global> for Meeting<'a> {
+    fn carry(
+        &self,
+        _rt: &R,
+        chunk: &ClaimView<'_, D, Global>,
+    ) -> Result<Evidence<Global>, CarryFault> {
+        let met = if chunk.id().serial == 0 {
+            meets(&self.first, &self.second)
+        } else {
+            meets(&self.second, &self.first)
+        };
+        if !met {
+            return Err(CarryFault::Timeout);
+        }
+        raise_at(&self.carried, 2, self.stop);
+        Ok(Evidence::written(chunk.claim()))
+    }
+}
+
+// Counts one more, and stops the workers when there are so many.
+fn raise_at(carried: &AtomicU64, most: u64, stop: &AtomicBool) {
+    if carried.fetch_add(1, Ordering::SeqCst).saturating_add(1) >= most {
+        stop.store(true, Ordering::SeqCst);
+    }
+}
+
+// Writes to a sink, and stops the workers after the third chunk that is written.
+#[derive(Drop)]
+pub struct Third<'a, S: Dir> {
+    pub sink: &'a SinkCourier<S, Global>,
+    pub carried: AtomicU64,
+    pub stop: &'a AtomicBool,
+}
+
+impl<'a, R: Wait, D: Dir, S: Dir> Courier<R, D, Global> for Third<'a, S> {
+    fn carry(
+        &self,
+        rt: &R,
+        chunk: &ClaimView<'_, D, Global>,
+    ) -> Result<Evidence<Global>, CarryFault> {
+        let evidence = self.sink.carry(rt, chunk)?;
+        raise_at(&self.carried, 3, self.stop);
+        Ok(evidence)
+    }
+}
+
+// What a courier answers of a chunk, beside raising the flag.
+#[derive(Clone, Copy)]
+pub enum Answer {
+    Written,
+    Expired,
+    Fault(CarryFault),
+}
+
+// Answers one thing of the chunk with serial 0 and another of all others, and stops the workers after so many carries.
+#[derive(Drop)]
+pub struct Scripted<'a> {
+    pub first: Answer,
+    pub others: Answer,
+    pub carried: AtomicU64,
+    pub last: u64,
+    pub stop: &'a AtomicBool,
+}
+
+impl<'a> Scripted<'a> {
+    pub fn new(first: Answer, others: Answer, last: u64, stop: &'a AtomicBool) -> Self {
+        Scripted {
+            first,
+            others,
+            carried: AtomicU64::new(0),
+            last,
+            stop,
+        }
+    }
+}
+
+impl<'a, R: Wait, D: Dir> Courier<R, D, Global> for Scripted<'a> {
+    fn carry(
+        &self,
+        _rt: &R,
+        chunk: &ClaimView<'_, D, Global>,
+    ) -> Result<Evidence<Global>, CarryFault> {
+        raise_at(&self.carried, self.last, self.stop);
+        let answer = if chunk.id().serial == 0 {
+            self.first
+        } else {
+            self.others
+        };
+        match answer {
+            Answer::Written => Ok(Evidence::written(chunk.claim())),
+            Answer::Expired => Ok(Evidence::expired(chunk.claim())),
+            Answer::Fault(fault) => Err(fault),
+        }
+    }
+}
+
+// Lets all chunks through but the one with serial 0.
+pub struct NotFirst;
+
+impl Gate for NotFirst {
+    fn pass(&self, serial: u64) -> bool {
+        serial != 0
+    }
+}
+
+// Whether the buffer has nothing to claim. What it claims it gives back.
+pub fn is_empty<R: Wait, D: Dir>(rt: &R, buffer: &SharedBuffer<D, Global>) -> bool {
+    match buffer.claim(rt) {
+        Ok(Some(claim)) => {
+            buffer.give_back(rt, claim);
+            false
+        }
+        Ok(None) => true,
+        Err(_) => false,
+    }
+}

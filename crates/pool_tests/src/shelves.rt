@@ -1,0 +1,112 @@
+// Buffers with queued chunks, and what is left in them.
+use ack_receipt::{Basis, Leaf, SharedBuffer, Takes};
+use buffer_state::{Limits, Stage};
+use buffer_store::{Buffer, BufferFault, RENEWED_PAST_IN_MEMORY, Settings};
+use disk_files::{Dir, MemoryDir};
+use event_modes::Entries;
+use retry_waits::RetrySettings;
+use sink_series::{Series, SeriesFault};
+use std::alloc::{AllocError, Global};
+
+// What is behind the lock in these tests.
+pub type Shelf = SharedBuffer<MemoryDir<Global>, Global>;
+
+const LEAF: Leaf = Leaf {
+    relay: 1,
+    buffer: 0,
+};
+
+const SETTINGS: Settings = Settings {
+    limits: Limits {
+        chunk: u64::MAX,
+        total: u64::MAX,
+    },
+    renewed_past: RENEWED_PAST_IN_MEMORY,
+};
+
+// Retries go on for ever, and no chunk is tried again while a test runs.
+pub const PATIENT: RetrySettings = RetrySettings {
+    wait: 1_000,
+    exponential_backoff_base: 2,
+    max_interval: None,
+    max_times: None,
+    timeout: 1_000,
+    forever: true,
+};
+
+// One failure is too many.
+pub const HASTY: RetrySettings = RetrySettings {
+    max_times: Some(0),
+    forever: false,
+    ..PATIENT
+};
+
+// One entry of three bytes.
+fn entries(alloc: Global) -> Result<Entries<Global>, AllocError> {
+    let mut entries = Entries::new(alloc);
+    if let Some(one) = Entries::read(alloc, &[0x92, 0x01, 0x80], 1)? {
+        entries.append(&one)?;
+    }
+    Ok(entries)
+}
+
+// A buffer with so many queued chunks of one entry each, by serials from 0, whose chunks go so.
+pub fn filled(alloc: Global, chunks: usize, takes: Takes<Global>) -> Result<Shelf, BufferFault> {
+    let dir = MemoryDir::new(alloc);
+    let mut buffer = match Buffer::open(alloc, dir, b"buf", SETTINGS) {
+        Ok(buffer) => buffer,
+        Err((fault, _dir)) => return Err(fault),
+    };
+    for _ in 0..chunks {
+        put(alloc, &mut buffer)?;
+    }
+    Ok(SharedBuffer::new(alloc, buffer, LEAF, takes))
+}
+
+// Appends a chunk and queues it.
+fn put<D: Dir>(alloc: Global, buffer: &mut Buffer<D, Global>) -> Result<(), BufferFault> {
+    let some = entries(alloc)?;
+    if some.count() == 0 {
+        return Err(BufferFault::Memory);
+    }
+    let serial = buffer.append(b"a", &some)?.serial;
+    buffer.enqueue(serial)
+}
+
+// What lets a chunk go: this alone.
+pub fn by(basis: Basis<Global>) -> Takes<Global> {
+    Takes {
+        basis,
+        expires: false,
+        drops: false,
+    }
+}
+
+// Entries in the sink of this path.
+pub fn by_sink(alloc: Global, path: &[u8]) -> Result<Takes<Global>, AllocError> {
+    Ok(by(Basis::Stored(Vec::from_slice(alloc, path)?)))
+}
+
+// A sink in this folder.
+pub fn sink<S: Dir + Drop>(
+    alloc: Global,
+    dir: S,
+    path: &[u8],
+) -> Result<Series<S, Global>, SeriesFault> {
+    match Series::open(alloc, dir, path) {
+        Ok(series) => Ok(series),
+        Err((fault, _dir)) => Err(fault),
+    }
+}
+
+// How many of the serials 0 to 3 are queued, as a bit each.
+pub fn queued(shelf: Shelf) -> u8 {
+    let closed = shelf.close();
+    let mut bits = 0u8;
+    for serial in 0..4u8 {
+        if closed.chunks().stage(u64::from(serial)) == Some(Stage::Queued) {
+            bits |= 1 << serial;
+        }
+    }
+    bits
+}

@@ -1,0 +1,175 @@
+// Couriers to servers that misbehave.
+use crate::relays::{FORWARD, aim, relay_of};
+use ack_receipt::{Basis, Delivery, Evidence, Leaf, Numbers, SharedBuffer, Takes};
+use buffer_state::Limits;
+use buffer_store::{Buffer, Settings};
+use disk_files::MemoryDir;
+use event_modes::{Entries, Message};
+use flush_pool::{CarryFault, ClaimView, Courier};
+use mio_relay::{Outlet, TcpCourier, outlet_of};
+use relay_conf::{BufferNo, Relay};
+use std::alloc::Global;
+use std::io::Read;
+use std::net::{Ipv4Addr, Net, SocketAddr, TcpListener};
+use std::random::RandomSource;
+use std::sync::atomic::AtomicBool;
+use std::sync::{Arc, Wait};
+use std::test::Fail;
+use std::thread;
+use std::time::Clock;
+
+type Shared = SharedBuffer<MemoryDir<Global>, Global>;
+
+// A buffer with one queued chunk.
+fn queued<R: Wait>(rt: &R, alloc: Global) -> Result<Shared, Fail> {
+    let settings = Settings {
+        limits: Limits {
+            chunk: 1_000,
+            total: 1_000,
+        },
+        renewed_past: 1_000_000,
+    };
+    let Ok(buffer) = Buffer::open(alloc, MemoryDir::new(alloc), b"out", settings) else {
+        return Err(Fail::from("the buffer doesn't open"));
+    };
+    let leaf = Leaf {
+        relay: 1,
+        buffer: 0,
+    };
+    let takes = Takes {
+        basis: Basis::Acknowledged,
+        expires: false,
+        drops: false,
+    };
+    let shared = SharedBuffer::new(alloc, buffer, leaf, takes);
+    fill(rt, alloc, &shared, leaf)?;
+    Ok(shared)
+}
+
+// Appends one entry, and queues its chunk.
+fn fill<R: Wait>(rt: &R, alloc: Global, shared: &Shared, leaf: Leaf) -> Result<(), Fail> {
+    let Some(entries) = Entries::read(alloc, b"\x92\x01\x80", 1)? else {
+        return Err(Fail::from("an entry"));
+    };
+    let message = Message {
+        tag: Vec::from_slice(alloc, b"a")?,
+        entries,
+        ack: None,
+    };
+    let mut numbers = Numbers::new();
+    let Some(number) = numbers.draw() else {
+        return Err(Fail::from("a number"));
+    };
+    let leaves = Vec::from_slice(alloc, &[leaf])?;
+    let Ok(delivery) = Delivery::begin(alloc, number, message, leaves) else {
+        return Err(Fail::from("no memory"));
+    };
+    if delivery.entries().count() == 0 {
+        delivery.abandon();
+        return Err(Fail::from("an entry"));
+    }
+    let appended = shared.append(rt, &delivery);
+    delivery.abandon();
+    match appended {
+        Ok(receipt) => {
+            receipt.spend();
+        }
+        Err(_) => return Err(Fail::from("the append is refused")),
+    }
+    match shared.enqueue(rt, 0) {
+        Ok(()) => Ok(()),
+        Err(_) => Err(Fail::from("the chunk isn't queued")),
+    }
+}
+
+// A courier to this port.
+pub fn courier_to<R: RandomSource + AllocGlobal>(
+    rt: &R,
+    port: u16,
+) -> Result<TcpCourier<Global>, Fail> {
+    let mut relay: Relay<Global> = relay_of(rt.alloc(), FORWARD)?;
+    aim(&mut relay, port);
+    let stop = Arc::new(rt.alloc(), AtomicBool::new(false))?;
+    match outlet_of(&relay, BufferNo(0)) {
+        Some(Outlet::Forward(settings)) => {
+            match TcpCourier::new(rt, rt.alloc(), settings, stop) {
+                Ok(courier) => Ok(courier),
+                Err(_) => Err(Fail::from("no courier")),
+            }
+        }
+        _ => Err(Fail::from("no output")),
+    }
+}
+
+// Why the queued chunk isn't carried; then whether it is queued again.
+fn carried<R: Wait + Net + Clock>(
+    rt: &R,
+    shared: &Shared,
+    courier: &TcpCourier<Global>,
+) -> Result<(Option<CarryFault>, bool), Fail> {
+    let Some(claim) = shared.claim(rt)? else {
+        return Err(Fail::from("a chunk is queued"));
+    };
+    let fault = match courier.carry(rt, &ClaimView::new(shared, &claim)) {
+        Ok(evidence) => {
+            Evidence::waste(evidence);
+            None
+        }
+        Err(fault) => Some(fault),
+    };
+    shared.give_back(rt, claim);
+    let again = match shared.claim(rt)? {
+        Some(claim) => {
+            shared.give_back(rt, claim);
+            true
+        }
+        None => false,
+    };
+    Ok((fault, again))
+}
+
+// Reads until the other end closes, and never answers.
+fn swallow(listener: &TcpListener) -> bool {
+    let Ok((mut stream, _)) = listener.accept() else {
+        return false;
+    };
+    let mut piece = [0u8; 256];
+    for _ in 0..10_000u32 {
+        match stream.read(&mut piece) {
+            Ok(0) | Err(_) => return true,
+            Ok(_) => {}
+        }
+    }
+    false
+}
+
+// A server that reads and never answers is too late, and the chunk is queued again.
+#[test]
+fn no_answer_is_a_timeout(rt: HostRuntime) -> Result<(), Fail> {
+    let shared = queued(&rt, rt.alloc())?;
+    let address = SocketAddr::from((Ipv4Addr::LOCALHOST, 0));
+    let listener = TcpListener::bind(&rt, address)?;
+    let courier = courier_to(&rt, listener.local_addr()?.port())?;
+    let child = thread::spawn(&rt, move || swallow(&listener))?;
+    let came = carried(&rt, &shared, &courier);
+    let read = child.join(&rt);
+    assert_eq!(rt; came?, (Some(CarryFault::Timeout), true));
+    assert!(rt; read);
+    Ok(())
+}
+
+// Nobody listens.
+#[test]
+fn no_listener_is_no_server(rt: HostRuntime) -> Result<(), Fail> {
+    let shared = queued(&rt, rt.alloc())?;
+    let address = SocketAddr::from((Ipv4Addr::LOCALHOST, 0));
+    let listener = TcpListener::bind(&rt, address)?;
+    let port = listener.local_addr()?.port();
+    drop(listener);
+    let courier = courier_to(&rt, port)?;
+    assert_eq!(rt;
+        carried(&rt, &shared, &courier)?,
+        (Some(CarryFault::NoServer), true)
+    );
+    Ok(())
+}

@@ -1,0 +1,196 @@
+// A loop with clients on sockets, turned by hand.
+use crate::relays::{LOOPING, SINK, SMALL, relay_of};
+use disk_files::MemoryDir;
+use mio_relay::{Ended, InLoop, LoopFault, MemoryFolders};
+use std::alloc::Global;
+use std::io::{ErrorKind, Read, Write};
+use std::net::{Ipv4Addr, Net, OpenStream, SocketAddr, TcpStream};
+use std::random::RandomSource;
+use std::sync::Wait;
+use std::sync::atomic::AtomicBool;
+use std::test::Fail;
+use std::time::{Clock, Duration};
+
+pub type Turning = InLoop<MemoryDir<Global>, Global>;
+
+// The tag `a`, one entry, and a chunk.
+pub const MESSAGE: &[u8] = b"\x94\xa1\x61\x01\x80\x81\xa5chunk\xa2c1";
+
+// The tag `b`, one entry, and another chunk.
+const OTHER: &[u8] = b"\x94\xa1\x62\x01\x80\x81\xa5chunk\xa2c2";
+
+pub const ANSWER: &[u8] = b"\x81\xa3ack\xa2c1";
+
+const OTHER_ANSWER: &[u8] = b"\x81\xa3ack\xa2c2";
+
+// A loop that keeps what is left of its deliveries.
+pub fn open<R: Net + Clock + RandomSource + AllocGlobal>(
+    rt: &R,
+    text: &str,
+) -> Result<Turning, Fail> {
+    let relay = relay_of(rt.alloc(), text)?;
+    let folders = MemoryFolders { alloc: rt.alloc() };
+    match InLoop::open_in(rt, rt.alloc(), relay, 1, &folders) {
+        Ok(mut turning) => {
+            turning.keep_stubs();
+            Ok(turning)
+        }
+        Err(_) => Err(Fail::from("the loop doesn't open")),
+    }
+}
+
+// A client of the loop's only source.
+pub fn client<R: Net>(rt: &R, turning: &Turning) -> Result<R::Stream, Fail> {
+    let Some(port) = turning.port(0) else {
+        return Err(Fail::from("no source"));
+    };
+    let address = SocketAddr::from((Ipv4Addr::LOCALHOST, port));
+    let stream = TcpStream::connect_timeout(rt, &address, Duration::from_secs(5))?;
+    stream.set_read_timeout(Some(Duration::from_millis(200)))?;
+    Ok(stream)
+}
+
+// Twenty turns, or those up to a fault.
+fn turn<R: Wait + Clock>(rt: &R, turning: &mut Turning) -> Result<(), Fail> {
+    for _ in 0..20u32 {
+        if turning.turn(rt).is_err() {
+            return Err(Fail::from("a turn has a fault"));
+        }
+    }
+    Ok(())
+}
+
+// Whether these bytes come, and no others.
+pub fn hears<S: Read>(stream: &mut S, wanted: &[u8]) -> Result<bool, Fail> {
+    for byte in wanted {
+        let mut one = [0u8; 1];
+        stream.read_exact(&mut one)?;
+        if one[0] != *byte {
+            return Ok(false);
+        }
+    }
+    let mut more = [0u8; 1];
+    match stream.read(&mut more) {
+        Err(e) => Ok(e.kind() == ErrorKind::WouldBlock || e.kind() == ErrorKind::TimedOut),
+        Ok(_) => Ok(false),
+    }
+}
+
+// Ends the loop, and says how many deliveries left something, each of so many parts.
+fn ended<R: Wait + Clock>(rt: &R, turning: Turning, parts: usize) -> (usize, bool) {
+    let stop = AtomicBool::new(true);
+    let Ended { stubs, fault } = turning.run(rt, &stop);
+    let all = stubs.iter().all(|stub| stub.parts.len() == parts);
+    (stubs.len(), all && fault.is_none())
+}
+
+// Three messages in one write.
+fn three(message: &[u8], alloc: Global) -> Result<Vec<u8>, Fail> {
+    let mut bytes = Vec::from_slice(alloc, message)?;
+    bytes.extend_from_slice(message)?;
+    bytes.extend_from_slice(message)?;
+    Ok(bytes)
+}
+
+fn talk_apart<R: Wait + Clock + Net + AllocGlobal>(
+    rt: &R,
+    turning: &mut Turning,
+) -> Result<(bool, bool), Fail> {
+    let mut one = client(rt, turning)?;
+    let mut two = client(rt, turning)?;
+    one.write_all(&three(MESSAGE, rt.alloc())?)?;
+    two.write_all(&three(OTHER, rt.alloc())?)?;
+    turn(rt, turning)?;
+    let first = hears(&mut one, &three(ANSWER, rt.alloc())?)?;
+    let second = hears(&mut two, &three(OTHER_ANSWER, rt.alloc())?)?;
+    Ok((first, second))
+}
+
+// Two clients ask for their own chunks, each three times in one write: each hears three answers, its own.
+#[test]
+fn each_client_hears_its_own_answers(rt: HostRuntime) -> Result<(), Fail> {
+    let mut turning = open(&rt, SINK)?;
+    let heard = talk_apart(&rt, &mut turning);
+    let left = ended(&rt, turning, 1);
+    assert_eq!(rt; heard?, (true, true));
+    assert_eq!(rt; left, (6, true));
+    Ok(())
+}
+
+fn talk_in_turn<R: Wait + Clock + Net>(
+    rt: &R,
+    turning: &mut Turning,
+) -> Result<(bool, bool), Fail> {
+    let mut one = client(rt, turning)?;
+    let mut two = client(rt, turning)?;
+    one.write_all(MESSAGE)?;
+    turn(rt, turning)?;
+    let first = hears(&mut one, ANSWER)?;
+    two.write_all(OTHER)?;
+    turn(rt, turning)?;
+    Ok((first && hears(&mut one, b"")?, hears(&mut two, b"")?))
+}
+
+// What a full buffer refuses isn't answered, and its connection stays.
+#[test]
+fn a_full_buffer_refuses(rt: HostRuntime) -> Result<(), Fail> {
+    let mut turning = open(&rt, SMALL)?;
+    let heard = talk_in_turn(&rt, &mut turning);
+    let stop = AtomicBool::new(true);
+    let Ended { stubs, fault } = turning.run(&rt, &stop);
+    assert_eq!(rt; heard?, (true, true));
+    assert!(rt; fault.is_none());
+    let [one, two] = stubs.as_slice() else {
+        return Err(Fail::from("two deliveries"));
+    };
+    assert_eq!(rt; (one.parts.len(), two.parts.len()), (1, 0));
+    Ok(())
+}
+
+fn talk_round<R: Wait + Clock + Net>(rt: &R, turning: &mut Turning) -> Result<bool, Fail> {
+    let mut one = client(rt, turning)?;
+    one.write_all(MESSAGE)?;
+    one.write_all(OTHER)?;
+    turn(rt, turning)?;
+    hears(&mut one, OTHER_ANSWER)
+}
+
+// A message whose way is a loop is no delivery, and isn't answered; one that no match takes is.
+#[test]
+fn what_goes_round_is_no_delivery(rt: HostRuntime) -> Result<(), Fail> {
+    let mut turning = open(&rt, LOOPING)?;
+    let heard = talk_round(&rt, &mut turning);
+    let left = ended(&rt, turning, 0);
+    assert!(rt; heard?);
+    assert_eq!(rt; left, (1, true));
+    Ok(())
+}
+
+// Why another relay at this port isn't opened.
+fn fault_at<R: Wait + Clock + Net + RandomSource + AllocGlobal>(
+    rt: &R,
+    port: Option<u16>,
+) -> Result<Option<LoopFault>, Fail> {
+    let mut relay = relay_of(rt.alloc(), SINK)?;
+    for source in relay.sources.iter_mut() {
+        source.port = port.unwrap_or(1);
+    }
+    let folders = MemoryFolders { alloc: rt.alloc() };
+    match InLoop::open_in(rt, rt.alloc(), relay, 2, &folders) {
+        Ok(other) => {
+            ended(rt, other, 0);
+            Ok(None)
+        }
+        Err(fault) => Ok(Some(fault)),
+    }
+}
+
+// A relay whose source is taken isn't opened.
+#[test]
+fn a_taken_source_is_bind(rt: HostRuntime) -> Result<(), Fail> {
+    let turning = open(&rt, SINK)?;
+    let fault = fault_at(&rt, turning.port(0));
+    ended(&rt, turning, 0);
+    assert_eq!(rt; fault?, Some(LoopFault::Bind));
+    Ok(())
+}
