@@ -32,9 +32,11 @@ pub record Origin : Type 0 where
   pub leaf : Leaf
   pub serial : ℕ
 
+-- of a receipt
 abbrev pub origin_of : Appended → Origin
 origin_of receipt = record { delivery = receipt.delivery; leaf = receipt.leaf; serial = receipt.serial }
 
+-- of an append that waits for one
 abbrev pub origin_of_pending : Pended → Origin
 origin_of_pending pending = record { delivery = pending.delivery; leaf = pending.leaf; serial = pending.serial }
 

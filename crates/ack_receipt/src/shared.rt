@@ -1,7 +1,8 @@
 //! A buffer that threads share.
 
-ghost use Rattle.std.specs.Prelude.{◌≡◌, ◌<◌, true, length, IfOk, IfErr, IfSome, OnOk};
+ghost use Rattle.std.specs.Prelude.{◌≡◌, ◌<◌, ◌↔◌, true, length, IsTrue, IsSome, IfOk, IfErr, IfSome, OnOk};
 ghost use Rattle.buffer_book.specs.Evidences.{IsFor};
+ghost use Rattle.buffer_state.specs.State.{chunk_at};
 ghost use Rattle.ack_receipt.specs.Redeeming.{AreReceiptsOf};
 
 use crate::delivery::Delivery;
@@ -133,6 +134,11 @@ impl<D: Dir, A: Allocator + Copy> SharedBuffer<D, A> {
         self.lock.lock(rt).renew()
     }
 
+    /// Whether the buffer has a chunk of this serial, staged, queued or claimed. Once it was let go it never has it again.
+    pub fn is_live<R: Wait>(&self, rt: &R, serial: u64) -> bool {
+        has_chunk(&self.lock.lock(rt), serial)
+    }
+
     /// Claims the first of the queue, if anything is queued. It goes on after a fault.
     ///
     /// The error is want of memory, and changes nothing.
@@ -192,4 +198,11 @@ impl<D: Dir, A: Allocator + Copy> SharedBuffer<D, A> {
         } = self;
         Closed::new(leaf, lock.into_inner())
     }
+}
+
+// Whether a chunk of this serial is live.
+fn has_chunk<D: Dir, A: Allocator + Copy>(booked: &Booked<D, A>, serial: u64) -> bool
+    ensures { IsTrue result ↔ IsSome (chunk_at booked.now.buffer.chunks serial) }
+{
+    booked.chunks().stage(serial).is_some()
 }

@@ -5,13 +5,20 @@ ghost use Rattle.retry_waits.specs.Failed.{noted};
 ghost use Rattle.flush_pool.specs.Verdicts.{IsVerdict};
 
 use crate::verdict::{Judgement, judge};
+use ack_receipt::SharedBuffer;
+use disk_files::Dir;
 use retry_waits::{Failures, RetrySettings};
 use std::alloc::{AllocError, Allocator};
+use std::collections::VecDeque;
 use std::sync::{Mutex, Wait};
 use std::time::Clock;
 
+/// For how many chunks a worker asks at each failure whether the buffer still has them.
+const LOOKS: u8 = 2;
+
 /// Which chunks of a buffer failed and when, for all its workers, and the settings by which they wait and are given up.
-/// It knows a chunk from its first failure until the chunk is purged or `forget` is called.
+/// It knows a chunk from its first failure until a worker purges it. One that left its buffer otherwise is forgotten too: each
+/// failure looks at the two known chunks that were looked at longest ago, so what is kept is bounded by the chunks that the buffer has.
 #[derive(Drop)]
 pub struct Retries<A: Allocator> {
     settings: RetrySettings,
@@ -22,6 +29,8 @@ pub struct Retries<A: Allocator> {
 #[derive(Drop)]
 struct Known<A: Allocator> {
     failures: Failures<A>,
+    /// Each of those chunks, the one that was looked at longest ago first. Where there was no memory to say so, one is missing.
+    turns: VecDeque<u64, A>,
     /// The latest time that a worker read, in milliseconds of the monotonic clock.
     latest: u64,
 }
@@ -31,6 +40,7 @@ impl<A: Allocator + Copy> Retries<A> {
     pub fn new(alloc: A, settings: RetrySettings) -> Self {
         let known = Known {
             failures: Failures::new(alloc),
+            turns: VecDeque::new(alloc),
             latest: 0,
         };
         Retries {
@@ -39,10 +49,28 @@ impl<A: Allocator + Copy> Retries<A> {
         }
     }
 
-    /// Lets what is known of a chunk go. Workers call it for a chunk that they purged; whoever drops a chunk otherwise
-    /// calls it too, so that no more chunks are known than the buffer has.
-    pub fn forget<R: Wait>(&self, rt: &R, serial: u64) {
+    /// Of how many chunks failures are known.
+    pub fn chunk_count<R: Wait>(&self, rt: &R) -> usize {
+        self.known.lock(rt).failures.chunk_count()
+    }
+
+    /// Lets what is known of a chunk go.
+    pub(crate) fn forget<R: Wait>(&self, rt: &R, serial: u64) {
         self.known.lock(rt).failures.forget(serial);
+    }
+
+    /// Forgets those of the next chunks that the buffer has no more.
+    pub(crate) fn look_for_gone<R: Wait, D: Dir>(&self, rt: &R, buffer: &SharedBuffer<D, A>) {
+        for _ in 0..LOOKS {
+            let Some(serial) = self.known.lock(rt).turns.pop_front() else {
+                return;
+            };
+            if buffer.is_live(rt, serial) {
+                let _ = self.known.lock(rt).turns.push_back(serial);
+            } else {
+                self.forget(rt, serial);
+            }
+        }
     }
 
     /// What is to become of the chunk of this serial now, where its buffer lets chunks expire or doesn't.
@@ -89,7 +117,12 @@ impl<A: Allocator + Copy> Known<A> {
         ensures time { self.new.latest ≡ max self.old.latest (unwrap_or read 0) }
     {
         self.latest = later(self.latest, read);
-        self.failures.note(serial, self.latest)
+        let count = self.failures.chunk_count();
+        self.failures.note(serial, self.latest)?;
+        if self.failures.chunk_count() > count {
+            let _ = self.turns.push_back(serial);
+        }
+        Ok(())
     }
 }
 

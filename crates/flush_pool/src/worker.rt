@@ -177,12 +177,13 @@ where
         self.buffer.give_back(self.rt, claim);
     }
 
-    /// Notes that the chunk's delivery failed. The error is want of memory.
+    /// Notes that the chunk's delivery failed, and looks for chunks that failed and are gone. The error is want of memory.
     pub(crate) fn note(&mut self, serial: u64) -> Result<(), AllocError>
         ensures { IsNoted serial self.old self.new result }
     {
         self.retries.note(self.rt, serial)?;
         self.diary = self.diary.then(&Deed::Noted(serial));
+        self.retries.look_for_gone(self.rt, self.buffer);
         Ok(())
     }
 
