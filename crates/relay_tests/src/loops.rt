@@ -13,7 +13,12 @@ use std::time::{Clock, Duration};
 
 pub type Turning = InLoop<MemoryDir<Global>, Global>;
 
-// The tag `a`, one entry, and a chunk.
+pub const TAG: &[u8] = b"a";
+
+// A time and an empty record.
+pub const ENTRY: &[u8] = b"\x92\x01\x80";
+
+// The tag, the entry, and a chunk.
 pub const MESSAGE: &[u8] = b"\x94\xa1\x61\x01\x80\x81\xa5chunk\xa2c1";
 
 // The tag `b`, one entry, and another chunk.

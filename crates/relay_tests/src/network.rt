@@ -1,13 +1,13 @@
 // An edge and a hub, each with a flush thread.
 use crate::couriers::courier_to;
-use crate::loops::{ANSWER, MESSAGE, Turning, client, hears, open};
+use crate::loops::{ANSWER, ENTRY, MESSAGE, TAG, Turning, client, hears, open};
 use crate::relays::{FORWARD, SINK};
 use ack_receipt::SharedBuffer;
 use disk_files::MemoryDir;
 use flush_pool::{Courier, OpenGate, Retries, SinkCourier, work};
 use mio_relay::Ended;
 use retry_waits::RetrySettings;
-use sink_series::Series;
+use sink_series::{Series, SinkEvent};
 use std::alloc::Global;
 use std::io::Write;
 use std::net::{Net, TcpListener, TcpStream};
@@ -109,8 +109,18 @@ fn sink_of(alloc: Global) -> Result<SinkCourier<MemoryDir<Global>, Global>, Fail
     }
 }
 
-// A client sends the edge a message: whether it heard its answer, and how many events are in the hub's sink then.
-fn talk_through<R>(rt: &R, edge: &mut Turning, hub: &mut Turning) -> Result<(bool, usize), Fail>
+// Whether these are the client's event, sent once or again.
+fn are_the_messages(events: &[SinkEvent<Global>]) -> bool {
+    for event in events {
+        if event.tag() != TAG || event.entry() != ENTRY {
+            return false;
+        }
+    }
+    !events.is_empty()
+}
+
+// A client sends the edge a message: whether it heard its answer, and whether its event, and no other, is in the hub's sink then.
+fn talk_through<R>(rt: &R, edge: &mut Turning, hub: &mut Turning) -> Result<(bool, bool), Fail>
 where
     R: Wait
         + Clock
@@ -130,7 +140,7 @@ where
     let well = both_at_work(rt, &out, &courier, &store, &sink, edge, hub);
     let heard = hears(&mut one, ANSWER)?;
     let events = sink.into_series().content()?;
-    Ok((well && heard, events.len()))
+    Ok((well && heard, are_the_messages(&events)))
 }
 
 // Ends the loop: whether its buffer's book accounts for what is left of its deliveries.
@@ -145,7 +155,7 @@ fn is_accounted<R: Wait + Clock + AllocGlobal>(rt: &R, turning: Turning) -> bool
 }
 
 // What comes of it with an edge in front of the hub.
-fn pass_on<R>(rt: &R, hub: &mut Turning) -> Result<(bool, usize, bool), Fail>
+fn pass_on<R>(rt: &R, hub: &mut Turning) -> Result<(bool, bool, bool), Fail>
 where
     R: Wait
         + Clock
@@ -158,8 +168,8 @@ where
     let mut edge = open(rt, FORWARD)?;
     let talk = talk_through(rt, &mut edge, hub);
     let accounted = is_accounted(rt, edge);
-    let (heard, events) = talk?;
-    Ok((heard, events, accounted))
+    let (heard, stored) = talk?;
+    Ok((heard, stored, accounted))
 }
 
 // A client's message to an edge is answered and comes to the hub's sink, and the books of both account for it.
@@ -168,7 +178,7 @@ fn an_edge_hands_on_to_a_hub(rt: HostRuntime) -> Result<(), Fail> {
     let mut hub = open(&rt, SINK)?;
     let passed = pass_on(&rt, &mut hub);
     let accounted = is_accounted(&rt, hub);
-    assert_eq!(rt; passed?, (true, 1, true));
+    assert_eq!(rt; passed?, (true, true, true));
     assert!(rt; accounted);
     Ok(())
 }
