@@ -219,3 +219,35 @@ fn a_chunk_whose_retries_are_over_goes(rt: HostRuntime) -> Result<(), Fail> {
     assert_eq!(rt; given_up(rt.alloc(), &rt)?, (tried, gone, 0));
     Ok(())
 }
+
+// Of how many chunks failures are known after one of two chunks failed and was dropped, and then the other failed.
+fn known_of_the_dropped<R: Wait + Clock>(
+    rt: &R,
+    shelf: &Shelf,
+    retries: &Retries<Global>,
+) -> Result<[usize; 2], BufferFault> {
+    let stop = AtomicBool::new(false);
+    let no_server = Answer::Fault(CarryFault::NoServer);
+    let first = Scripted::new(no_server, no_server, 1, &stop);
+    work_alone(rt, shelf, &first, retries, &stop)?;
+    let failed = retries.chunk_count(rt);
+    shelf.drop_oldest(rt)?;
+    stop.store(false, Ordering::SeqCst);
+    let second = Scripted::new(no_server, no_server, 1, &stop);
+    work_alone(rt, shelf, &second, retries, &stop)?;
+    Ok([failed, retries.chunk_count(rt)])
+}
+
+// The failures of a chunk that was dropped are forgotten.
+#[test]
+fn what_was_dropped_is_forgotten(rt: HostRuntime) -> Result<(), Fail> {
+    let takes = Takes {
+        drops: true,
+        ..by(Basis::Written)
+    };
+    let shelf = filled(rt.alloc(), 2, takes)?;
+    let retries = Retries::new(rt.alloc(), PATIENT);
+    assert_eq!(rt; known_of_the_dropped(&rt, &shelf, &retries)?, [1, 1]);
+    assert_eq!(rt; queued(shelf), 2);
+    Ok(())
+}
