@@ -1,0 +1,150 @@
+// Shared buffers, and deliveries to them.
+ghost use Rattle.std.specs.Prelude.{◌≡◌, IfOk};
+ghost use Rattle.event_modes.specs.Reading.{meaning};
+
+use ack_receipt::{
+    AckFault, AuditError, Basis, Delivery, Leaf, Numbers, SharedBuffer, Stub, Takes,
+};
+use buffer_state::Limits;
+use buffer_store::{Buffer, BufferFault, RENEWED_PAST_IN_MEMORY, Settings};
+use disk_files::Dir;
+use event_modes::{Entries, Message};
+use std::alloc::Global;
+use std::sync::Wait;
+use std::test::Fail;
+
+pub type Shelf<D> = SharedBuffer<D, Global>;
+
+pub const LEAF: Leaf = Leaf {
+    relay: 1,
+    buffer: 0,
+};
+
+// A time and an empty record.
+pub const ENTRY: &[u8] = b"\x92\x01\x80";
+
+// Limits that nothing here comes to.
+pub const WIDE: Limits = Limits {
+    chunk: u64::MAX,
+    total: u64::MAX,
+};
+
+// The buffer of the first name in this folder.
+pub fn buffer_in<D: Dir + Drop>(
+    alloc: Global,
+    dir: D,
+    limits: Limits,
+) -> Result<Buffer<D, Global>, BufferFault> {
+    let settings = Settings {
+        limits,
+        renewed_past: RENEWED_PAST_IN_MEMORY,
+    };
+    match Buffer::open(alloc, dir, b"buf", settings) {
+        Ok(buffer) => Ok(buffer),
+        Err((fault, _dir)) => Err(fault),
+    }
+}
+
+// The same under this name, shared; its chunks go by acknowledgements, and may be dropped.
+pub fn shelf_in<D: Dir + Drop>(
+    alloc: Global,
+    dir: D,
+    leaf: Leaf,
+    limits: Limits,
+) -> Result<Shelf<D>, BufferFault> {
+    let takes = Takes {
+        basis: Basis::Acknowledged,
+        expires: false,
+        drops: true,
+    };
+    let buffer = buffer_in(alloc, dir, limits)?;
+    Ok(SharedBuffer::new(alloc, buffer, leaf, takes))
+}
+
+// The tag `a` and one entry.
+pub fn message(alloc: Global) -> Result<Message<Global>, BufferFault> {
+    match Entries::read(alloc, ENTRY, 1)? {
+        Some(entries) => Ok(Message {
+            tag: Vec::from_slice(alloc, b"a")?,
+            entries,
+            ack: None,
+        }),
+        None => Err(BufferFault::Memory),
+    }
+}
+
+// The next delivery of a message.
+pub fn begun_of(
+    alloc: Global,
+    numbers: &mut Numbers,
+    message: Message<Global>,
+    leaves: &[Leaf],
+) -> Result<Delivery<Global>, BufferFault>
+    ensures { IfOk result (λ delivery. delivery.message ≡ meaning message) }
+{
+    let leaves = Vec::from_slice(alloc, leaves)?;
+    let Some(number) = numbers.draw() else {
+        return Err(BufferFault::LastSerial);
+    };
+    match Delivery::begin(alloc, number, message, leaves) {
+        Ok(delivery) => Ok(delivery),
+        Err(_) => Err(BufferFault::Memory),
+    }
+}
+
+// The next delivery of the one message that is sent here.
+pub fn begun(
+    alloc: Global,
+    numbers: &mut Numbers,
+    leaves: &[Leaf],
+) -> Result<Delivery<Global>, BufferFault> {
+    begun_of(alloc, numbers, message(alloc)?, leaves)
+}
+
+// What is left of a receipt that its delivery didn't take, and why not.
+pub type Refused = (AckFault, Stub<Global>);
+
+// Appends a delivery where it can be, and adds the receipt.
+pub fn put<R: Wait, D: Dir>(
+    rt: &R,
+    shelf: &Shelf<D>,
+    delivery: Delivery<Global>,
+) -> (Delivery<Global>, Option<Refused>)
+    ensures { result.0.message ≡ delivery.message }
+{
+    if delivery.entries().count() == 0 {
+        return (delivery, None);
+    }
+    let Ok(receipt) = shelf.append(rt, &delivery) else {
+        return (delivery, None);
+    };
+    match delivery.add(receipt) {
+        Ok(delivery) => (delivery, None),
+        Err((fault, delivery, receipt)) => (delivery, Some((fault, receipt.spend()))),
+    }
+}
+
+// What is left of a delivery that is stored once.
+pub fn stored<R: Wait, D: Dir>(
+    alloc: Global,
+    rt: &R,
+    shelf: &Shelf<D>,
+    numbers: &mut Numbers,
+) -> Result<Stub<Global>, BufferFault> {
+    let delivery = begun(alloc, numbers, &[shelf.leaf()])?;
+    let (delivery, _) = put(rt, shelf, delivery);
+    Ok(delivery.abandon())
+}
+
+// The fault that an audit of a closed buffer finds.
+pub fn audited<D: Dir + Drop>(
+    alloc: Global,
+    shelf: Shelf<D>,
+    stubs: &[Stub<Global>],
+) -> Result<Option<AckFault>, Fail> {
+    match shelf.close().audit(alloc, stubs) {
+        Ok(()) => Ok(None),
+        Err(AuditError::Fault(fault)) => Ok(Some(fault)),
+        Err(AuditError::Memory) => Err(Fail::from("no memory")),
+    }
+}
