@@ -1,14 +1,16 @@
-//! What bench/pool times: workers at a shared buffer in memory, with a courier that does nothing, and claims while many chunks wait.
+//! What bench/pool measures: workers at a shared buffer in memory, with a courier that does nothing, claims while many chunks wait, and
+//! messages that are settled as they go.
 //!
 //!     pool_bench purge WORKERS THOUSANDS    purges so many thousand queued chunks by so many workers, and prints how many a second
 //!     pool_bench claim QUEUED THOUSANDS     claims and gives back so many thousand times while so many thousand chunks are queued
+//!     pool_bench settle CHUNKS THOUSANDS    appends so many thousand messages for each of so many chunks, settles each, and lets the chunks go
 #![tactic(auto)]
 
-use ack_receipt::{Basis, Evidence, Leaf, SharedBuffer, Takes};
+use ack_receipt::{Basis, Delivery, Evidence, Leaf, Numbers, SharedBuffer, Stub, Takes};
 use buffer_state::Limits;
 use buffer_store::{Buffer, RENEWED_PAST_IN_MEMORY, Settings};
 use disk_files::{Dir, MemoryDir};
-use event_modes::Entries;
+use event_modes::{Entries, Message};
 use flush_pool::{CarryFault, ClaimView, Courier, OpenGate, Retries, run_pool};
 use retry_waits::RetrySettings;
 use std::alloc::Global;
@@ -155,6 +157,96 @@ fn claim<R: Wait + Clock + Print>(
     Ok(0)
 }
 
+// A message with one entry, as it comes in, for the buffer.
+fn begun(alloc: Global, numbers: &mut Numbers) -> io::Result<Delivery<Global>> {
+    let Some(entries) = Entries::read(alloc, &[0x92, 0x01, 0x80], 1)? else {
+        return Err(io::ErrorKind::InvalidData.into());
+    };
+    let message = Message {
+        tag: Vec::from_slice(alloc, b"bench")?,
+        entries,
+        ack: None,
+    };
+    let leaves = Vec::from_slice(alloc, &[LEAF])?;
+    let Some(number) = numbers.draw() else {
+        return Err(io::ErrorKind::Other.into());
+    };
+    match Delivery::begin(alloc, number, message, leaves) {
+        Ok(delivery) => Ok(delivery),
+        Err(_) => Err(io::ErrorKind::OutOfMemory.into()),
+    }
+}
+
+// Stores a delivery, as far as the buffer takes it, and ends it.
+fn stored<R: Wait>(rt: &R, shelf: &Shelf, delivery: Delivery<Global>) -> Stub<Global> {
+    if delivery.entries().count() == 0 {
+        return delivery.abandon();
+    }
+    let Ok(receipt) = shelf.append(rt, &delivery) else {
+        return delivery.abandon();
+    };
+    match delivery.add(receipt) {
+        Ok(delivery) => delivery.abandon(),
+        Err((_, delivery, receipt)) => {
+            let _ = receipt.spend();
+            delivery.abandon()
+        }
+    }
+}
+
+// Queues the chunk, claims it and lets it go.
+fn let_go<R: Wait>(rt: &R, shelf: &Shelf, serial: u64) -> io::Result<bool> {
+    if shelf.enqueue(rt, serial).is_err() {
+        return Ok(false);
+    }
+    let Some(claim) = shelf.claim(rt)? else {
+        return Ok(false);
+    };
+    let evidence = Evidence::written(&claim);
+    match shelf.purge(rt, claim, evidence) {
+        Ok(()) => Ok(shelf.renew(rt).is_ok()),
+        Err((_, claim, evidence)) => {
+            evidence.waste();
+            shelf.give_back(rt, claim);
+            Ok(false)
+        }
+    }
+}
+
+// Appends so many messages to one chunk, settles each, and lets the chunk go: whether all went well.
+fn settle_chunk<R: Wait>(
+    rt: &R,
+    alloc: Global,
+    shelf: &Shelf,
+    numbers: &mut Numbers,
+    count: u64,
+) -> io::Result<bool> {
+    let mut last = 0;
+    for _ in 0..count {
+        let stub = stored(rt, shelf, begun(alloc, numbers)?);
+        let [part] = stub.parts.as_slice() else {
+            return Ok(false);
+        };
+        last = part.serial;
+        if shelf.settle(rt, &stub).is_err() {
+            return Ok(false);
+        }
+    }
+    let_go(rt, shelf, last)
+}
+
+fn settle<R: Wait + Print>(rt: &R, alloc: Global, chunks: u64, count: u64) -> io::Result<u8> {
+    let shelf = filled(alloc, 0)?;
+    let mut numbers = Numbers::new();
+    for _ in 0..chunks {
+        if !settle_chunk(rt, alloc, &shelf, &mut numbers, count)? {
+            return Ok(1);
+        }
+    }
+    println!(rt; "{chunks} chunks of {count} messages, settled as they go")?;
+    Ok(0)
+}
+
 // A number of decimal digits below 65,536.
 fn number(word: &str) -> Option<u16> {
     word.parse().ok()
@@ -176,6 +268,7 @@ fn answer<R: Wait + Clock + Threads + Print + Sync>(
     match word.as_str() {
         "purge" => purge(rt, alloc, usize::from(first), thousands),
         "claim" => claim(rt, alloc, 1_000 * u64::from(first), thousands),
+        "settle" => settle(rt, alloc, u64::from(first), thousands),
         _ => Ok(2),
     }
 }
