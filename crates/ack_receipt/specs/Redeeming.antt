@@ -1,8 +1,9 @@
 -- Appends that wait for their receipts.
-use Rattle.std.specs.Prelude.{ℕ, ◌≡◌, ◌≢◌, ◌<◌, List, map, All, AllPairs}
+use Rattle.std.specs.Prelude.{ℕ, ◌≡◌, ◌≢◌, ◌<◌, ◌+◌, ◌++◌, List, [], ◌∷◌, length, map, All, AllPairs}
 use Rattle.book_audit.specs.declared.line.Leaf.{Leaf}
 use Rattle.book_audit.specs.declared.line.Line.{Line}
 use Rattle.buffer_book.specs.Books.{IsWaiting}
+use Rattle.buffer_book.specs.declared.past.Written.{Written}
 use Rattle.ack_receipt.specs.Deliveries.{Appended, Pended}
 
 -- what the book says of the append
@@ -44,3 +45,17 @@ origin_of_pending pending = record { delivery = pending.delivery; leaf = pending
 pub record AreReceiptsOf (leaf : Leaf) (pendings : List Pended) (receipts : List Appended) : Type 0 where
   pub same : map origin_of receipts ≡ map origin_of_pending pendings
   pub own : All (λ pending. pending.leaf ≡ leaf) pendings
+
+-- the line that the book writes for the append
+abbrev pub written_of : Pended → Written
+written_of pending = record { place = pending.place; line = line_of pending }
+
+-- a number for each of the appends, from this one on
+unfoldable pub numbers_from : ℕ → List Pended → List ℕ
+numbers_from number [] = []
+numbers_from number (pending ∷ pendings) = number ∷ numbers_from (number + 1) pendings
+
+-- The book has a line for each of the appends behind those that it had, in order, and each receipt names its own.
+pub record AreWritten (pendings : List Pended) (receipts : List Appended) (old new : List Written) : Type 0 where
+  pub lines : new ≡ old ++ map written_of pendings
+  pub named : map (λ receipt. receipt.line) receipts ≡ numbers_from (length old) pendings

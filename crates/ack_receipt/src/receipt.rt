@@ -3,11 +3,12 @@
 ghost use Rattle.std.specs.Prelude.{◌≡◌, ◌≢◌, ◌↔◌, ◌⊎◌, ◌<◌, ◌≤◌, [], ◌∷◌, ℕ, true, false, cond, length, vec_len, vec_capacity, All, None, Ok, Err, IfOk, IfErr, OnOk, OnErr, IsTrue};
 ghost use Rattle.std.specs.Ordering.{nat_cmp};
 ghost use Rattle.std.specs.BTreeMap.{is_at};
+ghost use Rattle.book_audit.specs.Audits.{SameLines};
 ghost use Rattle.buffer_state.specs.Steps.{planned};
 ghost use Rattle.buffer_store.specs.declared.fault.BufferFault.{BufferFault};
 ghost use Rattle.buffer_book.specs.Books.{Appends, IsWaiting, Steady, Syncs, Unchanged, WritesLine, waiting_at};
 ghost use Rattle.ack_receipt.specs.declared.fault.RedeemFault.{RedeemFault};
-ghost use Rattle.ack_receipt.specs.Redeeming.{AreApart, AreBefore, AreReceiptsOf, CanRedeem, IsRedeemable, line_of, origin_of, origin_of_pending};
+ghost use Rattle.ack_receipt.specs.Redeeming.{AreApart, AreBefore, AreReceiptsOf, AreWritten, CanRedeem, IsRedeemable, line_of, origin_of, origin_of_pending};
 ghost use Rattle.ack_receipt.specs.Deliveries.{IsReceiptOf, part_of};
 
 use crate::delivery::Delivery;
@@ -136,6 +137,7 @@ pub(crate) fn append<D: Dir, A: Allocator + Copy>(
     ensures written { IfOk result (λ receipt. WritesLine (length booked.old.appends) (record { delivery = delivery.now.number; serial = receipt.serial; count = length delivery.now.message.entries }) booked.old booked.new) }
     // The append is synced, and all before it.
     ensures synced { OnOk result ((booked.new.synced ≡ length booked.new.appends) × (booked.new.buffer.staged ≡ false)) }
+    ensures count { OnErr result (booked.new.synced ≡ booked.old.synced) }
     ensures same { OnErr result (Unchanged booked.old booked.new) }
     ensures steady { Steady booked.old.buffer booked.new.buffer result }
 {
@@ -168,8 +170,9 @@ pub(crate) fn append_pending<D: Dir, A: Allocator + Copy>(
     ensures place { IfOk result (λ pending. planned booked.old.buffer.limits booked.old.buffer.chunks delivery.now.tag delivery.now.message.entries ≡ Ok pending.serial) }
     ensures appended { IfOk result (λ pending. Appends delivery.now.number pending.serial delivery.now.tag delivery.now.message.entries booked.old booked.new) }
     ensures waits { IfOk result (λ pending. IsWaiting booked.new.waiting pending.place (line_of pending)) }
-    // It has no receipt.
-    ensures lines { booked.new.lines ≡ booked.old.lines }
+    // It has no receipt, and no line is closed.
+    ensures lines { (booked.new.lines ≡ booked.old.lines) × SameLines booked.old.pages booked.new.pages }
+    ensures count { OnErr result (booked.new.synced ≡ booked.old.synced) }
     ensures same { OnErr result (Unchanged booked.old booked.new) }
     ensures steady { Steady booked.old.buffer booked.new.buffer result }
 {
@@ -201,6 +204,7 @@ pub(crate) fn redeem<D: Dir, A: Allocator + Copy>(
     pendings: Vec<Pending<A>, A>,
 ) -> Result<Vec<Receipt<A>, A>, (RedeemFault, Vec<Pending<A>, A>)>
     ensures ok { IfOk result (λ receipts. AreReceiptsOf leaf pendings.items receipts.items) }
+    ensures written { IfOk result (λ receipts. AreWritten pendings.items receipts.items booked.old.lines booked.new.lines) }
     // Their appends are synced.
     ensures synced { OnOk result (AreBefore booked.new.synced pendings.items) }
     ensures syncs { Syncs booked.old booked.new }
@@ -326,6 +330,7 @@ fn is_apart<A: Allocator>(place: u64, pendings: &[Pending<A>]) -> bool
 }
 
 // Adds the receipts of appends that are synced.
+#[tactic(auto, unfolding(crate::specs::Redeeming::numbers_from))]
 fn made<D: Dir, A: Allocator + Copy>(
     booked: &mut Booked<D, A>,
     leaf: Leaf,
@@ -337,6 +342,7 @@ fn made<D: Dir, A: Allocator + Copy>(
     requires empty { receipts.items ≡ [] }
     requires room { vec_len pendings ≤ vec_capacity receipts }
     ensures made { AreReceiptsOf leaf pendings.items result.items }
+    ensures written { AreWritten pendings.items result.items booked.old.lines booked.new.lines }
     ensures buffer { booked.new.buffer ≡ booked.old.buffer }
     ensures appends { booked.new.appends ≡ booked.old.appends }
     ensures synced { booked.new.synced ≡ booked.old.synced }

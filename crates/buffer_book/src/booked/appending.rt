@@ -4,6 +4,7 @@ ghost use Rattle.std.specs.Prelude.{◌≡◌, ◌≢◌, ◌↔◌, ◌⊎◌, 
 ghost use Rattle.std.specs.Ordering.{nat_cmp};
 ghost use Rattle.std.specs.BTreeMap.{is_at};
 ghost use Rattle.event_modes.specs.Message.{longest_tag};
+ghost use Rattle.book_audit.specs.Audits.{SameLines};
 ghost use Rattle.buffer_state.specs.State.{chunk_at};
 ghost use Rattle.buffer_state.specs.Steps.{CanAppend, planned};
 ghost use Rattle.buffer_store.specs.declared.fault.BufferFault.{BufferFault};
@@ -58,6 +59,7 @@ impl<D: Dir, A: Allocator + Copy> Booked<D, A> {
         ensures waiting { self.new.waiting ≡ self.old.waiting }
         // The append is synced, and all before it.
         ensures synced { OnOk result ((self.new.synced ≡ length self.new.appends) × (self.new.buffer.staged ≡ false)) }
+        ensures count { OnErr result (self.new.synced ≡ self.old.synced) }
         ensures same { OnErr result (Unchanged self.old self.new) }
         ensures refused { RefusesAppend tag.now entries.now self.old result }
         ensures steady { Steady self.old.buffer self.new.buffer result }
@@ -92,8 +94,10 @@ impl<D: Dir, A: Allocator + Copy> Booked<D, A> {
         ensures noted { IfOk result (λ waits. Appends delivery waits.serial tag.now entries.now self.old self.new) }
         ensures number { IfOk result (λ waits. waits.place ≡ length self.old.appends) }
         ensures waits { IfOk result (λ waits. IsWaiting self.new.waiting waits.place (record { delivery = delivery; serial = waits.serial; count = length entries.now })) }
-        ensures lines { self.new.lines ≡ self.old.lines }
+        // No line is written, and none is closed.
+        ensures lines { (self.new.lines ≡ self.old.lines) × SameLines self.old.pages self.new.pages }
         ensures syncs { Syncs self.old self.new }
+        ensures count { OnErr result (self.new.synced ≡ self.old.synced) }
         ensures same { OnErr result (Unchanged self.old self.new) }
         ensures refused { RefusesAppend tag.now entries.now self.old result }
         ensures steady { Steady self.old.buffer self.new.buffer result }
@@ -142,6 +146,7 @@ impl<D: Dir, A: Allocator + Copy> Booked<D, A> {
         ensures chunks { self.new.buffer.chunks ≡ self.old.buffer.chunks }
         ensures book { self.new ≡ record self.old { buffer = self.new.buffer; synced = self.new.synced } }
         ensures synced { OnOk result ((self.new.synced ≡ length self.new.appends) × (self.new.buffer.staged ≡ false)) }
+        ensures count { OnErr result (self.new.synced ≡ self.old.synced) }
         ensures syncs { Syncs self.old self.new }
         ensures only { OnErr result ((result ≡ Err BufferFault.Failed) ⊎ (result ≡ Err BufferFault.Fault)) }
         ensures steady { Steady self.old.buffer self.new.buffer result }

@@ -1,11 +1,12 @@
-use Rattle.std.proofs.Common.{◌≡◌, ◌∙◌, ◌++◌, ◌∷◌, [], ◌<◌, ◌≤◌, ◌+◌, ℕ, List, map, refl, sym, ap, subst, arith, append_assoc}
+use Rattle.std.proofs.Common.{◌≡◌, ◌∙◌, ◌++◌, ◌∷◌, [], ◌<◌, ◌≤◌, ◌+◌, ℕ, List, length, map, refl, sym, ap, subst, arith, append_assoc}
 use Rattle.std.specs.Prelude.{All}
 use Rattle.std.specs.Vec.Iter.{into_iter_items}
-use Rattle.std.proofs.lemmas.List.{map-append}
+use Rattle.std.proofs.lemmas.List.{length-append, map-append}
 use Rattle.std.proofs.lemmas.List.Elements.{All-head, All-tail}
 use Rattle.buffer_book.specs.Books.{Book}
+use Rattle.buffer_book.specs.declared.past.Written.{Written}
 use Rattle.ack_receipt.specs.Deliveries.{Appended, Pended}
-use Rattle.ack_receipt.specs.Redeeming.{AreApart, AreBefore, IsRedeemable, Origin, origin_of, origin_of_pending}
+use Rattle.ack_receipt.specs.Redeeming.{AreApart, AreBefore, IsRedeemable, Origin, numbers_from, origin_of, origin_of_pending, written_of}
 use Rattle.ack_receipt.proofs.Redeem.{apart_head, apart_tail, waits_on}
 use Rattle.ack_receipt.proofs.receipt.made.Goals as goal
 
@@ -22,6 +23,7 @@ receipt_of-requires-clause-synced g c =
     All-head (λ (p : Pended). p.place < c.loop-pending.booked.synced) c.in-Some.pending rest before
 
 pub loop-pending-preserved : goal.loop-pending-preserved
+unfolding numbers_from
 loop-pending-preserved g c =
     let leaf = c.args.leaf in
     let b = c.loop-pending.booked in
@@ -36,8 +38,21 @@ loop-pending-preserved g c =
     ∙ ap (λ (os : List Origin). os ++ map origin_of_pending rest) (map-append origin_of c.loop-pending.receipts.items (c.receipt_of.result ∷ []))
     ∙ append_assoc (map origin_of c.loop-pending.receipts.items) (origin_of c.receipt_of.result ∷ []) (map origin_of_pending rest)
     ∙ ap (λ (o : Origin). map origin_of c.loop-pending.receipts.items ++ o ∷ map origin_of_pending rest) c.receipt_of.ensures.origin in
+    let w = c.receipt_of.ensures.written.lines in
+    let lines : c.receipt_of.new.booked.lines ++ map written_of rest ≡ b.lines ++ map written_of (p ∷ rest) =
+    ap (λ (ls : List Written). ls ++ map written_of rest) w ∙ append_assoc b.lines (written_of p ∷ []) (map written_of rest) in
+    let next : length c.receipt_of.new.booked.lines ≡ length b.lines + 1 = ap (λ (ls : List Written). length ls) w ∙ length-append b.lines (written_of p ∷ []) in
+    let names = λ (rs : List Appended). map (λ (r : Appended). r.line) rs in
+    let named : names c.push_reserved.new.self.items ++ numbers_from (length c.receipt_of.new.booked.lines) rest ≡ names c.loop-pending.receipts.items ++ numbers_from (length b.lines) (p ∷ rest) =
+    ap (λ (rs : List Appended). names rs ++ numbers_from (length c.receipt_of.new.booked.lines) rest) c.push_reserved.ensures.items
+    ∙ ap (λ (ns : List ℕ). ns ++ numbers_from (length c.receipt_of.new.booked.lines) rest) (map-append (λ (r : Appended). r.line) c.loop-pending.receipts.items (c.receipt_of.result ∷ []))
+    ∙ append_assoc (names c.loop-pending.receipts.items) (c.receipt_of.result.line ∷ []) (numbers_from (length c.receipt_of.new.booked.lines) rest)
+    ∙ ap (λ (n : ℕ). names c.loop-pending.receipts.items ++ n ∷ numbers_from (length c.receipt_of.new.booked.lines) rest) c.receipt_of.ensures.line
+    ∙ ap (λ (n : ℕ). names c.loop-pending.receipts.items ++ length b.lines ∷ numbers_from n rest) next in
     record {
       made = made ∙ ap (λ (ps : List Pended). map origin_of c.loop-pending.receipts.items ++ map origin_of_pending ps) (sym c.in-Some.ensures.items) ∙ c.loop-pending.invariant.made;
+      lines = lines ∙ ap (λ (ps : List Pended). b.lines ++ map written_of ps) (sym c.in-Some.ensures.items) ∙ c.loop-pending.invariant.lines;
+      named = named ∙ ap (λ (ps : List Pended). names c.loop-pending.receipts.items ++ numbers_from (length b.lines) ps) (sym c.in-Some.ensures.items) ∙ c.loop-pending.invariant.named;
       room = omega (arith, c.loop-pending.invariant.room, c.push_reserved.ensures.len, c.push_reserved.ensures.capacity, c.in-Some.ensures.len);
       waits = waits_on leaf b.waiting c.receipt_of.new.booked.waiting p rest c.receipt_of.ensures.waiting (apart_head p rest apart) (All-tail (IsRedeemable leaf b.waiting) p rest waits);
       apart = apart_tail p rest apart;
