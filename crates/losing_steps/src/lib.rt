@@ -1,6 +1,7 @@
 //! Lists of steps by which a network loses an event that it acknowledged to a client.
 #![tactic(auto)]
 
+mod common;
 mod draft;
 mod loss;
 mod printed;

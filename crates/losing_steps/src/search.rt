@@ -3,25 +3,27 @@ ghost use Rattle.std.specs.Prelude.{IfOk, IfSome};
 ghost use Rattle.losing_steps.specs.Losses.{Loses};
 
 use crate::loss::loses_event;
-use crate::tags::{Tags, tag_behind};
+use crate::tags::Tags;
 use crate::walk::{Halt, walk_event};
 use loss_rules::Duty;
 use relay_net::Net;
 use std::alloc::{AllocError, Allocator};
 use step_lines::Step;
-use tag_pattern::{Plain, Tag, matches};
+use tag_pattern::{Plain, Tag};
 
 // How many walks are tried at most for one tag.
 const MOST_WALKS_OF_A_TAG: usize = 256;
 
-// How many walks are tried at most.
-const MOST_WALKS: u32 = 16_384;
+// How much is tried in all: a comparison of two patterns costs one, a walk as much as some.
+const MOST_WORK: u32 = 400_000;
+
+const WORK_OF_A_WALK: u32 = 16;
 
 /// Steps that the network takes, after which an event that was acknowledged to a client isn't kept as is asked. None where none are found,
 /// which doesn't mean that there are none.
 ///
-/// One event is tried at a time, under tags that are made of patterns: those that are given, then those of its client, and then those of
-/// the network's matches. It is followed to each buffer on its way, and on through the servers that these forward to; each output is tried
+/// One event is tried at a time, under tags that a pattern of its client has in common with those that are given first, then tags of the
+/// client's pattern alone, and then those that it has in common with the patterns of the network's matches. It is followed to each buffer on its way, and on through the servers that these forward to; each output is tried
 /// by what it lets go of. The only error is want of memory.
 pub fn find<A: Allocator + Copy>(
     alloc: A,
@@ -31,21 +33,16 @@ pub fn find<A: Allocator + Copy>(
 ) -> Result<Option<Vec<Step<A>, A>>, AllocError>
     ensures { IfOk result (λ found. IfSome found (λ steps. Loses duty net.now steps.items)) }
 {
-    let mut given = Tags::new(alloc);
-    for pattern in first {
-        given.add_of_ends(alloc, pattern)?;
-    }
     let search = Search { alloc, net, duty };
-    let mut left = MOST_WALKS;
-    if let Some(steps) = search.find_of_given(&given, &mut left)? {
+    let mut left = MOST_WORK;
+    if let Some(steps) = search.find_common(first, &mut left)? {
         return Ok(Some(steps));
     }
     if let Some(steps) = search.find_of_clients(&mut left)? {
         return Ok(Some(steps));
     }
-    let mut others = Tags::new(alloc);
-    others.add_of_net(alloc, net)?;
-    search.find_of_given(&others, &mut left)
+    let others = patterns_of(alloc, net)?;
+    search.find_common(&others, &mut left)
 }
 
 // A network in which steps are looked for, and what is asked of its matches.
@@ -59,15 +56,16 @@ struct Search<'n, A: Allocator> {
 // Steps, if there are some.
 type Found<A> = Option<Vec<Step<A>, A>>;
 
-// Each call tries so many walks at most as are left.
+// Each call does so much work at most as is left.
 impl<A: Allocator + Copy> Search<'_, A> {
-    // Steps that lose an event of a client with one of these tags.
-    fn find_of_given(&self, tags: &Tags<A>, left: &mut u32) -> Result<Found<A>, AllocError>
+    // Steps that lose an event of a client with a tag that one of its patterns and one of these have in common.
+    fn find_common(&self, given: &[&Plain<A>], left: &mut u32) -> Result<Found<A>, AllocError>
         ensures { IfOk result (λ found. IfSome found (λ steps. Loses self.now.duty self.now.net.now steps.items)) }
     {
         for (client, sender) in self.net.clients().iter().enumerate() {
             for pattern in &sender.patterns {
-                if let Some(steps) = self.find_among(client, pattern, tags, left)? {
+                let tags = common_tags(self.alloc, pattern, given, left)?;
+                if let Some(steps) = self.find_among(client, &tags, left)? {
                     return Ok(Some(steps));
                 }
             }
@@ -75,15 +73,15 @@ impl<A: Allocator + Copy> Search<'_, A> {
         Ok(None)
     }
 
-    // Steps that lose an event of a client with a tag that is made of its patterns.
+    // Steps that lose an event of a client with a tag that is made of one of its patterns.
     fn find_of_clients(&self, left: &mut u32) -> Result<Found<A>, AllocError>
         ensures { IfOk result (λ found. IfSome found (λ steps. Loses self.now.duty self.now.net.now steps.items)) }
     {
         for (client, sender) in self.net.clients().iter().enumerate() {
             for pattern in &sender.patterns {
                 let mut own = Tags::new(self.alloc);
-                own.add_of_items(self.alloc, pattern.items())?;
-                if let Some(steps) = self.find_among(client, pattern, &own, left)? {
+                own.add_of(self.alloc, pattern)?;
+                if let Some(steps) = self.find_among(client, &own, left)? {
                     return Ok(Some(steps));
                 }
             }
@@ -91,22 +89,18 @@ impl<A: Allocator + Copy> Search<'_, A> {
         Ok(None)
     }
 
-    // Steps that lose an event of this client with one of these tags that is of this pattern, or is so with the pattern's first parts in
-    // front.
+    // Steps that lose an event of this client with one of these tags.
     fn find_among(
         &self,
         client: usize,
-        pattern: &Plain<A>,
         tags: &Tags<A>,
         left: &mut u32,
     ) -> Result<Found<A>, AllocError>
         ensures { IfOk result (λ found. IfSome found (λ steps. Loses self.now.duty self.now.net.now steps.items)) }
     {
         for tag in &tags.found {
-            if let Some(sent) = tag_for(self.alloc, pattern, tag)? {
-                if let Some(steps) = self.find_tagged(client, &sent, left)? {
-                    return Ok(Some(steps));
-                }
+            if let Some(steps) = self.find_tagged(client, tag, left)? {
+                return Ok(Some(steps));
             }
         }
         Ok(None)
@@ -127,10 +121,10 @@ impl<A: Allocator + Copy> Search<'_, A> {
             let Some(choices) = tries.get(next) else {
                 return Ok(None);
             };
-            if *left == 0 {
+            if *left < WORK_OF_A_WALK {
                 return Ok(None);
             }
-            *left -= 1;
+            *left -= WORK_OF_A_WALK;
             let (found, ways) = self.try_walk(client, tag, choices)?;
             if let Some(steps) = found {
                 return Ok(Some(steps));
@@ -164,19 +158,48 @@ impl<A: Allocator + Copy> Search<'_, A> {
     }
 }
 
-// The tag, if it is of the pattern; or else the tag behind the pattern's first parts, if that is.
-fn tag_for<A: Allocator + Copy>(
+// The patterns of all matches of the network.
+fn patterns_of<A: Allocator + Copy>(
+    alloc: A,
+    net: &Net<A>,
+) -> Result<Vec<&Plain<A>, A>, AllocError> {
+    let mut found = Vec::new(alloc);
+    for node in net.relays() {
+        for scope in &node.relay.scopes {
+            for rule in &scope.matches {
+                add_patterns(&mut found, &rule.patterns)?;
+            }
+        }
+    }
+    Ok(found)
+}
+
+// Adds these patterns.
+fn add_patterns<'n, A: Allocator>(
+    found: &mut Vec<&'n Plain<A>, A>,
+    patterns: &'n [Plain<A>],
+) -> Result<(), AllocError> {
+    for pattern in patterns {
+        found.push(pattern)?;
+    }
+    Ok(())
+}
+
+// The tags that the pattern has in common with these, as far as work is left.
+fn common_tags<A: Allocator + Copy>(
     alloc: A,
     pattern: &Plain<A>,
-    tag: &Tag<A>,
-) -> Result<Option<Tag<A>>, AllocError> {
-    if matches(pattern, tag) {
-        return Ok(Some(tag.copied(alloc)?));
+    given: &[&Plain<A>],
+    left: &mut u32,
+) -> Result<Tags<A>, AllocError> {
+    let mut tags = Tags::new(alloc);
+    for other in given {
+        if *left > 0 {
+            *left -= 1;
+            tags.add_common(alloc, pattern, other)?;
+        }
     }
-    match tag_behind(alloc, pattern, tag)? {
-        Some(longer) if matches(pattern, &longer) => Ok(Some(longer)),
-        _ => Ok(None),
-    }
+    Ok(tags)
 }
 
 // Adds the choices of this number with each of so many ways behind them.
