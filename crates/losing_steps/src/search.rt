@@ -3,16 +3,19 @@ ghost use Rattle.std.specs.Prelude.{IfOk, IfSome};
 ghost use Rattle.losing_steps.specs.Losses.{Loses};
 
 use crate::loss::loses_event;
-use crate::tags::Tags;
+use crate::tags::{ANY_PART, Tags};
 use crate::walk::{Halt, walk_event};
 use loss_rules::Duty;
 use relay_net::Net;
 use std::alloc::{AllocError, Allocator};
 use step_lines::Step;
-use tag_pattern::{Plain, Tag};
+use tag_pattern::{PatternItem, Plain, Tag};
 
 // How many walks are tried at most for one tag.
 const MOST_WALKS_OF_A_TAG: usize = 256;
+
+// How many words tags are made of at most where no pattern gives one that is lost.
+const MOST_WORDS: usize = 8;
 
 // How much is tried in all: a comparison of two patterns costs one, a walk as much as some.
 const MOST_WORK: u32 = 400_000;
@@ -23,7 +26,8 @@ const WORK_OF_A_WALK: u32 = 16;
 /// which doesn't mean that there are none.
 ///
 /// One event is tried at a time, under tags that a pattern of its client has in common with those that are given first, then tags of the
-/// client's pattern alone, and then those that it has in common with the patterns of the network's matches. It is followed to each buffer on its way, and on through the servers that these forward to; each output is tried
+/// client's pattern alone, then those that it has in common with the patterns of the network's matches, and then tags of up to three words of
+/// these. It is followed to each buffer on its way, and on through the servers that these forward to; each output is tried
 /// by what it lets go of. The only error is want of memory.
 pub fn find<A: Allocator + Copy>(
     alloc: A,
@@ -42,7 +46,10 @@ pub fn find<A: Allocator + Copy>(
         return Ok(Some(steps));
     }
     let others = patterns_of(alloc, net)?;
-    search.find_common(&others, &mut left)
+    if let Some(steps) = search.find_common(&others, &mut left)? {
+        return Ok(Some(steps));
+    }
+    search.find_of_words(&words_of(alloc, &others)?, &mut left)
 }
 
 // A network in which steps are looked for, and what is asked of its matches.
@@ -82,6 +89,22 @@ impl<A: Allocator + Copy> Search<'_, A> {
                 let mut own = Tags::new(self.alloc);
                 own.add_of(self.alloc, pattern)?;
                 if let Some(steps) = self.find_among(client, &own, left)? {
+                    return Ok(Some(steps));
+                }
+            }
+        }
+        Ok(None)
+    }
+
+    // Steps that lose an event of a client with a tag of up to three of these words.
+    fn find_of_words(&self, words: &[&[u8]], left: &mut u32) -> Result<Found<A>, AllocError>
+        ensures { IfOk result (λ found. IfSome found (λ steps. Loses self.now.duty self.now.net.now steps.items)) }
+    {
+        for (client, sender) in self.net.clients().iter().enumerate() {
+            for pattern in &sender.patterns {
+                let mut tags = Tags::new(self.alloc);
+                tags.add_of_words(self.alloc, pattern, words)?;
+                if let Some(steps) = self.find_among(client, &tags, left)? {
                     return Ok(Some(steps));
                 }
             }
@@ -181,6 +204,35 @@ fn add_patterns<'n, A: Allocator>(
 ) -> Result<(), AllocError> {
     for pattern in patterns {
         found.push(pattern)?;
+    }
+    Ok(())
+}
+
+// Words that stand in these patterns, each once, behind the empty one and one for what they leave open: some, where there are many.
+fn words_of<'n, A: Allocator + Copy>(
+    alloc: A,
+    patterns: &[&'n Plain<A>],
+) -> Result<Vec<&'n [u8], A>, AllocError> {
+    let mut words: Vec<&'n [u8], A> = Vec::new(alloc);
+    words.push(&[])?;
+    words.push(ANY_PART)?;
+    for pattern in patterns {
+        for item in pattern.items() {
+            if let PatternItem::Literal(text) = item {
+                add_word(&mut words, text)?;
+            }
+        }
+    }
+    Ok(words)
+}
+
+// Adds the word, unless it is there or there are enough.
+fn add_word<'n, A: Allocator>(
+    words: &mut Vec<&'n [u8], A>,
+    word: &'n [u8],
+) -> Result<(), AllocError> {
+    if words.len() < MOST_WORDS && !words.contains(&word) {
+        words.push(word)?;
     }
     Ok(())
 }

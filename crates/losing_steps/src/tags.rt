@@ -44,6 +44,24 @@ impl<A: Allocator + Copy> Tags<A> {
         Ok(())
     }
 
+    /// Adds tags of the pattern that are up to three of these words, of which one is empty.
+    pub fn add_of_words(
+        &mut self,
+        alloc: A,
+        pattern: &Plain<A>,
+        words: &[&[u8]],
+    ) -> Result<(), AllocError> {
+        for first in words {
+            for second in words {
+                for third in words {
+                    let tag = tag_of_words(alloc, first, second, third)?;
+                    self.add(tag.filter(|tag| matches(pattern, tag)))?;
+                }
+            }
+        }
+        Ok(())
+    }
+
     // Adds the tag, if there is one, unless it is there.
     fn add(&mut self, tag: Option<Tag<A>>) -> Result<(), AllocError> {
         if let Some(tag) = tag {
@@ -80,6 +98,20 @@ fn tag_of<A: Allocator + Copy>(
         };
         put_part(&mut bytes, part)?;
     }
+    read_tag(alloc, &bytes)
+}
+
+// The tag of these words, if it is one.
+fn tag_of_words<A: Allocator + Copy>(
+    alloc: A,
+    first: &[u8],
+    second: &[u8],
+    third: &[u8],
+) -> Result<Option<Tag<A>>, AllocError> {
+    let mut bytes = Vec::new(alloc);
+    put_part(&mut bytes, first)?;
+    put_part(&mut bytes, second)?;
+    put_part(&mut bytes, third)?;
     read_tag(alloc, &bytes)
 }
 
