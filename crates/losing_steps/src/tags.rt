@@ -6,6 +6,9 @@ use tag_pattern::{PatternItem, Plain, Tag, TagError, matches};
 /// What stands for a part that a pattern leaves open.
 pub(crate) const ANY_PART: &[u8] = b"x";
 
+// How many tags are tried at most for one pattern and some others.
+const MOST_TAGS: usize = 4_096;
+
 /// Tags, each once.
 #[derive(Drop)]
 pub(crate) struct Tags<A: Allocator> {
@@ -62,10 +65,10 @@ impl<A: Allocator + Copy> Tags<A> {
         Ok(())
     }
 
-    // Adds the tag, if there is one, unless it is there.
+    // Adds the tag, if there is one, unless it is there or there are enough.
     fn add(&mut self, tag: Option<Tag<A>>) -> Result<(), AllocError> {
         if let Some(tag) = tag {
-            if !self.has(&tag) {
+            if self.found.len() < MOST_TAGS && !self.has(&tag) {
                 self.found.push(tag)?;
             }
         }

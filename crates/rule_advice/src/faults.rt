@@ -41,7 +41,7 @@ fn put_fault<A: Allocator + Copy>(
     site: &Site<'_>,
 ) -> Result<(), AllocError> {
     let meaning = words.meaning;
-    let note = format!(in alloc; "It means: {meaning}.")?;
+    let note = format!(in alloc; "The fault: {meaning}.")?;
     put_note(out, note.as_bytes())?;
     site.put(alloc, out, "It stands in")?;
     let advice = words.advice;
@@ -123,15 +123,15 @@ fn text_words(kind: FaultKind) -> Words {
             advice: "correct the name, or write the end that is missing before it",
         },
         FaultKind::BadQuote => Words {
-            meaning: "a value in quotes that isn't one",
+            meaning: "a value in quotes",
             advice: "close the mark, double a `\\` that is meant as such, use `'` where `#{` is meant as such, and put a blank before a comment",
         },
         FaultKind::BadName => Words {
-            meaning: "a name, or a section's line, that isn't one",
+            meaning: "a name, or a section's line",
             advice: "a name is letters, digits and `_`, and a line that begins with `<` ends with `>`",
         },
         FaultKind::NotUtf8 => Words {
-            meaning: "the text isn't UTF-8",
+            meaning: "not UTF-8",
             advice: "save the file as UTF-8",
         },
         FaultKind::TooDeep => Words {
