@@ -1,0 +1,130 @@
+//! What is said of a broken rule in front of the steps.
+use crate::keeping::{lacks, line_of, words_of};
+use crate::site::{Texts, match_at};
+use crate::story::put_note;
+use crate::ways::Ways;
+use crate::words::{advice, meaning};
+use loss_rules::{Place, Rule};
+use plan_lines::Plan;
+use relay_conf::Output;
+use relay_net::Entrance;
+use std::alloc::{AllocError, Allocator};
+
+/// What is explained: a rule that is broken at this place of a plan.
+#[derive(Drop)]
+pub(crate) struct Subject<'a, A: Allocator> {
+    pub alloc: A,
+    pub plan: &'a Plan<A>,
+    pub texts: &'a Texts<'a, A>,
+    pub rule: Rule,
+    pub place: Place,
+}
+
+impl<A: Allocator + Copy> Subject<'_, A> {
+    /// What is said in front of the steps: the rule, the line where it is broken, what to change, and by which lines of the plan tags come
+    /// there; each line begins with `#`.
+    pub fn front(&self) -> Result<Vec<u8, A>, AllocError> {
+        let mut lines = Vec::new(self.alloc);
+        self.put_rule(&mut lines)?;
+        let site = self.texts.site(self.plan, self.place);
+        site.put(self.alloc, &mut lines, "It is broken in")?;
+        self.put_advice(&mut lines)?;
+        self.put_lacks(&mut lines)?;
+        self.put_ways(&mut lines)?;
+        Ok(lines)
+    }
+
+    // Adds what the rule asks for.
+    fn put_rule(&self, out: &mut Vec<u8, A>) -> Result<(), AllocError> {
+        let rule = self.rule;
+        let asked = meaning(rule);
+        let note = format!(in self.alloc; "{rule}: {asked}.")?;
+        put_note(out, note.as_bytes())
+    }
+
+    // Adds what to change.
+    fn put_advice(&self, out: &mut Vec<u8, A>) -> Result<(), AllocError> {
+        let change = advice(self.rule);
+        let note = format!(in self.alloc; "To mend it: {change}.")?;
+        put_note(out, note.as_bytes())
+    }
+
+    // Adds what each output of a match lacks that doesn't keep.
+    fn put_lacks(&self, out: &mut Vec<u8, A>) -> Result<(), AllocError> {
+        if self.rule != Rule::ReachedMatchesKeep {
+            return Ok(());
+        }
+        let Some(found) = match_at(self.plan, self.place) else {
+            return Ok(());
+        };
+        for output in &found.rule.outputs {
+            self.put_lacks_of(out, output)?;
+        }
+        Ok(())
+    }
+
+    // Adds what the output lacks.
+    fn put_lacks_of(&self, out: &mut Vec<u8, A>, output: &Output<A>) -> Result<(), AllocError> {
+        let line = line_of(output);
+        for found in &lacks(self.alloc, output)? {
+            let lack = words_of(*found);
+            let note = format!(in self.alloc; "  The output in line {line} lacks {lack}.")?;
+            put_note(out, note.as_bytes())?;
+        }
+        Ok(())
+    }
+
+    // Adds the lines of the plan by which tags come to the place.
+    fn put_ways(&self, out: &mut Vec<u8, A>) -> Result<(), AllocError> {
+        let lines = self.ways()?;
+        if lines.is_empty() {
+            return Ok(());
+        }
+        put_note(
+            out,
+            b"Tags come there by these lines, back to those of clients:",
+        )?;
+        for line in &lines {
+            let site = self.texts.site(self.plan, Place::Plan { line: *line });
+            site.put(self.alloc, out, " ")?;
+        }
+        Ok(())
+    }
+
+    // These lines, where the place is one that tags come to.
+    fn ways(&self) -> Result<Vec<usize, A>, AllocError> {
+        let mut ways = Ways::new(self.alloc, self.plan);
+        match self.place {
+            Place::Plan { line } => self.add_label_ways(&mut ways, line)?,
+            Place::Conf { .. } => self.add_match_ways(&mut ways)?,
+        }
+        ways.into_lines()
+    }
+
+    // Adds the ways to the scope of the label in this line.
+    fn add_label_ways(&self, ways: &mut Ways<'_, A>, line: usize) -> Result<(), AllocError> {
+        for label in self.plan.labels() {
+            if label.line == line {
+                ways.add_scope(Entrance {
+                    relay: label.place,
+                    scope: label.scope,
+                })?;
+            }
+        }
+        Ok(())
+    }
+
+    // Adds the ways to the match, but for a rule that isn't on matches.
+    fn add_match_ways(&self, ways: &mut Ways<'_, A>) -> Result<(), AllocError> {
+        if matches!(
+            self.rule,
+            Rule::AddressesAreDistinct | Rule::PathsAreDistinct
+        ) {
+            return Ok(());
+        }
+        match match_at(self.plan, self.place) {
+            Some(found) => ways.add_match(found.at, found.index),
+            None => Ok(()),
+        }
+    }
+}
