@@ -1,12 +1,1 @@
-pub mod HexSteps
-pub mod OutputSteps
-pub mod ArrivalSteps
-pub mod DecodeSteps
 pub mod WordLists
-pub mod HexReadings
-pub mod FaultLaws
-pub mod Listings
-pub mod Fates
-pub mod NetworkSteps
-pub mod StartingSteps
-pub mod Crossings

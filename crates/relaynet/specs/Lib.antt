@@ -1,11 +1,1 @@
-pub mod HexText
-pub mod Listing
-pub mod Output
-pub mod Decoding
 pub mod Words
-pub mod Laws
-pub mod Networks
-pub mod Replays
-pub mod Texts
-pub mod Starting
-pub mod Delivering

@@ -1,35 +1,15 @@
 //! The program: words of the command line, each of which reads, answers and gives a status.
 #![tactic(auto)]
 
-mod conf;
-mod decode;
-mod flush;
-mod folder;
-mod hex_text;
-mod laws;
-mod lines;
-mod network;
-#[cfg(test)]
-mod network_tests;
-mod opening;
-mod output;
-mod reading;
-mod relay;
-mod replay;
-mod status;
-#[cfg(test)]
-mod tests;
 mod words;
 
-use decode::run_decode;
-use flush::Home;
-use folder::Folder;
-use network::{run_check, run_replay};
-use relay::Runner;
-use status::Status;
+use plan_answers::{run_check, run_replay};
+use program_text::{Folder, Status};
+use relay_run::{Home, Runner};
 use std::io::ErrorKind;
 use std::process::ExitCode;
 use std::{env, io};
+use stream_listing::run_decode;
 use words::{Word, read_word};
 
 const USAGE: &str = "usage: relaynet decode | check NET | replay NET STEPS | relay CONF NUMBER DIR";

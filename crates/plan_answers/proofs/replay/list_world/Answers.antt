@@ -1,0 +1,21 @@
+use Rattle.std.proofs.Common.{◌≡◌, ℕ, ◌++◌, length, ap, sym, ◌∙◌, subst, rules}
+use Rattle.std.proofs.lemmas.List.{length-map}
+use Rattle.custody_steps.specs.WorldOf.{world_of}
+use Rattle.message_book.specs.Book.{told_of}
+use Rattle.plan_answers.specs.Replays.{summary_line}
+use Rattle.plan_answers.proofs.replay.list_world.Goals as goal
+
+pub returns : goal.returns
+returns g c =
+    let said = c.in_ok-said.said in
+    let w = world_of c.args.world.now in
+    let all : length c.acknowledged-acknowledged.result.now ≡ length w.acknowledged = sym (length-map c.acknowledged-acknowledged.result.now told_of) ∙ ap length c.acknowledged-acknowledged.ensures in
+    let written = λ (n : ℕ). c.extend_from_slice.new.self.items ≡ said.lines.items ++ summary_line c.args.steps n said.lost in
+    let whole : written (length c.acknowledged-acknowledged.result.now) = search rules in
+    record {
+      lines = said.lines.items;
+      lost = said.lost;
+      listed = c.in_ok-said.ensures;
+      written_is = subst written all whole;
+      is_status = c.status_of_loss.ensures;
+    }

@@ -1,0 +1,188 @@
+-- What is printed of a network's plan, and of a plan with steps.
+use Rattle.std.specs.Prelude.{◌≡◌, ◌≢◌, ◌<◌, ℕ, List, ◌++◌, codes, length, Option, ◌⊎◌}
+use Rattle.std.specs.List.{AllZip}
+use Rattle.loss_rules.specs.Breaks.{Subject, IsAnswer}
+use Rattle.loss_rules.specs.Printed.{answer_text}
+use Rattle.loss_rules.specs.declared.answer.Answer.{Answer}
+use Rattle.loss_rules.specs.declared.answer.Answer.TheVariants as answer
+use Rattle.loss_rules.specs.declared.label.Duty.{Duty}
+use Rattle.plan_lines.specs.Faults.{IsRefusal}
+use Rattle.plan_lines.specs.Forms.{confs_named}
+use Rattle.plan_lines.specs.Plans.{IsPlanOf}
+use Rattle.plan_lines.specs.Printed.{error_text}
+use Rattle.plan_lines.specs.declared.error.PlanError.{PlanError}
+use Rattle.plan_lines.specs.declared.error.PlanError.TheVariants as refusal
+use Rattle.relay_net.specs.Network.{Network}
+use Rattle.plan_answers.specs.declared.network.Stop.{Stop}
+use Rattle.plan_answers.specs.declared.network.Stop.TheVariants as stop
+use Rattle.program_text.specs.declared.reading.ReadFault.{ReadFault}
+use Rattle.program_text.specs.declared.reading.ReadFault.TheVariants as unread
+use Rattle.program_text.specs.declared.status.Status.{Status}
+use Rattle.program_text.specs.declared.status.Status.TheVariants.{Done, No, Usage}
+use Rattle.program_text.specs.Lines.{line, memory_line, read_line}
+use Rattle.program_text.specs.Output.{TakesPart, IsPrinted}
+use Rattle.plan_answers.specs.Replays.{IsReplayed, SaysNoLoss}
+use Rattle.program_text.specs.Texts.{IsTextOf}
+
+-- What is read.
+
+-- The text of a plan, and of each configuration that it names, as they were read: `named` has what each name's text is, where that is known.
+pub record AreRead (net : Option (List ℕ)) (named : List ℕ → Option (List ℕ)) (text : List ℕ) (confs : List (List ℕ)) : Type 0 where
+  pub net_is : IsTextOf net text
+  pub confs_are : AllZip (λ name conf. IsTextOf (named name) conf) (confs_named text) confs
+
+-- The texts that are read say this plan.
+pub record IsPlanRead {A : Type 0} (net : Option (List ℕ)) (named : List ℕ → Option (List ℕ)) (plan : Subject A) : Type 0 where
+  pub text : List ℕ
+  pub confs : List (List ℕ)
+  pub read : AreRead net named text confs
+  pub plan_is : IsPlanOf text confs plan
+
+-- The texts that are read say no plan, and this is why.
+pub record IsRefusedPlan (A : Type 0) (net : Option (List ℕ)) (named : List ℕ → Option (List ℕ)) (fault : PlanError) : Type 0 where
+  pub text : List ℕ
+  pub confs : List (List ℕ)
+  pub read : AreRead net named text confs
+  pub refused : IsRefusal A text confs fault
+
+-- The checker's line.
+
+-- the line of an answer
+abbrev pub answer_line : Answer → List ℕ
+answer_line found = line (answer_text found)
+
+-- the status of an answer
+abbrev pub answer_status : Answer → Status
+answer_status answer.Yes = Done
+answer_status (answer.No rule place) = No
+
+-- The plan that is read has this answer.
+pub record IsAnswered (A : Type 0) (net : Option (List ℕ)) (named : List ℕ → Option (List ℕ)) (plan : Subject A) (found : Answer) : Type 0 where
+  pub plan_is : IsPlanRead net named plan
+  pub answer_is : IsAnswer plan found
+
+-- the line of a plan's fault
+abbrev pub plan_fault_line : PlanError → List ℕ
+plan_fault_line fault = line (codes "fault " ++ error_text fault)
+
+-- No plan is read, and this is the line that says why.
+pub record IsFaultLine (A : Type 0) (net : Option (List ℕ)) (named : List ℕ → Option (List ℕ)) (lines : List ℕ) (status : Status) : Type 0 where
+  pub fault : PlanError
+  pub refused : IsRefusedPlan A net named fault
+  pub named_fault : fault ≢ refusal.Memory
+  pub lines_are : lines ≡ plan_fault_line fault
+  pub is_status : status ≡ Usage
+
+-- why there is no answer
+abbrev pub IsStopOf : (A : Type 0) → Option (List ℕ) → (List ℕ → Option (List ℕ)) → Stop → Type 0
+IsStopOf A net named (stop.Plan fault) = IsRefusedPlan A net named fault × (fault ≢ refusal.Memory)
+IsStopOf A net named (stop.Unread fault) = Unit {0}
+
+-- what a fault of the plan stops with: want of memory is none of the plan's
+abbrev pub StopsWith : PlanError → Stop → Type 0
+StopsWith fault (stop.Plan other) = (other ≡ fault) × (fault ≢ refusal.Memory)
+StopsWith fault (stop.Unread reason) = Unit {0}
+
+-- the line of a text that isn't read
+abbrev pub unread_line : ReadFault → List ℕ
+unread_line unread.Memory = memory_line
+unread_line unread.Read = read_line
+
+-- what is said of a stop; where there is no memory for a fault's line, that is said
+abbrev pub SaysStop : Stop → List ℕ → Type 0
+SaysStop (stop.Plan fault) lines = (lines ≡ plan_fault_line fault) ⊎ (lines ≡ memory_line)
+SaysStop (stop.Unread fault) lines = lines ≡ unread_line fault
+
+-- What is said of a stop is printed.
+pub record PrintsStop (stopped : Stop) (old new : Option (List ℕ)) (status : Status) : Type 0 where
+  pub lines : List ℕ
+  pub said : SaysStop stopped lines
+  pub printed : IsPrinted old new lines Usage status
+
+-- Steps of a text are taken in the network, of whose matches this is asked, and this is listed of them.
+pub record AreReplayed {A : Type 0} (asked : Duty) (net : Network A) (steps : Option (List ℕ)) (lines : List ℕ) (status : Status) : Type 0 where
+  pub text : List ℕ
+  pub text_is : IsTextOf steps text
+  pub replayed : IsReplayed asked net text lines status
+
+-- All that is printed, in lines.
+
+-- Memory ran out, or a reader failed, and this is the line that says so.
+pub record IsStopLine (lines : List ℕ) (status : Status) : Type 0 where
+  pub lines_are : (lines ≡ memory_line) ⊎ (lines ≡ read_line)
+  pub is_status : status ≡ Usage
+
+-- The plan that is read has an answer, and this is its line.
+pub record IsAnswerLine (A : Type 0) (net : Option (List ℕ)) (named : List ℕ → Option (List ℕ)) (lines : List ℕ) (status : Status) : Type 0 where
+  pub plan : Subject A
+  pub found : Answer
+  pub answered : IsAnswered A net named plan found
+  pub lines_are : lines ≡ answer_line found
+  pub is_status : status ≡ answer_status found
+
+-- what `check` prints of a plan
+abbrev pub IsChecked : (A : Type 0) → Option (List ℕ) → (List ℕ → Option (List ℕ)) → List ℕ → Status → Type 0
+IsChecked A net named lines status = IsAnswerLine A net named lines status ⊎ (IsFaultLine A net named lines status ⊎ IsStopLine lines status)
+
+-- the status of a plan's answer and of steps in it: a no stays a no, whatever becomes of the events
+abbrev pub joined_status : Answer → Status → Status
+joined_status answer.Yes after = after
+joined_status (answer.No rule place) Done = No
+joined_status (answer.No rule place) No = No
+joined_status (answer.No rule place) Usage = Usage
+
+-- Behind the line of the answer this stands of the steps.
+pub record IsBehindAnswer (A : Type 0) (net : Option (List ℕ)) (named : List ℕ → Option (List ℕ)) (steps : Option (List ℕ)) (lines : List ℕ) (status : Status) : Type 0 where
+  pub plan : Subject A
+  pub found : Answer
+  pub answered : IsAnswered A net named plan found
+  pub behind : List ℕ
+  pub lines_are : lines ≡ answer_line found ++ behind
+  pub said : ((after : Status) × AreReplayed plan.duty plan.net steps behind after × (status ≡ joined_status found after)) ⊎ IsStopLine behind status
+
+-- what `replay` prints of a plan and steps
+abbrev pub IsReplayedIn : (A : Type 0) → Option (List ℕ) → (List ℕ → Option (List ℕ)) → Option (List ℕ) → List ℕ → Status → Type 0
+IsReplayedIn A net named steps lines status = IsBehindAnswer A net named steps lines status ⊎ (IsFaultLine A net named lines status ⊎ IsStopLine lines status)
+
+-- What a writer gets.
+
+-- all that `check` does to a writer, and its status
+pub record PrintsCheck (A : Type 0) (net : Option (List ℕ)) (named : List ℕ → Option (List ℕ)) (old new : Option (List ℕ)) (status : Status) : Type 0 where
+  pub lines : List ℕ
+  pub meant : Status
+  pub checked : IsChecked A net named lines meant
+  pub printed : IsPrinted old new lines meant status
+
+-- `replay` ends where the writer fails in the answer's line, before it reads steps.
+pub record EndsAtAnswer (A : Type 0) (net : Option (List ℕ)) (named : List ℕ → Option (List ℕ)) (old new : Option (List ℕ)) (status : Status) : Type 0 where
+  pub plan : Subject A
+  pub found : Answer
+  pub answered : IsAnswered A net named plan found
+  pub unseen : List ℕ
+  pub takes : TakesPart old new (answer_line found) unseen
+  pub cut : 0 < length unseen
+  pub is_status : status ≡ Usage
+
+-- `replay` prints these lines.
+pub record PrintsLines (A : Type 0) (net : Option (List ℕ)) (named : List ℕ → Option (List ℕ)) (steps old new : Option (List ℕ)) (status : Status) : Type 0 where
+  pub lines : List ℕ
+  pub meant : Status
+  pub replayed : IsReplayedIn A net named steps lines meant
+  pub printed : IsPrinted old new lines meant status
+
+-- all that `replay` does to a writer, and its status
+abbrev pub PrintsReplay : (A : Type 0) → Option (List ℕ) → (List ℕ → Option (List ℕ)) → Option (List ℕ) → Option (List ℕ) → Option (List ℕ) → Status → Type 0
+PrintsReplay A net named steps old new status = PrintsLines A net named steps old new status ⊎ EndsAtAnswer A net named old new status
+
+-- Behind a yes nothing is lost.
+
+-- Where the first of these lines is `yes`, those behind it say of no event that it is lost, or why the steps aren't read.
+abbrev pub SayNoLossUnderYes : List ℕ → Status → Type 0
+SayNoLossUnderYes lines status = (behind : List ℕ) → lines ≡ answer_line answer.Yes ++ behind → SaysNoLoss behind status ⊎ IsStopLine behind status
+
+-- Such lines are printed; a writer that failed has a beginning of such.
+pub record PrintsNoLossUnderYes (old new : Option (List ℕ)) (status : Status) : Type 0 where
+  pub lines : List ℕ
+  pub meant : Status
+  pub no_loss : SayNoLossUnderYes lines meant
+  pub printed : IsPrinted old new lines meant status

@@ -1,0 +1,132 @@
+-- What is printed of steps that are taken in a network.
+use Rattle.std.specs.Prelude.{◌≡◌, ◌==◌, ℕ, List, ◌++◌, codes, decimal, length, map, flat_map, cond, not, count_by, All, Bool, true, IsTrue, ◌↔◌, ◌⊎◌}
+use Rattle.hex.specs.Hex.{encode_lower}
+use Rattle.custody_steps.specs.Branches.{IsKeptEvery}
+use Rattle.custody_steps.specs.Held.{IsKept}
+use Rattle.custody_steps.specs.Steps.{Steps, IsRefusedAt}
+use Rattle.custody_steps.specs.World.{World, opening}
+use Rattle.custody_steps.specs.declared.fault.StepFault.{StepFault}
+use Rattle.custody_steps.specs.declared.fault.StepFault.TheVariants as refusal
+use Rattle.custody_store.specs.Buffers.{Event}
+use Rattle.loss_rules.specs.declared.label.Duty.{Duty}
+use Rattle.loss_rules.specs.declared.label.Duty.TheVariants as duty
+use Rattle.message_book.specs.Book.{Told}
+use Rattle.relay_net.specs.Network.{Network}
+use Rattle.step_lines.specs.StepLines.{SayAll, IsRefusedLine}
+use Rattle.step_lines.specs.declared.step.Step.{Step}
+use Rattle.text_lines.specs.Lines.{text_lines}
+use Rattle.program_text.specs.declared.status.Status.{Status}
+use Rattle.program_text.specs.declared.status.Status.TheVariants.{Done, No, Usage}
+use Rattle.program_text.specs.Lines.{line}
+
+-- An acknowledged event is kept as a plan asks: a buffer or a sink has it, under a tag that it may bear; or, under the duty every, it is
+-- kept along each branch of its way.
+abbrev pub IsKeptAs : {A : Type 0} → Duty → Network A → World → Told → Type 0
+IsKeptAs duty.Any net w told = IsKept net w told
+IsKeptAs duty.Every net w told = IsKeptEvery net w told
+
+-- an acknowledged event, and whether it is kept as the plan asks
+pub record Fate : Type 0 where
+  pub told : Told
+  pub is_held : Bool
+
+-- These are the events of the world that were acknowledged to clients, in that order, each with what became of it.
+pub record AreFates {A : Type 0} (asked : Duty) (net : Network A) (w : World) (fates : List Fate) : Type 0 where
+  pub events : map (λ fate. fate.told) fates ≡ w.acknowledged
+  pub held : All (λ fate. IsTrue fate.is_held ↔ IsKeptAs asked net w fate.told) fates
+
+-- how many of the events are lost
+abbrev pub lost_among : List Fate → ℕ
+lost_among fates = count_by (λ fate. not fate.is_held) fates
+
+-- the line of an event: whether it is held, its tag, and its entry in hex
+abbrev pub told_line : Bool → Event → List ℕ
+told_line is_held event = line (cond is_held (codes "held ") (codes "lost ") ++ event.tag ++ codes " " ++ encode_lower event.entry)
+
+-- the line of what became of an event, under the tag that the client sent
+abbrev pub fate_line : Fate → List ℕ
+fate_line fate = told_line fate.is_held fate.told.event
+
+-- the last line: how many steps were taken, how many events acknowledged, and how many of these are lost
+abbrev pub summary_line : ℕ → ℕ → ℕ → List ℕ
+summary_line steps acknowledged lost = line (codes "steps " ++ decimal steps ++ codes " acknowledged " ++ decimal acknowledged ++ codes " lost " ++ decimal lost)
+
+-- the status where so many events are lost
+abbrev pub lost_status : ℕ → Status
+lost_status lost = cond (lost == 0) Done No
+
+-- These lines are those of the world's acknowledged events, one each, and so many of them are lost.
+pub record AreListed {A : Type 0} (asked : Duty) (net : Network A) (w : World) (lines : List ℕ) (lost : ℕ) : Type 0 where
+  pub fates : List Fate
+  pub are_fates : AreFates asked net w fates
+  pub lines_are : lines ≡ flat_map fate_line fates
+  pub lost_is : lost ≡ lost_among fates
+
+-- The listing of a world after so many steps: a line for each event that was acknowledged, and the last line.
+pub record IsWorldListing {A : Type 0} (asked : Duty) (net : Network A) (w : World) (steps : ℕ) (written : List ℕ) (status : Status) : Type 0 where
+  pub lines : List ℕ
+  pub lost : ℕ
+  pub listed : AreListed asked net w lines lost
+  pub written_is : written ≡ lines ++ summary_line steps (length w.acknowledged) lost
+  pub is_status : status ≡ lost_status lost
+
+-- the line of an event that is kept
+abbrev pub held_line : Event → List ℕ
+held_line event = told_line true event
+
+-- The listing of a world that has lost nothing: each event's line says that it is held, and the last line that none is lost.
+pub record IsHeldListing (written : List ℕ) (status : Status) : Type 0 where
+  pub events : List Event
+  pub steps : ℕ
+  pub written_is : written ≡ flat_map held_line events ++ summary_line steps (length events) 0
+  pub is_status : status ≡ Done
+
+-- the code of a refusal; want of memory is none
+abbrev pub IsCodeOf : StepFault → List ℕ → Type 0
+IsCodeOf refusal.NoSuch code = code ≡ codes "S1"
+IsCodeOf refusal.NotAllowed code = code ≡ codes "S2"
+IsCodeOf refusal.Memory code = ⊥
+
+-- The line of a step that is refused: which one, counted from 1, and why.
+pub record IsRefusalLine (number : ℕ) (fault : StepFault) (written : List ℕ) (status : Status) : Type 0 where
+  pub code : List ℕ
+  pub code_is : IsCodeOf fault code
+  pub lines : written ≡ line (codes "refused step " ++ decimal number ++ codes " " ++ code)
+  pub is_status : status ≡ No
+
+-- The steps of the text were all taken, and this is listed of what they lead to.
+pub record AreTaken {A : Type 0} (asked : Duty) (net : Network A) (text written : List ℕ) (status : Status) : Type 0 where
+  pub steps : List (Step A)
+  pub read : SayAll (text_lines text) steps
+  pub world : World
+  pub taken : Steps net opening steps world
+  pub listed : IsWorldListing asked net world (length steps) written status
+
+-- A step of the text is refused, and this is its line.
+pub record IsRefusal {A : Type 0} (net : Network A) (text written : List ℕ) (status : Status) : Type 0 where
+  pub steps : List (Step A)
+  pub read : SayAll (text_lines text) steps
+  pub number : ℕ
+  pub fault : StepFault
+  pub refused : IsRefusedAt net steps number fault
+  pub listed : IsRefusalLine number fault written status
+
+-- The line of a text whose line of this number, counted from 1, is of no step's form.
+pub record IsBadLineSaid (number : ℕ) (written : List ℕ) (status : Status) : Type 0 where
+  pub lines : written ≡ line (codes "fault S3 line " ++ decimal number)
+  pub is_status : status ≡ Usage
+
+-- A line of the text is of no step's form, and this is said of the first one.
+pub record IsBadText (A : Type 0) (text written : List ℕ) (status : Status) : Type 0 where
+  pub number : ℕ
+  pub refused : IsRefusedLine A text number
+  pub said : IsBadLineSaid number written status
+
+-- the listing of the steps that a text says, where this is asked of the network's matches
+abbrev pub IsReplayed : {A : Type 0} → Duty → Network A → List ℕ → List ℕ → Status → Type 0
+IsReplayed {A} asked net text written status = AreTaken asked net text written status ⊎ (IsRefusal net text written status ⊎ IsBadText A text written status)
+
+-- What is listed says of no event that it is lost: each is held, or one line says that a step is refused, or that a line is of no step's form.
+abbrev pub SaysNoLoss : List ℕ → Status → Type 0
+SaysNoLoss written status = IsHeldListing written status
+    ⊎ (((number : ℕ) × (fault : StepFault) × IsRefusalLine number fault written status) ⊎ ((number : ℕ) × IsBadLineSaid number written status))

@@ -1,0 +1,236 @@
+//! The words `check` and `replay`: what the checker says of a plan, and what becomes of the events that steps send.
+ghost use Rattle.std.specs.Prelude.{◌≡◌, length, map, string_bytes, IfOk, IfErr};
+ghost use Rattle.std.specs.List.{AllZip};
+ghost use Rattle.loss_rules.specs.Rules.{AreRulesKept, EachOutputKeeps};
+ghost use Rattle.plan_lines.specs.Plans.{texts as texts_of};
+ghost use Rattle.plan_answers.specs.Networks.{answer_line, answer_status, joined_status, unread_line as unread_line_of, AreReplayed, IsAnswered, IsPlanRead, IsStopOf, PrintsCheck, PrintsNoLossUnderYes, PrintsReplay, PrintsStop, StopsWith};
+ghost use Rattle.plan_answers.specs.Replays.{SaysNoLoss};
+ghost use Rattle.program_text.specs.Texts.{IsTextOf};
+
+use crate::replay::{Said, replay};
+use loss_checker::{Answer, Duty, Plan, PlanError, check, conf_names};
+use program_text::{Open, OutputFault, ReadFault, Status, put_all, put_last, read_whole};
+use std::alloc::{AllocError, Allocator};
+use std::io::{ErrorKind, Read, Write};
+
+/// Prints what the checker says of the plan that `net` gives, with the configurations that it names: its answer, or
+/// the plan's first fault. Each text is read whole before a fault of the plan is looked for.
+pub fn run_check<A: Allocator + Copy, R: Read, O: Open, W: Write>(
+    alloc: A,
+    net: &mut R,
+    files: &O,
+    out: &mut W,
+) -> Status
+    ensures { PrintsCheck A (R.remaining net.old) (O.text_of files.now) (W.contents out.old) (W.contents out.new) result }
+{
+    match read_checked(alloc, net, files) {
+        Ok(checked) => put_last(out, checked.line.as_bytes(), status_of(checked.answer)),
+        Err(stop) => print_stop(alloc, stop, out),
+    }
+}
+
+/// Prints what `run_check` does. Where that is an answer, it takes the steps that `steps` gives in the plan's network, and prints
+/// what becomes of the events that were acknowledged, or why a step isn't taken; nothing of the steps is read before. Behind
+/// a yes it never prints that an event is lost.
+pub fn run_replay<A: Allocator + Copy, R: Read, S: Read, O: Open, W: Write>(
+    alloc: A,
+    net: &mut R,
+    steps: &mut S,
+    files: &O,
+    out: &mut W,
+) -> Status
+    ensures replayed { PrintsReplay A (R.remaining net.old) (O.text_of files.now) (S.remaining steps.old) (W.contents out.old) (W.contents out.new) result }
+    // Where the first line is `yes`, each event that was acknowledged is printed as held.
+    ensures nothing_is_lost { PrintsNoLossUnderYes (W.contents out.old) (W.contents out.new) result }
+{
+    let checked = match read_checked(alloc, net, files) {
+        Ok(checked) => checked,
+        Err(stop) => return print_stop(alloc, stop, out),
+    };
+    if let Err(OutputFault) = put_all(out, checked.line.as_bytes()) {
+        return Status::Usage;
+    }
+    match replay_read(alloc, &checked.plan, steps) {
+        Ok(said) => put_last(out, &said.lines, joined(checked.answer, said.status)),
+        Err(fault) => put_last(out, unread_line(fault).as_bytes(), Status::Usage),
+    }
+}
+
+// Why there is no answer.
+#[derive(Drop)]
+enum Stop {
+    // The plan has this fault.
+    Plan(PlanError),
+    // A text isn't read, or what it needs isn't there.
+    Unread(ReadFault),
+}
+
+impl From<ReadFault> for Stop {
+    ghost use Rattle.std.specs.Prelude.{◌≡◌};
+    ghost use Rattle.plan_answers.specs.declared.network.Stop.TheVariants.{Unread};
+
+    ghost from_gives = { λ fault stop. stop ≡ Unread fault };
+
+    fn from(fault: ReadFault) -> Stop {
+        Stop::Unread(fault)
+    }
+}
+
+impl From<AllocError> for Stop {
+    ghost use Rattle.std.specs.Prelude.{◌≡◌};
+    ghost use Rattle.plan_answers.specs.declared.network.Stop.TheVariants.{Unread};
+    ghost use Rattle.program_text.specs.declared.reading.ReadFault.TheVariants.{Memory};
+
+    ghost from_gives = { λ _ stop. stop ≡ Unread Memory };
+
+    fn from(_: AllocError) -> Stop {
+        Stop::Unread(ReadFault::Memory)
+    }
+}
+
+// A plan, the checker's answer, and the line of that.
+#[derive(Drop)]
+struct Checked<A: Allocator> {
+    plan: Plan<A>,
+    answer: Answer,
+    line: String<A>,
+}
+
+// The plan of the texts that are read, and the checker's answer.
+fn read_checked<A: Allocator + Copy, R: Read, O: Open>(
+    alloc: A,
+    net: &mut R,
+    files: &O,
+) -> Result<Checked<A>, Stop>
+    ensures answered { IfOk result (λ checked. IsAnswered A (R.remaining net.old) (O.text_of files.now) checked.plan checked.answer) }
+    ensures rules_kept { IfOk result (λ checked. checked.answer ≡ Answer.Yes → AreRulesKept checked.plan.net checked.plan.labels checked.plan.reaches) }
+    ensures each_keeps { IfOk result (λ checked. checked.answer ≡ Answer.Yes → checked.plan.duty ≡ Duty.Every → EachOutputKeeps checked.plan.net checked.plan.reaches) }
+    ensures line { IfOk result (λ checked. string_bytes checked.line ≡ answer_line checked.answer) }
+    ensures stop { IfErr result (IsStopOf A (R.remaining net.old) (O.text_of files.now)) }
+{
+    let plan = read_plan(alloc, net, files)?;
+    let answer = check(alloc, &plan)?;
+    let line = format!(in alloc; "{answer}\n")?;
+    Ok(Checked { plan, answer, line })
+}
+
+// The plan of the texts that are read.
+fn read_plan<A: Allocator + Copy, R: Read, O: Open>(
+    alloc: A,
+    net: &mut R,
+    files: &O,
+) -> Result<Plan<A>, Stop>
+    ensures plan { IfOk result (IsPlanRead (R.remaining net.old) (O.text_of files.now)) }
+    ensures stop { IfErr result (IsStopOf A (R.remaining net.old) (O.text_of files.now)) }
+{
+    let text = read_whole(alloc, net)?;
+    let names = conf_names(alloc, &text)?;
+    let confs = read_confs(alloc, &names, files)?;
+    match Plan::read(alloc, &text, &confs) {
+        Ok(plan) => Ok(plan),
+        Err(fault) => Err(stop_of(fault)),
+    }
+}
+
+// What a fault of the plan stops with: want of memory is none of the plan's.
+fn stop_of(fault: PlanError) -> Stop
+    ensures { StopsWith fault result }
+{
+    match fault {
+        PlanError::Memory => Stop::Unread(ReadFault::Memory),
+        other => Stop::Plan(other),
+    }
+}
+
+// The texts of these names, in their order.
+fn read_confs<A: Allocator + Copy, O: Open>(
+    alloc: A,
+    names: &[&str],
+    files: &O,
+) -> Result<Vec<Vec<u8, A>, A>, ReadFault>
+    ensures count { IfOk result (λ confs. length confs.items ≡ length names.now) }
+    ensures texts { IfOk result (λ confs. AllZip (λ name conf. IsTextOf (O.text_of files.now name) conf) (map (λ name. name.now) names.now) (texts_of confs.items)) }
+{
+    let mut confs = Vec::new(alloc);
+    for name in names {
+        let conf = read_conf(alloc, name, files)?;
+        confs.push(conf)?;
+    }
+    Ok(confs)
+}
+
+// The text of this name.
+fn read_conf<A: Allocator + Copy, O: Open>(
+    alloc: A,
+    name: &str,
+    files: &O,
+) -> Result<Vec<u8, A>, ReadFault>
+    ensures { IfOk result (λ conf. IsTextOf (O.text_of files.now name.now) conf.items) }
+{
+    match files.open(name) {
+        Ok(mut reader) => read_whole(alloc, &mut reader),
+        Err(e) if e.kind() == ErrorKind::OutOfMemory => Err(ReadFault::Memory),
+        Err(_) => Err(ReadFault::Read),
+    }
+}
+
+// What becomes of the steps that are read, in the network of the plan.
+fn replay_read<A: Allocator + Copy, S: Read>(
+    alloc: A,
+    plan: &Plan<A>,
+    steps: &mut S,
+) -> Result<Said<A>, ReadFault>
+    ensures replayed { IfOk result (λ said. AreReplayed plan.now.duty plan.now.net (S.remaining steps.old) said.lines.items said.status) }
+    ensures nothing_is_lost { AreRulesKept plan.now.net plan.now.labels plan.now.reaches → (plan.now.duty ≡ Duty.Every → EachOutputKeeps plan.now.net plan.now.reaches) → IfOk result (λ said. SaysNoLoss said.lines.items said.status) }
+{
+    let text = read_whole(alloc, steps)?;
+    let said = replay(alloc, plan.net(), plan.duty(), &text)?;
+    Ok(said)
+}
+
+// The status of an answer.
+fn status_of(answer: Answer) -> Status
+    ensures { result ≡ answer_status answer }
+{
+    match answer {
+        Answer::Yes => Status::Done,
+        Answer::No { .. } => Status::No,
+    }
+}
+
+// The status of an answer and of steps: a no stays one.
+fn joined(answer: Answer, after: Status) -> Status
+    ensures { result ≡ joined_status answer after }
+{
+    match (answer, after) {
+        (Answer::No { .. }, Status::Done) => Status::No,
+        (_, after) => after,
+    }
+}
+
+// The line that says why a text isn't read.
+fn unread_line(fault: ReadFault) -> &'static str
+    ensures { result.now ≡ unread_line_of fault }
+{
+    match fault {
+        ReadFault::Memory => "fault memory\n",
+        ReadFault::Read => "fault read\n",
+    }
+}
+
+// Prints why there is no answer.
+fn print_stop<A: Allocator, W: Write>(alloc: A, stop: Stop, out: &mut W) -> Status
+    ensures { PrintsStop stop (W.contents out.old) (W.contents out.new) result }
+{
+    match stop {
+        Stop::Plan(fault) => match format!(in alloc; "fault {fault}\n") {
+            Ok(line) => put_last(out, line.as_bytes(), Status::Usage),
+            Err(AllocError) => put_last(
+                out,
+                unread_line(ReadFault::Memory).as_bytes(),
+                Status::Usage,
+            ),
+        },
+        Stop::Unread(fault) => put_last(out, unread_line(fault).as_bytes(), Status::Usage),
+    }
+}

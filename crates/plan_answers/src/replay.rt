@@ -1,0 +1,187 @@
+//! The listing of steps that are taken in a network.
+ghost use Rattle.std.specs.Prelude.{◌≡◌, ◌↔◌, ◌++◌, List, slice_get, string_bytes, IsTrue, IfOk, IfSome, OnOk};
+ghost use Rattle.std.specs.Option.{ForSome};
+ghost use Rattle.custody_steps.specs.WorldOf.{world_of, net_of};
+ghost use Rattle.custody_store.specs.Contents.{event_of};
+ghost use Rattle.loss_rules.specs.Rules.{AreRulesKept, EachOutputKeeps};
+ghost use Rattle.loss_rules.specs.Sites.{BuffersAreDistinct};
+ghost use Rattle.loss_rules.specs.declared.label.Label.{Label};
+ghost use Rattle.loss_rules.specs.declared.label.Reach.{Reach};
+ghost use Rattle.plan_answers.specs.Replays.{told_line, IsKeptAs, lost_status, summary_line, AreListed, IsBadLineSaid, IsCodeOf, IsRefusalLine, IsWorldListing, IsReplayed, SaysNoLoss};
+
+use custody_core::{Event, Net, Step, StepFault, StepsError, World, run};
+use loss_checker::Duty;
+use program_text::{Status, put_hex};
+use std::alloc::{AllocError, Allocator};
+
+/// Lines to be printed, and the status that goes with them.
+#[derive(Drop)]
+pub struct Said<A: Allocator> {
+    pub lines: Vec<u8, A>,
+    pub status: Status,
+}
+
+/// Takes the steps of the text, one after another, in the network before its first step, and lists what becomes of
+/// the events that they acknowledge; or which step is refused first; or which line is of no step's form. The only
+/// error is want of memory. An event is lost where it isn't kept as is asked. In a network that keeps the rules for some labels and
+/// reaches, with what is asked of each match, none of the events is lost.
+pub fn replay<A: Allocator + Copy>(
+    alloc: A,
+    net: &Net<A>,
+    duty: Duty,
+    text: &[u8],
+) -> Result<Said<A>, AllocError>
+    ensures replayed { IfOk result (λ said. IsReplayed duty net.now text.now said.lines.items said.status) }
+    ensures nothing_is_lost { (labels : List (Label A)) (reaches : List (Reach A)) → BuffersAreDistinct net.now → AreRulesKept net.now labels reaches → (duty ≡ Duty.Every → EachOutputKeeps net.now reaches) → IfOk result (λ said. SaysNoLoss said.lines.items said.status) }
+{
+    let steps = match Step::read_all(alloc, text) {
+        Ok(steps) => steps,
+        Err(StepsError::BadLine(line)) => return list_bad_line(alloc, line),
+        Err(StepsError::Memory) => return Err(AllocError),
+    };
+    match run(alloc, net, &steps) {
+        Ok(world) => list_world(alloc, &world, duty, steps.len()),
+        Err((step, fault)) => list_refusal(alloc, step, fault),
+    }
+}
+
+// The line of a text with a line that is of no step's form.
+fn list_bad_line<A: Allocator + Copy>(alloc: A, line: usize) -> Result<Said<A>, AllocError>
+    ensures { IfOk result (λ said. IsBadLineSaid line said.lines.items said.status) }
+{
+    let text = format!(in alloc; "fault S3 line {line}\n")?;
+    let lines = Vec::from_slice(alloc, text.as_bytes())?;
+    Ok(Said {
+        lines,
+        status: Status::Usage,
+    })
+}
+
+// The code of a refusal; want of memory has none.
+fn refusal_code(fault: StepFault) -> Option<&'static str>
+    ensures { IfSome result (λ code. IsCodeOf fault code.now) }
+{
+    match fault {
+        StepFault::NoSuch => Some("S1"),
+        StepFault::NotAllowed => Some("S2"),
+        StepFault::Memory => None,
+    }
+}
+
+// The line of a refused step.
+fn list_refusal<A: Allocator + Copy>(
+    alloc: A,
+    step: usize,
+    fault: StepFault,
+) -> Result<Said<A>, AllocError>
+    ensures { IfOk result (λ said. IsRefusalLine step fault said.lines.items said.status) }
+{
+    let Some(code) = refusal_code(fault) else {
+        return Err(AllocError);
+    };
+    let front = format!(in alloc; "refused step {step} ")?;
+    let mut lines = Vec::from_slice(alloc, front.as_bytes())?;
+    lines.extend_from_slice(code.as_bytes())?;
+    lines.extend_from_slice(b"\n")?;
+    Ok(Said {
+        lines,
+        status: Status::No,
+    })
+}
+
+// Lists what became of the events that were acknowledged in so many steps.
+fn list_world<A: Allocator + Copy>(
+    alloc: A,
+    world: &World<'_, A>,
+    duty: Duty,
+    steps: usize,
+) -> Result<Said<A>, AllocError>
+    ensures { IfOk result (λ said. IsWorldListing duty (net_of world.now) (world_of world.now) steps said.lines.items said.status) }
+{
+    let mut said = list_fates(alloc, world, duty)?;
+    let lost = said.lost;
+    let acknowledged = world.acknowledged().len();
+    let summary = summary(alloc, steps, acknowledged, lost)?;
+    said.lines.extend_from_slice(summary.as_bytes())?;
+    Ok(Said {
+        lines: said.lines,
+        status: status_of_loss(lost),
+    })
+}
+
+// The last line.
+fn summary<A: Allocator>(
+    alloc: A,
+    steps: usize,
+    acknowledged: usize,
+    lost: usize,
+) -> Result<String<A>, AllocError>
+    ensures { IfOk result (λ text. string_bytes text ≡ summary_line steps acknowledged lost) }
+{
+    format!(in alloc; "steps {steps} acknowledged {acknowledged} lost {lost}\n")
+}
+
+// The status where so many events are lost.
+fn status_of_loss(lost: usize) -> Status
+    ensures { result ≡ lost_status lost }
+{
+    if lost == 0 { Status::Done } else { Status::No }
+}
+
+// The lines of events, and how many of these are lost.
+#[derive(Drop)]
+struct Fates<A: Allocator> {
+    lines: Vec<u8, A>,
+    lost: usize,
+}
+
+// Lists what became of the events that were acknowledged.
+fn list_fates<A: Allocator + Copy>(
+    alloc: A,
+    world: &World<'_, A>,
+    duty: Duty,
+) -> Result<Fates<A>, AllocError>
+    ensures { IfOk result (λ listed. AreListed duty (net_of world.now) (world_of world.now) listed.lines.items listed.lost) }
+{
+    let mut lines = Vec::new(alloc);
+    let mut lost = 0usize;
+    let events = world.acknowledged();
+    for (number, told) in events.iter().enumerate() {
+        let is_held = is_held(world, duty, number)?;
+        put_fate(&mut lines, &told.event, is_held)?;
+        if !is_held {
+            lost += 1;
+        }
+    }
+    Ok(Fates { lines, lost })
+}
+
+// Whether the acknowledged event of this number is kept as is asked.
+fn is_held<A: Allocator + Copy>(
+    world: &World<'_, A>,
+    duty: Duty,
+    number: usize,
+) -> Result<bool, AllocError>
+    ensures { IfOk result (λ yes. ForSome (slice_get (world_of world.now).acknowledged number) (λ told. IsTrue yes ↔ IsKeptAs duty (net_of world.now) (world_of world.now) told)) }
+{
+    match duty {
+        Duty::Any => Ok(world.kept(number)?.unwrap_or(false)),
+        Duty::Every => Ok(world.kept_every(number)?.unwrap_or(false)),
+    }
+}
+
+// Adds the line of an event.
+fn put_fate<A: Allocator>(
+    lines: &mut Vec<u8, A>,
+    event: &Event<A>,
+    is_held: bool,
+) -> Result<(), AllocError>
+    ensures { OnOk result (lines.new.items ≡ lines.old.items ++ told_line is_held (event_of event.now)) }
+{
+    let fate = if is_held { "held " } else { "lost " };
+    lines.extend_from_slice(fate.as_bytes())?;
+    lines.extend_from_slice(&event.tag)?;
+    lines.extend_from_slice(b" ")?;
+    put_hex(lines, &event.entry)?;
+    lines.extend_from_slice(b"\n")
+}

@@ -1,0 +1,17 @@
+//! What the words of a program share: the status that the process ends with, texts that are read whole or opened by their
+//! names, and output that is written whole.
+#![tactic(auto)]
+
+mod digits;
+mod folder;
+mod opening;
+mod output;
+mod reading;
+mod status;
+
+pub use digits::put_hex;
+pub use folder::{FileText, Folder};
+pub use opening::Open;
+pub use output::{OutputFault, put_all, put_last};
+pub use reading::{MOST_READS, PIECE, ReadFault, read_whole};
+pub use status::Status;

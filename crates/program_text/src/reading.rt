@@ -1,0 +1,75 @@
+//! Texts that are read whole.
+ghost use Rattle.std.specs.Prelude.{◌<◌, length, IfOk};
+ghost use Rattle.program_text.specs.Texts.{IsTextOf};
+
+use std::alloc::{AllocError, AllocFailed, Allocator};
+use std::io::{ErrorKind, Read};
+
+/// How often a reader is called at most. One that hasn't ended then is one that fails.
+pub const MOST_READS: u32 = 16_777_216;
+
+/// How many bytes are read at once, so that a long text takes but few reads.
+pub const PIECE: usize = 65_536;
+
+/// Why a text isn't read.
+#[derive(Clone, Copy, Debug, PartialEq, Eq)]
+pub enum ReadFault {
+    /// Memory ran out.
+    Memory,
+    /// The reader failed.
+    Read,
+}
+
+impl From<AllocError> for ReadFault {
+    ghost use Rattle.std.specs.Prelude.{◌≡◌};
+    ghost use Rattle.program_text.specs.declared.reading.ReadFault.TheVariants.{Memory};
+
+    ghost from_gives = { λ _ fault. fault ≡ Memory };
+
+    fn from(_: AllocError) -> ReadFault {
+        ReadFault::Memory
+    }
+}
+
+impl<T: Drop> From<AllocFailed<T>> for ReadFault {
+    ghost use Rattle.std.specs.Prelude.{◌≡◌};
+    ghost use Rattle.program_text.specs.declared.reading.ReadFault.TheVariants.{Memory};
+
+    ghost from_gives = { λ _ fault. fault ≡ Memory };
+
+    fn from(_: AllocFailed<T>) -> ReadFault {
+        ReadFault::Memory
+    }
+}
+
+/// All that the reader has left.
+pub fn read_whole<A: Allocator + Copy, R: Read>(
+    alloc: A,
+    input: &mut R,
+) -> Result<Vec<u8, A>, ReadFault>
+    ensures { IfOk result (λ text. IsTextOf (R.remaining input.old) text.items) }
+{
+    let mut piece = Vec::from_elem(alloc, 0, PIECE)?;
+    read_pieces(alloc, &mut piece, input)
+}
+
+// All that the reader has left, read by pieces of this length.
+fn read_pieces<A: Allocator + Copy, R: Read>(
+    alloc: A,
+    piece: &mut [u8],
+    input: &mut R,
+) -> Result<Vec<u8, A>, ReadFault>
+    requires { 0 < length piece.old }
+    ensures { IfOk result (λ text. IsTextOf (R.remaining input.old) text.items) }
+{
+    let mut text = Vec::new(alloc);
+    for _ in 0..MOST_READS {
+        match input.read(piece) {
+            Ok(0) => return Ok(text),
+            Ok(n) => text.extend_from_slice(&piece[..n])?,
+            Err(e) if e.kind() == ErrorKind::Interrupted => (),
+            Err(_) => return Err(ReadFault::Read),
+        }
+    }
+    Err(ReadFault::Read)
+}

@@ -1,0 +1,2 @@
+pub mod StartingSteps
+pub mod Crossings

@@ -1,0 +1,211 @@
+//! The threads that deliver a relay's chunks.
+ghost use Rattle.std.specs.Prelude.{◌≡◌, IfOk};
+ghost use Rattle.relay_run.specs.Delivering.{sink_named, sink_of as sink_of_outlet, AreDeliveriesOf, IsDeliveryOf};
+
+use ack_receipt::{Evidence, SharedBuffer};
+use buffer_store::BufferFault;
+use disk_files::{Dir, RealDir};
+use flush_pool::{CarryFault, ClaimView, Courier, OpenGate, Retries, SinkCourier, run_pool};
+use mio_relay::{LoopFault, Outlet, SystemDir, TcpCourier, outlet_of};
+use relay_conf::{BufferNo, Relay};
+use retry_waits::RetrySettings;
+use sink_series::{Series, SeriesFault};
+use std::alloc::Global;
+use std::marker::Model;
+use std::net::{Net, TcpListener, TcpStream};
+use std::random::RandomSource;
+use std::sync::atomic::{AtomicBool, Ordering};
+use std::sync::{Arc, Wait};
+use std::thread::Threads;
+use std::time::Clock;
+
+/// Where a relay has its files: the folder of this path.
+#[derive(Clone, Copy)]
+pub struct Home<'a> {
+    pub files: &'a HostRuntime,
+    pub path: &'a str,
+}
+
+/// A folder of the relay's buffers.
+pub type Folder = SystemDir<HostRuntime, Global>;
+
+// Where an output's chunks go, before a file is touched.
+#[derive(Drop)]
+enum Aim {
+    Servers(TcpCourier<Global>),
+    Sink(String),
+}
+
+/// How an output's chunks are delivered. Contracts see the sink that they go to, if they go to one, and by which settings.
+#[derive(Drop)]
+pub struct Delivering {
+    aim: Aim,
+    threads: usize,
+    retry: RetrySettings,
+}
+
+impl Model for Delivering {
+    ghost use Rattle.relay_run.specs.Delivering.{Delivery, sink_named};
+
+    ghost Value = { Delivery };
+
+    ghost view = { λ d. record { sink = sink_named d.aim; threads = d.threads; retry = d.retry } };
+}
+
+// Carries chunks to servers, or to the files of a sink.
+#[derive(Drop)]
+enum Carrier {
+    Servers(TcpCourier<Global>),
+    Sink(SinkCourier<RealDir<HostRuntime, Global>, Global>),
+}
+
+impl<R: Wait + Net + Clock, D: Dir> Courier<R, D, Global> for Carrier {
+    fn carry(
+        &self,
+        rt: &R,
+        chunk: &ClaimView<'_, D, Global>,
+    ) -> Result<Evidence<Global>, CarryFault> {
+        match self {
+            Carrier::Servers(courier) => courier.carry(rt, chunk),
+            Carrier::Sink(courier) => courier.carry(rt, chunk),
+        }
+    }
+}
+
+/// How the chunks of each of the relay's buffers are delivered, in the order of their numbers. A carry that waits ends soon after
+/// `stop` is raised.
+pub fn delivering_of<R: RandomSource + AllocGlobal>(
+    rt: &R,
+    relay: &Relay<Global>,
+    stop: &Arc<AtomicBool>,
+) -> Result<Vec<Delivering>, LoopFault>
+    ensures { IfOk result (λ all. AreDeliveriesOf relay.now all.items) }
+{
+    let mut all = Vec::new(rt.alloc());
+    for at in 0..u32::MAX {
+        let Some(outlet) = outlet_of(relay, BufferNo(at as usize)) else {
+            return Ok(all);
+        };
+        all.push(delivering_to(rt, &outlet, stop)?)?;
+    }
+    Ok(all)
+}
+
+// How the chunks of this output are delivered.
+fn delivering_to<R: RandomSource + AllocGlobal>(
+    rt: &R,
+    outlet: &Outlet<'_, Global>,
+    stop: &Arc<AtomicBool>,
+) -> Result<Delivering, LoopFault>
+    ensures { IfOk result (IsDeliveryOf outlet.now) }
+{
+    let aim = aim_of(rt, outlet, stop)?;
+    let buffer = outlet.buffer();
+    Ok(Delivering {
+        aim,
+        threads: buffer.flush_thread_count,
+        retry: buffer.retry,
+    })
+}
+
+// Where the chunks of this output go.
+fn aim_of<R: RandomSource + AllocGlobal>(
+    rt: &R,
+    outlet: &Outlet<'_, Global>,
+    stop: &Arc<AtomicBool>,
+) -> Result<Aim, LoopFault>
+    ensures { IfOk result (λ aim. sink_named aim ≡ sink_of_outlet outlet.now) }
+{
+    match outlet {
+        Outlet::Forward(settings) => {
+            let theirs = Arc::try_clone(stop)?;
+            let courier = TcpCourier::new(rt, rt.alloc(), settings, theirs)?;
+            Ok(Aim::Servers(courier))
+        }
+        Outlet::File(settings) => {
+            let name = String::from_str(rt.alloc(), settings.path.as_str())?;
+            Ok(Aim::Sink(name))
+        }
+    }
+}
+
+/// What one thread has that starts a buffer's flush threads.
+#[derive(Drop)]
+pub struct Pool {
+    buffer: Arc<SharedBuffer<Folder, Global>>,
+    carrier: Carrier,
+    threads: usize,
+    retries: Retries<Global>,
+    stop: Arc<AtomicBool>,
+}
+
+impl Pool {
+    /// Opens the output's sink, where it has one, in this folder. `Buffer`: its files can't be made. `Memory`.
+    pub fn open(
+        home: Home<'_>,
+        delivering: Delivering,
+        buffer: &Arc<SharedBuffer<Folder, Global>>,
+        stop: &Arc<AtomicBool>,
+    ) -> Result<Pool, LoopFault> {
+        let Delivering {
+            aim,
+            threads,
+            retry,
+        } = delivering;
+        let carrier = match aim {
+            Aim::Servers(courier) => Carrier::Servers(courier),
+            Aim::Sink(name) => Carrier::Sink(sink_of(home, &name)?),
+        };
+        Ok(Pool {
+            buffer: Arc::try_clone(buffer)?,
+            carrier,
+            threads,
+            retries: Retries::new(home.files.alloc(), retry),
+            stop: Arc::try_clone(stop)?,
+        })
+    }
+
+    /// Delivers chunks until the relay stops. Where the buffer has failed, it stops the relay.
+    pub fn run<R>(self, rt: &R) -> Option<LoopFault>
+    where
+        R: Wait + Net<Listener = TcpListener, Stream = TcpStream> + Clock + Threads + Sync,
+    {
+        let done = run_pool(
+            rt,
+            self.threads,
+            &self.buffer,
+            &self.carrier,
+            &OpenGate,
+            &self.retries,
+            &self.stop,
+        );
+        self.stop.store(true, Ordering::SeqCst);
+        match done {
+            Ok(_) => None,
+            Err(BufferFault::Memory) => Some(LoopFault::Memory),
+            Err(fault) => Some(LoopFault::Buffer(fault)),
+        }
+    }
+}
+
+/// A handle of one's own. The error is want of memory.
+pub fn copy_of<R: Clone>(rt: &R) -> Result<R, LoopFault> {
+    match rt.clone() {
+        Ok(theirs) => Ok(theirs),
+        Err(_) => Err(LoopFault::Memory),
+    }
+}
+
+// The files of a sink.
+fn sink_of(
+    home: Home<'_>,
+    name: &str,
+) -> Result<SinkCourier<RealDir<HostRuntime, Global>, Global>, LoopFault> {
+    let alloc = home.files.alloc();
+    let dir = RealDir::new(copy_of(home.files)?, alloc, home.path)?;
+    match Series::open(alloc, dir, name.as_bytes()) {
+        Ok(series) => Ok(SinkCourier::new(series)),
+        Err((SeriesFault::Memory, _)) => Err(LoopFault::Memory),
+        Err(_) => Err(LoopFault::Buffer(BufferFault::Fault)),
+    }
+}

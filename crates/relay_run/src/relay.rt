@@ -1,0 +1,279 @@
+//! The word `relay`: a relay that runs until a fault.
+ghost use Rattle.std.specs.Prelude.{◌≡◌, ◌≢◌, None, IfOk, IfSome, IfNone, string_bytes};
+ghost use Rattle.plan_lines.specs.Forms.{relay_number};
+ghost use Rattle.relay_run.specs.Starting.{ready_lines, fault_line as fault_line_of, stop_line as stop_line_of, PrintsConfStop, PrintsReady, PrintsRelay, PrintsRun};
+
+use crate::conf::{ConfStop, read_relay};
+use crate::flush::{Delivering, Folder, Home, Pool, copy_of, delivering_of};
+use conf_values::whole_number;
+use mio_relay::{Ended, InLoop, LoopFault, SystemFolders};
+use program_text::{ReadFault, Status, put_all, put_last};
+use relay_conf::Relay;
+use std::alloc::{AllocError, Allocator, Global};
+use std::io::{Read, Write};
+use std::net::{Net, TcpListener, TcpStream};
+use std::random::RandomSource;
+use std::sync::atomic::{AtomicBool, Ordering};
+use std::sync::{Arc, Wait};
+use std::thread;
+use std::thread::{JoinHandle, Threads};
+use std::time::Clock;
+
+/// What runs relays: a handle of the runtime, and where the relay has its files.
+#[derive(Drop)]
+pub struct Runner<'a, R> {
+    rt: &'a R,
+    home: Home<'a>,
+}
+
+impl<'a, R> Runner<'a, R>
+where
+    R: Wait
+        + Threads
+        + Net<Listener = TcpListener, Stream = TcpStream>
+        + Clock
+        + RandomSource
+        + AllocGlobal
+        + Clone
+        + Drop
+        + Send
+        + Sync
+        + 'static,
+{
+    /// Runs relays with files there.
+    pub fn new(rt: &'a R, home: Home<'a>) -> Self {
+        Runner { rt, home }
+    }
+
+    /// Runs the relay of this configuration under this number until a fault: prints `ready` and the port of each source once
+    /// clients can connect, and in the end the fault. `None` where the number is none: then nothing is read or printed.
+    pub fn run_relay<I: Read, W: Write>(
+        &self,
+        conf: &mut I,
+        number: &str,
+        out: &mut W,
+    ) -> Option<Status>
+        ensures number { IfSome result (λ _. relay_number number.now ≢ None) }
+        ensures none { IfNone result (relay_number number.now ≡ None) }
+        ensures printed { IfSome result (λ status. PrintsRelay (I.remaining conf.old) (W.contents out.old) (W.contents out.new) status) }
+        ensures nothing { IfNone result (out.new ≡ out.old) }
+    {
+        let number = number_of(number)?;
+        Some(self.run_conf(conf, number, out))
+    }
+
+    // Runs the relay of this configuration, or prints why there is none.
+    fn run_conf<I: Read, W: Write>(&self, conf: &mut I, number: u32, out: &mut W) -> Status
+        ensures { PrintsRelay (I.remaining conf.old) (W.contents out.old) (W.contents out.new) result }
+    {
+        let alloc = self.rt.alloc();
+        match read_relay(alloc, conf) {
+            Ok(relay) => self.run_read(relay, number, out),
+            Err(stop) => print_stop(alloc, stop, out),
+        }
+    }
+
+    // Runs the relay, and prints what there is to print of it.
+    #[tactic(auto, using(crate::proofs::StartingSteps::ended_well))]
+    fn run_read<W: Write>(&self, relay: Relay<Global>, number: u32, out: &mut W) -> Status
+        ensures { PrintsRun (W.contents out.old) (W.contents out.new) result }
+    {
+        match self.run_until(relay, number, out) {
+            Err(fault) => put_last(out, fault_line(fault).as_bytes(), Status::Usage),
+            Ok(()) => Status::Done,
+        }
+    }
+
+    // Runs the relay until a fault, and prints its sources.
+    #[tactic(auto, using(crate::proofs::StartingSteps::none_ready))]
+    fn run_until<W: Write>(
+        &self,
+        relay: Relay<Global>,
+        number: u32,
+        out: &mut W,
+    ) -> Result<(), LoopFault>
+        ensures { PrintsReady (W.contents out.old) (W.contents out.new) }
+    {
+        let alloc = self.rt.alloc();
+        let stop = Arc::new(alloc, AtomicBool::new(false))?;
+        let delivering = delivering_of(self.rt, &relay, &stop)?;
+        let sources = relay.sources.len();
+        let folders = SystemFolders {
+            rt: copy_of(self.home.files)?,
+            alloc,
+            path: self.home.path,
+        };
+        let turning = InLoop::open_in(self.rt, alloc, relay, number, &folders)?;
+        let pools = open_ready(self.home, delivering, &turning, sources, &stop, out);
+        self.run_open(turning, pools, &stop)
+    }
+
+    // Runs the loop and the pools until one of them has a fault.
+    fn run_open(
+        &self,
+        turning: InLoop<Folder, Global>,
+        pools: Result<Vec<Pool>, LoopFault>,
+        stop: &Arc<AtomicBool>,
+    ) -> Result<(), LoopFault> {
+        let mut threads = Vec::new(self.rt.alloc());
+        let started = match pools {
+            Ok(pools) => self.start_all(pools, &mut threads),
+            Err(fault) => Err(fault),
+        };
+        if started.is_err() {
+            stop.store(true, Ordering::SeqCst);
+        }
+        let Ended { stubs: _, fault } = turning.run(self.rt, stop);
+        stop.store(true, Ordering::SeqCst);
+        let theirs = join_all(self.rt, threads);
+        match started.err().or(fault).or(theirs) {
+            Some(fault) => Err(fault),
+            None => Ok(()),
+        }
+    }
+
+    // Starts a thread for each pool. After a fault those before it run.
+    fn start_all(&self, pools: Vec<Pool>, threads: &mut Vec<Delivery>) -> Result<(), LoopFault> {
+        for pool in pools {
+            threads.reserve(1)?;
+            let theirs = copy_of(self.rt)?;
+            match thread::spawn(self.rt, move || pool.run(&theirs)) {
+                Ok(thread) => threads.push_reserved(thread),
+                Err(_) => return Err(LoopFault::Memory),
+            }
+        }
+        Ok(())
+    }
+}
+
+// A thread that delivers a buffer's chunks, and gives the fault that it ends with.
+type Delivery = JoinHandle<Option<LoopFault>>;
+
+// The number of a relay that the word spells, as in a plan.
+fn number_of(word: &str) -> Option<u32>
+    ensures { result ≡ relay_number word.now }
+{
+    match whole_number(word.as_bytes()) {
+        Some(number) if number <= 4_294_967_295 => Some(number as u32),
+        _ => None,
+    }
+}
+
+// Prints why there is no relay.
+fn print_stop<A: Allocator, W: Write>(alloc: A, stop: ConfStop, out: &mut W) -> Status
+    ensures { PrintsConfStop stop (W.contents out.old) (W.contents out.new) result }
+{
+    match stop_line(alloc, stop) {
+        Ok(line) => put_last(out, line.as_bytes(), Status::Usage),
+        Err(AllocError) => put_last(out, b"fault memory\n", Status::Usage),
+    }
+}
+
+// The line of a fault of the configuration.
+fn stop_line<A: Allocator>(alloc: A, stop: ConfStop) -> Result<String<A>, AllocError>
+    ensures { IfOk result (λ line. string_bytes line ≡ stop_line_of stop) }
+{
+    match stop {
+        ConfStop::Text(fault) => format!(in alloc; "fault {fault}\n"),
+        ConfStop::Relay(fault) => format!(in alloc; "fault {fault}\n"),
+        ConfStop::Unread(ReadFault::Memory) => String::from_str(alloc, "fault memory\n"),
+        ConfStop::Unread(ReadFault::Read) => String::from_str(alloc, "fault read\n"),
+    }
+}
+
+// The line of a fault that ended a relay. It takes no memory.
+fn fault_line(fault: LoopFault) -> &'static str
+    ensures { result.now ≡ fault_line_of fault }
+{
+    match fault {
+        LoopFault::Bind => "fault Bind\n",
+        LoopFault::Poll => "fault Poll\n",
+        LoopFault::Buffer(_) => "fault Buffer\n",
+        LoopFault::NoNumber => "fault NoNumber\n",
+        LoopFault::Memory => "fault memory\n",
+    }
+}
+
+// The lines of sources that take connections at these ports.
+fn ready_text<A: Allocator + Copy>(alloc: A, ports: &[u16]) -> Result<Vec<u8, A>, AllocError>
+    ensures { IfOk result (λ text. text.items ≡ ready_lines ports.now) }
+{
+    let mut text = Vec::new(alloc);
+    for port in ports {
+        let line = format!(in alloc; "ready {port}\n")?;
+        text.extend_from_slice(line.as_bytes())?;
+    }
+    Ok(text)
+}
+
+// Prints that the sources take connections. Where the writer fails, the relay runs all the same.
+fn print_ready<W: Write>(
+    alloc: Global,
+    turning: &InLoop<Folder, Global>,
+    sources: usize,
+    out: &mut W,
+) -> Result<(), AllocError>
+    ensures { PrintsReady (W.contents out.old) (W.contents out.new) }
+{
+    let mut ports = Vec::new(alloc);
+    for place in 0..sources {
+        if let Some(port) = turning.port(place) {
+            ports.push(port)?;
+        }
+    }
+    put_ready(alloc, &ports, out)
+}
+
+// Prints that sources take connections at these ports.
+fn put_ready<A: Allocator + Copy, W: Write>(
+    alloc: A,
+    ports: &[u16],
+    out: &mut W,
+) -> Result<(), AllocError>
+    ensures { PrintsReady (W.contents out.old) (W.contents out.new) }
+{
+    let text = ready_text(alloc, ports)?;
+    let _ = put_all(out, &text);
+    Ok(())
+}
+
+// What delivers each buffer's chunks. Once it is there, the sources are printed.
+#[tactic(auto, using(crate::proofs::StartingSteps::none_ready))]
+fn open_ready<W: Write>(
+    home: Home<'_>,
+    delivering: Vec<Delivering>,
+    turning: &InLoop<Folder, Global>,
+    sources: usize,
+    stop: &Arc<AtomicBool>,
+    out: &mut W,
+) -> Result<Vec<Pool>, LoopFault>
+    ensures { PrintsReady (W.contents out.old) (W.contents out.new) }
+{
+    let pools = open_pools(home, delivering, turning, stop)?;
+    print_ready(home.files.alloc(), turning, sources, out)?;
+    Ok(pools)
+}
+
+// What delivers each buffer's chunks.
+fn open_pools(
+    home: Home<'_>,
+    delivering: Vec<Delivering>,
+    turning: &InLoop<Folder, Global>,
+    stop: &Arc<AtomicBool>,
+) -> Result<Vec<Pool>, LoopFault> {
+    let mut pools = Vec::new(home.files.alloc());
+    for (each, buffer) in delivering.into_iter().zip(turning.buffers()) {
+        pools.push(Pool::open(home, each, buffer, stop)?)?;
+    }
+    Ok(pools)
+}
+
+// Waits for the threads to end, and gives the first fault.
+fn join_all<R: Threads>(rt: &R, threads: Vec<Delivery>) -> Option<LoopFault> {
+    let mut first = None;
+    for thread in threads {
+        let fault = thread.join(rt);
+        first = first.or(fault);
+    }
+    first
+}

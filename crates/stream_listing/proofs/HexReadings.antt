@@ -1,0 +1,59 @@
+-- There is one way to read hex digits.
+use Rattle.std.proofs.Common.{◌≡◌, ◌⊎◌, inl, inr, ℕ, List, [], ◌∷◌, ◌++◌, Ok, refl, sym, ap, ◌∙◌, subst}
+use Rattle.std.specs.Prelude.{IsErr}
+use Rattle.hex.specs.Hex.{decode_of}
+use Rattle.hex.proofs.HexLemmas.{decode_of-same}
+use Rattle.stream_listing.specs.HexText.{Spells, SpellsUpTo, IsBroken}
+
+-- one reading goes on where the other ended
+abbrev pub GoesOn : List ℕ → List ℕ → List ℕ → List ℕ → Type 0
+GoesOn bytes left more_bytes rest = (more : List ℕ) × (more_bytes ≡ bytes ++ more) × SpellsUpTo left more rest
+
+same_byte : (high low one other : ℕ) → decode_of (high ∷ low ∷ []) ≡ Ok (one ∷ []) → decode_of (high ∷ low ∷ []) ≡ Ok (other ∷ []) → one ≡ other
+same_byte high low one other h k = let e = decode_of-same (high ∷ low ∷ []) (one ∷ []) (other ∷ []) h k in cc
+
+compare_fronts : (front other bytes others left rest : List ℕ) → Spells front bytes → Spells other others → front ++ left ≡ other ++ rest
+    → GoesOn bytes left others rest ⊎ GoesOn others rest bytes left
+compare_fronts [] other [] others left rest h k e = inl (others, refl, record { front = other; spelled = k; whole = e })
+compare_fronts [] other (b ∷ bytes) others left rest h k e = absurd h
+compare_fronts (d ∷ []) other bytes others left rest h k e = absurd h
+compare_fronts (c ∷ d ∷ front) [] bytes [] left rest h k e = inr (bytes, refl, record { front = c ∷ d ∷ front; spelled = h; whole = sym e })
+compare_fronts (c ∷ d ∷ front) [] bytes (b ∷ others) left rest h k e = absurd k
+compare_fronts (c ∷ d ∷ front) (x ∷ []) bytes others left rest h k e = absurd k
+compare_fronts (c ∷ d ∷ front) (x ∷ y ∷ other) [] others left rest h k e = absurd h
+compare_fronts (c ∷ d ∷ front) (x ∷ y ∷ other) (b ∷ bytes) [] left rest h k e = absurd k
+compare_fronts (c ∷ d ∷ front) (x ∷ y ∷ other) (b ∷ bytes) (a ∷ others) left rest h k e =
+    let high : x ≡ c = cc in
+    let low : y ≡ d = cc in
+    let tails : front ++ left ≡ other ++ rest = cc in
+    let byte : b ≡ a = same_byte c d b a h.0 (subst (λ l. decode_of (c ∷ l ∷ []) ≡ Ok (a ∷ [])) low (subst (λ l. decode_of (l ∷ y ∷ []) ≡ Ok (a ∷ [])) high k.0)) in
+    elim (compare_fronts front other bytes others left rest h.1 k.1 tails) [
+      | inl on ↦ inl (on.0, ap (λ l. a ∷ l) on.1 ∙ ap (λ v. v ∷ (bytes ++ on.0)) (sym byte), on.2)
+      | inr on ↦ inr (on.0, ap (λ l. b ∷ l) on.1 ∙ ap (λ v. v ∷ (others ++ on.0)) byte, on.2)
+    ]
+
+-- of two readings one goes on where the other ended
+pub compare : (digits bytes others left rest : List ℕ) → SpellsUpTo digits bytes left → SpellsUpTo digits others rest
+    → GoesOn bytes left others rest ⊎ GoesOn others rest bytes left
+compare digits bytes others left rest h k = compare_fronts h.front k.front bytes others left rest h.spelled k.spelled (sym h.whole ∙ k.whole)
+
+-- nothing goes on where nothing is left
+pub ends_whole : (bytes others rest : List ℕ) → GoesOn bytes [] others rest → (others ≡ bytes ++ []) × (rest ≡ [])
+ends_whole bytes others rest h = ends bytes others rest h.0 h.2.front h.1 h.2.spelled h.2.whole where
+  ends : (bytes others rest more front : List ℕ) → others ≡ bytes ++ more → Spells front more → [] ≡ front ++ rest → (others ≡ bytes ++ []) × (rest ≡ [])
+  ends bytes others rest [] [] e s w = (e, sym w)
+  ends bytes others rest (b ∷ more) [] e s w = absurd s
+  ends bytes others rest more (d ∷ front) e s w = cc w
+
+-- nor where what is left is broken
+pub ends_broken : (bytes left others rest : List ℕ) → IsBroken left → GoesOn bytes left others rest → (others ≡ bytes ++ []) × (rest ≡ left)
+ends_broken bytes left others rest broken h = ends bytes left others rest h.0 h.2.front broken h.1 h.2.spelled h.2.whole where
+  ends : (bytes left others rest more front : List ℕ) → IsBroken left → others ≡ bytes ++ more → Spells front more → left ≡ front ++ rest
+      → (others ≡ bytes ++ []) × (rest ≡ left)
+  ends bytes left others rest [] [] broken e s w = (e, sym w)
+  ends bytes left others rest (b ∷ more) [] broken e s w = absurd s
+  ends bytes left others rest more (d ∷ []) broken e s w = absurd s
+  ends bytes left others rest [] (c ∷ d ∷ front) broken e s w = absurd s
+  ends bytes left others rest (b ∷ more) (c ∷ d ∷ front) broken e s w =
+      let bad : IsErr (decode_of (c ∷ d ∷ [])) = subst IsBroken w broken in
+      absurd (cc (rw s.0 at bad))

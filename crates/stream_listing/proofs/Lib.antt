@@ -1,0 +1,6 @@
+pub mod HexSteps
+pub mod ArrivalSteps
+pub mod DecodeSteps
+pub mod HexReadings
+pub mod FaultLaws
+pub mod Listings

@@ -1,0 +1,4 @@
+pub mod HexText
+pub mod Listing
+pub mod Decoding
+pub mod Laws

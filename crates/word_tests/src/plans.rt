@@ -1,0 +1,94 @@
+// Steps that come without an end.
+use plan_answers::run_replay;
+use program_text::{Open, Status};
+use std::io;
+use std::io::{ErrorKind, Read};
+use std::test::Fail;
+
+const PLAN: &str = "relay 1 127.0.0.1 one one.conf
+client 1 24224 **
+label 1 . **
+reach 1 . 0 **
+";
+
+const CONF: &str = "<source>
+  @type forward
+</source>
+<match **>
+  @type file
+  path all
+  <buffer>
+    @type file
+    path store
+    retry_forever true
+  </buffer>
+</match>
+";
+
+// One configuration, and nothing else.
+struct OneText;
+
+impl Open for OneText {
+    ghost use Rattle.std.specs.Prelude.{None};
+
+    ghost text_of = { λ _ _. None };
+
+    type Reader = Text;
+
+    fn open(&self, name: &str) -> io::Result<Text> {
+        if name == "one.conf" {
+            return Ok(Text {
+                rest: CONF.as_bytes(),
+            });
+        }
+        Err(io::Error::from(ErrorKind::NotFound))
+    }
+}
+
+// Gives a text in one piece after another.
+#[derive(Drop)]
+struct Text {
+    rest: &'static [u8],
+}
+
+impl Read for Text {
+    fn read(&mut self, buf: &mut [u8]) -> io::Result<usize> {
+        self.rest.read(buf)
+    }
+}
+
+// Gives one space for ever.
+#[derive(Drop)]
+struct Endless {
+    calls: u64,
+}
+
+impl Read for Endless {
+    fn read(&mut self, buf: &mut [u8]) -> io::Result<usize> {
+        self.calls = self.calls.saturating_add(1);
+        match buf.first_mut() {
+            Some(byte) => {
+                *byte = b' ';
+                Ok(1)
+            }
+            None => Ok(0),
+        }
+    }
+}
+
+#[test]
+fn steps_without_an_end_are_not_read(rt: HostRuntime) -> Result<(), Fail> {
+    let mut out = Vec::new(rt.alloc());
+    let mut steps = Endless { calls: 0 };
+    let status = run_replay(
+        rt.alloc(),
+        &mut PLAN.as_bytes(),
+        &mut steps,
+        &OneText,
+        &mut out,
+    );
+    assert_eq!(rt; out.as_slice(), b"yes\nfault read\n".as_slice());
+    assert_eq!(rt; status, Status::Usage);
+    assert_eq!(rt; steps.calls, 16_777_216);
+    Ok(())
+}
