@@ -268,13 +268,17 @@ impl<'a, A: Allocator + Copy> Deriver<'a, A> {
         pattern: &Plain<A>,
         origin: Origin,
     ) -> Result<(), AllocError> {
+        let longer = prefixed(self.alloc, prefix, pattern)?;
+        if is_known(self.stock.labels(at), &longer) {
+            return Ok(());
+        }
         let comes_back = has_passed(&self.tasks, origin.from, gate);
         let wider = if self.manner.widest || (comes_back && origin.widenings > 0) {
             any_tag(self.alloc)?
         } else if comes_back {
             widened(self.alloc, pattern)?
         } else {
-            prefixed(self.alloc, prefix, pattern)?
+            longer
         };
         let here = Origin {
             from: origin.from,
