@@ -56,12 +56,12 @@ pub fn run_replay<A: Allocator + Copy, R: Read, S: Read, O: Open, W: Write>(
     }
 }
 
-// Why there is no answer.
+/// Why there is no answer.
 #[derive(Drop)]
-enum Stop {
-    // The plan has this fault.
+pub enum Stop {
+    /// The plan has this fault, which isn't want of memory.
     Plan(PlanError),
-    // A text isn't read, or what it needs isn't there.
+    /// A text isn't read, or what it needs isn't there.
     Unread(ReadFault),
 }
 
@@ -132,8 +132,8 @@ fn read_plan<A: Allocator + Copy, R: Read, O: Open>(
     }
 }
 
-// What a fault of the plan stops with: want of memory is none of the plan's.
-fn stop_of(fault: PlanError) -> Stop
+/// What a fault of the plan stops with: want of memory is none of the plan's.
+pub fn stop_of(fault: PlanError) -> Stop
     ensures { StopsWith fault result }
 {
     match fault {
@@ -142,8 +142,8 @@ fn stop_of(fault: PlanError) -> Stop
     }
 }
 
-// The texts of these names, in their order.
-fn read_confs<A: Allocator + Copy, O: Open>(
+/// The texts of these names, in their order, each read whole.
+pub fn read_confs<A: Allocator + Copy, O: Open>(
     alloc: A,
     names: &[&str],
     files: &O,
@@ -218,8 +218,8 @@ fn unread_line(fault: ReadFault) -> &'static str
     }
 }
 
-// Prints why there is no answer.
-fn print_stop<A: Allocator, W: Write>(alloc: A, stop: Stop, out: &mut W) -> Status
+/// Prints why there is no answer, as a line. The status is that of a usage.
+pub fn print_stop<A: Allocator, W: Write>(alloc: A, stop: Stop, out: &mut W) -> Status
     ensures { PrintsStop stop (W.contents out.old) (W.contents out.new) result }
 {
     match stop {

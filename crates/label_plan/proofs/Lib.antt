@@ -1,0 +1,2 @@
+pub mod Peeling
+pub mod Nones

@@ -1,0 +1,2 @@
+pub mod Labelling
+pub mod Lines

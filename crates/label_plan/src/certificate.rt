@@ -1,0 +1,122 @@
+//! What a plan with more lines has to be: the given plan with labels and reaches added, of which the rules on these hold.
+ghost use Rattle.std.specs.Prelude.{◌≡◌, ◌≤◌, IfOk, IsTrue, All, map, length, take};
+ghost use Rattle.label_plan.specs.Labelling.{IsClosed};
+ghost use Rattle.label_plan.specs.Lines.{IsLabelLine, OnlyAdds, are_label_words};
+ghost use Rattle.relay_faults.specs.Examined.{words_of};
+
+use loss_rules::{
+    Label, Reach, clients_are_labelled, forwards_are_labelled, labels_are_matched,
+    reached_matches_keep, reaches_cover, relabels_are_labelled,
+};
+use plan_lines::Plan;
+use relabel_cycles::first_cycle;
+use relay_faults::words;
+use relay_net::Net;
+use std::alloc::{AllocError, Allocator};
+use std::str;
+use text_lines::lines;
+
+/// Whether the text has the lines of the given one, and behind them labels and reaches alone.
+pub(crate) fn only_adds<A: Allocator + Copy>(
+    alloc: A,
+    given: &[u8],
+    text: &[u8],
+) -> Result<bool, AllocError>
+    ensures { IfOk result (λ only. IsTrue only → OnlyAdds given.now text.now) }
+{
+    let own = lines(alloc, given)?;
+    let all = lines(alloc, text)?;
+    if all.len() < own.len() || !begin_with(&all, &own) {
+        return Ok(false);
+    }
+    are_label_lines(alloc, all.split_at(own.len()).1)
+}
+
+// Whether the lines begin with these others.
+fn begin_with(all: &[&[u8]], own: &[&[u8]]) -> bool
+    requires { length own.now ≤ length all.now }
+    ensures { IsTrue result → take (length own.now) (map (λ line. line.now) all.now) ≡ map (λ line. line.now) own.now }
+{
+    for at in 0..own.len() {
+        if all[at] != own[at] {
+            return false;
+        }
+    }
+    true
+}
+
+// Whether each of the lines is empty or says a label or a reach, if it says anything.
+fn are_label_lines<A: Allocator + Copy>(alloc: A, lines: &[&[u8]]) -> Result<bool, AllocError>
+    ensures { IfOk result (λ only. IsTrue only → All (λ line. IsLabelLine line.now) lines.now) }
+{
+    for line in lines {
+        if !is_label_line(alloc, line)? {
+            return Ok(false);
+        }
+    }
+    Ok(true)
+}
+
+// Whether the line is empty or says a label or a reach, if it says anything.
+fn is_label_line<A: Allocator + Copy>(alloc: A, line: &[u8]) -> Result<bool, AllocError>
+    ensures { IfOk result (λ only. IsTrue only → IsLabelLine line.now) }
+{
+    match str::from_utf8(line) {
+        Ok(text) => Ok(are_label_words(&words(alloc, text)?)),
+        Err(_) => Ok(false),
+    }
+}
+
+// Whether there are no words, or the first of them is `label` or `reach`.
+fn are_label_words(words: &[&str]) -> bool
+    ensures { result ≡ are_label_words (map (λ word. word.now) words.now) }
+{
+    match words.first() {
+        Some(word) => *word == "label" || *word == "reach",
+        None => true,
+    }
+}
+
+/// Whether the rules on clients, coverage, relabels and forwards hold of the plan.
+pub(crate) fn is_closed<A: Allocator + Copy>(plan: &Plan<A>) -> bool
+    ensures { IsTrue result → IsClosed plan.now.net plan.now.labels plan.now.reaches }
+{
+    let lines = plan.client_lines();
+    is_closed_by(plan.net(), lines, plan.labels(), plan.reaches())
+}
+
+// Whether these rules hold of a network with the clients of these lines, and of the labels and reaches.
+fn is_closed_by<A: Allocator + Copy>(
+    net: &Net<A>,
+    client_lines: &[usize],
+    labels: &[Label<A>],
+    reaches: &[Reach<A>],
+) -> bool
+    requires { length client_lines.now ≡ length net.now.clients }
+    ensures { IsTrue result → IsClosed net.now labels.now reaches.now }
+{
+    if clients_are_labelled(net, client_lines, labels).is_some() {
+        return false;
+    }
+    if reaches_cover(net, labels, reaches).is_some() {
+        return false;
+    }
+    if relabels_are_labelled(net, labels, reaches).is_some() {
+        return false;
+    }
+    if forwards_are_labelled(net, labels, reaches).is_some() {
+        return false;
+    }
+    true
+}
+
+/// Whether the other rules hold of the plan that depend on its labels and reaches.
+pub(crate) fn is_kept<A: Allocator + Copy>(alloc: A, plan: &Plan<A>) -> Result<bool, AllocError> {
+    let net = plan.net();
+    let reaches = plan.reaches();
+    Ok(
+        labels_are_matched(net, plan.labels()).is_none()
+            && reached_matches_keep(net, plan.duty(), reaches).is_none()
+            && first_cycle(alloc, net, reaches)?.is_none(),
+    )
+}

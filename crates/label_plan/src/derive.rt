@@ -1,0 +1,412 @@
+//! Labels and reaches, derived from what the clients send: a worklist of labels, each of which is taken through the matches of its scope
+//! once. What is derived here is only proposed: that it closes the plan is decided by the rules' own deciders, of what was written.
+
+use crate::lines::{put_label, put_reach};
+use crate::manner::{Manner, Preference};
+use crate::pattern::{any_tag, copied, fits_any, prefixed, widened};
+use crate::stock::{Stock, is_known, matches_at};
+use crate::task::{FIRST, Gate, Origin, Task, has_passed};
+use plan_lines::Plan;
+use relay_conf::{MatchRule, Output, Server};
+use relay_net::{Entrance, Net};
+use std::alloc::{AllocError, Allocator};
+use tag_pattern::{Plain, Prefix, apart, fits, fits_entered};
+
+/// The most labels that are taken through their scopes.
+const MOST_LABELS: usize = 65_536;
+
+/// The lines that the plan lacks; nothing where there are too many labels.
+pub(crate) fn derived<A: Allocator + Copy>(
+    alloc: A,
+    plan: &Plan<A>,
+    manner: Manner,
+) -> Result<Option<Vec<u8, A>>, AllocError> {
+    let mut deriver = Deriver {
+        alloc,
+        net: plan.net(),
+        manner,
+        stock: Stock::new(alloc, plan.net())?,
+        tasks: Vec::new(alloc),
+        lines: Vec::new(alloc),
+    };
+    deriver.begin(plan)?;
+    deriver.finish()
+}
+
+// What was derived so far.
+#[derive(Drop)]
+struct Deriver<'a, A: Allocator> {
+    alloc: A,
+    net: &'a Net<A>,
+    manner: Manner,
+    stock: Stock<A>,
+    tasks: Vec<Task<A>, A>,
+    lines: Vec<u8, A>,
+}
+
+impl<'a, A: Allocator + Copy> Deriver<'a, A> {
+    // Takes in what the plan has, and what its clients send.
+    fn begin(&mut self, plan: &Plan<A>) -> Result<(), AllocError> {
+        self.take_labels(plan)?;
+        self.take_reaches(plan)?;
+        self.spread_reaches(plan)?;
+        self.take_clients()
+    }
+
+    // Takes in the labels that the plan has.
+    fn take_labels(&mut self, plan: &Plan<A>) -> Result<(), AllocError> {
+        for label in plan.labels() {
+            let at = Entrance {
+                relay: label.place,
+                scope: label.scope,
+            };
+            for pattern in &label.patterns {
+                self.keep_label(at, pattern, true, FIRST)?;
+            }
+        }
+        Ok(())
+    }
+
+    // Takes in the reaches that the plan has.
+    fn take_reaches(&mut self, plan: &Plan<A>) -> Result<(), AllocError> {
+        for reach in plan.reaches() {
+            let at = Entrance {
+                relay: reach.place,
+                scope: reach.scope,
+            };
+            for pattern in &reach.patterns {
+                self.keep_reach(at, reach.rule, pattern)?;
+            }
+        }
+        Ok(())
+    }
+
+    // Follows the reaches that the plan has.
+    fn spread_reaches(&mut self, plan: &Plan<A>) -> Result<(), AllocError> {
+        for reach in plan.reaches() {
+            let at = Entrance {
+                relay: reach.place,
+                scope: reach.scope,
+            };
+            if let Some(found) = matches_at(self.net, at).get(reach.rule) {
+                for pattern in &reach.patterns {
+                    self.spread(at, &found.outputs, pattern, FIRST)?;
+                }
+            }
+        }
+        Ok(())
+    }
+
+    // Labels what the clients send.
+    fn take_clients(&mut self) -> Result<(), AllocError> {
+        let net = self.net;
+        for (number, client) in net.clients().iter().enumerate() {
+            if let Some(host) = net.client_host(number) {
+                for pattern in &client.patterns {
+                    self.enter(host, client.port, pattern, FIRST)?;
+                }
+            }
+        }
+        Ok(())
+    }
+
+    // Takes label after label through its scope, and answers the lines.
+    fn finish(mut self) -> Result<Option<Vec<u8, A>>, AllocError> {
+        for next in 0..MOST_LABELS {
+            if next >= self.tasks.len() {
+                return Ok(Some(self.lines));
+            }
+            self.take(next)?;
+        }
+        Ok(None)
+    }
+
+    // Takes the label of this task through the matches of its scope, up to the first that it fits.
+    fn take(&mut self, number: usize) -> Result<(), AllocError> {
+        let Some(task) = self.tasks.get(number) else {
+            return Ok(());
+        };
+        let at = task.at;
+        let pattern = copied(self.alloc, &task.pattern)?;
+        let origin = Origin {
+            from: Some(number),
+            gate: None,
+            widenings: task.origin.widenings,
+        };
+        if !task.is_given {
+            put_label(self.alloc, &mut self.lines, self.net, at, &pattern)?;
+        }
+        for (rule, found) in matches_at(self.net, at).iter().enumerate() {
+            if fits_any(&pattern, &found.patterns) {
+                return self.reach(at, rule, found, &pattern, origin);
+            }
+            self.meet(at, rule, found, &pattern, origin)?;
+        }
+        Ok(())
+    }
+
+    // Takes the label's pattern to a match that it doesn't fit, by each pattern of the match that it meets.
+    fn meet(
+        &mut self,
+        at: Entrance,
+        rule: usize,
+        found: &MatchRule<A>,
+        label: &Plain<A>,
+        origin: Origin,
+    ) -> Result<(), AllocError> {
+        for other in &found.patterns {
+            if !apart(other, label) && !is_known(self.stock.reaches(at, rule), label) {
+                let narrower = self.narrower(at, &found.outputs, label, other);
+                if !is_known(self.stock.reaches(at, rule), other) {
+                    self.reach(at, rule, found, narrower, origin)?;
+                }
+            }
+        }
+        Ok(())
+    }
+
+    // The narrower of a label's and a match's pattern. Where neither fits the other, it is the one that all targets of these outputs have
+    // a match for, and else the preferred one.
+    fn narrower<'p>(
+        &self,
+        at: Entrance,
+        outputs: &[Output<A>],
+        label: &'p Plain<A>,
+        other: &'p Plain<A>,
+    ) -> &'p Plain<A> {
+        if fits(other, label) {
+            return other;
+        }
+        let prefers_label = self.manner.prefer == Preference::Label;
+        match (
+            all_match(self.net, at, outputs, label),
+            all_match(self.net, at, outputs, other),
+        ) {
+            (true, false) => label,
+            (false, true) => other,
+            _ if prefers_label => label,
+            _ => other,
+        }
+    }
+
+    // Adds a reach of the match, unless it fits one, and follows it.
+    fn reach(
+        &mut self,
+        at: Entrance,
+        rule: usize,
+        found: &MatchRule<A>,
+        pattern: &Plain<A>,
+        origin: Origin,
+    ) -> Result<(), AllocError> {
+        if is_known(self.stock.reaches(at, rule), pattern) {
+            return Ok(());
+        }
+        self.keep_reach(at, rule, pattern)?;
+        put_reach(self.alloc, &mut self.lines, self.net, at, rule, pattern)?;
+        self.spread(at, &found.outputs, pattern, origin)
+    }
+
+    // Labels the scopes to which these outputs, those of a match of the scope, send the pattern's tags.
+    fn spread(
+        &mut self,
+        at: Entrance,
+        outputs: &[Output<A>],
+        pattern: &Plain<A>,
+        origin: Origin,
+    ) -> Result<(), AllocError> {
+        for output in outputs {
+            match output {
+                Output::Relabel { target, line: _ } => {
+                    let target = Entrance {
+                        relay: at.relay,
+                        scope: target.0,
+                    };
+                    self.label(target, pattern, origin)?;
+                }
+                Output::Forward { settings, line: _ } => {
+                    for server in &settings.servers {
+                        self.enter(server.host.as_bytes(), server.port, pattern, origin)?;
+                    }
+                }
+                _ => {}
+            }
+        }
+        Ok(())
+    }
+
+    // Labels the scope into which the source with this address leads.
+    fn enter(
+        &mut self,
+        host: &[u8],
+        port: u16,
+        pattern: &Plain<A>,
+        origin: Origin,
+    ) -> Result<(), AllocError> {
+        let net = self.net;
+        let Some(at) = net.entrance(host, port) else {
+            return Ok(());
+        };
+        match net.prefix(host, port) {
+            None => self.label(at, pattern, origin),
+            Some(prefix) => {
+                let gate = Gate {
+                    relay: at.relay,
+                    port,
+                };
+                self.enter_gate(at, gate, prefix, pattern, origin)
+            }
+        }
+    }
+
+    // Labels the scope behind a source with a prefix. What comes through it for a second time on its way is widened: by `**` in place of the
+    // prefix, and then to `**`.
+    fn enter_gate(
+        &mut self,
+        at: Entrance,
+        gate: Gate,
+        prefix: &Prefix<A>,
+        pattern: &Plain<A>,
+        origin: Origin,
+    ) -> Result<(), AllocError> {
+        let longer = prefixed(self.alloc, prefix, pattern)?;
+        if is_known(self.stock.labels(at), &longer) {
+            return Ok(());
+        }
+        let comes_back = has_passed(&self.tasks, origin.from, gate);
+        let wider = if self.manner.widest || (comes_back && origin.widenings > 0) {
+            any_tag(self.alloc)?
+        } else if comes_back {
+            widened(self.alloc, pattern)?
+        } else {
+            longer
+        };
+        let here = Origin {
+            from: origin.from,
+            gate: Some(gate),
+            widenings: if comes_back { 1 } else { origin.widenings },
+        };
+        self.label(at, &wider, here)
+    }
+
+    // Adds a label of the scope, unless it fits one.
+    fn label(
+        &mut self,
+        at: Entrance,
+        pattern: &Plain<A>,
+        origin: Origin,
+    ) -> Result<(), AllocError> {
+        if is_known(self.stock.labels(at), pattern) {
+            return Ok(());
+        }
+        self.keep_label(at, pattern, false, origin)
+    }
+
+    // Keeps a label, to be taken through its scope.
+    fn keep_label(
+        &mut self,
+        at: Entrance,
+        pattern: &Plain<A>,
+        is_given: bool,
+        origin: Origin,
+    ) -> Result<(), AllocError> {
+        if let Some(labels) = self.stock.labels(at) {
+            labels.push(copied(self.alloc, pattern)?)?;
+        }
+        self.tasks.push(Task {
+            at,
+            pattern: copied(self.alloc, pattern)?,
+            is_given,
+            origin,
+        })?;
+        Ok(())
+    }
+
+    // Keeps a reach.
+    fn keep_reach(
+        &mut self,
+        at: Entrance,
+        rule: usize,
+        pattern: &Plain<A>,
+    ) -> Result<(), AllocError> {
+        if let Some(reaches) = self.stock.reaches(at, rule) {
+            reaches.push(copied(self.alloc, pattern)?)?;
+        }
+        Ok(())
+    }
+}
+
+// Whether each scope to which one of these outputs, those of a match of the scope, sends the pattern's tags has a match that they fit.
+fn all_match<A: Allocator + Copy>(
+    net: &Net<A>,
+    at: Entrance,
+    outputs: &[Output<A>],
+    pattern: &Plain<A>,
+) -> bool {
+    for output in outputs {
+        if !has_match(net, at, output, pattern) {
+            return false;
+        }
+    }
+    true
+}
+
+// Whether each scope to which the output, that of a match of the scope, sends the pattern's tags has a match that they fit.
+fn has_match<A: Allocator + Copy>(
+    net: &Net<A>,
+    at: Entrance,
+    output: &Output<A>,
+    pattern: &Plain<A>,
+) -> bool {
+    match output {
+        Output::Relabel { target, line: _ } => {
+            let target = Entrance {
+                relay: at.relay,
+                scope: target.0,
+            };
+            fits_match(matches_at(net, target), pattern)
+        }
+        Output::Forward { settings, line: _ } => are_taken(net, &settings.servers, pattern),
+        _ => true,
+    }
+}
+
+// Whether the pattern fits one of the matches.
+fn fits_match<A: Allocator>(matches: &[MatchRule<A>], pattern: &Plain<A>) -> bool {
+    matches
+        .iter()
+        .any(|found| fits_any(pattern, &found.patterns))
+}
+
+// Whether the scope into which each of the servers leads has a match that the pattern fits there.
+fn are_taken<A: Allocator + Copy>(net: &Net<A>, servers: &[Server<A>], pattern: &Plain<A>) -> bool {
+    for server in servers {
+        if !is_taken(net, server, pattern) {
+            return false;
+        }
+    }
+    true
+}
+
+// Whether the pattern, with the prefix in front if there is one, fits a match of the scope.
+fn is_matched<A: Allocator + Copy>(
+    net: &Net<A>,
+    at: Entrance,
+    prefix: Option<&Prefix<A>>,
+    pattern: &Plain<A>,
+) -> bool {
+    matches_at(net, at).iter().any(|found| {
+        found
+            .patterns
+            .iter()
+            .any(|other| fits_entered(prefix, pattern, other))
+    })
+}
+
+// Whether the scope into which the server leads has a match that the pattern fits there.
+fn is_taken<A: Allocator + Copy>(net: &Net<A>, server: &Server<A>, pattern: &Plain<A>) -> bool {
+    let host = server.host.as_bytes();
+    match net.entrance(host, server.port) {
+        Some(at) => is_matched(net, at, net.prefix(host, server.port), pattern),
+        None => true,
+    }
+}

@@ -1,0 +1,13 @@
+//! The labels and reaches that a plan lacks, found from its configurations and written as lines behind its own.
+#![tactic(auto)]
+
+mod certificate;
+mod derive;
+mod labelled;
+mod lines;
+mod manner;
+mod pattern;
+mod stock;
+mod task;
+
+pub use labelled::labelled_text;

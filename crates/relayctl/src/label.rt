@@ -1,0 +1,46 @@
+//! The word `label`: a plan with the labels and reaches that it lacks.
+ghost use Rattle.std.specs.Prelude.{IfOk, IfErr, IfSome};
+ghost use Rattle.plan_answers.specs.Networks.{IsStopOf};
+ghost use Rattle.relayctl.specs.Labels.{IsLabelledPlan, PrintsLabels};
+
+use label_plan::labelled_text;
+use loss_checker::conf_names;
+use plan_answers::{Stop, print_stop, read_confs, stop_of};
+use program_text::{Open, Status, put_last, read_whole};
+use std::alloc::Allocator;
+use std::io::{Read, Write};
+
+/// Prints the plan that `net` gives with the labels and reaches that it lacks, each as a line behind its own; or that no such lines were
+/// found, or the plan's first fault. Each text is read whole before a fault of the plan is looked for.
+pub fn run_label<A: Allocator + Copy, R: Read, O: Open, W: Write>(
+    alloc: A,
+    net: &mut R,
+    files: &O,
+    out: &mut W,
+) -> Status
+    ensures { PrintsLabels A (R.remaining net.old) (O.text_of files.now) (W.contents out.old) (W.contents out.new) result }
+{
+    match label_read(alloc, net, files) {
+        Ok(Some(text)) => put_last(out, &text, Status::Done),
+        Ok(None) => put_last(out, b"no labels\n", Status::No),
+        Err(stop) => print_stop(alloc, stop, out),
+    }
+}
+
+// The text of the plan that is read, with the labels and reaches that it lacks.
+fn label_read<A: Allocator + Copy, R: Read, O: Open>(
+    alloc: A,
+    net: &mut R,
+    files: &O,
+) -> Result<Option<Vec<u8, A>>, Stop>
+    ensures labelled { IfOk result (λ found. IfSome found (λ text. IsLabelledPlan A (R.remaining net.old) (O.text_of files.now) text.items)) }
+    ensures stop { IfErr result (IsStopOf A (R.remaining net.old) (O.text_of files.now)) }
+{
+    let text = read_whole(alloc, net)?;
+    let names = conf_names(alloc, &text)?;
+    let confs = read_confs(alloc, &names, files)?;
+    match labelled_text(alloc, &text, &confs) {
+        Ok(found) => Ok(found),
+        Err(fault) => Err(stop_of(fault)),
+    }
+}

@@ -1,0 +1,55 @@
+//! The operator's program: words of the command line, each of which reads, answers and gives a status.
+#![tactic(auto)]
+
+mod label;
+mod words;
+
+use label::run_label;
+use program_text::{Folder, Status, put_last};
+use std::io::ErrorKind;
+use std::process::ExitCode;
+use std::{env, io};
+use words::{Word, read_word};
+
+const USAGE: &str = "usage: relayctl label NET | --help";
+
+const HELP: &str = "usage: relayctl label NET | --help
+
+label NET  prints the plan NET with the label and reach lines that it lacks
+--help     prints this
+
+docs/RELAYCTL.md says more.
+";
+
+fn usage(rt: &impl Eprint) -> Status {
+    let _ = rt.eprintln(USAGE);
+    Status::Usage
+}
+
+// Does what a word asks for.
+fn run(rt: &HostRuntime, word: Option<Word<'_>>) -> Status {
+    let folder = Folder::new(rt);
+    let out = &mut io::writer(rt);
+    match word {
+        Some(Word::Help) => put_last(out, HELP.as_bytes(), Status::Done),
+        Some(Word::Label(net)) => run_label(rt.alloc(), &mut folder.text(net), &folder, out),
+        None => usage(rt),
+    }
+}
+
+// The words that the program was called with.
+fn called_with(rt: &HostRuntime) -> io::Result<Vec<String>> {
+    Ok(env::args(rt)?.collect(rt.alloc())?)
+}
+
+fn main(rt: HostRuntime) -> ExitCode {
+    let status = match called_with(&rt) {
+        Ok(words) => run(&rt, read_word(&words)),
+        Err(e) if e.kind() == ErrorKind::OutOfMemory => {
+            let _ = rt.println("fault memory");
+            Status::Usage
+        }
+        Err(_) => usage(&rt),
+    };
+    ExitCode::from(status as u8)
+}

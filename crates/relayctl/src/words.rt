@@ -1,0 +1,28 @@
+//! The words of the command line.
+
+/// What the program is asked to do; a path is taken from the working folder.
+#[derive(Clone, Copy, Debug, PartialEq, Eq)]
+pub enum Word<'a> {
+    /// Say what it can be asked.
+    Help,
+    /// Label the plan of a network, at this path.
+    Label(&'a str),
+}
+
+/// Reads the words, of which the first is the program's own name. `None` where they ask for nothing that there is.
+pub fn read_word(words: &[String]) -> Option<Word<'_>> {
+    match words {
+        [_, word] => {
+            if word.as_str() == "--help" {
+                return Some(Word::Help);
+            }
+        }
+        [_, word, net] => {
+            if word.as_str() == "label" {
+                return Some(Word::Label(net));
+            }
+        }
+        _ => (),
+    }
+    None
+}
