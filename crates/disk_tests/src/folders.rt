@@ -45,8 +45,7 @@ fn bytes_of<D: Dir>(alloc: Global, dir: &mut D, name: &[u8]) -> Result<Option<Ve
 }
 
 // One file synced in part, one never synced, one removed, and the one that was written to last.
-fn folder(alloc: Global) -> Result<MemoryDir<Global>, DirError> {
-    let mut dir = MemoryDir::new(alloc);
+fn fill<D: Dir>(dir: &mut D) -> Result<(), DirError> {
     let kept = dir.create(b"kept", 4)?;
     dir.append(kept, b"ab")?;
     dir.sync(kept)?;
@@ -60,13 +59,18 @@ fn folder(alloc: Global) -> Result<MemoryDir<Global>, DirError> {
     let last = dir.create(b"last", 6)?;
     dir.append(last, b"abc")?;
     dir.sync(last)?;
-    dir.append(last, b"def")?;
+    dir.append(last, b"def")
+}
+
+fn folder(alloc: Global) -> Result<MemoryDir<Global>, DirError> {
+    let mut dir = MemoryDir::new(alloc);
+    fill(&mut dir)?;
     Ok(dir)
 }
 
-fn reads_as(
+fn reads_as<D: Dir>(
     alloc: Global,
-    dir: &mut MemoryDir<Global>,
+    dir: &mut D,
     name: &[u8],
     want: Option<&[u8]>,
 ) -> Result<bool, DirError> {
@@ -77,59 +81,82 @@ fn reads_as(
     })
 }
 
-// What is left of `kept`, `young` and `last`, and nothing of `gone`. It counts as synced, so a second stop loses nothing.
-fn leaves(
-    alloc: Global,
-    keep: Keep,
-    kept: &[u8],
-    young: Option<&[u8]>,
-    last: &[u8],
-) -> Result<bool, DirError> {
-    let mut dir = folder(alloc)?.stop(keep).stop(Keep::Least);
+// What is left of `kept`, `young` and `last`; nothing is left of `gone`.
+#[derive(Clone, Copy)]
+struct Left {
+    kept: &'static [u8],
+    young: Option<&'static [u8]>,
+    last: &'static [u8],
+}
+
+fn has<D: Dir>(alloc: Global, dir: &mut D, left: &Left) -> Result<bool, DirError> {
     Ok(
-        reads_as(alloc, &mut dir, b"kept", Some(kept))?
-            && reads_as(alloc, &mut dir, b"young", young)?
-            && reads_as(alloc, &mut dir, b"gone", None)?
-            && reads_as(alloc, &mut dir, b"last", Some(last))?,
+        reads_as(alloc, dir, b"kept", Some(left.kept))?
+            && reads_as(alloc, dir, b"young", left.young)?
+            && reads_as(alloc, dir, b"gone", None)?
+            && reads_as(alloc, dir, b"last", Some(left.last))?,
     )
+}
+
+// Whether a stop leaves that. It counts as synced, so a second stop loses nothing.
+fn leaves(alloc: Global, keep: Keep, left: &Left) -> Result<bool, DirError> {
+    let mut dir = folder(alloc)?.stop(keep).stop(Keep::Least);
+    has(alloc, &mut dir, left)
+}
+
+// All but what was written to `last`.
+const fn all_but(last: &'static [u8]) -> Left {
+    Left {
+        kept: b"abcd",
+        young: Some(b"xy"),
+        last,
+    }
 }
 
 #[test]
 fn what_a_stop_leaves(rt: HostRuntime) -> Result<(), DirError> {
-    let alloc = rt.alloc();
-    assert!(rt; leaves(alloc, Keep::Least, b"ab", None, b"abc")?);
-    assert!(rt; leaves(alloc, Keep::Greatest, b"abcd", Some(b"xy"), b"abcdef")?);
-    assert!(rt; leaves(alloc, Keep::Last(0), b"abcd", Some(b"xy"), b"abc")?);
-    assert!(rt; leaves(alloc, Keep::Last(4), b"abcd", Some(b"xy"), b"abcd")?);
-    assert!(rt; leaves(alloc, Keep::Last(6), b"abcd", Some(b"xy"), b"abcdef")?);
-    assert!(rt; leaves(alloc, Keep::Last(9), b"abcd", Some(b"xy"), b"abcdef")?);
+    let synced = Left {
+        kept: b"ab",
+        young: None,
+        last: b"abc",
+    };
+    let rows = [
+        (Keep::Least, synced),
+        (Keep::Greatest, all_but(b"abcdef")),
+        (Keep::Last(0), all_but(b"abc")),
+        (Keep::Last(4), all_but(b"abcd")),
+        (Keep::Last(6), all_but(b"abcdef")),
+        (Keep::Last(9), all_but(b"abcdef")),
+    ];
+    for (keep, left) in rows {
+        assert!(rt; leaves(rt.alloc(), keep, &left)?);
+    }
     Ok(())
 }
 
-// A fuse that fails from a call on.
+// Whether these calls fail, once and again, and how often the folder failed before the second turn.
+fn turns<D: Dir>(alloc: Global, dir: &mut D) -> [bool; 3] {
+    let first = each_call(alloc, dir, b"a").is_err();
+    let second = each_call(alloc, dir, b"b").is_err();
+    [first, second, each_call(alloc, dir, b"c").is_err()]
+}
+
+// A fuse that fails from a call on; what it holds doesn't.
 fn fails_after(alloc: Global, passes: u64) -> bool {
     let mut fuse = Fuse::after(MemoryDir::new(alloc), passes);
-    let first = each_call(alloc, &mut fuse, b"a");
-    let counted = fuse.faults();
-    let second = each_call(alloc, &mut fuse, b"b");
+    let failed = turns(alloc, &mut fuse);
     let mut inner = fuse.into_inner();
-    first.is_err() == (passes < CALLS)
-        && counted == u64::from(passes < CALLS)
-        && second == Err(DirError::Fault)
-        && inner.faults() == 0
-        && each_call(alloc, &mut inner, b"c").is_ok()
+    failed == [passes < CALLS, true, true] && each_call(alloc, &mut inner, b"d").is_ok()
 }
 
 // A fuse that fails one call.
 fn fails_once(alloc: Global, passes: u64) -> bool {
     let mut fuse = Fuse::once(MemoryDir::new(alloc), passes);
-    let first = each_call(alloc, &mut fuse, b"a");
-    let second = each_call(alloc, &mut fuse, b"b");
-    let third = each_call(alloc, &mut fuse, b"c");
-    first.is_err() == (passes < CALLS)
-        && second.is_err() == (passes >= CALLS)
-        && third.is_ok()
-        && fuse.faults() == 1
+    turns(alloc, &mut fuse) == [passes < CALLS, passes >= CALLS, false] && faults_of(&fuse) == 1
+}
+
+fn faults_of<D: Dir>(dir: &D) -> u64 {
+    dir.faults()
 }
 
 #[test]
@@ -143,20 +170,30 @@ fn fuse_fails_one_call_or_all_later_ones(rt: HostRuntime) {
 // A folder may be kept under a lock that threads share.
 fn send<T: Send>(_value: &T) {}
 
+// Names are taken for good, and each refusal is counted.
+fn keeps_names<D: Dir>(alloc: Global, dir: &mut D) -> Result<bool, DirError> {
+    Ok(
+        dir.list(alloc)?.len() == 3
+            && dir.create(b"kept", 0) == Err(DirError::NameTaken)
+            && dir.create(b"gone", 0) == Err(DirError::NameTaken)
+            && dir.open(b"gone") == Err(DirError::NoSuchFile)
+            && dir.open(b"none") == Err(DirError::NoSuchFile)
+            && dir.faults() == 4,
+    )
+}
+
+fn makes<D: Dir>(dir: &mut D, name: &[u8]) -> bool {
+    dir.create(name, 0).is_ok()
+}
+
 #[test]
 fn names_of_files(rt: HostRuntime) -> Result<(), DirError> {
-    let alloc = rt.alloc();
-    let mut dir = folder(alloc)?;
+    let mut dir = folder(rt.alloc())?;
     send(&dir);
-    assert_eq!(rt; dir.list(alloc)?.len(), 3);
-    assert_eq!(rt; dir.create(b"kept", 0), Err(DirError::NameTaken));
-    assert_eq!(rt; dir.create(b"gone", 0), Err(DirError::NameTaken));
-    assert_eq!(rt; dir.open(b"gone"), Err(DirError::NoSuchFile));
-    assert_eq!(rt; dir.open(b"none"), Err(DirError::NoSuchFile));
-    assert_eq!(rt; dir.faults(), 4);
+    assert!(rt; keeps_names(rt.alloc(), &mut dir)?);
     // After a stop a removed name is free.
     let mut dir = dir.stop(Keep::Greatest);
-    assert!(rt; dir.create(b"gone", 0).is_ok());
+    assert!(rt; makes(&mut dir, b"gone"));
     Ok(())
 }
 
@@ -196,14 +233,17 @@ fn has_one<D: Dir>(
     )
 }
 
+// A folder that isn't there fails, and says so.
+fn is_missing<D: Dir>(alloc: Global, dir: &mut D) -> bool {
+    dir.create(b"a", 0) == Err(DirError::Fault) && dir.list(alloc).is_err() && dir.faults() == 2
+}
+
 #[test]
 fn real_files(rt: HostRuntime) -> Result<(), Fail> {
     let alloc = rt.alloc();
     no_folder(&rt, "disk_files_test");
     let mut none = RealDir::new(rt.clone()?, alloc, "disk_files_test/made")?;
-    assert_eq!(rt; none.create(b"a", 0), Err(DirError::Fault));
-    assert!(rt; none.list(alloc).is_err());
-    assert_eq!(rt; none.faults(), 2);
+    assert!(rt; is_missing(alloc, &mut none));
     let mut dir = RealDir::make(rt.clone()?, alloc, "disk_files_test/made")?;
     assert!(rt; real_refusals(alloc, &mut dir)?);
     // A value made anew finds the file as it was written.
@@ -222,20 +262,35 @@ fn come_and_go<D: Dir>(dir: &mut D) -> Result<FileNo, DirError> {
     Ok(file)
 }
 
+// Two thousand of them stand at the same place.
+fn stay_in_place<D: Dir>(dir: &mut D) -> bool {
+    for _ in 0..2000u32 {
+        if come_and_go(dir) != Ok(FileNo(0)) {
+            return false;
+        }
+    }
+    true
+}
+
 #[test]
 fn removed_files_leave_their_places(rt: HostRuntime) -> Result<(), Fail> {
     let alloc = rt.alloc();
     no_folder(&rt, "disk_places_test");
     let mut dir = RealDir::make(rt.clone()?, alloc, "disk_places_test")?;
-    for _ in 0..2000u32 {
-        assert_eq!(rt; come_and_go(&mut dir), Ok(FileNo(0)));
-    }
+    assert!(rt; stay_in_place(&mut dir));
     fs::remove_dir_all(&rt, "disk_places_test")?;
     Ok(())
 }
 
 // A relay's folder: of the system, or in memory.
 type Folder = EitherDir<RealDir<HostRuntime, Global>, MemoryDir<Global>>;
+
+// Whether each call goes well, and a name is free again then, in the one, and not before a stop, in the other.
+fn serves<D: Dir>(alloc: Global, dir: &mut D, is_free: bool) -> bool {
+    each_call(alloc, dir, b"a") == Ok(())
+        && makes(dir, b"a") == is_free
+        && dir.faults() == u64::from(!is_free)
+}
 
 #[test]
 fn either_kind_of_folder(rt: HostRuntime) -> Result<(), Fail> {
@@ -245,13 +300,8 @@ fn either_kind_of_folder(rt: HostRuntime) -> Result<(), Fail> {
     let mut on_disk: Folder = EitherDir::Left(real);
     let mut in_memory: Folder = EitherDir::Right(MemoryDir::new(alloc));
     send(&on_disk);
-    assert_eq!(rt; each_call(alloc, &mut on_disk, b"a"), Ok(()));
-    assert_eq!(rt; each_call(alloc, &mut in_memory, b"a"), Ok(()));
-    // A removed name is free in the one, and not in the other before a stop.
-    assert!(rt; on_disk.create(b"a", 0).is_ok());
-    assert_eq!(rt; in_memory.create(b"a", 0), Err(DirError::NameTaken));
-    assert_eq!(rt; on_disk.faults(), 0);
-    assert_eq!(rt; in_memory.faults(), 1);
+    assert!(rt; serves(alloc, &mut on_disk, true));
+    assert!(rt; serves(alloc, &mut in_memory, false));
     fs::remove_dir_all(&rt, "disk_either_test")?;
     Ok(())
 }

@@ -1,6 +1,6 @@
 //! Numbered files in folders.
 
-use disk_files::{Dir, DirError, FileNo, Fuse, MemoryDir};
+use disk_files::{Dir, DirError, Fuse, MemoryDir};
 use numbered_files::{Family, names_differ, numbers, read_file};
 use std::alloc::{AllocError, Global};
 
@@ -47,9 +47,8 @@ fn names_of_others(rt: HostRuntime) {
     }
 }
 
-// A folder with two files of the family, number 0, strangers and a removed file.
-fn folder(alloc: Global) -> Result<MemoryDir<Global>, DirError> {
-    let mut dir = MemoryDir::new(alloc);
+// Two files of the family, number 0, strangers and a removed file.
+fn fill<D: Dir>(dir: &mut D) -> Result<(), DirError> {
     for name in [
         b"buf.0000000007.sink".as_slice(),
         b"buf.0000000000.sink".as_slice(),
@@ -61,46 +60,55 @@ fn folder(alloc: Global) -> Result<MemoryDir<Global>, DirError> {
         dir.create(name, 0)?;
     }
     let gone = dir.create(b"buf.0000000009.sink", 0)?;
-    dir.remove(gone)?;
-    Ok(dir)
+    dir.remove(gone)
+}
+
+// How many numbers there are, the least and the greatest.
+fn found<D: Dir>(
+    alloc: Global,
+    dir: &mut D,
+) -> Result<(usize, Option<u32>, Option<u32>), DirError> {
+    let found = numbers(alloc, dir, sinks())?;
+    Ok((found.len(), found.first().copied(), found.last().copied()))
 }
 
 #[test]
 fn numbers_that_are_there(rt: HostRuntime) -> Result<(), DirError> {
     let alloc = rt.alloc();
-    let mut dir = folder(alloc)?;
-    let found = numbers(alloc, &mut dir, sinks())?;
-    assert_eq!(rt; found.len(), 2);
-    assert_eq!(rt; found.first().copied(), Some(2));
-    assert_eq!(rt; found.last().copied(), Some(7));
-    let mut none = MemoryDir::new(alloc);
-    assert_eq!(rt; numbers(alloc, &mut none, sinks())?.len(), 0);
+    let mut dir = MemoryDir::new(alloc);
+    assert_eq!(rt; found(alloc, &mut dir)?, (0, None, None));
+    fill(&mut dir)?;
+    assert_eq!(rt; found(alloc, &mut dir)?, (2, Some(2), Some(7)));
     let mut broken = Fuse::after(dir, 0);
-    assert!(rt; matches!(numbers(alloc, &mut broken, sinks()), Err(DirError::Fault)));
+    assert_eq!(rt; found(alloc, &mut broken), Err(DirError::Fault));
     Ok(())
 }
 
-// A device that fails the first or the second of the calls that a read needs.
-fn fails_after(alloc: Global, passes: u64) -> Result<bool, DirError> {
-    let mut broken = Fuse::after(MemoryDir::new(alloc), passes.saturating_add(1));
-    let file = broken.create(b"a", 0)?;
-    let read = read_file(alloc, &mut broken, file);
-    Ok(matches!(read, Err(DirError::Fault)) && broken.faults() == 1)
+// Whether a file reads as it was written, before and after.
+fn reads<D: Dir>(alloc: Global, dir: &mut D) -> Result<bool, DirError> {
+    let file = dir.create(b"buf.0000000001.sink", 5)?;
+    let before = read_file(alloc, dir, file)?.is_empty();
+    dir.append(file, b"hello")?;
+    Ok(before && read_file(alloc, dir, file)?.as_slice() == b"hello".as_slice())
+}
+
+// Whether a read tells that a call of the device failed.
+fn tells<D: Dir>(alloc: Global, dir: &mut D) -> Result<bool, DirError> {
+    let file = dir.create(b"a", 0)?;
+    let read = read_file(alloc, dir, file);
+    Ok(matches!(read, Err(DirError::Fault)) && dir.faults() == 1)
 }
 
 #[test]
 fn bytes_of_a_file(rt: HostRuntime) -> Result<(), DirError> {
     let alloc = rt.alloc();
     let mut dir = MemoryDir::new(alloc);
-    let file: FileNo = dir.create(b"buf.0000000001.sink", 5)?;
-    assert_eq!(rt; read_file(alloc, &mut dir, file)?.len(), 0);
-    dir.append(file, b"hello")?;
-    assert_eq!(rt;
-        read_file(alloc, &mut dir, file)?.as_slice(),
-        b"hello".as_slice()
-    );
-    assert!(rt; fails_after(alloc, 0)?);
-    assert!(rt; fails_after(alloc, 1)?);
+    assert!(rt; reads(alloc, &mut dir)?);
+    // The first, or the second, of the calls that a read needs.
+    let mut first = Fuse::after(MemoryDir::new(alloc), 1);
+    assert!(rt; tells(alloc, &mut first)?);
+    let mut second = Fuse::after(MemoryDir::new(alloc), 2);
+    assert!(rt; tells(alloc, &mut second)?);
     names_differ();
     Ok(())
 }

@@ -36,12 +36,17 @@ fn write<D: Dir>(
     Ok(Some(series.write_all_entries(tag, &entries)?))
 }
 
+// Adds a file.
+fn put<D: Dir>(dir: &mut D, name: &[u8], bytes: &[u8]) -> Result<(), SeriesFault> {
+    let file = dir.create(name, bytes.len())?;
+    dir.append(file, bytes)?;
+    Ok(dir.sync(file)?)
+}
+
 // A folder with one file.
 fn folder(alloc: Global, name: &[u8], bytes: &[u8]) -> Result<MemoryDir<Global>, SeriesFault> {
     let mut dir = MemoryDir::new(alloc);
-    let file = dir.create(name, bytes.len())?;
-    dir.append(file, bytes)?;
-    dir.sync(file)?;
+    put(&mut dir, name, bytes)?;
     Ok(dir)
 }
 
@@ -110,12 +115,19 @@ fn sink_of_a_relay(rt: HostRuntime) -> Result<(), Fail> {
 }
 
 // How many events a file of these bytes holds, where the next opening makes the next file.
-fn events_of(alloc: Global, bytes: &[u8]) -> Result<Option<usize>, SeriesFault> {
-    let mut series = opened(alloc, folder(alloc, b"out.0000000007.sink", bytes)?)?;
+fn events_in<D: Dir>(alloc: Global, dir: D) -> Result<Option<usize>, SeriesFault>
+where
+    D: Drop,
+{
+    let mut series = opened(alloc, dir)?;
     let count = series.content()?.len();
     let mut dir = series.into_dir();
     let next = dir.open(b"out.0000000008.sink");
     Ok(if next.is_ok() { Some(count) } else { None })
+}
+
+fn events_of(alloc: Global, bytes: &[u8]) -> Result<Option<usize>, SeriesFault> {
+    events_in(alloc, folder(alloc, b"out.0000000007.sink", bytes)?)
 }
 
 // Files with no item, each torn or spelled otherwise.
