@@ -5,9 +5,9 @@ ghost use Rattle.loss_rules.specs.Rules.{AreRulesKept, EachOutputKeeps};
 ghost use Rattle.loss_checker.specs.Kept.{AreKeptBefore};
 
 use loss_rules::{
-    Answer, Duty, Place, Rule, addresses_are_distinct, clients_are_labelled, forwards_are_labelled,
-    labels_are_matched, paths_are_distinct, reached_matches_keep, reaches_cover,
-    relabels_are_labelled, servers_are_sources,
+    Answer, Duty, Labels, Place, Reaches, Rule, addresses_are_distinct, clients_are_labelled,
+    forwards_are_labelled, labels_are_matched, paths_are_distinct, reached_matches_keep,
+    reaches_cover, relabels_are_labelled, servers_are_sources,
 };
 use plan_lines::Plan;
 use relabel_cycles::first_cycle;
@@ -16,8 +16,10 @@ use std::alloc::{AllocError, Allocator};
 /// Whether each rule holds of the plan; or else the first rule that is broken, in the order of `Rule`, and where it is
 /// broken first: by lines of the plan, or by relays in the order of the plan and then by lines of their configurations.
 ///
-/// The patterns of lines and matches are compared pair by pair, so the time grows as the square of the plan's length.
-/// Memory is needed to look for a cycle of relabels alone. The only error is want of it.
+/// Labels and reaches are looked up by their scope and their match. The patterns of one scope's labels and matches are compared
+/// pair by pair, so the time grows as the square of a scope's length; hosts and numbers of relays are gone through for each that is
+/// named. Memory is needed for what labels and reaches are looked up in, and to look for a cycle of relabels. The only error is
+/// want of it.
 pub fn check<A: Allocator + Copy>(alloc: A, plan: &Plan<A>) -> Result<Answer, AllocError>
     ensures answer { IfOk result (IsAnswer plan.now) }
     // A yes means that the rules hold under which nothing is lost.
@@ -25,7 +27,7 @@ pub fn check<A: Allocator + Copy>(alloc: A, plan: &Plan<A>) -> Result<Answer, Al
     // Under the duty every it means besides that each output of each reached match keeps, or is a relabel.
     ensures each_keeps { IfOk result (λ answer. answer ≡ Answer.Yes → plan.now.duty ≡ Duty.Every → EachOutputKeeps plan.now.net plan.now.reaches) }
 {
-    if let Err(answer) = keep_all_but_the_last(plan) {
+    if let Err(answer) = look_up_and_keep(alloc, plan)? {
         return Ok(answer);
     }
     let cycle = first_cycle(alloc, plan.net(), plan.reaches())?;
@@ -35,22 +37,41 @@ pub fn check<A: Allocator + Copy>(alloc: A, plan: &Plan<A>) -> Result<Answer, Al
     }
 }
 
+// Whether the rules before the last one hold, once labels and reaches can be looked up. The inner `Err` is the answer where one
+// doesn't.
+fn look_up_and_keep<A: Allocator + Copy>(
+    alloc: A,
+    plan: &Plan<A>,
+) -> Result<Result<(), Answer>, AllocError>
+    ensures kept { IfOk result (λ kept. OnOk kept (AreKeptBefore plan.now 10)) }
+    ensures broken { IfOk result (λ kept. IfErr kept (IsAnswer plan.now)) }
+{
+    let labels = Labels::new(alloc, plan.labels())?;
+    let reaches = Reaches::new(alloc, plan.reaches())?;
+    Ok(keep_all_but_the_last(plan, &labels, &reaches))
+}
+
 // Whether the rules before the last one hold. An `Err` is the answer where one doesn't.
-fn keep_all_but_the_last<A: Allocator + Copy>(plan: &Plan<A>) -> Result<(), Answer>
+fn keep_all_but_the_last<'a, 'b, A: Allocator + Copy>(
+    plan: &'a Plan<A>,
+    labels: &'a Labels<'b, A>,
+    reaches: &'a Reaches<'b, A>,
+) -> Result<(), Answer>
+    requires labels { labels.now ≡ plan.now.labels }
+    requires reaches { reaches.now ≡ plan.now.reaches }
     ensures kept { OnOk result (AreKeptBefore plan.now 10) }
     ensures broken { IfErr result (IsAnswer plan.now) }
 {
     let net = plan.net();
-    let labels = plan.labels();
-    let reaches = plan.reaches();
+    let list = plan.labels();
     let addresses = addresses_are_distinct(net, plan.relay_lines());
     keep(plan, Rule::AddressesAreDistinct, addresses)?;
     keep(plan, Rule::ServersAreSources, servers_are_sources(net))?;
     let clients = clients_are_labelled(net, plan.client_lines(), labels);
     keep(plan, Rule::ClientsAreLabelled, clients)?;
-    let matched = labels_are_matched(net, labels);
+    let matched = labels_are_matched(net, list);
     keep(plan, Rule::LabelsAreMatched, matched)?;
-    let covered = reaches_cover(net, labels, reaches);
+    let covered = reaches_cover(net, list, reaches);
     keep(plan, Rule::ReachesCover, covered)?;
     let kept = reached_matches_keep(net, plan.duty(), reaches);
     keep(plan, Rule::ReachedMatchesKeep, kept)?;

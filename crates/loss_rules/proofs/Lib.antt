@@ -1,3 +1,4 @@
+mod BySite
 pub mod Lines
 pub mod Matches
 pub mod News

@@ -1,5 +1,6 @@
 pub mod Addresses
 pub mod Breaks
+pub mod BySite
 pub mod Firsts
 pub mod Labels
 pub mod Matches

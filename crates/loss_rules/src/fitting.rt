@@ -3,9 +3,9 @@ ghost use Rattle.std.specs.Prelude.{◌≡◌, ◌↔◌, None, IsTrue, Any, All
 ghost use Rattle.std.specs.Option.{option_copied};
 ghost use Rattle.tag_pattern.specs.Patterns.{Fits};
 ghost use Rattle.tag_pattern.specs.Prefixes.{entered_items};
-ghost use Rattle.loss_rules.specs.Labels.{IsLabelOf, IsReachOf, FitsLabelWith, FitsReach, IsReached, EachReach};
+ghost use Rattle.loss_rules.specs.Labels.{FitsLabelWith, FitsReach, IsReached, EachReach};
 
-use crate::label::{Label, Reach};
+use crate::by_site::{Labels, Reaches};
 use crate::site::Site;
 use relay_net::Entrance;
 use std::alloc::Allocator;
@@ -40,16 +40,16 @@ fn fits_any_entered<A: Allocator>(
 }
 
 /// Whether the pattern, with the prefix in front if there is one, fits a label of this scope.
-pub(crate) fn fits_label<A: Allocator>(
-    labels: &[Label<A>],
+pub(crate) fn fits_label<A: Allocator + Copy>(
+    labels: &Labels<'_, A>,
     scope: Entrance,
     prefix: Option<&Prefix<A>>,
     pattern: &Plain<A>,
 ) -> bool
     ensures { IsTrue result ↔ FitsLabelWith labels.now scope.relay scope.scope (option_copied prefix.entry) pattern.now }
 {
-    for label in labels {
-        if label_has(label, scope, prefix, pattern) {
+    for patterns in labels.at(scope) {
+        if fits_any_entered(prefix, pattern, patterns) {
             return true;
         }
     }
@@ -57,8 +57,8 @@ pub(crate) fn fits_label<A: Allocator>(
 }
 
 /// Whether each of the patterns, with the prefix in front if there is one, fits a label of this scope.
-pub(crate) fn all_fit_label<A: Allocator>(
-    labels: &[Label<A>],
+pub(crate) fn all_fit_label<A: Allocator + Copy>(
+    labels: &Labels<'_, A>,
     scope: Entrance,
     prefix: Option<&Prefix<A>>,
     patterns: &[Plain<A>],
@@ -74,11 +74,15 @@ pub(crate) fn all_fit_label<A: Allocator>(
 }
 
 /// Whether the pattern fits a reach of the match at this site.
-pub(crate) fn fits_reach<A: Allocator>(reaches: &[Reach<A>], at: Site, pattern: &Plain<A>) -> bool
+pub(crate) fn fits_reach<A: Allocator + Copy>(
+    reaches: &Reaches<'_, A>,
+    at: Site,
+    pattern: &Plain<A>,
+) -> bool
     ensures { IsTrue result ↔ FitsReach reaches.now at.place at.scope at.rule pattern.now }
 {
-    for reach in reaches {
-        if reach_has(reach, at, pattern) {
+    for patterns in reaches.at(at) {
+        if fits_any(pattern, patterns) {
             return true;
         }
     }
@@ -86,29 +90,24 @@ pub(crate) fn fits_reach<A: Allocator>(reaches: &[Reach<A>], at: Site, pattern: 
 }
 
 /// Whether the match at this site has a reach.
-pub(crate) fn is_reached<A: Allocator>(reaches: &[Reach<A>], at: Site) -> bool
+pub(crate) fn is_reached<A: Allocator + Copy>(reaches: &Reaches<'_, A>, at: Site) -> bool
     ensures { IsTrue result ↔ IsReached reaches.now at.place at.scope at.rule }
 {
-    for reach in reaches {
-        if is_reach_of(reach, at) {
-            return true;
-        }
-    }
-    false
+    !reaches.at(at).is_empty()
 }
 
 /// Whether each reach of the match at this site, with the prefix in front if there is one, fits a label of this scope.
-pub(crate) fn reaches_fit_label<A: Allocator>(
-    labels: &[Label<A>],
-    reaches: &[Reach<A>],
+pub(crate) fn reaches_fit_label<A: Allocator + Copy>(
+    labels: &Labels<'_, A>,
+    reaches: &Reaches<'_, A>,
     at: Site,
     scope: Entrance,
     prefix: Option<&Prefix<A>>,
 ) -> bool
     ensures { IsTrue result ↔ EachReach reaches.now at.place at.scope at.rule (FitsLabelWith labels.now scope.relay scope.scope (option_copied prefix.entry)) }
 {
-    for reach in reaches {
-        if !reach_fits_label(labels, reach, at, scope, prefix) {
+    for patterns in reaches.at(at) {
+        if !all_fit_label(labels, scope, prefix, patterns) {
             return false;
         }
     }
@@ -116,55 +115,9 @@ pub(crate) fn reaches_fit_label<A: Allocator>(
 }
 
 /// No prefix: what relabels put in front of tags. The labels are there for how long it is lent.
-pub(crate) fn no_prefix<A: Allocator>(labels: &[Label<A>]) -> Option<&Prefix<A>>
+pub(crate) fn no_prefix<'b, A: Allocator>(labels: &'b Labels<'_, A>) -> Option<&'b Prefix<A>>
     ensures { option_copied result ≡ None }
 {
     let _ = labels;
     None
-}
-
-// Whether the label is of this scope, and the pattern, with the prefix in front if there is one, fits one of its patterns.
-fn label_has<A: Allocator>(
-    label: &Label<A>,
-    scope: Entrance,
-    prefix: Option<&Prefix<A>>,
-    pattern: &Plain<A>,
-) -> bool
-    ensures { IsTrue result ↔ (IsLabelOf scope.relay scope.scope label.now × Any (Fits (entered_items (option_copied prefix.entry) pattern.now)) label.now.patterns.items) }
-{
-    is_label_of(label, scope) && fits_any_entered(prefix, pattern, &label.patterns)
-}
-
-// Whether the reach is of the match at this site, and the pattern fits one of its patterns.
-fn reach_has<A: Allocator>(reach: &Reach<A>, at: Site, pattern: &Plain<A>) -> bool
-    ensures { IsTrue result ↔ (IsReachOf at.place at.scope at.rule reach.now × Any (Fits pattern.now) reach.now.patterns.items) }
-{
-    is_reach_of(reach, at) && fits_any(pattern, &reach.patterns)
-}
-
-// Whether the reach, with the prefix in front if there is one, fits a label of this scope, if it is of the match at this site.
-fn reach_fits_label<A: Allocator>(
-    labels: &[Label<A>],
-    reach: &Reach<A>,
-    at: Site,
-    scope: Entrance,
-    prefix: Option<&Prefix<A>>,
-) -> bool
-    ensures { IsTrue result ↔ (IsReachOf at.place at.scope at.rule reach.now → All (FitsLabelWith labels.now scope.relay scope.scope (option_copied prefix.entry)) reach.now.patterns.items) }
-{
-    !is_reach_of(reach, at) || all_fit_label(labels, scope, prefix, &reach.patterns)
-}
-
-// Whether the label is of this scope.
-fn is_label_of<A: Allocator>(label: &Label<A>, scope: Entrance) -> bool
-    ensures { IsTrue result ↔ IsLabelOf scope.relay scope.scope label.now }
-{
-    label.place == scope.relay && label.scope == scope.scope
-}
-
-// Whether the reach is of the match at this site.
-fn is_reach_of<A: Allocator>(reach: &Reach<A>, at: Site) -> bool
-    ensures { IsTrue result ↔ IsReachOf at.place at.scope at.rule reach.now }
-{
-    reach.place == at.place && reach.scope == at.scope && reach.rule == at.rule
 }

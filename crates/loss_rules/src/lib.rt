@@ -3,6 +3,7 @@
 
 mod addresses;
 mod answer;
+mod by_site;
 mod fitting;
 mod label;
 mod outputs;
@@ -16,6 +17,7 @@ mod text;
 
 pub use addresses::addresses_are_distinct;
 pub use answer::{Answer, Place, Rule};
+pub use by_site::{Labels, Reaches};
 pub use label::{Duty, Label, Reach, RelayLine};
 pub use outputs::{reached_matches_keep, relabels_are_labelled};
 pub use paths::paths_are_distinct;

@@ -7,8 +7,9 @@ ghost use Rattle.loss_rules.specs.Rules.{ReachedMatchesDo, DoesDuty, RelabelsAre
 ghost use Rattle.loss_rules.specs.Sites.{RelabelsTo};
 
 use crate::answer::Place;
+use crate::by_site::{Labels, Reaches};
 use crate::fitting::{is_reached, no_prefix, reaches_fit_label};
-use crate::label::{Duty, Label, Reach};
+use crate::label::Duty;
 use crate::requirement::{OfOutputs, Requirement, first_place, line_unless};
 use crate::site::Site;
 use relay_conf::{MatchRule, Output};
@@ -16,11 +17,11 @@ use relay_net::{Entrance, Net, keeps};
 use std::alloc::Allocator;
 
 /// Where a match is first found that has a reach, and neither an output that keeps nor a relabel; or, under the duty every, with
-/// an output that is none of these. For each match all reaches are gone through.
-pub fn reached_matches_keep<A: Allocator + Copy>(
+/// an output that is none of these. For each match its reaches are looked up once.
+pub fn reached_matches_keep<'a, 'b, A: Allocator + Copy>(
     net: &Net<A>,
     duty: Duty,
-    reaches: &[Reach<A>],
+    reaches: &'a Reaches<'b, A>,
 ) -> Option<Place>
     ensures kept { IfNone result (ReachedMatchesDo net.now duty reaches.now) }
     ensures broken { IfSome result (IsInConf net.now (BreaksAtMatch net.now (λ place scope rule found. IsReached reaches.now place scope rule → DoesDuty duty found))) }
@@ -29,11 +30,11 @@ pub fn reached_matches_keep<A: Allocator + Copy>(
 }
 
 /// Where a relabel is first found with a reach of its match that fits no label of the relabel's target.
-/// For each relabel each pattern of its match's reaches is compared with those of all labels.
-pub fn relabels_are_labelled<A: Allocator + Copy>(
+/// For each relabel each pattern of its match's reaches is compared with those of the target's labels.
+pub fn relabels_are_labelled<'a, 'b, A: Allocator + Copy>(
     net: &Net<A>,
-    labels: &[Label<A>],
-    reaches: &[Reach<A>],
+    labels: &'a Labels<'b, A>,
+    reaches: &'a Reaches<'b, A>,
 ) -> Option<Place>
     ensures kept { IfNone result (RelabelsAreLabelled net.now labels.now reaches.now) }
     ensures broken { IfSome result (IsInConf net.now (BreaksAtOutput net.now (λ place scope rule output found. IsLabelledRelabel labels.now reaches.now place scope rule found))) }
@@ -43,12 +44,12 @@ pub fn relabels_are_labelled<A: Allocator + Copy>(
 
 // The match does what is asked of it, if it has a reach.
 #[derive(Drop)]
-struct KeepsIfReached<'a, A: Allocator> {
+struct KeepsIfReached<'a, 'b, A: Allocator> {
     duty: Duty,
-    reaches: &'a [Reach<A>],
+    reaches: &'a Reaches<'b, A>,
 }
 
-impl<A: Allocator> Requirement<MatchRule<A>> for KeepsIfReached<'_, A> {
+impl<A: Allocator + Copy> Requirement<MatchRule<A>> for KeepsIfReached<'_, '_, A> {
     ghost use Rattle.std.specs.Prelude.{◌≡◌};
     ghost use Rattle.loss_rules.specs.Labels.{IsReached};
     ghost use Rattle.loss_rules.specs.Rules.{DoesDuty};
@@ -65,12 +66,12 @@ impl<A: Allocator> Requirement<MatchRule<A>> for KeepsIfReached<'_, A> {
 
 // Each reach of the output's match fits a label of the scope that the output sends events on to, if it is a relabel.
 #[derive(Drop)]
-struct RelabelsToLabel<'a, A: Allocator> {
-    labels: &'a [Label<A>],
-    reaches: &'a [Reach<A>],
+struct RelabelsToLabel<'a, 'b, A: Allocator> {
+    labels: &'a Labels<'b, A>,
+    reaches: &'a Reaches<'b, A>,
 }
 
-impl<A: Allocator> Requirement<Output<A>> for RelabelsToLabel<'_, A> {
+impl<A: Allocator + Copy> Requirement<Output<A>> for RelabelsToLabel<'_, '_, A> {
     ghost use Rattle.std.specs.Prelude.{◌≡◌};
     ghost use Rattle.loss_rules.specs.Rules.{IsLabelledRelabel};
     ghost use Rattle.loss_rules.specs.Sites.{line_of};

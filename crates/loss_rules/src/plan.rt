@@ -5,8 +5,9 @@ ghost use Rattle.loss_rules.specs.Matches.{AreCovered};
 ghost use Rattle.loss_rules.specs.Rules.{ClientsAreLabelled, IsLabelledClient, LabelsAreMatched, IsMatched, FitsMatch, ReachesCover, ReachesCoverLabel, IsCovered};
 
 use crate::answer::Place;
+use crate::by_site::{Labels, Reaches};
 use crate::fitting::{all_fit_label, fits_any, fits_reach};
-use crate::label::{Label, Reach};
+use crate::label::Label;
 use crate::requirement::{earlier, in_plan, line_unless};
 use crate::site::{Site, matches_at};
 use relay_conf::MatchRule;
@@ -16,11 +17,11 @@ use tag_pattern::{Plain, apart};
 
 /// The first line of a client with a pattern that fits no label of the scope that its source leads into, with the source's
 /// prefix in front.
-/// The lines are those of the network's clients. Each pattern of a client is compared with those of all labels.
+/// The lines are those of the network's clients. Each pattern of a client is compared with those of the labels of that scope.
 pub fn clients_are_labelled<A: Allocator + Copy>(
     net: &Net<A>,
     client_lines: &[usize],
-    labels: &[Label<A>],
+    labels: &Labels<'_, A>,
 ) -> Option<Place>
     requires { length client_lines.now ≡ length net.now.clients }
     ensures kept { IfNone result (ClientsAreLabelled net.now labels.now) }
@@ -48,11 +49,11 @@ pub fn labels_are_matched<A: Allocator + Copy>(net: &Net<A>, labels: &[Label<A>]
 
 /// The first line of a label with a pattern that has something in common with a match, up to and with the first match that
 /// it fits, which the reaches of that match don't cover. A pattern that fits no match asks for nothing.
-/// For each pattern of a label and each pattern of a match of its scope all reaches are gone through.
+/// For each pattern of a label and each pattern of a match of its scope the reaches of that match are gone through.
 pub fn reaches_cover<A: Allocator + Copy>(
     net: &Net<A>,
     labels: &[Label<A>],
-    reaches: &[Reach<A>],
+    reaches: &Reaches<'_, A>,
 ) -> Option<Place>
     ensures kept { IfNone result (ReachesCover net.now labels.now reaches.now) }
     ensures broken { IfSome result (IsInPlan (BreaksAtLabel labels.now (λ label. All (ReachesCoverLabel net.now reaches.now label.place label.scope) label.patterns.items))) }
@@ -68,7 +69,7 @@ pub fn reaches_cover<A: Allocator + Copy>(
 }
 
 // Whether each pattern of the client of this number fits a label of the scope that its source leads into.
-fn is_labelled<A: Allocator + Copy>(net: &Net<A>, labels: &[Label<A>], number: usize) -> bool
+fn is_labelled<A: Allocator + Copy>(net: &Net<A>, labels: &Labels<'_, A>, number: usize) -> bool
     ensures { IsTrue result ↔ IsSomeAnd (slice_get net.now.clients number) (IsLabelledClient net.now labels.now) }
 {
     let (Some(client), Some(host)) = (net.client(number), net.client_host(number)) else {
@@ -109,7 +110,11 @@ fn is_matched<A: Allocator>(matches: &[MatchRule<A>], pattern: &Plain<A>) -> boo
 }
 
 // Whether the reaches cover what each pattern of the label has in common with the matches of its scope.
-fn all_covered<A: Allocator + Copy>(net: &Net<A>, reaches: &[Reach<A>], label: &Label<A>) -> bool
+fn all_covered<A: Allocator + Copy>(
+    net: &Net<A>,
+    reaches: &Reaches<'_, A>,
+    label: &Label<A>,
+) -> bool
     ensures { IsTrue result ↔ All (ReachesCoverLabel net.now reaches.now label.now.place label.now.scope) label.now.patterns.items }
 {
     let matches = matches_at(net, label.place, label.scope);
@@ -129,9 +134,9 @@ fn all_covered<A: Allocator + Copy>(net: &Net<A>, reaches: &[Reach<A>], label: &
 
 // Whether the reaches cover what the label's pattern has in common with these matches, those of the site's scope, up to and
 // with the first that it fits.
-fn reaches_cover_label<A: Allocator>(
+fn reaches_cover_label<A: Allocator + Copy>(
     matches: &[MatchRule<A>],
-    reaches: &[Reach<A>],
+    reaches: &Reaches<'_, A>,
     at: Site,
     pattern: &Plain<A>,
 ) -> bool
@@ -154,8 +159,8 @@ fn reaches_cover_label<A: Allocator>(
 }
 
 // Whether the reaches of the match at this site cover what the label's pattern has in common with each of the match's.
-fn is_match_covered<A: Allocator>(
-    reaches: &[Reach<A>],
+fn is_match_covered<A: Allocator + Copy>(
+    reaches: &Reaches<'_, A>,
     at: Site,
     label: &Plain<A>,
     patterns: &[Plain<A>],
@@ -171,8 +176,8 @@ fn is_match_covered<A: Allocator>(
 }
 
 // Whether the label's pattern and this one of the match have nothing in common, or one of them fits a reach of the match.
-fn is_pattern_covered<A: Allocator>(
-    reaches: &[Reach<A>],
+fn is_pattern_covered<A: Allocator + Copy>(
+    reaches: &Reaches<'_, A>,
     at: Site,
     label: &Plain<A>,
     pattern: &Plain<A>,

@@ -5,8 +5,8 @@ ghost use Rattle.loss_rules.specs.Breaks.{IsInConf, BreaksAtServer};
 ghost use Rattle.loss_rules.specs.Rules.{ServersAreSources, ForwardsAreLabelled, IsLabelledServer};
 
 use crate::answer::Place;
+use crate::by_site::{Labels, Reaches};
 use crate::fitting::reaches_fit_label;
-use crate::label::{Label, Reach};
 use crate::requirement::{OfOutputs, OfServers, Requirement, first_place, line_unless};
 use crate::site::Site;
 use relay_conf::Server;
@@ -23,11 +23,11 @@ pub fn servers_are_sources<A: Allocator + Copy>(net: &Net<A>) -> Option<Place>
 
 /// Where a server is first found with a reach of its match that fits no label of the scope that the server leads into, with the
 /// prefix in front that the server's source has.
-/// For each server each pattern of its match's reaches is compared with those of all labels.
-pub fn forwards_are_labelled<A: Allocator + Copy>(
-    net: &Net<A>,
-    labels: &[Label<A>],
-    reaches: &[Reach<A>],
+/// For each server each pattern of its match's reaches is compared with those of the labels of that scope.
+pub fn forwards_are_labelled<'a, 'b, A: Allocator + Copy>(
+    net: &'a Net<A>,
+    labels: &'a Labels<'b, A>,
+    reaches: &'a Reaches<'b, A>,
 ) -> Option<Place>
     ensures kept { IfNone result (ForwardsAreLabelled net.now labels.now reaches.now) }
     ensures broken { IfSome result (IsInConf net.now (BreaksAtServer net.now (λ place scope rule server. IsLabelledServer net.now labels.now reaches.now place scope rule (address_of_server server)))) }
@@ -67,13 +67,13 @@ impl<A: Allocator + Copy> Requirement<Server<A>> for IsSource<'_, A> {
 
 // Each reach of the server's match fits a label of the scope that the server leads into.
 #[derive(Drop)]
-struct LeadsToLabel<'a, A: Allocator> {
+struct LeadsToLabel<'a, 'b, A: Allocator> {
     net: &'a Net<A>,
-    labels: &'a [Label<A>],
-    reaches: &'a [Reach<A>],
+    labels: &'a Labels<'b, A>,
+    reaches: &'a Reaches<'b, A>,
 }
 
-impl<A: Allocator + Copy> Requirement<Server<A>> for LeadsToLabel<'_, A> {
+impl<A: Allocator + Copy> Requirement<Server<A>> for LeadsToLabel<'_, '_, A> {
     ghost use Rattle.std.specs.Prelude.{◌≡◌};
     ghost use Rattle.relay_net.specs.Network.{address_of_server};
     ghost use Rattle.loss_rules.specs.Rules.{IsLabelledServer};

@@ -22,13 +22,13 @@ returns-in-Ok g c =
     record { answer = all; rules_kept = rules_kept c.args.plan.now Yes all; each_keeps = each_keeps c.args.plan.now Yes all }
 
 pub returns-in-Err-clause-rules_kept : goal.returns-in-Err-clause-rules_kept
-returns-in-Err-clause-rules_kept g c = rules_kept c.args.plan.now c.in-Err.answer c.in-Err.ensures.broken
+returns-in-Err-clause-rules_kept g c = rules_kept c.args.plan.now c.in-Err.answer (rw c.in-Err.is at c.in_ok-answer.ensures.broken)
 
 pub returns-in-Err-keep-clause-rules_kept : goal.returns-in-Err-keep-clause-rules_kept
 returns-in-Err-keep-clause-rules_kept g c = rules_kept c.args.plan.now c.in-Err-keep.answer c.in-Err-keep.ensures.answer
 
 pub returns-in-Err-clause-each_keeps : goal.returns-in-Err-clause-each_keeps
-returns-in-Err-clause-each_keeps g c = each_keeps c.args.plan.now c.in-Err.answer c.in-Err.ensures.broken
+returns-in-Err-clause-each_keeps g c = each_keeps c.args.plan.now c.in-Err.answer (rw c.in-Err.is at c.in_ok-answer.ensures.broken)
 
 pub returns-in-Err-keep-clause-each_keeps : goal.returns-in-Err-keep-clause-each_keeps
 returns-in-Err-keep-clause-each_keeps g c = each_keeps c.args.plan.now c.in-Err-keep.answer c.in-Err-keep.ensures.answer

@@ -6,70 +6,70 @@ use Rattle.loss_checker.proofs.checking.keep_all_but_the_last.Goals as goal
 
 pub keep-requires-2-clause-holds : goal.keep-requires-2-clause-holds
 keep-requires-2-clause-holds g c =
-    in_plan c.args.plan.now c.net-net.result.now c.labels-labels.result.now c.reaches-reaches.result.now c.net-net.ensures.net c.labels-labels.ensures c.reaches-reaches.ensures
+    in_plan c.args.plan.now c.net-net.result.now c.args.labels.now c.args.reaches.now c.net-net.ensures.net c.requires.labels c.requires.reaches
     (λ s. IfNone c.servers_are_sources.result (IsKept s rule.ServersAreSources)) c.servers_are_sources.ensures.kept
 
 pub keep-requires-2-clause-breaks : goal.keep-requires-2-clause-breaks
 keep-requires-2-clause-breaks g c =
-    in_plan c.args.plan.now c.net-net.result.now c.labels-labels.result.now c.reaches-reaches.result.now c.net-net.ensures.net c.labels-labels.ensures c.reaches-reaches.ensures
+    in_plan c.args.plan.now c.net-net.result.now c.args.labels.now c.args.reaches.now c.net-net.ensures.net c.requires.labels c.requires.reaches
     (λ s. IfSome c.servers_are_sources.result (IsBrokenAt s rule.ServersAreSources)) c.servers_are_sources.ensures.broken
 
 pub keep-requires-4-clause-holds : goal.keep-requires-4-clause-holds
 keep-requires-4-clause-holds g c =
-    in_plan c.args.plan.now c.net-net.result.now c.labels-labels.result.now c.reaches-reaches.result.now c.net-net.ensures.net c.labels-labels.ensures c.reaches-reaches.ensures
+    in_plan c.args.plan.now c.net-net.result.now c.labels-list.result.now c.args.reaches.now c.net-net.ensures.net c.labels-list.ensures c.requires.reaches
     (λ s. IfNone c.labels_are_matched-matched.result (IsKept s rule.LabelsAreMatched)) c.labels_are_matched-matched.ensures.kept
 
 pub keep-requires-4-clause-breaks : goal.keep-requires-4-clause-breaks
 keep-requires-4-clause-breaks g c =
-    in_plan c.args.plan.now c.net-net.result.now c.labels-labels.result.now c.reaches-reaches.result.now c.net-net.ensures.net c.labels-labels.ensures c.reaches-reaches.ensures
+    in_plan c.args.plan.now c.net-net.result.now c.labels-list.result.now c.args.reaches.now c.net-net.ensures.net c.labels-list.ensures c.requires.reaches
     (λ s. IfSome c.labels_are_matched-matched.result (IsBrokenAt s rule.LabelsAreMatched)) c.labels_are_matched-matched.ensures.broken
 
 pub keep-requires-5-clause-holds : goal.keep-requires-5-clause-holds
 keep-requires-5-clause-holds g c =
-    in_plan c.args.plan.now c.net-net.result.now c.labels-labels.result.now c.reaches-reaches.result.now c.net-net.ensures.net c.labels-labels.ensures c.reaches-reaches.ensures
+    in_plan c.args.plan.now c.net-net.result.now c.labels-list.result.now c.args.reaches.now c.net-net.ensures.net c.labels-list.ensures c.requires.reaches
     (λ s. IfNone c.reaches_cover-covered.result (IsKept s rule.ReachesCover)) c.reaches_cover-covered.ensures.kept
 
 pub keep-requires-5-clause-breaks : goal.keep-requires-5-clause-breaks
 keep-requires-5-clause-breaks g c =
-    in_plan c.args.plan.now c.net-net.result.now c.labels-labels.result.now c.reaches-reaches.result.now c.net-net.ensures.net c.labels-labels.ensures c.reaches-reaches.ensures
+    in_plan c.args.plan.now c.net-net.result.now c.labels-list.result.now c.args.reaches.now c.net-net.ensures.net c.labels-list.ensures c.requires.reaches
     (λ s. IfSome c.reaches_cover-covered.result (IsBrokenAt s rule.ReachesCover)) c.reaches_cover-covered.ensures.broken
 
 pub keep-requires-6-clause-holds : goal.keep-requires-6-clause-holds
 keep-requires-6-clause-holds g c =
-    in_plan c.args.plan.now c.net-net.result.now c.labels-labels.result.now c.reaches-reaches.result.now c.net-net.ensures.net c.labels-labels.ensures c.reaches-reaches.ensures
+    in_plan c.args.plan.now c.net-net.result.now c.args.labels.now c.args.reaches.now c.net-net.ensures.net c.requires.labels c.requires.reaches
     (λ s. IfNone c.reached_matches_keep-kept.result (IsKept s rule.ReachedMatchesKeep)) (rw c.duty.ensures at c.reached_matches_keep-kept.ensures.kept)
 
 pub keep-requires-6-clause-breaks : goal.keep-requires-6-clause-breaks
 keep-requires-6-clause-breaks g c =
-    in_plan c.args.plan.now c.net-net.result.now c.labels-labels.result.now c.reaches-reaches.result.now c.net-net.ensures.net c.labels-labels.ensures c.reaches-reaches.ensures
+    in_plan c.args.plan.now c.net-net.result.now c.args.labels.now c.args.reaches.now c.net-net.ensures.net c.requires.labels c.requires.reaches
     (λ s. IfSome c.reached_matches_keep-kept.result (IsBrokenAt s rule.ReachedMatchesKeep)) (rw c.duty.ensures at c.reached_matches_keep-kept.ensures.broken)
 
 pub keep-requires-7-clause-holds : goal.keep-requires-7-clause-holds
 keep-requires-7-clause-holds g c =
-    in_plan c.args.plan.now c.net-net.result.now c.labels-labels.result.now c.reaches-reaches.result.now c.net-net.ensures.net c.labels-labels.ensures c.reaches-reaches.ensures
+    in_plan c.args.plan.now c.net-net.result.now c.args.labels.now c.args.reaches.now c.net-net.ensures.net c.requires.labels c.requires.reaches
     (λ s. IfNone c.relabels_are_labelled-relabels.result (IsKept s rule.RelabelsAreLabelled)) c.relabels_are_labelled-relabels.ensures.kept
 
 pub keep-requires-7-clause-breaks : goal.keep-requires-7-clause-breaks
 keep-requires-7-clause-breaks g c =
-    in_plan c.args.plan.now c.net-net.result.now c.labels-labels.result.now c.reaches-reaches.result.now c.net-net.ensures.net c.labels-labels.ensures c.reaches-reaches.ensures
+    in_plan c.args.plan.now c.net-net.result.now c.args.labels.now c.args.reaches.now c.net-net.ensures.net c.requires.labels c.requires.reaches
     (λ s. IfSome c.relabels_are_labelled-relabels.result (IsBrokenAt s rule.RelabelsAreLabelled)) c.relabels_are_labelled-relabels.ensures.broken
 
 pub keep-requires-8-clause-holds : goal.keep-requires-8-clause-holds
 keep-requires-8-clause-holds g c =
-    in_plan c.args.plan.now c.net-net.result.now c.labels-labels.result.now c.reaches-reaches.result.now c.net-net.ensures.net c.labels-labels.ensures c.reaches-reaches.ensures
+    in_plan c.args.plan.now c.net-net.result.now c.args.labels.now c.args.reaches.now c.net-net.ensures.net c.requires.labels c.requires.reaches
     (λ s. IfNone c.forwards_are_labelled-forwards.result (IsKept s rule.ForwardsAreLabelled)) c.forwards_are_labelled-forwards.ensures.kept
 
 pub keep-requires-8-clause-breaks : goal.keep-requires-8-clause-breaks
 keep-requires-8-clause-breaks g c =
-    in_plan c.args.plan.now c.net-net.result.now c.labels-labels.result.now c.reaches-reaches.result.now c.net-net.ensures.net c.labels-labels.ensures c.reaches-reaches.ensures
+    in_plan c.args.plan.now c.net-net.result.now c.args.labels.now c.args.reaches.now c.net-net.ensures.net c.requires.labels c.requires.reaches
     (λ s. IfSome c.forwards_are_labelled-forwards.result (IsBrokenAt s rule.ForwardsAreLabelled)) c.forwards_are_labelled-forwards.ensures.broken
 
 pub keep-requires-9-clause-holds : goal.keep-requires-9-clause-holds
 keep-requires-9-clause-holds g c =
-    in_plan c.args.plan.now c.net-net.result.now c.labels-labels.result.now c.reaches-reaches.result.now c.net-net.ensures.net c.labels-labels.ensures c.reaches-reaches.ensures
+    in_plan c.args.plan.now c.net-net.result.now c.args.labels.now c.args.reaches.now c.net-net.ensures.net c.requires.labels c.requires.reaches
     (λ s. IfNone c.paths_are_distinct.result (IsKept s rule.PathsAreDistinct)) c.paths_are_distinct.ensures.kept
 
 pub keep-requires-9-clause-breaks : goal.keep-requires-9-clause-breaks
 keep-requires-9-clause-breaks g c =
-    in_plan c.args.plan.now c.net-net.result.now c.labels-labels.result.now c.reaches-reaches.result.now c.net-net.ensures.net c.labels-labels.ensures c.reaches-reaches.ensures
+    in_plan c.args.plan.now c.net-net.result.now c.args.labels.now c.args.reaches.now c.net-net.ensures.net c.requires.labels c.requires.reaches
     (λ s. IfSome c.paths_are_distinct.result (IsBrokenAt s rule.PathsAreDistinct)) c.paths_are_distinct.ensures.broken

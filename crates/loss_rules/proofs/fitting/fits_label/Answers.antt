@@ -1,10 +1,21 @@
 use Rattle.std.proofs.Common.{Any, refl, arith}
-use Rattle.loss_rules.proofs.Seeks.{found_any}
 use Rattle.std.specs.Option.{option_copied}
 use Rattle.tag_pattern.specs.Patterns.{Fits}
 use Rattle.tag_pattern.specs.Prefixes.{entered_items}
 use Rattle.loss_rules.specs.Labels.{IsLabelOf}
+use Rattle.loss_rules.proofs.BySite.{both, any_found}
+use Rattle.loss_rules.proofs.Seeks.{not_true, found_any, none_more, no_any}
 use Rattle.loss_rules.proofs.fitting.fits_label.Goals as goal
 
-pub returns-then-label_has : goal.returns-then-label_has
-returns-then-label_has g c = found_any (λ label. IsLabelOf c.args.scope.relay c.args.scope.scope label × Any (Fits (entered_items (option_copied c.args.prefix) c.args.pattern.now)) label.patterns.items) c.args.labels.now c.loop-label.label-index c.label-item.result (omega arith) c.label-item.is (c.if-label_has.ensures.0 refl)
+pub returns-then-fits_any_entered : goal.returns-then-fits_any_entered
+returns-then-fits_any_entered g c =
+    let found = found_any (λ r. Any (Fits (entered_items (option_copied c.args.prefix) c.args.pattern.now)) r.now) c.at-patterns-items.result.now c.loop-patterns.patterns-index c.patterns-item.result (omega arith) c.patterns-item.is (c.if-fits_any_entered.ensures.0 refl) in
+    both found (any_found (λ r. r.now) c.at-patterns-items.result.now (IsLabelOf c.args.scope.relay c.args.scope.scope) (λ label. label.patterns.items) c.args.labels.now c.at-patterns-items.ensures (Any (Fits (entered_items (option_copied c.args.prefix) c.args.pattern.now))))
+
+pub loop-patterns-preserved : goal.loop-patterns-preserved
+loop-patterns-preserved g c = none_more (λ r. Any (Fits (entered_items (option_copied c.args.prefix) c.args.pattern.now)) r.now) c.at-patterns-items.result.now c.loop-patterns.patterns-index c.patterns-item.result (omega arith) c.patterns-item.is c.loop-patterns.invariant (λ p. not_true (c.if-fits_any_entered.ensures.1 p))
+
+pub returns : goal.returns
+returns g c =
+    let none = no_any (λ r. Any (Fits (entered_items (option_copied c.args.prefix) c.args.pattern.now)) r.now) c.at-patterns-items.result.now c.loop-patterns.patterns-index (omega arith) c.loop-patterns.invariant in
+    both none (any_found (λ r. r.now) c.at-patterns-items.result.now (IsLabelOf c.args.scope.relay c.args.scope.scope) (λ label. label.patterns.items) c.args.labels.now c.at-patterns-items.ensures (Any (Fits (entered_items (option_copied c.args.prefix) c.args.pattern.now))))

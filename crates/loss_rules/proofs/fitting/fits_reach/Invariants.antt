@@ -1,8 +1,7 @@
 use Rattle.std.proofs.Common.{ℕ, ◌<◌, get_or}
 use Rattle.std.specs.Prelude.{Any}
 use Rattle.tag_pattern.specs.Patterns.{Fits}
-use Rattle.loss_rules.specs.Labels.{IsReachOf}
 use Rattle.loss_rules.proofs.fitting.fits_reach.Given as goal
 
-abbrev pub invariant-loop-reach : goal.invariant-loop-reach
-invariant-loop-reach g l = (k : ℕ) (d : _) → k < l.reach-index → IsReachOf l.at.place l.at.scope l.at.rule (get_or l.reaches k d) × Any (Fits l.pattern) (get_or l.reaches k d).patterns.items → ⊥
+abbrev pub invariant-loop-patterns : goal.invariant-loop-patterns
+invariant-loop-patterns g l = (k : ℕ) (d : _) → k < l.patterns-index → Any (Fits l.pattern) (get_or l.patterns-items k d).now → ⊥

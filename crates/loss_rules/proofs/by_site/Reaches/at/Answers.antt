@@ -1,0 +1,5 @@
+use Rattle.std.proofs.Common.{sym}
+use Rattle.loss_rules.proofs.by_site.Reaches.at.Goals as goal
+
+pub returns : goal.returns
+returns g c = λ list. rw (c.at.ensures, sym c.self.view_is) (c.self.invariant c.args.at.place c.args.at.scope c.args.at.rule list)
