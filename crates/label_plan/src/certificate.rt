@@ -5,7 +5,7 @@ ghost use Rattle.label_plan.specs.Lines.{IsLabelLine, OnlyAdds, are_label_words}
 ghost use Rattle.relay_faults.specs.Examined.{words_of};
 
 use loss_rules::{
-    Label, Reach, clients_are_labelled, forwards_are_labelled, labels_are_matched,
+    Label, Labels, Reaches, clients_are_labelled, forwards_are_labelled, labels_are_matched,
     reached_matches_keep, reaches_cover, relabels_are_labelled,
 };
 use plan_lines::Plan;
@@ -77,28 +77,41 @@ fn are_label_words(words: &[&str]) -> bool
     }
 }
 
-/// Whether the rules on clients, coverage, relabels and forwards hold of the plan.
-pub(crate) fn is_closed<A: Allocator + Copy>(plan: &Plan<A>) -> bool
-    ensures { IsTrue result → IsClosed plan.now.net plan.now.labels plan.now.reaches }
+/// Whether the rules on clients, coverage, relabels and forwards hold of the plan. The only error is want of memory.
+pub(crate) fn is_closed<A: Allocator + Copy>(
+    alloc: A,
+    plan: &Plan<A>,
+) -> Result<bool, AllocError>
+    ensures { IfOk result (λ closed. IsTrue closed → IsClosed plan.now.net plan.now.labels plan.now.reaches) }
 {
-    let lines = plan.client_lines();
-    is_closed_by(plan.net(), lines, plan.labels(), plan.reaches())
+    let list = plan.labels();
+    let labels = Labels::new(alloc, list)?;
+    let reaches = Reaches::new(alloc, plan.reaches())?;
+    Ok(is_closed_by(
+        plan.net(),
+        plan.client_lines(),
+        list,
+        &labels,
+        &reaches,
+    ))
 }
 
-// Whether these rules hold of a network with the clients of these lines, and of the labels and reaches.
-fn is_closed_by<A: Allocator + Copy>(
-    net: &Net<A>,
+// Whether these rules hold of a network with the clients of these lines, and of the labels, also as they are looked up, and reaches.
+fn is_closed_by<'a, 'b, A: Allocator + Copy>(
+    net: &'a Net<A>,
     client_lines: &[usize],
-    labels: &[Label<A>],
-    reaches: &[Reach<A>],
+    list: &[Label<A>],
+    labels: &'a Labels<'b, A>,
+    reaches: &'a Reaches<'b, A>,
 ) -> bool
-    requires { length client_lines.now ≡ length net.now.clients }
+    requires clients { length client_lines.now ≡ length net.now.clients }
+    requires same { labels.now ≡ list.now }
     ensures { IsTrue result → IsClosed net.now labels.now reaches.now }
 {
     if clients_are_labelled(net, client_lines, labels).is_some() {
         return false;
     }
-    if reaches_cover(net, labels, reaches).is_some() {
+    if reaches_cover(net, list, reaches).is_some() {
         return false;
     }
     if relabels_are_labelled(net, labels, reaches).is_some() {
@@ -113,10 +126,10 @@ fn is_closed_by<A: Allocator + Copy>(
 /// Whether the other rules hold of the plan that depend on its labels and reaches.
 pub(crate) fn is_kept<A: Allocator + Copy>(alloc: A, plan: &Plan<A>) -> Result<bool, AllocError> {
     let net = plan.net();
-    let reaches = plan.reaches();
+    let reaches = Reaches::new(alloc, plan.reaches())?;
     Ok(
         labels_are_matched(net, plan.labels()).is_none()
-            && reached_matches_keep(net, plan.duty(), reaches).is_none()
-            && first_cycle(alloc, net, reaches)?.is_none(),
+            && reached_matches_keep(net, plan.duty(), &reaches).is_none()
+            && first_cycle(alloc, net, plan.reaches())?.is_none(),
     )
 }

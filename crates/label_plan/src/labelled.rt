@@ -149,7 +149,10 @@ fn certified<A: Allocator + Copy>(
         return Ok(None);
     }
     match Plan::read(alloc, &text, confs) {
-        Ok(plan) if is_closed(&plan) => {
+        Ok(plan) => {
+            if !is_closed(alloc, &plan)? {
+                return Ok(None);
+            }
             let is_kept = is_kept(alloc, &plan)?;
             Ok(Some(Candidate { text, is_kept }))
         }
