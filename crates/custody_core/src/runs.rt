@@ -49,5 +49,7 @@ pub fn run<'n, A: Allocator + Copy>(
             return Err((place + 1, fault));
         }
     }
+    // Where there is no memory for it, what is asked later is looked for without.
+    let _ = world.collect();
     Ok(world)
 }

@@ -9,7 +9,7 @@ ghost use Rattle.message_book.specs.Book.{told_events};
 
 use crate::fault::StepFault;
 use crate::found::Found;
-use custody_store::{Event, Places, Stage};
+use custody_store::{Event, Places, Spot, Spots, Stage};
 use kept_branches::each_branch_keeps;
 use message_book::{Acknowledged, Book};
 use relay_net::Net;
@@ -23,6 +23,8 @@ pub struct World<'n, A: Allocator> {
     pub(crate) alloc: A,
     pub(crate) net: &'n Net<A>,
     pub(crate) places: Places<A>,
+    // where entries lay when that was collected; it may be out of date
+    spots: Spots<A>,
     pub(crate) book: Book<A>,
     ghost answers: { (p b s : ℕ) → flag_at (contents_at places p b).answered s ≡ list_any (is_answer p b s) book.messages },
     ghost closed: { (p : ℕ) → closed_at places p ≤ length book.deliveries },
@@ -50,6 +52,7 @@ impl<'n, A: Allocator + Copy> World<'n, A> {
             alloc,
             net,
             places: Places::new(alloc),
+            spots: Spots::new(alloc),
             book: Book::new(alloc),
         }
     }
@@ -69,9 +72,20 @@ impl<'n, A: Allocator + Copy> World<'n, A> {
         self.places.hold(tag, entry)
     }
 
+    /// Goes through all that is held once, so that `kept` finds what lies where it lies now without going through it again. It
+    /// changes no answer. An `Err` leaves all to be gone through as before.
+    pub fn collect(&mut self) -> Result<(), AllocError>
+        ensures net { net_of self.new ≡ net_of self.old }
+        ensures same { world_of self.new ≡ world_of self.old }
+    {
+        self.spots = self.places.spots()?;
+        Ok(())
+    }
+
     /// Whether the event of this number, counted from 0, that was acknowledged to a client is held under a tag that it may bear:
     /// the one that the client sent, with the prefix of each source that it enters in front, along relabels and forwards.
-    /// `None` where no event has this number. It looks at all that is held, and follows the event's ways.
+    /// `None` where no event has this number. It looks where the event's entry lay when that was collected, and follows the
+    /// event's ways; where the event isn't there, it looks at all that is held.
     pub fn kept(&self, number: usize) -> Result<Option<bool>, AllocError>
         ensures { IfOk result (λ answer. IsKeptAnswer (net_of self.now) (world_of self.now) number answer) }
     {
@@ -92,6 +106,16 @@ impl<'n, A: Allocator + Copy> World<'n, A> {
     fn is_kept(&self, host: &[u8], port: u16, event: &Event<A>) -> Result<bool, AllocError>
         ensures { IfOk result (λ yes. IsTrue yes ↔ HeldAs (net_of self.now) (world_of self.now) (record { host = host.now; port = port }) (event_of event.now)) }
     {
+        if self.is_found(host, port, event)? {
+            return Ok(true);
+        }
+        self.is_kept_anywhere(host, port, event)
+    }
+
+    // The same, where all that is held is looked at.
+    fn is_kept_anywhere(&self, host: &[u8], port: u16, event: &Event<A>) -> Result<bool, AllocError>
+        ensures { IfOk result (λ yes. IsTrue yes ↔ HeldAs (net_of self.now) (world_of self.now) (record { host = host.now; port = port }) (event_of event.now)) }
+    {
         let tags = self.places.tags()?;
         for tag in &tags {
             if self.is_kept_under(host, port, event, tag.as_slice())? {
@@ -99,6 +123,35 @@ impl<'n, A: Allocator + Copy> World<'n, A> {
             }
         }
         Ok(false)
+    }
+
+    // Whether the event is held at a spot where its entry lay, under a tag that it may bear, if a message with it was sent to this host
+    // and port. Where it isn't, it may be held elsewhere.
+    fn is_found(&self, host: &[u8], port: u16, event: &Event<A>) -> Result<bool, AllocError>
+        ensures { IfOk result (λ yes. IsTrue yes → HeldAs (net_of self.now) (world_of self.now) (record { host = host.now; port = port }) (event_of event.now)) }
+    {
+        for spot in self.spots.of_entry(event.entry.as_slice()) {
+            if self.is_found_at(*spot, host, port, event)? {
+                return Ok(true);
+            }
+        }
+        Ok(false)
+    }
+
+    // Whether it is held at this spot.
+    fn is_found_at(
+        &self,
+        spot: Spot,
+        host: &[u8],
+        port: u16,
+        event: &Event<A>,
+    ) -> Result<bool, AllocError>
+        ensures { IfOk result (λ yes. IsTrue yes → HeldAs (net_of self.now) (world_of self.now) (record { host = host.now; port = port }) (event_of event.now)) }
+    {
+        let Some(tag) = self.places.tag_at(spot, event.entry.as_slice()) else {
+            return Ok(false);
+        };
+        is_routed_tag(self.alloc, self.net, host, port, event.tag.as_slice(), tag)
     }
 
     // Whether the event is held under this tag, and may bear it, if a message with it was sent to this host and port.

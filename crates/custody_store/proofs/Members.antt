@@ -1,5 +1,5 @@
 -- What a list contains, and where it stands.
-use Rattle.std.proofs.Common.{◌≡◌, ℕ, zero, suc, ◌<◌, List, [], ◌∷◌, map, length, get_or, Some, option_map, slice_get, refl, ap, ◌∙◌, arith, Contains}
+use Rattle.std.proofs.Common.{◌≡◌, ℕ, zero, suc, ◌<◌, List, [], ◌∷◌, map, length, get_or, Option, Some, None, IfSome, option_map, slice_get, refl, ap, ◌∙◌, arith, Contains}
 use Rattle.std.proofs.lemmas.Option.{slice_get-map, slice_get_read, same_Some}
 
 pub get_from_contains : {X : Type 0} (xs : List X) (x : X) → Contains xs x → (k : ℕ) × (slice_get xs k ≡ Some x)
@@ -22,3 +22,8 @@ pub shown_contains : {X Y : Type 0} (show : X → Y) (xs : List X) (y : Y) → C
 shown_contains show [] y c = absurd (omega arith)
 shown_contains show (x ∷ xs) y (zero, h, e) = (zero, x, omega arith, refl, e)
 shown_contains show (x ∷ xs) y (suc k, h, e) = let m = shown_contains show xs y (k, omega arith, e) in (suc m.0, m.1, omega arith, m.3, m.4)
+
+-- what holds of a value, if there is one, as far as that follows
+pub if_some : {X : Type 0} (o : Option X) (P Q : X → Type 0) → ((x : X) → P x → Q x) → IfSome o P → IfSome o Q
+if_some None P Q then h = h
+if_some (Some x) P Q then h = then x h

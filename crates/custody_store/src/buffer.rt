@@ -8,7 +8,8 @@ ghost use Rattle.custody_store.specs.Copies.{copied_parts};
 ghost use Rattle.custody_store.specs.Tags.{Covers, HoldsUnder};
 
 use crate::chunk::{self, Chunk, Copied, Kept, Look, Stage};
-use crate::event::{Event, copy_texts, has_event};
+use crate::event::{Event, copy_texts, has_event, tag_among};
+use crate::spots::{Spot, Spots, add_chunk_spots};
 use crate::tags::{add_chunk_tags, add_event_tags};
 use std::alloc::{AllocError, Allocator};
 use std::marker::Model;
@@ -81,6 +82,42 @@ impl<A: Allocator + Copy> Buffer<A> {
     {
         chunk::have_entry(self.chunks.as_slice(), tag, entry)
             || has_event(self.sink.as_slice(), tag, entry)
+    }
+
+    /// The tag under which the entry is in the live chunk of this serial, or without one in the sink, at this place in that; if it is
+    /// there.
+    pub(crate) fn tag_at(&self, serial: Option<usize>, index: usize, entry: &[u8]) -> Option<&[u8]>
+        ensures { IfSome result (λ tag. Holds (buffer_of self.now) (record { tag = tag.now; entry = entry.now })) }
+    {
+        match serial {
+            Some(serial) => chunk::tag_in(self.chunks.get(serial)?, index, entry),
+            None => tag_among(self.sink.as_slice(), index, entry),
+        }
+    }
+
+    /// Adds the spots of the entries that it or its sink holds, which is this buffer of the relay at this place.
+    pub(crate) fn add_spots(
+        &self,
+        spots: &mut Spots<A>,
+        place: usize,
+        buffer: usize,
+    ) -> Result<(), AllocError> {
+        let alloc = *self.chunks.allocator();
+        for (serial, slot) in self.chunks.iter().enumerate() {
+            if let Some(chunk) = slot {
+                add_chunk_spots(spots, alloc, place, buffer, serial, &chunk.entries)?;
+            }
+        }
+        for (index, event) in self.sink.iter().enumerate() {
+            let spot = Spot {
+                place,
+                buffer,
+                serial: None,
+                index,
+            };
+            spots.add(alloc, &event.entry, spot)?;
+        }
+        Ok(())
     }
 
     /// Adds the tags under which it or its sink holds something.

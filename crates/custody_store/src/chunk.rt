@@ -1,5 +1,5 @@
 // Chunks: events of one tag that wait to be delivered together.
-ghost use Rattle.std.specs.Prelude.{map, ◌≡◌, ◌≤◌, ℕ, length, option_map, None, Some, IfOk, OnOk, OnErr, IsTrue, ◌↔◌, IsSomeAnd};
+ghost use Rattle.std.specs.Prelude.{map, ◌≡◌, ◌≤◌, ℕ, length, option_map, None, Some, IfOk, IfSome, OnOk, OnErr, IsTrue, ◌↔◌, IsSomeAnd};
 ghost use Rattle.std.specs.Option.{ForSome, option_and_then};
 ghost use Rattle.step_lines.specs.Texts.{texts_of};
 ghost use Rattle.custody_store.specs.Buffers.{IsInChunk, is_queued};
@@ -163,6 +163,24 @@ pub(crate) fn have_entry<A: Allocator>(
         }
     }
     false
+}
+
+/// The chunk's tag, if the entry is at this place among its entries.
+pub(crate) fn tag_in<'a, A: Allocator>(
+    slot: &'a Option<Chunk<A>>,
+    index: usize,
+    entry: &[u8],
+) -> Option<&'a [u8]>
+    ensures { IfSome result (λ tag. (now : ℕ) → IsSomeAnd (slot_from now slot.now) (λ chunk. IsInChunk chunk (record { tag = tag.now; entry = entry.now }))) }
+{
+    let Some(chunk) = slot else {
+        return None;
+    };
+    if chunk.entries.get(index)?.as_slice() == entry {
+        Some(chunk.tag.as_bytes())
+    } else {
+        None
+    }
 }
 
 /// As far as the chunk, if there is one, is asked for in this generation.

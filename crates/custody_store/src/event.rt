@@ -1,5 +1,5 @@
 // Entries and events, and copies of them.
-ghost use Rattle.std.specs.Prelude.{◌≡◌, ◌↔◌, IfOk, IsTrue, Contains};
+ghost use Rattle.std.specs.Prelude.{◌≡◌, ◌↔◌, IfOk, IfSome, IsTrue, Contains};
 ghost use Rattle.step_lines.specs.Texts.{texts_of};
 ghost use Rattle.custody_store.specs.Buffers.{events_of};
 ghost use Rattle.custody_store.specs.Contents.{event_of, stored_events};
@@ -71,6 +71,22 @@ pub(crate) fn has_event<A: Allocator>(events: &[Event<A>], tag: &[u8], entry: &[
         }
     }
     false
+}
+
+/// The tag under which the entry is at this place among the events, if it is.
+pub(crate) fn tag_among<'a, A: Allocator>(
+    events: &'a [Event<A>],
+    index: usize,
+    entry: &[u8],
+) -> Option<&'a [u8]>
+    ensures { IfSome result (λ tag. Contains (stored_events events.now) (record { tag = tag.now; entry = entry.now })) }
+{
+    let event = events.get(index)?;
+    if event.entry.as_slice() == entry {
+        Some(event.tag.as_slice())
+    } else {
+        None
+    }
 }
 
 // Whether it is this event.

@@ -5,9 +5,11 @@ mod buffer;
 mod chunk;
 mod event;
 mod places;
+mod spots;
 mod tags;
 
 pub use buffer::Buffer;
 pub use chunk::{Copied, Look, Stage};
 pub use event::{Event, copy_events, copy_texts, has_text};
 pub use places::Places;
+pub use spots::{Spot, Spots};

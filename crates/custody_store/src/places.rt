@@ -9,6 +9,7 @@ ghost use Rattle.custody_store.specs.Copies.{copied_parts};
 use crate::buffer::Buffer;
 use crate::chunk::{Copied, Look, Stage};
 use crate::event::Event as Stored;
+use crate::spots::{Spot, Spots};
 use crate::tags::add_place_tags;
 use std::alloc::{AllocError, Allocator};
 use tag_pattern::Tag;
@@ -123,6 +124,25 @@ impl<A: Allocator + Copy> Places<A> {
             Some(found) => found.holds(tag, entry),
             None => false,
         }
+    }
+
+    /// Where all entries lie that buffers and sinks hold.
+    pub fn spots(&self) -> Result<Spots<A>, AllocError> {
+        let mut spots = Spots::new(*self.list.allocator());
+        for (place, there) in self.list.iter().enumerate() {
+            for (buffer, found) in there.buffers.iter().enumerate() {
+                found.add_spots(&mut spots, place, buffer)?;
+            }
+        }
+        Ok(spots)
+    }
+
+    /// The tag under which the entry is held at this spot, if it is held there.
+    pub fn tag_at(&self, spot: Spot, entry: &[u8]) -> Option<&[u8]>
+        ensures { IfSome result (λ tag. HoldAnywhere self.now (record { tag = tag.now; entry = entry.now })) }
+    {
+        let found = self.buffer(spot.place, spot.buffer)?;
+        found.tag_at(spot.serial, spot.index, entry)
     }
 
     /// All tags under which something is held in a live chunk of some buffer or in a sink, and maybe others, each once.

@@ -6,5 +6,5 @@ use Rattle.custody_steps.specs.WorldOf.{world_from}
 use Rattle.custody_steps.proofs.world.World.new.Goals as goal
 
 pub returns-clause-opening : goal.returns-clause-opening
-returns-clause-opening g c = ap (λ (book : Book). world_from c.new.result book) c.new-2.ensures
+returns-clause-opening g c = ap (λ (book : Book). world_from c.new.result book) c.new-3.ensures
     ∙ (λ i. record opening { buffers = λ p b. buffer_of (c.new.ensures.contents p b i) })
