@@ -37,7 +37,7 @@ impl<'n, A: Allocator + Copy> World<'n, A> {
     ghost use Rattle.custody_store.specs.Contents.{event_of};
     ghost use Rattle.routed_tags.specs.Routed.{IsRoutedTag};
     ghost use Rattle.kept_branches.specs.Branches.{EachKeeps};
-    ghost use Rattle.custody_steps.specs.Branches.{IsKeptEveryAnswer};
+    ghost use Rattle.custody_steps.specs.Branches.{IsKeptEveryAnswer, IsKeptSoAnswer, KeepsSo};
     ghost use Rattle.custody_steps.specs.Held.{Held, HeldAs, IsKeptAnswer};
     ghost use Rattle.custody_steps.specs.Steps.{Answers, Names, Allowed, IsRefused, chunk_named, effect, sink_named};
     ghost use Rattle.custody_steps.specs.World.{opening};
@@ -89,6 +89,13 @@ impl<'n, A: Allocator + Copy> World<'n, A> {
     pub fn kept(&self, number: usize) -> Result<Option<bool>, AllocError>
         ensures { IfOk result (λ answer. IsKeptAnswer (net_of self.now) (world_of self.now) number answer) }
     {
+        self.kept_so(false, number)
+    }
+
+    // The same, or along each branch of its way.
+    fn kept_so(&self, every: bool, number: usize) -> Result<Option<bool>, AllocError>
+        ensures { IfOk result (λ answer. IsKeptSoAnswer every (net_of self.now) (world_of self.now) number answer) }
+    {
         let Some(told) = self.book.acknowledged().get(number) else {
             return Ok(None);
         };
@@ -98,8 +105,25 @@ impl<'n, A: Allocator + Copy> World<'n, A> {
         let Some(host) = self.net.client_host(told.client) else {
             return Ok(Some(false));
         };
-        let yes = self.is_kept(host, client.port, &told.event)?;
+        let yes = self.is_kept_so(every, host, client.port, &told.event)?;
         Ok(Some(yes))
+    }
+
+    // Whether the event is kept so, if a message with it was sent to this host and port.
+    fn is_kept_so(
+        &self,
+        every: bool,
+        host: &[u8],
+        port: u16,
+        event: &Event<A>,
+    ) -> Result<bool, AllocError>
+        ensures { IfOk result (λ yes. IsTrue yes ↔ KeepsSo every (net_of self.now) (world_of self.now) (record { host = host.now; port = port }) (event_of event.now)) }
+    {
+        if every {
+            self.is_kept_each(host, port, event)
+        } else {
+            self.is_kept(host, port, event)
+        }
     }
 
     // Whether the event is held under a tag that it may bear, if a message with it was sent to this host and port.
@@ -177,17 +201,7 @@ impl<'n, A: Allocator + Copy> World<'n, A> {
     pub fn kept_every(&self, number: usize) -> Result<Option<bool>, AllocError>
         ensures { IfOk result (λ answer. IsKeptEveryAnswer (net_of self.now) (world_of self.now) number answer) }
     {
-        let Some(told) = self.book.acknowledged().get(number) else {
-            return Ok(None);
-        };
-        let Some(client) = self.net.client(told.client) else {
-            return Ok(Some(false));
-        };
-        let Some(host) = self.net.client_host(told.client) else {
-            return Ok(Some(false));
-        };
-        let yes = self.is_kept_each(host, client.port, &told.event)?;
-        Ok(Some(yes))
+        self.kept_so(true, number)
     }
 
     // Whether the event is kept along each branch of its way, if a message with it was sent to this host and port.

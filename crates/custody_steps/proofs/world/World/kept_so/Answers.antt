@@ -1,7 +1,7 @@
 use Rattle.std.proofs.Common.{◌≡◌, List, Some, option_map, slice_get, sym, ap, ◌∙◌, refl}
 use Rattle.std.specs.Option.{option_copied}
 use Rattle.std.proofs.lemmas.Option.{same_Some, slice_get-map}
-use Rattle.kept_branches.specs.Branches.{EachKeeps}
+use Rattle.custody_steps.specs.Branches.{KeepsSo}
 use Rattle.message_book.specs.Book.{Told, told_of}
 use Rattle.relay_net.specs.Addresses.{Address}
 use Rattle.relay_net.specs.Network.{address_of_client}
@@ -9,7 +9,7 @@ use Rattle.relay_net.specs.declared.node.Client.{Client}
 use Rattle.relay_net.proofs.Gets.{got}
 use Rattle.custody_steps.specs.WorldOf.{world_of, net_of}
 use Rattle.custody_steps.proofs.Tellings.{told_answer}
-use Rattle.custody_steps.proofs.world.World.kept_every.Goals as goal
+use Rattle.custody_steps.proofs.world.World.kept_so.Goals as goal
 
 pub returns : goal.returns
 returns g c =
@@ -24,4 +24,4 @@ returns g c =
     let host : c.in-Some-client_host.host.now ≡ (address_of_client net client).host =
     same_Some c.in-Some-client_host.host.now (address_of_client net client).host
     (ap option_copied (sym c.in-Some-client_host.is) ∙ (c.client_host.ensures ∙ ap (option_map (λ (x : Client g.row.A.Denot). (address_of_client net x).host)) there)) in
-    told_answer net w.acknowledged c.args.number (told_of told) client c.in-Some-client_host.host.now c.in_ok-yes.yes (λ (to : Address) (t : Told). EachKeeps net w.buffers w.messages to t.event.tag t.event.entry) at there host c.in_ok-yes.ensures
+    told_answer net w.acknowledged c.args.number (told_of told) client c.in-Some-client_host.host.now c.in_ok-yes.yes (λ (to : Address) (t : Told). KeepsSo c.args.every net w to t.event) at there host c.in_ok-yes.ensures
