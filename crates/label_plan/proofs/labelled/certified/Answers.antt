@@ -1,4 +1,4 @@
-use Rattle.std.proofs.Common.{◌≡◌, ◌∙◌, ℕ, List, subst, sym, ap}
+use Rattle.std.proofs.Common.{rules, ◌≡◌, ◌∙◌, ℕ, List, subst, sym, ap}
 use Rattle.loss_rules.specs.Breaks.{Subject}
 use Rattle.plan_lines.specs.Plans.{Say, texts}
 use Rattle.text_lines.specs.Lines.{text_lines}
@@ -6,8 +6,8 @@ use Rattle.label_plan.specs.Labelling.{IsLabelled}
 use Rattle.label_plan.proofs.Peeling.{all_off}
 use Rattle.label_plan.proofs.labelled.certified.Goals as goal
 
-pub returns-in_ok-is_kept-in-Ok : goal.returns-in_ok-is_kept-in-Ok
-returns-in_ok-is_kept-in-Ok g c =
+pub returns-in-Ok : goal.returns-in-Ok
+returns-in-Ok g c =
     let confs = texts c.args.confs.now in
     let said = subst (λ text. Say confs (text_lines text) c.in-Ok.plan) c.deref-2.ensures.value c.in-Ok.ensures.plan in
     let off = all_off (text_lines c.args.net.now) c.requires.lines (subst (λ ls. Say confs ls c.in-Ok.plan) c.requires.lines_are said) c.requires.labels in
@@ -19,5 +19,5 @@ returns-in_ok-is_kept-in-Ok g c =
       after = c.in-Ok.plan;
       is = said;
       extends = off.extends;
-      closed = c.is_closed.ensures c.if-is_closed.true;
+      closed = c.in_ok-is_closed-in-Ok.ensures (let z = c.if-not-branch-2.false in search rules);
     }
