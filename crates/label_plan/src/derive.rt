@@ -258,8 +258,8 @@ impl<'a, A: Allocator + Copy> Deriver<'a, A> {
         }
     }
 
-    // Labels the scope behind a source with a prefix. What comes through it for a second time on its way is widened: by `**` in place of the
-    // prefix, and then to `**`.
+    // Labels the scope behind a source with a prefix. What comes through it for a second time on its way, and fits no label there, is widened:
+    // by `**` in place of the prefix, and then to `**`.
     fn enter_gate(
         &mut self,
         at: Entrance,

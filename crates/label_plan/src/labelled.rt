@@ -18,7 +18,8 @@ use std::alloc::{AllocError, Allocator};
 /// What clients send is labelled, each label is taken through the matches of its scope up to the first that it fits, under the narrower of
 /// the two patterns, and each reach goes on to relabels and servers. Where neither pattern fits the other, it is the one that the targets
 /// have matches for, and else the label's; where a rule that keeps events is broken by that, and isn't by the match's, it is the match's.
-/// What comes through a source with a prefix for a second time on its way is widened, first by `**` in front, and then to `**`.
+/// What comes through a source with a prefix for a second time on its way, and fits no label behind it, is widened: first by `**` in place
+/// of the prefix, and then to `**`.
 ///
 /// Each line that comes out is derived once, and compared with those of its scope or match; the rules are then decided of the whole, which
 /// compares the patterns of all lines pair by pair, as `check` does.
