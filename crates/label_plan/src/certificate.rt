@@ -78,22 +78,13 @@ fn are_label_words(words: &[&str]) -> bool
 }
 
 /// Whether the rules on clients, coverage, relabels and forwards hold of the plan. The only error is want of memory.
-pub(crate) fn is_closed<A: Allocator + Copy>(
-    alloc: A,
-    plan: &Plan<A>,
-) -> Result<bool, AllocError>
+pub(crate) fn is_closed<A: Allocator + Copy>(alloc: A, plan: &Plan<A>) -> Result<bool, AllocError>
     ensures { IfOk result (λ closed. IsTrue closed → IsClosed plan.now.net plan.now.labels plan.now.reaches) }
 {
     let list = plan.labels();
     let labels = Labels::new(alloc, list)?;
     let reaches = Reaches::new(alloc, plan.reaches())?;
-    Ok(is_closed_by(
-        plan.net(),
-        plan.client_lines(),
-        list,
-        &labels,
-        &reaches,
-    ))
+    Ok(is_closed_by(plan.net(), plan.client_lines(), list, &labels, &reaches))
 }
 
 // Whether these rules hold of a network with the clients of these lines, and of the labels, also as they are looked up, and reaches.
