@@ -1,9 +1,11 @@
 //! The operator's program: words of the command line, each of which reads, answers and gives a status.
 #![tactic(auto)]
 
+mod explain;
 mod label;
 mod words;
 
+use explain::run_explain;
 use label::run_label;
 use program_text::{Folder, Status, put_last};
 use std::io::ErrorKind;
@@ -11,12 +13,14 @@ use std::process::ExitCode;
 use std::{env, io};
 use words::{Word, read_word};
 
-const USAGE: &str = "usage: relayctl label NET | --help";
+const USAGE: &str = "usage: relayctl label NET | explain NET | --help";
 
-const HELP: &str = "usage: relayctl label NET | --help
+const HELP: &str = "usage: relayctl label NET | explain NET | --help
 
-label NET  prints the plan NET with the label and reach lines that it lacks
---help     prints this
+label NET    prints the plan NET with the label and reach lines that it lacks
+explain NET  prints the answer of relaynet check to the plan NET, what a broken
+             rule or a fault means, what mends it, and steps that lose an event
+--help       prints this
 
 docs/RELAYCTL.md says more.
 ";
@@ -33,6 +37,9 @@ fn run(rt: &HostRuntime, word: Option<Word<'_>>) -> Status {
     match word {
         Some(Word::Help) => put_last(out, HELP.as_bytes(), Status::Done),
         Some(Word::Label(net)) => run_label(rt.alloc(), &mut folder.text(net), &folder, out),
+        Some(Word::Explain(net)) => {
+            run_explain(rt.alloc(), net, &mut folder.text(net), &folder, out)
+        }
         None => usage(rt),
     }
 }

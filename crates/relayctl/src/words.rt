@@ -7,6 +7,8 @@ pub enum Word<'a> {
     Help,
     /// Label the plan of a network, at this path.
     Label(&'a str),
+    /// Explain the checker's answer to a plan, at this path.
+    Explain(&'a str),
 }
 
 /// Reads the words, of which the first is the program's own name. `None` where they ask for nothing that there is.
@@ -20,6 +22,9 @@ pub fn read_word(words: &[String]) -> Option<Word<'_>> {
         [_, word, net] => {
             if word.as_str() == "label" {
                 return Some(Word::Label(net));
+            }
+            if word.as_str() == "explain" {
+                return Some(Word::Explain(net));
             }
         }
         _ => (),

@@ -1,0 +1,75 @@
+-- What is printed of a plan, its answer or its fault, with what explains it.
+use Rattle.std.specs.Prelude.{◌≡◌, ◌≢◌, Bool, true, false, ℕ, List, [], ◌++◌, codes, Option, ◌⊎◌}
+use Rattle.losing_steps.specs.Losses.{IsLosingText}
+use Rattle.loss_rules.specs.Breaks.{Subject}
+use Rattle.loss_rules.specs.declared.answer.Answer.{Answer}
+use Rattle.loss_rules.specs.declared.answer.Answer.TheVariants as answer
+use Rattle.plan_answers.specs.Networks.{answer_line, answer_status, plan_fault_line, IsAnswered, IsRefusedPlan, IsStopLine}
+use Rattle.plan_lines.specs.declared.error.PlanError.{PlanError}
+use Rattle.plan_lines.specs.declared.error.PlanError.TheVariants as refusal
+use Rattle.program_text.specs.Lines.{line}
+use Rattle.program_text.specs.Output.{IsPrinted}
+use Rattle.program_text.specs.declared.status.Status.{Status}
+use Rattle.program_text.specs.declared.status.Status.TheVariants.{Usage}
+
+-- the last line behind steps that lose an event
+abbrev pub loss_line : List ℕ
+loss_line = line (codes "# relaynet replay of these lines lists what they lose")
+
+-- the last line where there are no such steps
+abbrev pub no_loss_line : List ℕ
+no_loss_line = line (codes "# there are no steps here")
+
+-- the last line, where there are such steps and where there are none
+abbrev pub last_line : Bool → List ℕ
+last_line true = loss_line
+last_line false = no_loss_line
+
+-- Steps that lose an acknowledged event in the network of the plan, and the line that says so; or notes, and the line that there are no steps.
+abbrev pub IsLossOrNotes : {A : Type 0} → Subject A → List ℕ → Type 0
+IsLossOrNotes plan said =
+    ((steps : List ℕ) × (said ≡ steps ++ loss_line) × IsLosingText plan.duty plan.net steps)
+    ⊎ ((notes : List ℕ) × (said ≡ notes ++ no_loss_line))
+
+-- what stands behind the answer's line: of a yes nothing
+abbrev pub IsBehind : {A : Type 0} → Subject A → Answer → List ℕ → Type 0
+IsBehind plan answer.Yes said = said ≡ []
+IsBehind plan (answer.No rule place) said = IsLossOrNotes plan said
+
+-- what is said of a plan's answer: its line, what stands behind that, and the answer's status
+pub record SaysAnswer {A : Type 0} (plan : Subject A) (found : Answer) (lines : List ℕ) (status : Status) : Type 0 where
+  pub said : List ℕ
+  pub is_behind : IsBehind plan found said
+  pub lines_are : lines ≡ answer_line found ++ said
+  pub is_status : status ≡ answer_status found
+
+-- The plan that is read has an answer, and this is said of it.
+pub record IsExplained (A : Type 0) (net : Option (List ℕ)) (named : List ℕ → Option (List ℕ)) (lines : List ℕ) (status : Status) : Type 0 where
+  pub plan : Subject A
+  pub found : Answer
+  pub answered : IsAnswered A net named plan found
+  pub says : SaysAnswer plan found lines status
+
+-- what is said of a plan's fault: its line, and notes
+pub record SaysFault (fault : PlanError) (lines : List ℕ) (status : Status) : Type 0 where
+  pub notes : List ℕ
+  pub lines_are : lines ≡ plan_fault_line fault ++ notes
+  pub is_status : status ≡ Usage
+
+-- No plan is read, and this is said of its fault.
+pub record IsExplainedFault (A : Type 0) (net : Option (List ℕ)) (named : List ℕ → Option (List ℕ)) (lines : List ℕ) (status : Status) : Type 0 where
+  pub fault : PlanError
+  pub refused : IsRefusedPlan A net named fault
+  pub named_fault : fault ≢ refusal.Memory
+  pub says : SaysFault fault lines status
+
+-- what is said of the texts that are read
+abbrev pub IsExplanation : (A : Type 0) → Option (List ℕ) → (List ℕ → Option (List ℕ)) → List ℕ → Status → Type 0
+IsExplanation A net named lines status = IsExplained A net named lines status ⊎ IsExplainedFault A net named lines status
+
+-- all that `explain` does to a writer, and its status
+pub record PrintsExplanation (A : Type 0) (net : Option (List ℕ)) (named : List ℕ → Option (List ℕ)) (old new : Option (List ℕ)) (status : Status) : Type 0 where
+  pub lines : List ℕ
+  pub meant : Status
+  pub explained : IsExplanation A net named lines meant ⊎ IsStopLine lines meant
+  pub printed : IsPrinted old new lines meant status

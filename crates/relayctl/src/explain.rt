@@ -1,0 +1,113 @@
+//! The word `explain`: the checker's answer to a plan, or the plan's fault, with what it means and what mends it.
+ghost use Rattle.std.specs.Prelude.{◌≡◌, IfOk};
+ghost use Rattle.loss_rules.specs.Breaks.{IsAnswer};
+ghost use Rattle.relayctl.specs.Explaining.{last_line as last_line_of, IsExplanation, PrintsExplanation, SaysAnswer, SaysFault};
+
+use loss_checker::{Answer, Plan, PlanError, check, conf_names};
+use plan_answers::{Stop, print_stop, read_confs};
+use program_text::{Open, ReadFault, Status, put_last, read_whole};
+use rule_advice::{Texts, explain, explain_fault};
+use std::alloc::{AllocError, Allocator};
+use std::io::{Read, Write};
+
+/// Prints the checker's answer to the plan that `net` gives, by this name in what is printed; behind a no what the broken rule means, what
+/// mends it, and steps that lose an acknowledged event, where some were found. Or it prints the plan's first fault, and what that means
+/// and what mends it. Each text is read whole before a fault of the plan is looked for.
+pub fn run_explain<A: Allocator + Copy, R: Read, O: Open, W: Write>(
+    alloc: A,
+    name: &str,
+    net: &mut R,
+    files: &O,
+    out: &mut W,
+) -> Status
+    ensures { PrintsExplanation A (R.remaining net.old) (O.text_of files.now) (W.contents out.old) (W.contents out.new) result }
+{
+    match explain_read(alloc, name, net, files) {
+        Ok(said) => put_last(out, &said.lines, said.status),
+        Err(fault) => print_stop(alloc, Stop::Unread(fault), out),
+    }
+}
+
+// Lines, and the status that they mean.
+#[derive(Drop)]
+struct Said<A: Allocator> {
+    lines: Vec<u8, A>,
+    status: Status,
+}
+
+// What is said of the texts that are read.
+fn explain_read<A: Allocator + Copy, R: Read, O: Open>(
+    alloc: A,
+    name: &str,
+    net: &mut R,
+    files: &O,
+) -> Result<Said<A>, ReadFault>
+    ensures { IfOk result (λ said. IsExplanation A (R.remaining net.old) (O.text_of files.now) said.lines.items said.status) }
+{
+    let text = read_whole(alloc, net)?;
+    let names = conf_names(alloc, &text)?;
+    let confs = read_confs(alloc, &names, files)?;
+    let texts = Texts {
+        plan_name: name,
+        plan: &text,
+        conf_names: &names,
+        confs: &confs,
+    };
+    match Plan::read(alloc, &text, &confs) {
+        Ok(plan) => Ok(say_plan(alloc, &plan, &texts)?),
+        Err(PlanError::Memory) => Err(ReadFault::Memory),
+        Err(fault) => Ok(say_fault(alloc, &texts, fault)?),
+    }
+}
+
+// What is said of a plan: the line of the checker's answer, and behind a no what explains it.
+fn say_plan<A: Allocator + Copy>(
+    alloc: A,
+    plan: &Plan<A>,
+    texts: &Texts<'_, A>,
+) -> Result<Said<A>, AllocError>
+    ensures { IfOk result (λ said. (found : Answer) × IsAnswer plan.now found × SaysAnswer plan.now found said.lines.items said.status) }
+{
+    let answer = check(alloc, plan)?;
+    let mut lines = format!(in alloc; "{answer}\n")?.into_bytes();
+    let Answer::No { rule, place } = answer else {
+        return Ok(Said {
+            lines,
+            status: Status::Done,
+        });
+    };
+    let said = explain(alloc, plan, texts, rule, place)?;
+    lines.extend_from_slice(&said.lines)?;
+    lines.extend_from_slice(last_line(said.has_loss).as_bytes())?;
+    Ok(Said {
+        lines,
+        status: Status::No,
+    })
+}
+
+// The line that says whether those before it are steps that lose an event.
+fn last_line(has_loss: bool) -> &'static str
+    ensures { result.now ≡ last_line_of has_loss }
+{
+    if has_loss {
+        "# relaynet replay of these lines lists what they lose\n"
+    } else {
+        "# there are no steps here\n"
+    }
+}
+
+// What is said of a plan's fault: its line, and what explains it.
+fn say_fault<A: Allocator + Copy>(
+    alloc: A,
+    texts: &Texts<'_, A>,
+    fault: PlanError,
+) -> Result<Said<A>, AllocError>
+    ensures { IfOk result (λ said. SaysFault fault said.lines.items said.status) }
+{
+    let mut lines = format!(in alloc; "fault {fault}\n")?.into_bytes();
+    lines.extend_from_slice(&explain_fault(alloc, texts, fault)?)?;
+    Ok(Said {
+        lines,
+        status: Status::Usage,
+    })
+}
