@@ -1,7 +1,6 @@
 -- What a relay's loop keeps.
 use Rattle.std.specs.Prelude.{ℕ, ◌≡◌, List, map, Option, IfSome, Contains, slice_get}
 use Rattle.std.specs.List.{All}
-use Rattle.book_audit.specs.declared.line.Leaf.{Leaf}
 use Rattle.ack_receipt.specs.Terms.{Terms}
 use Rattle.relay_conf.specs.declared.relay.Relay.{Relay}
 use Rattle.relay_conf.specs.declared.relay.Scope.{Scope}

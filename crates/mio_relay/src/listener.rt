@@ -97,17 +97,34 @@ pub fn listen<A: Allocator + Copy>(
     let mut listeners = Vec::with_capacity(alloc, sources.len())?;
     let mut rest = sources.into_iter();
     while let Some(source) = rest.next() {
-        let socket = bind(net, registry, &source, listeners.len())?;
-        let routes = Arc::try_clone(routes)?;
-        let inlet = Inlet::new(number, routes, source.label, source.prefix);
-        listeners.push(Listener {
-            socket,
-            inlet: Arc::new(alloc, inlet)?,
-            port: source.port,
-            secret: source.security,
-        })?;
+        let place = listeners.len();
+        let listener = listen_at(alloc, net, registry, number, routes, source, place)?;
+        listeners.push(listener)?;
     }
     Ok(listeners)
+}
+
+/// Listens at one source, with this place among those of the relay.
+fn listen_at<A: Allocator + Copy>(
+    alloc: A,
+    net: &impl Net,
+    registry: &Registry,
+    number: u32,
+    routes: &Arc<Routes<A>, A>,
+    source: Source<A>,
+    place: usize,
+) -> Result<Listener<A>, LoopFault>
+    ensures { IfOk result (λ listener. arc_value listener.inlet ≡ entry_of number (arc_value routes.now) source) }
+{
+    let socket = bind(net, registry, &source, place)?;
+    let routes = Arc::try_clone(routes)?;
+    let inlet = Inlet::new(number, routes, source.label, source.prefix);
+    Ok(Listener {
+        socket,
+        inlet: Arc::new(alloc, inlet)?,
+        port: source.port,
+        secret: source.security,
+    })
 }
 
 /// A connection that came in at the source with this place; `None` where there is none, or where its name is too long for a

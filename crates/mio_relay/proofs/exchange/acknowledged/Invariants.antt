@@ -1,4 +1,4 @@
-use Rattle.std.proofs.Common.{◌≡◌, Option, Some}
+use Rattle.std.proofs.Common.{◌≡◌, Option}
 use Rattle.event_modes.specs.declared.chunk_id.ChunkId.{ChunkId}
 use Rattle.forward_core.specs.Client.{HasSent}
 use Rattle.mio_relay.proofs.exchange.acknowledged.Given as goal

@@ -1,4 +1,3 @@
-use Rattle.std.proofs.Common.{ℕ}
 use Rattle.std.specs.Vec.Iter.{into_iter_len}
 use Rattle.mio_relay.proofs.in_loop.InLoop.end.Given as goal
 
