@@ -4,7 +4,7 @@ ghost use Rattle.std.specs.Prelude.{◌≡◌, length, option_map};
 ghost use Rattle.std.specs.Int.{w16, w32, w64};
 ghost use Rattle.chunk_journal.specs.Fields.{number_at, beside, parts_of, parts_from};
 
-const LONGEST_TAG: usize = 1024;
+use event_modes::LONGEST_TAG;
 
 /// An Append's fields: the serial, the tag, how many entries there should be, and their bytes.
 #[derive(Clone, Copy)]

@@ -25,4 +25,4 @@ pub use items::Items;
 pub use laws::{means_one, never_both, reads_one_way};
 pub use message::{Entries, Message, Read};
 pub use packed::put_packed;
-pub use reading::read;
+pub use reading::{LONGEST_TAG, read};

@@ -20,8 +20,8 @@ use crate::places::places_of;
 use msgpack_bytes::{Scan, text_of};
 use std::alloc::{AllocError, Allocator};
 
-/// The most bytes of a tag.
-const LONGEST_TAG: usize = 1024;
+/// How many bytes a tag has at most. A message with a longer one is refused.
+pub const LONGEST_TAG: usize = 1024;
 
 /// Reads the message or the heartbeat that the bytes begin with (Forward Protocol Specification v1, "Message Modes").
 ///

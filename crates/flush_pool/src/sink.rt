@@ -7,12 +7,10 @@ use crate::fault::CarryFault;
 use crate::view::ClaimView;
 use buffer_book::Evidence;
 use disk_files::Dir;
+use event_modes::LONGEST_TAG;
 use sink_series::Series;
 use std::alloc::Allocator;
 use std::sync::{Mutex, Wait};
-
-/// No chunk has a longer tag: a buffer takes none. It is looked at all the same.
-const LONGEST_TAG: usize = 1024;
 
 /// Writes chunks to a sink's files, one at a time: its workers share them behind a lock of its own.
 #[derive(Drop)]
@@ -39,6 +37,7 @@ impl<R: Wait, D: Dir, S: Dir, A: Allocator + Copy> Courier<R, D, A> for SinkCour
     fn carry(&self, rt: &R, chunk: &ClaimView<'_, D, A>) -> Result<Evidence<A>, CarryFault>
         ensures { IfOk result (λ evidence. IsStoredFor chunk.now evidence) }
     {
+        // A buffer takes no longer tag; it is looked at all the same.
         if chunk.tag().len() > LONGEST_TAG {
             return Err(CarryFault::Device);
         }

@@ -10,7 +10,7 @@ use crate::listener::resolve;
 use crate::secret::{copied, shown};
 use ack_receipt::Evidence;
 use disk_files::Dir;
-use event_modes::Entries;
+use event_modes::{Entries, LONGEST_TAG};
 use flush_pool::{CarryFault, ClaimView, Courier};
 use forward_core::ClientSession;
 use loop_core::LoopFault;
@@ -32,9 +32,6 @@ const SLICE: u64 = 200;
 
 /// How many bytes are read at once: the answers are short.
 const PIECE: usize = 4_096;
-
-/// The most bytes of a tag.
-const LONGEST_TAG: usize = 1_024;
 
 /// A server's address.
 #[derive(Drop)]

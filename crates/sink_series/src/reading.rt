@@ -5,12 +5,9 @@ ghost use Rattle.sink_series.specs.Events.{Event, IsEvent, item_of, BeginsNone, 
 
 use crate::event::SinkEvent;
 use crate::writing::put_front;
-use event_modes::Entries;
+use event_modes::{Entries, LONGEST_TAG};
 use msgpack_bytes::{array_of, next_item, next_text};
 use std::alloc::{AllocError, Allocator};
-
-/// The most bytes of a tag.
-const LONGEST_TAG: usize = 1024;
 
 /// The content of the bytes.
 pub(crate) fn read_events<A: Allocator + Copy>(

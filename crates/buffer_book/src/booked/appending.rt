@@ -15,11 +15,8 @@ use crate::past::Written;
 use book_audit::Line;
 use buffer_store::BufferFault;
 use disk_files::Dir;
-use event_modes::Entries;
+use event_modes::{Entries, LONGEST_TAG};
 use std::alloc::Allocator;
-
-/// How many bytes a tag has at most.
-const LONGEST_TAG: usize = 1024;
 
 /// Where an append with a receipt is noted.
 #[derive(Clone, Copy, Debug, PartialEq, Eq)]
