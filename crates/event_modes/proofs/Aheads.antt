@@ -23,6 +23,13 @@ none_open = missing_open [] (record { n = 1; missing = run_empty 64; least = ome
 pub given_none : (scanner : Scanning) (unread : List ℕ) → IsAfter scanner [] → IsGiven (ahead_of scanner 0) unread
 given_none scanner unread a = record { within = omega arith; given = a; still = none_open }
 
+-- where it was given none
+pub given_any : (ahead : Ahead) (unread : List ℕ) → IsGiven ahead unread → ahead.given ≡ 0 → (other : List ℕ) → IsGiven ahead other
+given_any ahead unread g none other =
+    let before : take ahead.given unread ≡ [] = ap (λ (n : ℕ). take n unread) none in
+    let after : [] ≡ take ahead.given other = sym (ap (λ (n : ℕ). take n other) none) in
+    record { within = omega arith; given = subst (IsAfter ahead.scanner) (before ∙ after) g.given; still = subst IsOpen (before ∙ after) g.still }
+
 -- more bytes come
 pub given_more : (ahead : Ahead) (unread piece : List ℕ) → IsGiven ahead unread → IsGiven ahead (unread ++ piece)
 given_more ahead unread piece g =

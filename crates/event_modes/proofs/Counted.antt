@@ -58,6 +58,15 @@ some_items count bytes lt a = begins (items_of count bytes) (omega (arith, lengt
     begins [] l p e = absurd (omega arith)
     begins (x ∷ xs) l p e = record { front = x; back = concat xs; is = p.0; whole = e }
 
+-- one item is all that is there
+pub only_item : (count : ℕ) (bytes : List ℕ) → count ≡ 1 → AreItems count bytes → IsTextItem bytes
+only_item count bytes one a = only (items_of count bytes) (length-items count bytes ∙ one) a.each a.whole
+  where
+    only : (xs : List (List ℕ)) → length xs ≡ 1 → AllByRecursion IsTextItem xs → bytes ≡ concat xs → IsTextItem bytes
+    only [] n p e = absurd (omega arith)
+    only (x ∷ []) n p e = subst IsTextItem (sym (e ∙ append-nil x)) p.0
+    only (x ∷ y ∷ xs) n p e = absurd (omega arith)
+
 pub record Taken (count : ℕ) (bytes item others : List ℕ) : Type 0 where
   pub first : items_of count bytes ≡ item ∷ items_of (count - 1) others
   pub left : AreItems (count - 1) others

@@ -92,12 +92,12 @@ impl<A: Allocator + Copy> Feed<A> {
         match read_on(*self.bytes.allocator(), &mut self.ahead, unread)? {
             Read::Message(message, n) => {
                 self.start += n;
-                self.ahead = Ahead::new();
+                self.ahead.restart();
                 Ok(Next::Message(message))
             }
             Read::Heartbeat(n) => {
                 self.start += n;
-                self.ahead = Ahead::new();
+                self.ahead.restart();
                 Ok(Next::Heartbeat)
             }
             Read::Need => Ok(Next::Need),

@@ -45,7 +45,7 @@ pub fn is_time(item: &[u8]) -> bool
     requires { IsTextItem item.now }
     ensures { IsTrue result ↔ IsTime item.now }
 {
-    is_integer(item) || is_event_time(item)
+    is_event_time(item) || is_integer(item)
 }
 
 fn is_integer(item: &[u8]) -> bool

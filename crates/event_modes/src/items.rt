@@ -1,20 +1,23 @@
 //! Items one after another, as slices.
 
-ghost use Rattle.std.specs.Prelude.{◌≡◌, ◌++◌, length};
+ghost use Rattle.std.specs.Prelude.{◌≡◌, ◌<◌, ◌++◌, length};
 ghost use Rattle.std.specs.List.{concat};
 ghost use Rattle.msgpack_bytes.specs.Item.{IsTextItem};
-ghost use Rattle.msgpack_bytes.specs.Answers.{Begins};
 ghost use Rattle.event_modes.specs.Rows.{items_of, AreItems};
 
 use msgpack_bytes::{Scan, scan};
 use std::marker::Model;
 
-// The item that the bytes begin with, and what is behind it.
-fn first_item(bytes: &[u8]) -> (&[u8], &[u8])
-    requires { Begins IsTextItem bytes.now }
+// The first of so many items, and what is behind it. The last one is all that is there, so it isn't scanned.
+fn first_item(bytes: &[u8], count: usize) -> (&[u8], &[u8])
+    requires some { 0 < count }
+    requires items { AreItems count bytes.now }
     ensures item { IsTextItem result.0.now }
     ensures whole { bytes.now ≡ result.0.now ++ result.1.now }
 {
+    if count == 1 {
+        return bytes.split_at(bytes.len());
+    }
     match scan(bytes, 0) {
         Scan::End(end) => bytes.split_at(end),
         _ => unreachable!(),
@@ -76,7 +79,7 @@ impl<'a> Iterator for Items<'a> {
         if self.count == 0 {
             return None;
         }
-        let (item, others) = first_item(self.bytes);
+        let (item, others) = first_item(self.bytes, self.count);
         self.bytes = others;
         self.count -= 1;
         Some(item)

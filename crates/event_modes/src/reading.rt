@@ -2,6 +2,7 @@
 
 ghost use Rattle.std.specs.Prelude.{◌≡◌, ℕ, List, option_map, IfOk, MatchResult};
 ghost use Rattle.msgpack_bytes.specs.Item.{IsTextItem};
+ghost use Rattle.msgpack_bytes.specs.Answers.{IsScanned};
 ghost use Rattle.msgpack_bytes.specs.Kinds.{IsNil};
 ghost use Rattle.event_modes.specs.Message.{IsTag, IsMessage};
 ghost use Rattle.event_modes.specs.Faults.{ItemFault};
@@ -17,7 +18,7 @@ use crate::item::is_nil;
 use crate::message::{Message, Read};
 use crate::option::ack_of;
 use crate::places::places_of;
-use msgpack_bytes::{Scan, text_of};
+use msgpack_bytes::{Scan, scan, text_of};
 use std::alloc::{AllocError, Allocator};
 
 /// How many bytes a tag has at most. A message with a longer one is refused.
@@ -30,7 +31,7 @@ pub fn read<A: Allocator + Copy>(alloc: A, bytes: &[u8]) -> Result<Read<A>, Allo
     ensures right { IfOk result (λ found. Answers bytes.now (answer_of found)) }
     ensures only { (other : Answer) → Answers bytes.now other → IfOk result (λ found. other ≡ answer_of found) }
 {
-    read_on(alloc, &mut Ahead::new(), bytes)
+    read_scanned(alloc, bytes, scan(bytes, 0))
 }
 
 /// Reads the same of bytes of which some were scanned before. What was scanned is kept, with an `Err` too.
@@ -43,7 +44,20 @@ pub(crate) fn read_on<A: Allocator + Copy>(
     ensures right { IfOk result (λ found. Answers bytes.now (answer_of found)) }
     ensures given { IsGiven ahead.new bytes.now }
 {
-    match ahead.scan(bytes) {
+    let found = ahead.scan(bytes);
+    read_scanned(alloc, bytes, found)
+}
+
+// Reads the same where the scan found this.
+fn read_scanned<A: Allocator + Copy>(
+    alloc: A,
+    bytes: &[u8],
+    found: Scan,
+) -> Result<Read<A>, AllocError>
+    requires { IsScanned bytes.now 0 found }
+    ensures { IfOk result (λ found. Answers bytes.now (answer_of found)) }
+{
+    match found {
         Scan::End(end) => read_item(alloc, bytes.split_at(end).0),
         Scan::Need => Ok(Read::Need),
         Scan::Bad(fault) => Ok(Read::Bad(ModeFault::Bytes(fault))),

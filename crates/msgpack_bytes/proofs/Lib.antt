@@ -14,6 +14,7 @@ pub mod Turns
 pub mod States
 pub mod Alike
 pub mod Standing
+pub mod Innermost
 pub mod Spelled
 pub mod Lawful
 pub mod Rows

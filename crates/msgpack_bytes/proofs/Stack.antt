@@ -66,7 +66,7 @@ owed_below xs j n (suc k) h =
     let f = owed_below xs j n k (omega arith) in
     cc
 
-finish_below : (xs : List ℕ) (j n depth k : ℕ) (bytes : List ℕ) → k ≤ j → finish (slice_set xs j n) depth k bytes ≡ finish xs depth k bytes
+pub finish_below : (xs : List ℕ) (j n depth k : ℕ) (bytes : List ℕ) → k ≤ j → finish (slice_set xs j n) depth k bytes ≡ finish xs depth k bytes
 finish_below xs j n depth zero bytes h = refl
 finish_below xs j n depth (suc k) bytes h =
     let e = set_elsewhere xs j k n (omega arith) in

@@ -377,30 +377,3 @@ module _ (s new : Scanning) (piece front missing rest : List ℕ) (place : Place
       let g = goes seen b in
       ((scan.Need, g.2, refl), subst (λ (o : Option Taken). IsAfterBy o new (seen ++ piece)) (sym still) (cut_begun seen b))
       )
-
--- ---- one piece alone
-
-end_moved : (bytes piece : List ℕ) (at end : ℕ) → at ≤ length bytes → piece ≡ drop at bytes → IsScanned piece 0 (scan.End end) → IsScanned bytes at (scan.End (at + end))
-end_moved bytes piece at end h is s =
-    let within = s.1 in
-    let size = ap length is ∙ length-drop at bytes in
-    let n : end - 0 ≡ at + end - at = omega arith in
-    (omega arith, omega arith, subst IsTextItem (ap (take (end - 0)) is ∙ ap (λ (k : ℕ). take k (drop at bytes)) n) s.2)
-
-pub scan_end : (bytes piece : List ℕ) (at n : ℕ) → at ≤ length bytes → piece ≡ drop at bytes → IsTaken [] piece (taken.End n) → IsScanned bytes at (scan.End (at + n))
-scan_end bytes piece at n h is (scan.End end, s, e) =
-    let same : n ≡ end - 0 = cc in
-    let all : at + end ≡ at + n = omega arith in
-    subst (λ (k : ℕ). IsScanned bytes at (scan.End k)) all (end_moved bytes piece at end h is s)
-scan_end bytes piece at n h is (scan.Need, s, e) = absurd (cc)
-scan_end bytes piece at n h is (scan.Bad fault, s, e) = absurd (cc)
-
-pub scan_need : (bytes piece : List ℕ) (at : ℕ) → piece ≡ drop at bytes → IsTaken [] piece taken.Need → IsScanned bytes at scan.Need
-scan_need bytes piece at is t = subst IsOpen is (need_taken [] piece t)
-
-pub scan_bad : (bytes piece : List ℕ) (at : ℕ) (fault : MsgFault) → piece ≡ drop at bytes → IsTaken [] piece (taken.Bad fault) → IsScanned bytes at (scan.Bad fault)
-scan_bad bytes piece at fault is (scan.End end, s, e) = absurd (cc)
-scan_bad bytes piece at fault is (scan.Need, s, e) = absurd (cc)
-scan_bad bytes piece at fault is (scan.Bad other, s, e) =
-    let same : other ≡ fault = cc in
-    subst (λ (f : MsgFault). IsFaulty f (drop at bytes)) same (subst (IsFaulty other) is s)

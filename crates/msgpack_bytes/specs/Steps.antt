@@ -28,6 +28,14 @@ abbrev pub step_of : Bool → List ℕ → Step
 step_of may_open [] = step.Lacks 1
 step_of may_open (first ∷ rest) = step_by may_open (shape_of first) (length rest) rest
 
+-- a scalar with no content
+abbrev pub IsSingle : Shape → Type 0
+IsSingle (Fixed kind n) = n ≡ 0
+IsSingle (Sized kind width extra) = ⊥
+IsSingle (Holds container n) = ⊥
+IsSingle (Counted container width) = ⊥
+IsSingle Never = ⊥
+
 -- what keeps a step's numbers small
 abbrev pub IsSmall : Step → Type 0
 IsSmall (step.Whole size) = Unit {0}

@@ -6,7 +6,7 @@ ghost use Rattle.msgpack_bytes.specs.Kinds.{IsText, IsBool, IsArrayHeader, IsMap
 
 use crate::answers::{Head, Scan};
 use crate::heads::head;
-use crate::scanner::scan;
+use crate::whole::scan;
 
 /// Whether the bytes are one whole item.
 pub fn is_item(bytes: &[u8]) -> bool

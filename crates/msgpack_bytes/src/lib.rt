@@ -11,6 +11,7 @@ mod number;
 mod scanner;
 mod steps;
 mod table;
+mod whole;
 mod writer;
 
 pub use answers::{Head, MsgFault, Scan, Taken};
@@ -22,5 +23,6 @@ pub use laws::{
     long_only, open_for_zeros, parts, prefix_free, read_by_recursion, spelled_shortest,
 };
 pub use names::last_value;
-pub use scanner::{Scanner, scan};
+pub use scanner::Scanner;
+pub use whole::scan;
 pub use writer::{put_array, put_bin, put_bool, put_map, put_str, put_uint};

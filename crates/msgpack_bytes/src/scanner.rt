@@ -1,4 +1,4 @@
-// Where an item ends.
+// Where an item ends whose bytes come in pieces.
 ghost use Rattle.std.specs.Prelude.{ℕ, List, [], ◌≡◌, ◌+◌, ◌++◌, ◌↔◌, ◌<◌, ◌≤◌, length};
 ghost use Rattle.msgpack_bytes.specs.declared.answers.Scan.{Scan};
 ghost use Rattle.msgpack_bytes.specs.declared.answers.Taken.{Taken};
@@ -8,36 +8,20 @@ ghost use Rattle.msgpack_bytes.specs.Pieces.{IsAfter, IsTaken};
 ghost use Rattle.msgpack_bytes.specs.Steps.{BeginsSame};
 ghost use Rattle.msgpack_bytes.specs.Going.{Stands, Goes};
 
-use crate::answers::{MsgFault, Scan, Taken};
+use crate::answers::{MsgFault, Taken};
 use crate::format::Step;
 use crate::number::byte;
 use crate::steps::next_step;
 use std::marker::Model;
 
 /// The greatest length of an item, in bytes.
-const LONGEST: usize = 16_777_216;
+pub const LONGEST: usize = 16_777_216;
 
 /// How many containers may stand one in another.
-const DEEPEST: usize = 64;
+pub const DEEPEST: usize = 64;
 
 /// How many bytes the header of an item has at most.
 const HEADER: usize = 5;
-
-/// Where the item at `at` ends, if one stands there, or can once more bytes are there.
-///
-/// An item has at most 16,777,216 bytes, and at most 64 containers stand one in another.
-/// `Bad` is answered as soon as no continuation is an item within these limits.
-pub fn scan(bytes: &[u8], at: usize) -> Scan
-    requires { at ≤ length bytes.now }
-    ensures right { IsScanned bytes.now at result }
-    ensures only { (other : Scan) → IsScanned bytes.now at other → other ≡ result }
-{
-    match Scanner::new().take(bytes.split_at(at).1) {
-        Taken::End(n) => Scan::End(at + n),
-        Taken::Need => Scan::Need,
-        Taken::Bad(fault) => Scan::Bad(fault),
-    }
-}
 
 /// A scan of one item whose bytes come in pieces: each piece is looked at once, whatever its size.
 ///

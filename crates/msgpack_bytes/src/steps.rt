@@ -1,12 +1,12 @@
 // One step of a scan: what stands where an item begins.
-ghost use Rattle.std.specs.Prelude.{ℕ, List, ◌≡◌, ◌+◌, ◌*◌, ◌<◌, ◌≤◌, length, drop, nat_lt, if◌then◌else◌, ◌^◌};
+ghost use Rattle.std.specs.Prelude.{ℕ, List, ◌≡◌, ◌+◌, ◌*◌, ◌<◌, ◌≤◌, length, drop, Bool, IsTrue, nat_lt, if◌then◌else◌, ◌^◌};
 ghost use Rattle.msgpack_bytes.specs.Format.{items_in};
 ghost use Rattle.msgpack_bytes.specs.Reads.{IsFit};
 ghost use Rattle.msgpack_bytes.specs.Steps.{IsNext, IsSmall, BeginsSame, step_by, step_of};
 
 use crate::format::{Container, Shape, Step};
 use crate::number::number_at;
-use crate::table::shape;
+use crate::table::{is_single, shape};
 
 /// The step where the next item begins, of which `came` bytes stood in earlier pieces; the others are those of this
 /// piece from `at` on. `front` has the first five of all, with 0 for those that are missing, where some came before.
@@ -34,9 +34,9 @@ fn cut_step(front: &[u8; 5], len: usize, may_open: bool) -> Step
     step_behind(front, 1, len - 1, shape(front[0]), may_open)
 }
 
-// The step at `at`.
+/// The step at `at`.
 #[inline(always)]
-fn step(bytes: &[u8], at: usize, may_open: bool) -> Step
+pub fn step(bytes: &[u8], at: usize, may_open: bool) -> Step
     requires { at ≤ length bytes.now }
     ensures is { result ≡ step_of may_open (drop at bytes.now) }
     ensures small { IsSmall result }
@@ -47,6 +47,17 @@ fn step(bytes: &[u8], at: usize, may_open: bool) -> Step
             let left = bytes.len() - at - 1;
             step_behind(bytes, at + 1, left, shape(*first), may_open)
         }
+    }
+}
+
+/// Whether a scalar of one byte stands at `at`; an empty str is left to `step`.
+#[inline(always)]
+pub fn single(bytes: &[u8], at: usize) -> bool
+    ensures { (may_open : Bool) → IsTrue result → Step.Whole 1 ≡ step_of may_open (drop at bytes.now) }
+{
+    match bytes.get(at) {
+        None => false,
+        Some(first) => is_single(*first),
     }
 }
 

@@ -1,7 +1,8 @@
 // The table of first bytes (MessagePack specification, "Formats").
-ghost use Rattle.std.specs.Prelude.{◌≡◌};
+ghost use Rattle.std.specs.Prelude.{◌≡◌, IsTrue};
 ghost use Rattle.msgpack_bytes.specs.Format.{shape_of};
 ghost use Rattle.msgpack_bytes.specs.Reads.{IsFit};
+ghost use Rattle.msgpack_bytes.specs.Steps.{IsSingle};
 
 use crate::format::{Container, Kind, Shape};
 
@@ -163,5 +164,18 @@ pub fn shape(first: u8) -> Shape
             kind: Kind::NegativeFixint,
             size: 0,
         },
+    }
+}
+
+/// Whether the byte is an integer, a nil or a bool by itself.
+#[inline(always)]
+#[tactic(auto, unfolding(crate::specs::Format::shape_of))]
+pub fn is_single(first: u8) -> bool
+    ensures { IsTrue result → IsSingle (shape_of first) }
+{
+    match first {
+        0x00..=0x7f | 0xe0..=0xff => true,
+        0xc0 | 0xc2 | 0xc3 => true,
+        _ => false,
     }
 }

@@ -10,4 +10,4 @@ only_answer bytes (Ok found) other p q = one_answer_to bytes other (answer_of fo
 only_answer bytes (Err e) other p q = tt
 
 pub returns-clause-only : goal.returns-clause-only
-returns-clause-only g c = λ other q. only_answer c.args.bytes.now c.read_on.result other c.read_on.ensures.right q
+returns-clause-only g c = λ other q. only_answer c.args.bytes.now c.read_scanned.result other c.read_scanned.ensures q

@@ -1,5 +1,5 @@
 use Rattle.event_modes.proofs.Aheads.{scanned_end, scanned_need, scanned_bad, given_all}
-use Rattle.event_modes.proofs.ahead.Ahead.scan.Goals as goal
+use Rattle.event_modes.proofs.ahead.Ahead.go_on.Goals as goal
 
 pub split_at-requires : goal.split_at-requires
 split_at-requires c = c.requires.within

@@ -7,7 +7,7 @@ use Rattle.msgpack_bytes.specs.Answers.{IsScanned}
 use Rattle.event_modes.specs.declared.message.Read.{Read}
 use Rattle.event_modes.specs.Message.{IsMessage}
 use Rattle.event_modes.specs.Reading.{Answer, Means, Beats, Wants, Refuses, answer_of, Answers, AnswersItem}
-use Rattle.event_modes.proofs.reading.read_on.Goals as goal
+use Rattle.event_modes.proofs.reading.read_scanned.Goals as goal
 
 -- what answers the item in front answers the bytes
 of_item : (bytes item : List ℕ) (end : ℕ) (a : Answer) → item ≡ take end bytes → IsScanned bytes 0 (scan.End end) → AnswersItem item a → Answers bytes a
@@ -31,5 +31,5 @@ of_read : {A E : Type 0} (bytes item : List ℕ) (end : ℕ) (r : Result (Read A
 of_read bytes item end (Ok found) i s p = of_item bytes item end (answer_of found) i s p
 of_read bytes item end (Err e) i s p = tt
 
-pub returns-in-End-clause-right : goal.returns-in-End-clause-right
-returns-in-End-clause-right g c = of_read c.args.bytes.now c.split_at.result.0.now c.in-End.end c.read_item.result c.split_at.ensures.front c.in-End.ensures.right c.read_item.ensures
+pub returns-in-End : goal.returns-in-End
+returns-in-End g c = of_read c.args.bytes.now c.split_at.result.0.now c.in-End.end c.read_item.result c.split_at.ensures.front (subst (IsScanned c.args.bytes.now 0) c.in-End.is c.requires) c.read_item.ensures

@@ -1,0 +1,172 @@
+-- What holds at each turn of a scan that has the innermost level's count at hand.
+use Rattle.std.proofs.Common.{ℕ, ◌≡◌, ◌+◌, ◌-◌, ◌<◌, ◌≤◌, Bool, true, nat_le, List, ◌∷◌, length, drop, slice_index, slice_set, replicate, refl, ap, sym, subst, ◌∙◌, arith, length-set}
+use Rattle.std.proofs.lemmas.List.{set-set, set-get_or}
+use Rattle.msgpack_bytes.specs.declared.answers.Scan.TheVariants as scan
+use Rattle.msgpack_bytes.specs.declared.answers.MsgFault.TheVariants as fault
+use Rattle.msgpack_bytes.specs.declared.format.Step.TheVariants as step
+use Rattle.msgpack_bytes.specs.Item.{longest}
+use Rattle.msgpack_bytes.specs.Answers.{IsScanned}
+use Rattle.msgpack_bytes.specs.Pieces.{State}
+use Rattle.msgpack_bytes.specs.Steps.{step_of}
+use Rattle.msgpack_bytes.proofs.Opened.{missing_some}
+use Rattle.msgpack_bytes.proofs.Stack.{owed_below, finish_below, set_here}
+use Rattle.msgpack_bytes.proofs.StepFacts.{told, run_lacks}
+use Rattle.msgpack_bytes.proofs.States.{state_start, state_end, state_pop, state_whole, state_opens, state_wrong, state_deep, state_lacks, state_lacks_long, state_whole_long, state_opens_long}
+
+-- ---- the sizes of steps
+
+whole_some : (may_open : Bool) (rest : List ℕ) (size : ℕ) → step.Whole size ≡ step_of may_open rest → (0 < size) × (size ≤ length rest)
+whole_some may_open rest size e = let w = told may_open rest (step.Whole size) e in (w.some, w.there)
+
+pub opens_some : (may_open : Bool) (rest : List ℕ) (items size : ℕ) → step.Opens items size ≡ step_of may_open rest → (0 < size) × (size ≤ length rest)
+opens_some may_open rest items size e = let w = told may_open rest (step.Opens items size) e in (w.0.some, w.0.there)
+
+pub lacks_some : (may_open : Bool) (rest : List ℕ) (size : ℕ) → step.Lacks size ≡ step_of may_open rest → 0 < size
+lacks_some may_open rest size e =
+    let l = told may_open rest (step.Lacks size) e in
+    let n = missing_some 1 l.n rest (run_lacks 0 l.n rest l.front) in
+    let size_is = l.all in
+    omega arith
+
+-- ---- the first item
+
+abbrev pub first_missing : List ℕ
+first_missing = 1 ∷ replicate 64 0
+
+abbrev pub Begun : List ℕ → ℕ → Type 0
+Begun bytes at = State bytes at at first_missing 1 16777215
+
+pub begun : (bytes : List ℕ) (at : ℕ) → at ≤ length bytes → Begun bytes at
+begun bytes at h = state_start bytes at first_missing h refl refl
+
+module _ (bytes : List ℕ) (at : ℕ) (h : at ≤ length bytes) where
+  pub first_wrong : step.Wrong ≡ step_of true (drop at bytes) → IsScanned bytes at (scan.Bad fault.Reserved)
+  first_wrong e = state_wrong (begun bytes at h) (omega arith) (omega arith) e
+
+  pub first_deep : step.Deep ≡ step_of true (drop at bytes) → IsScanned bytes at (scan.Bad fault.TooDeep)
+  first_deep e = state_deep (begun bytes at h) (omega arith) (omega arith) e
+
+  pub first_lacks : (size : ℕ) → step.Lacks size ≡ step_of true (drop at bytes) → size ≤ longest → IsScanned bytes at scan.Need
+  first_lacks size e fits = state_lacks (begun bytes at h) (omega arith) (omega arith) size e (omega arith)
+
+  pub first_lacks_long : (size : ℕ) → step.Lacks size ≡ step_of true (drop at bytes) → longest < size → IsScanned bytes at (scan.Bad fault.TooLong)
+  first_lacks_long size e past = state_lacks_long (begun bytes at h) (omega arith) (omega arith) size e (omega arith)
+
+  pub first_whole : (size : ℕ) → step.Whole size ≡ step_of true (drop at bytes) → size ≤ longest → IsScanned bytes at (scan.End (at + size))
+  first_whole size e fits = state_end (state_pop (state_whole (begun bytes at h) (omega arith) (omega arith) size e (omega arith)) (omega arith) refl) refl
+
+  pub first_whole_long : (size : ℕ) → step.Whole size ≡ step_of true (drop at bytes) → longest < size → IsScanned bytes at (scan.Bad fault.TooLong)
+  first_whole_long size e past = state_whole_long (begun bytes at h) (omega arith) (omega arith) size e (omega arith)
+
+  pub first_opens_long : (items size : ℕ) → step.Opens items size ≡ step_of true (drop at bytes) → longest < size + items → IsScanned bytes at (scan.Bad fault.TooLong)
+  first_opens_long items size e past =
+      let some = opens_some true (drop at bytes) items size e in
+      state_opens_long (begun bytes at h) (omega arith) (omega arith) items size e (omega arith)
+
+-- ---- the items of a container
+
+-- with the innermost count in its place, the stack says what is missing
+pub record Keeps (bytes : List ℕ) (at i : ℕ) (missing : List ℕ) (left levels room : ℕ) : Type 0 where
+  pub some : 0 < levels
+  pub size : length missing ≡ 65
+  pub state : State bytes at i (slice_set missing (levels - 1) left) levels room
+
+-- what lies above the levels doesn't matter
+state_below : {bytes : List ℕ} {at i : ℕ} (missing : List ℕ) (j n : ℕ) {levels room : ℕ} → levels ≤ j → length missing ≡ 65 → State bytes at i (slice_set missing j n) levels room → State bytes at i missing levels room
+state_below {bytes} {at} {i} missing j n {levels} {room} h size s =
+    let spent = s.spent in
+    let same = owed_below missing j n levels h in
+    record {
+      here = λ depth e. (λ back. s.here depth e back ∙ finish_below missing j n depth levels back h);
+      size = size;
+      few = s.few;
+      above = s.above;
+      within = s.within;
+      spent = omega arith;
+    }
+
+pub keeps_first : (bytes missing : List ℕ) (at items size : ℕ) → at ≤ length bytes → missing ≡ replicate 65 0 → step.Opens items size ≡ step_of true (drop at bytes) → size + items ≤ longest
+    → Keeps bytes at (at + size) missing items 2 (longest - (size + items))
+keeps_first bytes missing at items size h none e fits =
+    let some = opens_some true (drop at bytes) items size e in
+    let room : 16777215 - (size - 1 + items) ≡ longest - (size + items) = omega arith in
+    let s = state_opens (begun bytes at h) (omega arith) (omega arith) items size e (omega arith) in
+    record {
+      some = omega arith;
+      size = ap length none;
+      state = subst (λ (m : List ℕ). State bytes at (at + size) (slice_set m 1 items) 2 (longest - (size + items))) (sym none) (subst (λ (r : ℕ). State bytes at (at + size) (slice_set (replicate 65 0) 1 items) 2 r) room s);
+    }
+
+pub keeps_end : {bytes : List ℕ} {at i : ℕ} {missing : List ℕ} {left levels room : ℕ} → Keeps bytes at i missing left levels room → left ≡ 0 → levels ≤ 1 → IsScanned bytes at (scan.End i)
+keeps_end {bytes} {at} {i} {missing} {left} {levels} {room} k none last =
+    let some = k.some in
+    let size = k.size in
+    let few = k.state.few in
+    let top = set_here missing (levels - 1) left (omega arith) in
+    state_end (state_pop k.state k.some (top ∙ none)) (omega arith)
+
+pub keeps_pop : {bytes : List ℕ} {at i : ℕ} {missing : List ℕ} {left levels room : ℕ} → Keeps bytes at i missing left levels room → left ≡ 0 → 1 < levels
+    → Keeps bytes at i missing (slice_index missing (levels - 1 - 1)) (levels - 1) room
+keeps_pop {bytes} {at} {i} {missing} {left} {levels} {room} k none more =
+    let size = k.size in
+    let few = k.state.few in
+    let top = set_here missing (levels - 1) left (omega arith) in
+    let s = state_below missing (levels - 1) left (omega arith) k.size (state_pop k.state k.some (top ∙ none)) in
+    record { some = omega arith; size = k.size; state = subst (λ (m : List ℕ). State bytes at i m (levels - 1) room) (sym (set-get_or missing (levels - 1 - 1) 0)) s }
+
+module _ {bytes : List ℕ} {at i : ℕ} {missing : List ℕ} {left levels room : ℕ} (k : Keeps bytes at i missing left levels room) (top : 0 < left) where
+  abbrev stack : List ℕ
+  stack = slice_set missing (levels - 1) left
+
+  here : slice_index stack (levels - 1) ≡ left
+  here = let some = k.some in let size = k.size in let few = k.state.few in set_here missing (levels - 1) left (omega arith)
+
+  some_here : 0 < slice_index stack (levels - 1)
+  some_here = let e = here in omega arith
+
+  one_less : slice_set stack (levels - 1) (slice_index stack (levels - 1) - 1) ≡ slice_set missing (levels - 1) (left - 1)
+  one_less = ap (λ (n : ℕ). slice_set stack (levels - 1) (n - 1)) here ∙ set-set missing (levels - 1) left (left - 1)
+
+  pub keeps_wrong : step.Wrong ≡ step_of (nat_le levels 64) (drop i bytes) → IsScanned bytes at (scan.Bad fault.Reserved)
+  keeps_wrong e = state_wrong k.state k.some some_here e
+
+  pub keeps_deep : step.Deep ≡ step_of (nat_le levels 64) (drop i bytes) → IsScanned bytes at (scan.Bad fault.TooDeep)
+  keeps_deep e = state_deep k.state k.some some_here e
+
+  pub keeps_lacks : (size : ℕ) → step.Lacks size ≡ step_of (nat_le levels 64) (drop i bytes) → size - 1 ≤ room → IsScanned bytes at scan.Need
+  keeps_lacks size e fits = state_lacks k.state k.some some_here size e fits
+
+  pub keeps_lacks_long : (size : ℕ) → step.Lacks size ≡ step_of (nat_le levels 64) (drop i bytes) → room < size - 1 → IsScanned bytes at (scan.Bad fault.TooLong)
+  keeps_lacks_long size e past = state_lacks_long k.state k.some some_here size e past
+
+  pub keeps_whole_long : (size : ℕ) → step.Whole size ≡ step_of (nat_le levels 64) (drop i bytes) → room < size - 1 → IsScanned bytes at (scan.Bad fault.TooLong)
+  keeps_whole_long size e past = state_whole_long k.state k.some some_here size e past
+
+  pub keeps_opens_long : (items size : ℕ) → step.Opens items size ≡ step_of (nat_le levels 64) (drop i bytes) → room < size - 1 + items → IsScanned bytes at (scan.Bad fault.TooLong)
+  keeps_opens_long items size e past = state_opens_long k.state k.some some_here items size e past
+
+  pub keeps_whole : (size : ℕ) → step.Whole size ≡ step_of (nat_le levels 64) (drop i bytes) → size - 1 ≤ room → Keeps bytes at (i + size) missing (left - 1) levels (room - (size - 1))
+  keeps_whole size e fits = record {
+    some = k.some;
+    size = k.size;
+    state = subst (λ (m : List ℕ). State bytes at (i + size) m levels (room - (size - 1))) one_less (state_whole k.state k.some some_here size e fits);
+  }
+
+  pub keeps_opens : (items size : ℕ) → step.Opens items size ≡ step_of (nat_le levels 64) (drop i bytes) → size - 1 + items ≤ room
+      → Keeps bytes at (i + size) (slice_set missing (levels - 1) (left - 1)) items (levels + 1) (room - (size - 1 + items))
+  keeps_opens items size e fits =
+      let some = k.some in
+      let long = k.size in
+      let level : levels ≡ levels + 1 - 1 = omega arith in
+      let s = state_opens k.state k.some some_here items size e fits in
+      record {
+        some = omega arith;
+        size = omega (arith, length-set {A = ℕ});
+        state = subst (λ (j : ℕ). State bytes at (i + size) (slice_set (slice_set missing (levels - 1) (left - 1)) j items) (levels + 1) (room - (size - 1 + items))) level
+            (subst (λ (m : List ℕ). State bytes at (i + size) (slice_set m levels items) (levels + 1) (room - (size - 1 + items))) one_less s);
+      }
+
+  pub keeps_single : step.Whole 1 ≡ step_of (nat_le levels 64) (drop i bytes) → Keeps bytes at (i + 1) missing (left - 1) levels room
+  keeps_single e =
+      let same : room - (1 - 1) ≡ room = omega arith in
+      subst (λ (r : ℕ). Keeps bytes at (i + 1) missing (left - 1) levels r) same (keeps_whole 1 e (omega arith))
