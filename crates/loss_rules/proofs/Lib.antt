@@ -7,3 +7,4 @@ pub mod Places
 pub mod Plans
 pub mod RuleNumbers
 pub mod Seeks
+pub mod SharedPaths

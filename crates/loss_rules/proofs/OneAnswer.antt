@@ -13,6 +13,7 @@ use Rattle.loss_rules.specs.declared.answer.Rule.{Rule}
 use Rattle.loss_rules.specs.declared.answer.Rule.TheVariants as rule
 use Rattle.loss_rules.specs.declared.label.RelayLine.{RelayLine}
 use Rattle.loss_rules.specs.Laws.{HasOneAnswer}
+use Rattle.loss_rules.proofs.SharedPaths.{distinct_are_first}
 use Rattle.loss_rules.proofs.RuleNumbers.{same_number}
 
 -- two numbers, neither of which is less than the other
@@ -103,7 +104,7 @@ module _ {A : Type 0} where
   unbroken s rule.ReachedMatchesKeep at kept = conf_unbroken s.net _ at (λ p l b. b.5 (kept p b.0 b.1 b.2 b.3))
   unbroken s rule.RelabelsAreLabelled at kept = conf_unbroken s.net _ at (λ p l b. b.6 (kept p b.0 b.1 b.2 b.3 b.4))
   unbroken s rule.ForwardsAreLabelled at kept = conf_unbroken s.net _ at (λ p l b. b.8 (kept p b.0 b.1 b.2 b.3 b.5 b.4 b.6))
-  unbroken s rule.PathsAreDistinct at kept = conf_unbroken s.net _ at (λ p l b. b.6 (kept p b.0 b.1 b.2 b.3 b.4))
+  unbroken s rule.PathsAreDistinct at kept = conf_unbroken s.net _ at (λ p l b. b.6 (distinct_are_first s.net kept p b.0 b.1 b.2 b.3 b.4))
   unbroken s rule.NoRelabelCycle at kept = conf_unbroken s.net _ at (λ p l b. b.6 (kept p b.0 b.1 b.2 b.3 b.4))
 
   -- a rule is broken first at one place
