@@ -10,7 +10,7 @@ use Rattle.relay_net.specs.declared.node.Client.{Client}
 use Rattle.relay_net.specs.declared.node.Node.{Node}
 use Rattle.loss_rules.specs.Labels.{IsReached}
 use Rattle.loss_rules.specs.Sites.{rule_at, output_in_rule, line_of}
-use Rattle.loss_rules.specs.Rules.{RelayIsNew, source_in, SourceIsNew, AddressesAreDistinct, ServersAreSources, IsLabelledClient, ClientsAreLabelled, IsMatched, LabelsAreMatched, ReachesCoverLabel, ReachesCover, DoesDuty, ReachedMatchesDo, IsLabelledRelabel, RelabelsAreLabelled, IsLabelledServer, ForwardsAreLabelled, IsFirstOfPath, PathsAreDistinct, IsOnNoCycle, NoRelabelCycle}
+use Rattle.loss_rules.specs.Rules.{RelayIsNew, source_in, SourceIsNew, AddressesAreDistinct, ServersAreSources, IsLabelledClient, ClientsAreLabelled, IsMatched, LabelsAreMatched, ReachesCoverLabel, ReachesCover, DoesDuty, ReachedMatchesDo, IsLabelledRelabel, RelabelsAreLabelled, IsLabelledServer, ForwardsAreLabelled, SharePath, PathsAreDistinct, IsOnNoCycle, NoRelabelCycle}
 use Rattle.loss_rules.specs.declared.answer.Answer.{Answer}
 use Rattle.loss_rules.specs.declared.answer.Answer.TheVariants as answer
 use Rattle.loss_rules.specs.declared.answer.Place.{Place}
@@ -46,6 +46,11 @@ BreaksAtMatch {A} net P place line = (scope r : ℕ) × (found : MatchRule A) ×
 -- An output of the relay, in this line, isn't as it should be.
 abbrev pub BreaksAtOutput : {A : Type 0} → Network A → (ℕ → ℕ → ℕ → ℕ → Output A → Type 0) → ℕ → ℕ → Type 0
 BreaksAtOutput {A} net P place line = (scope r output : ℕ) × (found : Output A) × (output_in_rule net place scope r output ≡ Some found) × (line_of found ≡ line) × ¬ P place scope r output found
+
+-- Each other output of the relay that shares a path with the output at this place stands in a later line.
+abbrev pub IsFirstOfPath : {A : Type 0} → Network A → ℕ → ℕ → ℕ → ℕ → Output A → Type 0
+IsFirstOfPath {A} net place scope rule output found = (s r o : ℕ) (other : Output A) → output_in_rule net place s r o ≡ Some other
+    → ¬ ((s ≡ scope) × (r ≡ rule) × (o ≡ output)) → SharePath other found → line_of found < line_of other
 
 -- A server of an output of the relay, opened in this line, isn't as it should be.
 abbrev pub BreaksAtServer : {A : Type 0} → Network A → (ℕ → ℕ → ℕ → Server A → Type 0) → ℕ → ℕ → Type 0

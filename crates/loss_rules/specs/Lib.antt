@@ -3,6 +3,7 @@ pub mod Breaks
 pub mod BySite
 pub mod Firsts
 pub mod Labels
+pub mod Laws
 pub mod Matches
 pub mod Printed
 pub mod Rules

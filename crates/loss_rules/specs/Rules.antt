@@ -174,14 +174,10 @@ sink_path (output.File settings line) = Some (string_bytes settings.path)
 abbrev pub SharePath : {A : Type 0} → Output A → Output A → Type 0
 SharePath one two = (path : List ℕ) × (((buffer_path one ≡ Some path) × (buffer_path two ≡ Some path)) ⊎ ((sink_path one ≡ Some path) × (sink_path two ≡ Some path)))
 
--- Each other output of the relay that shares a path with the output at this place stands in a later line.
-abbrev pub IsFirstOfPath : {A : Type 0} → Network A → ℕ → ℕ → ℕ → ℕ → Output A → Type 0
-IsFirstOfPath {A} net place scope rule output found = (s r o : ℕ) (other : Output A) → output_in_rule net place s r o ≡ Some other
-    → ¬ ((s ≡ scope) × (r ≡ rule) × (o ≡ output)) → SharePath other found → line_of found < line_of other
-
--- This is so of each output, so that no two of a relay share a path.
+-- No two outputs of a relay share a path.
 abbrev pub PathsAreDistinct : {A : Type 0} → Network A → Type 0
-PathsAreDistinct net = EachOutput net (IsFirstOfPath net)
+PathsAreDistinct {A} net = EachOutput net (λ place scope rule output found. (s r o : ℕ) (other : Output A) → output_in_rule net place s r o ≡ Some other
+    → SharePath other found → (s ≡ scope) × (r ≡ rule) × (o ≡ output))
 
 -- 10. Relabels don't come back.
 

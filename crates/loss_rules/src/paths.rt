@@ -1,8 +1,8 @@
 // The rule on paths: within a relay those of buffers are distinct, and those of sinks.
 ghost use Rattle.std.specs.Prelude.{◌≡◌, ◌↔◌, List, ℕ, IfNone, IfSome, IsTrue, Some};
 ghost use Rattle.std.specs.Option.{option_copied};
-ghost use Rattle.loss_rules.specs.Breaks.{IsInConf, BreaksAtOutput};
-ghost use Rattle.loss_rules.specs.Rules.{PathsAreDistinct, IsFirstOfPath, SharePath, buffer_path as path_of_buffer, sink_path as path_of_sink};
+ghost use Rattle.loss_rules.specs.Breaks.{IsInConf, BreaksAtOutput, IsFirstOfPath};
+ghost use Rattle.loss_rules.specs.Rules.{PathsAreDistinct, SharePath, buffer_path as path_of_buffer, sink_path as path_of_sink};
 
 use crate::answer::Place;
 use crate::requirement::{OfOutputs, Requirement, first_place, relay_line};
@@ -29,7 +29,7 @@ struct HasOwnPaths<'a, A: Allocator> {
 
 impl<A: Allocator + Copy> Requirement<Output<A>> for HasOwnPaths<'_, A> {
     ghost use Rattle.std.specs.Prelude.{◌≡◌};
-    ghost use Rattle.loss_rules.specs.Rules.{IsFirstOfPath};
+    ghost use Rattle.loss_rules.specs.Breaks.{IsFirstOfPath};
     ghost use Rattle.loss_rules.specs.Sites.{line_of};
 
     ghost keeps = { λ asked at found. IsFirstOfPath asked.net.now at.place at.scope at.rule at.output found };

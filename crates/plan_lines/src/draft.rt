@@ -14,6 +14,7 @@ ghost use Rattle.plan_lines.specs.Drafts.{draft_of, HasItsConf};
 
 use crate::error::PlanError;
 use crate::form::{Form, form_of, relay_number};
+use crate::relays::Relays;
 use conf_text::ConfError;
 use conf_values::whole_number;
 use loss_rules::{Duty, Label, Reach, RelayLine};
@@ -27,7 +28,7 @@ use tag_pattern::{Pattern, PatternError, Plain};
 /// What the lines of a plan say that were read so far, each in their order.
 #[derive(Drop)]
 pub(crate) struct Draft<A: Allocator> {
-    pub relays: Vec<Node<A>, A>,
+    pub relays: Relays<A>,
     pub relay_lines: Vec<RelayLine<A>, A>,
     pub clients: Vec<Client<A>, A>,
     pub client_lines: Vec<usize, A>,
@@ -42,7 +43,7 @@ impl<A: Allocator + Copy> Draft<A> {
         ensures { draft_of result ≡ empty_plan A }
     {
         Draft {
-            relays: Vec::new(alloc),
+            relays: Relays::new(alloc),
             relay_lines: Vec::new(alloc),
             clients: Vec::new(alloc),
             client_lines: Vec::new(alloc),
@@ -60,7 +61,7 @@ impl<A: Allocator + Copy> Draft<A> {
         text: &[u8],
         confs: &[Vec<u8, A>],
     ) -> Result<(), PlanError>
-        requires { HasItsConf (line_form text.now) (length self.old.relays.items) (length confs.now) }
+        requires { HasItsConf (line_form text.now) (length self.old.relays) (length confs.now) }
         ensures adds { OnOk result (Adds (texts confs.now) line (line_form text.now) (draft_of self.old) (draft_of self.new)) }
         ensures refuses { IfErr result (Refuses (texts confs.now) line (line_form text.now) (draft_of self.old)) }
     {
@@ -78,7 +79,7 @@ impl<A: Allocator + Copy> Draft<A> {
         text: &str,
         confs: &[Vec<u8, A>],
     ) -> Result<(), PlanError>
-        requires { HasItsConf (form_by (words_of text.now)) (length self.old.relays.items) (length confs.now) }
+        requires { HasItsConf (form_by (words_of text.now)) (length self.old.relays) (length confs.now) }
         ensures adds { OnOk result (Adds (texts confs.now) line (form_by (words_of text.now)) (draft_of self.old) (draft_of self.new)) }
         ensures refuses { IfErr result (Refuses (texts confs.now) line (form_by (words_of text.now)) (draft_of self.old)) }
     {
@@ -94,7 +95,7 @@ impl<A: Allocator + Copy> Draft<A> {
         form: Form,
         confs: &[Vec<u8, A>],
     ) -> Result<(), PlanError>
-        requires { HasItsConf (form_view form) (length self.old.relays.items) (length confs.now) }
+        requires { HasItsConf (form_view form) (length self.old.relays) (length confs.now) }
         ensures adds { OnOk result (Adds (texts confs.now) line (form_view form.entry) (draft_of self.old) (draft_of self.new)) }
         ensures refuses { IfErr result (Refuses (texts confs.now) line (form_view form.entry) (draft_of self.old)) }
     {
@@ -140,17 +141,17 @@ impl<A: Allocator + Copy> Draft<A> {
         folder: &str,
         confs: &[Vec<u8, A>],
     ) -> Result<(), PlanError>
-        requires { length self.old.relays.items < length confs.now }
+        requires { length self.old.relays < length confs.now }
         ensures adds { OnOk result ((conf : List ℕ) → Adds (texts confs.now) line (a_relay number.now host.now folder.now conf) (draft_of self.old) (draft_of self.new)) }
         ensures refuses { IfErr result (λ e. (conf : List ℕ) → Refuses (texts confs.now) line (a_relay number.now host.now folder.now conf) (draft_of self.old) e) }
     {
         let Some(number) = relay_number(number) else {
             return Err(PlanError::BadNumber(line));
         };
-        let relay = relay_of_text(alloc, line, &confs[self.relays.len()])?;
+        let relay = relay_of_text(alloc, line, &confs[self.relays.nodes().len()])?;
         let host = String::from_str(alloc, host)?;
         let folder = String::from_str(alloc, folder)?;
-        self.relays.push(Node {
+        self.relays.add(Node {
             number,
             host,
             relay,
@@ -205,7 +206,7 @@ impl<A: Allocator + Copy> Draft<A> {
         let Some(number) = relay_number(number) else {
             return Err(PlanError::BadNumber(line));
         };
-        let Some(place) = self.place(number) else {
+        let Some(place) = self.relays.place(number) else {
             return Err(PlanError::NoSuch(line));
         };
         let Some(scope) = self.scope(place, scope) else {
@@ -240,7 +241,7 @@ impl<A: Allocator + Copy> Draft<A> {
         let Some(index) = whole_number(index.as_bytes()) else {
             return Err(PlanError::BadNumber(line));
         };
-        let Some(place) = self.place(number) else {
+        let Some(place) = self.relays.place(number) else {
             return Err(PlanError::NoSuch(line));
         };
         let Some(scope) = self.scope(place, scope) else {
@@ -262,33 +263,19 @@ impl<A: Allocator + Copy> Draft<A> {
 
     // The port, where the relay that the number means has a source of it.
     fn source_port(&self, number: u32, port: u64) -> Option<u16>
-        ensures { result ≡ option_map (λ source. source.port) (option_and_then (λ node. source_of_port node.relay port) (node_of self.now.relays.items number)) }
+        ensures { result ≡ option_map (λ source. source.port) (option_and_then (λ node. source_of_port node.relay port) (node_of self.now.relays number)) }
     {
-        match self.node(number) {
+        match self.relays.node(number) {
             None => None,
             Some(node) => port_of_source(&node.relay, port),
         }
     }
 
-    // The relay that the number means: of equal numbers the first.
-    fn node(&self, number: u32) -> Option<&Node<A>>
-        ensures { option_copied result ≡ node_of self.now.relays.items number }
-    {
-        self.relays.iter().find(|node| node.number == number)
-    }
-
-    // The place of the relay that the number means: of equal numbers the first.
-    fn place(&self, number: u32) -> Option<usize>
-        ensures { result ≡ place_of self.now.relays.items number }
-    {
-        self.relays.iter().position(|node| node.number == number)
-    }
-
     // The place of the scope that the word means, in the relay at this place.
     fn scope(&self, place: usize, word: &str) -> Option<usize>
-        ensures { result ≡ scope_at self.now.relays.items place word.now }
+        ensures { result ≡ scope_at self.now.relays place word.now }
     {
-        match self.relays.get(place) {
+        match self.relays.nodes().get(place) {
             None => None,
             Some(node) => scope_of(&node.relay, word),
         }
@@ -298,7 +285,7 @@ impl<A: Allocator + Copy> Draft<A> {
     fn rule(&self, place: usize, scope: usize, index: u64) -> Option<usize>
         ensures { result ≡ option_map (λ _. index) (rule_at (draft_of self.now).net place scope index) }
     {
-        let node = self.relays.get(place)?;
+        let node = self.relays.nodes().get(place)?;
         let found = node.relay.scopes.get(scope)?;
         let rule = index as usize;
         let _ = found.matches.get(rule)?;

@@ -6,6 +6,7 @@ mod error;
 mod form;
 mod names;
 mod plan;
+mod relays;
 
 pub use error::PlanError;
 pub use loss_rules::{Label, Reach, RelayLine};

@@ -121,8 +121,8 @@ impl<A: Allocator + Copy> Plan<A> {
 
 // The plan that was read: each of its clients sends to a source, and no two outputs of a relay share a buffer.
 fn plan_of<A: Allocator + Copy>(alloc: A, draft: Draft<A>) -> Result<Plan<A>, PlanError>
-    requires enter { all_enter draft.relays.items draft.clients.items ≡ true }
-    requires relay_lines { length draft.relay_lines.items ≡ length draft.relays.items }
+    requires enter { all_enter draft.relays draft.clients.items ≡ true }
+    requires relay_lines { length draft.relay_lines.items ≡ length draft.relays }
     requires client_lines { length draft.client_lines.items ≡ length draft.clients.items }
     requires distinct { BuffersAreDistinct (draft_of draft).net }
     ensures plan { IfOk result (λ plan. plan ≡ draft_of draft) }
@@ -137,7 +137,7 @@ fn plan_of<A: Allocator + Copy>(alloc: A, draft: Draft<A>) -> Result<Plan<A>, Pl
         reaches,
         duty,
     } = draft;
-    match Net::new(alloc, relays, clients) {
+    match Net::new(alloc, relays.into_nodes(), clients) {
         Ok(net) => Ok(Plan {
             net,
             relay_lines,

@@ -6,7 +6,7 @@ use Rattle.plan_lines.proofs.plan.plan_of.Goals as goal
 
 pub invariant_of-result : goal.invariant_of-result
 invariant_of-result g c =
-    let relays = sym c.in-Ok.ensures.relays in (
+    let relays = sym c.into_nodes.ensures ∙ sym c.in-Ok.ensures.relays in (
       c.requires.relay_lines ∙ ap length relays,
       c.requires.client_lines ∙ ap length (sym c.in-Ok.ensures.clients),
       subst (λ (nodes : List (Node g.row.A.Denot)). BuffersAreDistinct (network nodes c.in-Ok.net.clients)) relays c.requires.distinct,

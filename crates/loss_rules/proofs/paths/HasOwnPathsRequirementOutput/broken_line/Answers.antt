@@ -1,8 +1,8 @@
 use Rattle.std.proofs.Common.{◌≡◌, Some, slice_get, sym, ap, ◌∙◌}
 use Rattle.std.specs.Option.{option_copied}
 use Rattle.relay_net.proofs.Gets.{got}
+use Rattle.loss_rules.specs.Breaks.{IsFirstOfPath}
 use Rattle.loss_rules.specs.Firsts.{StandsBehind}
-use Rattle.loss_rules.specs.Rules.{IsFirstOfPath}
 use Rattle.loss_rules.specs.Sites.{line_of}
 use Rattle.loss_rules.proofs.Lines.{kept_first, broken_first}
 use Rattle.loss_rules.proofs.Places.{kept_outputs, broken_output}

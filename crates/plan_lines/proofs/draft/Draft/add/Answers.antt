@@ -12,7 +12,7 @@ use Rattle.plan_lines.proofs.draft.Draft.add.Goals as goal
 pub add_text-requires : goal.add_text-requires
 add_text-requires g c =
     let form_is : line_form c.args.text.now ≡ form_of (words_of c.in-Ok.text.now) = rw (is_utf8-from_IsUtf8 c.args.text.now c.in-Ok.ensures.cases.1) (ap (λ (t : List ℕ). form_of (words_of t)) (sym c.in-Ok.ensures.cases.0)) in
-    subst (λ form. HasItsConf form (length c.args.self.now.relays.items) (length c.args.confs.now)) form_is c.requires
+    subst (λ form. HasItsConf form (length c.args.self.now.relays) (length c.args.confs.now)) form_is c.requires
 
 pub returns-in-Ok : goal.returns-in-Ok
 returns-in-Ok g c =

@@ -6,7 +6,7 @@ use Rattle.plan_lines.proofs.draft.Draft.add_client.Goals as goal
 
 pub returns-clause-adds : goal.returns-clause-adds
 returns-clause-adds g c = λ confs.
-    let found = source_found (node_of c.args.self.now.relays.items c.in-Some.relay) c.in-Some-whole_number.wanted c.in-Some-source_port.port c.in-Some-source_port.ensures in
+    let found = source_found (node_of c.args.self.now.relays c.in-Some.relay) c.in-Some-whole_number.wanted c.in-Some-source_port.port c.in-Some-source_port.ensures in
     record {
       client = record { relay = c.in-Some.relay; port = c.in-Some-source_port.port; patterns = c.in_ok-patterns.patterns };
       number_is = sym c.in-Some.ensures;

@@ -13,7 +13,7 @@ pub add_form-requires : goal.add_form-requires
 add_form-requires g c =
     let form_is : form_view c.form_of.result ≡ form_of (words_of c.args.text.now) =
     c.form_of.ensures ∙ ap (λ (fields : List (Bor (List ℕ))). form_of (map (λ field. field.now) fields)) c.deref.ensures.value ∙ ap form_of c.in_ok-fields.ensures in
-    subst (λ form. HasItsConf form (length c.args.self.now.relays.items) (length c.args.confs.now)) (sym form_is) c.requires
+    subst (λ form. HasItsConf form (length c.args.self.now.relays) (length c.args.confs.now)) (sym form_is) c.requires
 
 pub returns : goal.returns
 returns g c =

@@ -22,8 +22,8 @@ add-requires g c =
     let line = get_or lines at no_word in
     let parts = split_at lines at no_word (omega arith) in
     let named : length c.args.confs.now ≡ length (confs_named c.args.net.now) = c.requires in
-    let own = has_its_conf line.now (take at (bytes_of lines)) (drop (suc at) (bytes_of lines)) (length c.loop-at.draft.relays.items) (confs_said c.loop-at.invariant) in
-    subst (λ n. HasItsConf (line_form line.now) (length c.loop-at.draft.relays.items) n) (sym (named ∙ ap (λ (ls : List (List ℕ)). length (filter_map conf_named ls)) (sym c.in_ok-lines.ensures ∙ ap bytes_of (sym c.as_slice-all.ensures.value) ∙ parts))) own
+    let own = has_its_conf line.now (take at (bytes_of lines)) (drop (suc at) (bytes_of lines)) (length c.loop-at.draft.relays) (confs_said c.loop-at.invariant) in
+    subst (λ n. HasItsConf (line_form line.now) (length c.loop-at.draft.relays) n) (sym (named ∙ ap (λ (ls : List (List ℕ)). length (filter_map conf_named ls)) (sym c.in_ok-lines.ensures ∙ ap bytes_of (sym c.as_slice-all.ensures.value) ∙ parts))) own
 
 pub loop-at-preserved : goal.loop-at-preserved
 loop-at-preserved g c =

@@ -1,4 +1,0 @@
-pub mod Firsts
-pub mod Graphs
-pub mod Sites
-pub mod Visits
