@@ -1,7 +1,9 @@
 -- What a network never loses, and where what it holds came from.
 use Rattle.std.specs.Prelude.{ℕ, All, Any, Contains}
 use Rattle.custody_store.specs.Buffers.{Event}
-use Rattle.message_book.specs.Book.{Message}
+use Rattle.loss_rules.specs.declared.label.Duty.{Duty}
+use Rattle.loss_rules.specs.declared.label.Duty.TheVariants as duty
+use Rattle.message_book.specs.Book.{Message, Told}
 use Rattle.message_book.specs.declared.sender.Sender.{Sender}
 use Rattle.message_book.specs.declared.sender.Sender.TheVariants as sender
 use Rattle.relay_net.specs.Network.{Network}
@@ -24,6 +26,12 @@ pub record IsOriginOf {A : Type 0} (net : Network A) (event : Event) (message : 
 -- A client sent this event, with these bytes and under a tag of which its tag is a routed one.
 abbrev pub WasSent : {A : Type 0} → Network A → World → Event → Type 0
 WasSent net w event = Any (IsOriginOf net event) w.messages
+
+-- An acknowledged event is kept as a plan asks: a buffer or a sink has it, under a tag that it may bear; or, under the duty every, it is
+-- kept along each branch of its way.
+abbrev pub IsKeptAs : {A : Type 0} → Duty → Network A → World → Told → Type 0
+IsKeptAs duty.Any net w told = IsKept net w told
+IsKeptAs duty.Every net w told = IsKeptEvery net w told
 
 -- Every event that was acknowledged to a client is held, under a tag that it may bear.
 abbrev pub NothingIsLost : {A : Type 0} → Network A → World → Type 0

@@ -1,4 +1,2 @@
 pub mod Custody
 pub mod Onward
-pub mod Premise
-pub mod SingleFile

@@ -1,9 +1,7 @@
-// Whole runs of a network, and what they never lose.
-ghost use Rattle.std.specs.Prelude.{◌≡◌, true, List, IfOk, IfErr};
+//! Whole runs of a network, and what they never lose.
+ghost use Rattle.std.specs.Prelude.{◌≡◌, List, IfOk, IfErr};
 ghost use Rattle.custody_core.specs.Custody.{EachBranchKeeps, NothingIsLost, NothingIsMadeUp};
 ghost use Rattle.custody_core.specs.Onward.{AreHeldOnward};
-ghost use Rattle.custody_core.specs.Premise.{ClientsFit};
-ghost use Rattle.custody_core.specs.SingleFile.{is_single_file_net};
 ghost use Rattle.custody_steps.specs.Steps.{Steps, IsRefusedAt};
 ghost use Rattle.custody_steps.specs.World.{opening};
 ghost use Rattle.custody_steps.specs.WorldOf.{world_of, net_of};
@@ -23,8 +21,7 @@ use step_lines::Step;
 /// After every list of steps whatever a sink holds a client sent, under a tag that becomes the sink's where sources put prefixes
 /// in front of it. In every network that obeys the rules on labels, for some labels and reaches, and whose relays number each
 /// output's buffer once, each event that was acknowledged to a client is then in a live chunk of a buffer or in a sink, under such
-/// a tag and with its bytes unchanged. So it is in a network of one relay with one match and one file output that keeps, if each
-/// pattern of a client fits one of the match and no source has a prefix.
+/// a tag and with its bytes unchanged.
 /// What was acknowledged, to chunks too, is held by sinks and by chunks of buffers that keep, which are staged or were queued later than
 /// the chunk that sent it.
 /// Where besides each output of each reached match keeps or is a relabel, each buffer that the event comes to keeps it, or what it was
@@ -37,7 +34,6 @@ pub fn run<'n, A: Allocator + Copy>(
     ensures net { IfOk result (λ w. net_of w ≡ net.now) }
     ensures taken { IfOk result (λ w. Steps net.now opening steps.now (world_of w)) }
     ensures refused { IfErr result (λ e. IsRefusedAt net.now steps.now e.0 e.1) }
-    ensures nothing_is_lost { is_single_file_net net.now.relays net.now.clients ≡ true → ClientsFit net.now → IfOk result (λ w. NothingIsLost net.now (world_of w)) }
     ensures labelled_nothing_is_lost { (labels : List (Label A)) (reaches : List (Reach A)) → BuffersAreDistinct net.now → AreRulesKept net.now labels reaches → IfOk result (λ w. NothingIsLost net.now (world_of w)) }
     ensures held_onward { (labels : List (Label A)) (reaches : List (Reach A)) → BuffersAreDistinct net.now → AreRulesKept net.now labels reaches → IfOk result (λ w. AreHeldOnward net.now (world_of w)) }
     ensures each_branch_keeps { (labels : List (Label A)) (reaches : List (Reach A)) → BuffersAreDistinct net.now → AreRulesKept net.now labels reaches → EachOutputKeeps net.now reaches → IfOk result (λ w. EachBranchKeeps net.now (world_of w)) }

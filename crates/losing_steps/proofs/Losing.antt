@@ -1,9 +1,10 @@
 -- When steps lose an event, and when they don't.
 use Rattle.std.proofs.Common.{◌≡◌, ◌<◌, ◌≤◌, ◌+◌, ◌++◌, ℕ, List, [], ◌∷◌, Bool, true, false, Some, length, slice_get, subst, refl, sym, ap, ◌∙◌, inl, inr, below_more, arith}
-use Rattle.std.specs.Prelude.{IsTrue, ◌↔◌}
+use Rattle.std.specs.Prelude.{IsSomeAnd, IsTrue, ◌↔◌}
 use Rattle.std.specs.Option.{ForSome}
 use Rattle.std.proofs.lemmas.List.{length-map}
 use Rattle.std.proofs.lemmas.Option.{slice_get_cases, slice_get_within}
+use Rattle.custody_core.specs.Custody.{IsKeptAs}
 use Rattle.custody_core.proofs.Lists.{contains-get, get-contains}
 use Rattle.custody_steps.specs.Steps.{Allowed, IsRefusedAt, Names, Steps, effect}
 use Rattle.custody_steps.specs.World.{World, opening}
@@ -14,7 +15,7 @@ use Rattle.message_book.specs.Book.{Told, told_events, told_of}
 use Rattle.message_book.specs.declared.message.Acknowledged.{Acknowledged}
 use Rattle.relay_net.specs.Network.{Network}
 use Rattle.step_lines.specs.declared.step.Step.{Step}
-use Rattle.losing_steps.specs.Losses.{HasLost, IsKeptAs, Loses}
+use Rattle.losing_steps.specs.Losses.{HasLost, Loses}
 
 -- an event that isn't kept is lost
 pub lost_at : {A : Type 0} (asked : Duty) (net : Network A) (w : World) (k : ℕ) (told : Told) → slice_get w.acknowledged k ≡ Some told → ¬ (IsKeptAs asked net w told) → HasLost asked net w
@@ -37,17 +38,22 @@ event_at events told n same lt =
       | inr past ↦ absurd (let le = past.0 in omega (arith, count, lt, le))
     ]
 
+-- what is answered of the event of a number, of the event
+kept_at : {A : Type 0} (asked : Duty) (net : Network A) (w : World) (n : ℕ) (told : Told) (is_so : Bool) → slice_get w.acknowledged n ≡ Some told
+    → (IsTrue is_so ↔ IsSomeAnd (slice_get w.acknowledged n) (IsKeptAs asked net w)) → IsTrue is_so ↔ IsKeptAs asked net w told
+kept_at asked net w n told is_so there = subst (λ o. IsTrue is_so ↔ IsSomeAnd o (IsKeptAs asked net w)) there
+
 -- the event of this number isn't kept, so that one is lost
 pub lost_there : {A : Type 0} (asked : Duty) (net : Network A) (w : World) (events : List (Acknowledged A)) (n : ℕ) (is_so : Bool) → told_events events ≡ w.acknowledged → n < length events
-    → ForSome (slice_get w.acknowledged n) (λ told. IsTrue is_so ↔ IsKeptAs asked net w told) → is_so ≡ false → IsTrue true ↔ HasLost asked net w
+    → (IsTrue is_so ↔ IsSomeAnd (slice_get w.acknowledged n) (IsKeptAs asked net w)) → is_so ≡ false → IsTrue true ↔ HasLost asked net w
 lost_there asked net w events n is_so same lt kept isnt =
     let found = event_at events w.acknowledged n same lt in
-    (λ _. lost_at asked net w n found.0 found.1 (λ is. absurd (let t = (kept found.0 found.1).1 is in cc (t, isnt))), λ _. refl)
+    (λ _. lost_at asked net w n found.0 found.1 (λ is. absurd (let t = (kept_at asked net w n found.0 is_so found.1 kept).1 is in cc (t, isnt))), λ _. refl)
 
 -- one event more is kept
 pub kept_more : {A : Type 0} (asked : Duty) (net : Network A) (w : World) (n : ℕ) (is_so : Bool) → ((k : ℕ) → k < n → ForSome (slice_get w.acknowledged k) (IsKeptAs asked net w))
-    → ForSome (slice_get w.acknowledged n) (λ told. IsTrue is_so ↔ IsKeptAs asked net w told) → is_so ≡ true → (k : ℕ) → k < n + 1 → ForSome (slice_get w.acknowledged k) (IsKeptAs asked net w)
-kept_more asked net w n is_so before here is = below_more (λ k. ForSome (slice_get w.acknowledged k) (IsKeptAs asked net w)) n before (λ told there. (here told there).0 is)
+    → (IsTrue is_so ↔ IsSomeAnd (slice_get w.acknowledged n) (IsKeptAs asked net w)) → is_so ≡ true → (k : ℕ) → k < n + 1 → ForSome (slice_get w.acknowledged k) (IsKeptAs asked net w)
+kept_more asked net w n is_so before here is = below_more (λ k. ForSome (slice_get w.acknowledged k) (IsKeptAs asked net w)) n before (λ told there. (kept_at asked net w n told is_so there here).0 is)
 
 -- steps lead to one world
 steps_same : {A : Type 0} (net : Network A) (before : World) (steps : List (Step A)) (a b : World) → Steps net before steps a → Steps net before steps b → a ≡ b

@@ -1,22 +1,14 @@
 -- What it is that steps lose an event.
 use Rattle.std.specs.Prelude.{ℕ, List, Contains}
-use Rattle.custody_steps.specs.Branches.{IsKeptEvery}
-use Rattle.custody_steps.specs.Held.{IsKept}
+use Rattle.custody_core.specs.Custody.{IsKeptAs}
 use Rattle.custody_steps.specs.Steps.{Steps}
 use Rattle.custody_steps.specs.World.{World, opening}
 use Rattle.loss_rules.specs.declared.label.Duty.{Duty}
-use Rattle.loss_rules.specs.declared.label.Duty.TheVariants as duty
 use Rattle.message_book.specs.Book.{Told}
 use Rattle.relay_net.specs.Network.{Network}
 use Rattle.step_lines.specs.StepLines.{SayAll}
 use Rattle.step_lines.specs.declared.step.Step.{Step}
 use Rattle.text_lines.specs.Lines.{text_lines}
-
--- An acknowledged event is kept as a plan asks: a buffer or a sink has it, under a tag that it may bear; or, under the duty every, it is
--- kept along each branch of its way.
-abbrev pub IsKeptAs : {A : Type 0} → Duty → Network A → World → Told → Type 0
-IsKeptAs duty.Any net w told = IsKept net w told
-IsKeptAs duty.Every net w told = IsKeptEvery net w told
 
 -- An event was acknowledged to a client, and isn't kept as the plan asks.
 pub record HasLost {A : Type 0} (asked : Duty) (net : Network A) (w : World) : Type 0 where

@@ -1,10 +1,9 @@
 //! Whether steps lose an event that was acknowledged to a client.
-ghost use Rattle.std.specs.Prelude.{◌≡◌, ◌≢◌, ◌↔◌, false, slice_get, IfOk, IsTrue};
-ghost use Rattle.std.specs.Option.{ForSome};
+ghost use Rattle.std.specs.Prelude.{◌≡◌, ◌≢◌, ◌↔◌, false, IfOk, IsTrue};
 ghost use Rattle.custody_steps.specs.WorldOf.{net_of, world_of};
-ghost use Rattle.losing_steps.specs.Losses.{HasLost, IsKeptAs, IsLosingText, Loses};
+ghost use Rattle.losing_steps.specs.Losses.{HasLost, IsLosingText, Loses};
 
-use custody_core::{Step, StepFault, StepsError, World, run};
+use custody_core::{Step, StepFault, StepsError, World, is_kept_as, run};
 use loss_rules::Duty;
 use relay_net::Net;
 use std::alloc::{AllocError, Allocator};
@@ -57,23 +56,9 @@ fn has_lost<A: Allocator + Copy>(world: &World<'_, A>, duty: Duty) -> Result<boo
     ensures { IfOk result (λ yes. IsTrue yes ↔ HasLost duty (net_of world.now) (world_of world.now)) }
 {
     for number in 0..world.acknowledged().len() {
-        if !is_kept(world, duty, number)? {
+        if !is_kept_as(world, duty, number)? {
             return Ok(true);
         }
     }
     Ok(false)
-}
-
-// Whether the acknowledged event of this number is kept as is asked.
-fn is_kept<A: Allocator + Copy>(
-    world: &World<'_, A>,
-    duty: Duty,
-    number: usize,
-) -> Result<bool, AllocError>
-    ensures { IfOk result (λ yes. ForSome (slice_get (world_of world.now).acknowledged number) (λ told. IsTrue yes ↔ IsKeptAs duty (net_of world.now) (world_of world.now) told)) }
-{
-    match duty {
-        Duty::Any => Ok(world.kept(number)?.unwrap_or(false)),
-        Duty::Every => Ok(world.kept_every(number)?.unwrap_or(false)),
-    }
 }

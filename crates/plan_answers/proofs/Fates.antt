@@ -1,22 +1,21 @@
 -- What became of the events so far, while they are listed one after another.
 use Rattle.std.proofs.Common.{inl, Result, Ok, Err, ◌≡◌, ◌<◌, ◌≤◌, ◌+◌, ℕ, List, [], ◌∷◌, ◌++◌, length, map, take, get_or, slice_get, option_map, Bool, true, false, cond, not, refl, sym, ap, ◌∙◌, subst, arith, add-one, append-nil}
-use Rattle.std.specs.Prelude.{All, IfOk, IsTrue, ◌↔◌, flat_map}
+use Rattle.std.specs.Prelude.{All, IfOk, IsSomeAnd, IsTrue, ◌↔◌, flat_map}
 use Rattle.std.proofs.lemmas.Grind.{flat_map-append}
 use Rattle.std.proofs.lemmas.List.{map-append, length-map}
 use Rattle.std.proofs.lemmas.List.Elements.{All-append, All-cons, All-head, All-nil, All-tail}
 use Rattle.std.proofs.lemmas.List.Sums.{sum_by-append, sum_by-cons}
 use Rattle.std.proofs.Math.Seq.{take-suc, take-length}
-use Rattle.std.specs.Option.{ForSome}
 use Rattle.std.proofs.lemmas.Option.{slice_get-map, slice_get_read}
 use Rattle.message_book.specs.Book.{Told, told_of, told_events}
 use Rattle.message_book.specs.declared.message.Acknowledged.{Acknowledged}
 use Rattle.relay_net.specs.Network.{Network}
 use Rattle.custody_steps.specs.World.{World}
 use Rattle.custody_store.specs.Buffers.{Event}
-use Rattle.custody_core.specs.Custody.{EachBranchKeeps, NothingIsLost}
+use Rattle.custody_core.specs.Custody.{EachBranchKeeps, IsKeptAs, NothingIsLost}
 use Rattle.loss_rules.specs.declared.label.Duty.{Duty}
 use Rattle.loss_rules.specs.declared.label.Duty.TheVariants as duty
-use Rattle.plan_answers.specs.Replays.{Fate, IsKeptAs, AreListed, IsWorldListing, SaysNoLoss, lost_among, lost_status, told_line, fate_line, held_line, summary_line}
+use Rattle.plan_answers.specs.Replays.{Fate, AreListed, IsWorldListing, SaysNoLoss, lost_among, lost_status, told_line, fate_line, held_line, summary_line}
 use Rattle.program_text.specs.declared.status.Status.{Status}
 
 -- the lines of the first n events
@@ -64,9 +63,10 @@ listed_more asked net w events n lines lost event is_held lines' lost' so_far lt
 
 -- what is answered of the event of a number, of the event
 pub held_event : {A : Type 0} (asked : Duty) (net : Network A) (w : World) (events : List (Acknowledged A)) (n : ℕ) (event : Acknowledged A) (is_held : Bool) → told_events events ≡ w.acknowledged → n < length events → event ≡ get_or events n event
-    → ForSome (slice_get w.acknowledged n) (λ told. IsTrue is_held ↔ IsKeptAs asked net w told) → (IsTrue is_held ↔ IsKeptAs asked net w (told_of event))
+    → (IsTrue is_held ↔ IsSomeAnd (slice_get w.acknowledged n) (IsKeptAs asked net w)) → (IsTrue is_held ↔ IsKeptAs asked net w (told_of event))
 held_event asked net w events n event is_held told lt is kept =
-    kept (told_of event) (ap (λ l. slice_get l n) (sym told) ∙ slice_get-map told_of events n ∙ ap (option_map told_of) (slice_get_read events (length events) n event refl lt is))
+    subst (λ o. IsTrue is_held ↔ IsSomeAnd o (IsKeptAs asked net w))
+    (ap (λ l. slice_get l n) (sym told) ∙ slice_get-map told_of events n ∙ ap (option_map told_of) (slice_get_read events (length events) n event refl lt is)) kept
 
 -- all events
 pub listed_all : {A : Type 0} (asked : Duty) (net : Network A) (w : World) (events : List (Acknowledged A)) (lines : List ℕ) (lost : ℕ) → told_events events ≡ w.acknowledged

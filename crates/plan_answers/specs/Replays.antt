@@ -1,15 +1,13 @@
 -- What is printed of steps that are taken in a network.
 use Rattle.std.specs.Prelude.{◌≡◌, ◌==◌, ℕ, List, ◌++◌, codes, decimal, length, map, flat_map, cond, not, count_by, All, Bool, true, IsTrue, ◌↔◌, ◌⊎◌}
 use Rattle.hex.specs.Hex.{encode_lower}
-use Rattle.custody_steps.specs.Branches.{IsKeptEvery}
-use Rattle.custody_steps.specs.Held.{IsKept}
+use Rattle.custody_core.specs.Custody.{IsKeptAs}
 use Rattle.custody_steps.specs.Steps.{Steps, IsRefusedAt}
 use Rattle.custody_steps.specs.World.{World, opening}
 use Rattle.custody_steps.specs.declared.fault.StepFault.{StepFault}
 use Rattle.custody_steps.specs.declared.fault.StepFault.TheVariants as refusal
 use Rattle.custody_store.specs.Buffers.{Event}
 use Rattle.loss_rules.specs.declared.label.Duty.{Duty}
-use Rattle.loss_rules.specs.declared.label.Duty.TheVariants as duty
 use Rattle.message_book.specs.Book.{Told}
 use Rattle.relay_net.specs.Network.{Network}
 use Rattle.step_lines.specs.StepLines.{SayAll, IsRefusedLine}
@@ -18,12 +16,6 @@ use Rattle.text_lines.specs.Lines.{text_lines}
 use Rattle.program_text.specs.declared.status.Status.{Status}
 use Rattle.program_text.specs.declared.status.Status.TheVariants.{Done, No, Usage}
 use Rattle.program_text.specs.Lines.{line}
-
--- An acknowledged event is kept as a plan asks: a buffer or a sink has it, under a tag that it may bear; or, under the duty every, it is
--- kept along each branch of its way.
-abbrev pub IsKeptAs : {A : Type 0} → Duty → Network A → World → Told → Type 0
-IsKeptAs duty.Any net w told = IsKept net w told
-IsKeptAs duty.Every net w told = IsKeptEvery net w told
 
 -- an acknowledged event, and whether it is kept as the plan asks
 pub record Fate : Type 0 where

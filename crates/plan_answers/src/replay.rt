@@ -1,15 +1,14 @@
 //! The listing of steps that are taken in a network.
-ghost use Rattle.std.specs.Prelude.{◌≡◌, ◌↔◌, ◌++◌, List, slice_get, string_bytes, IsTrue, IfOk, IfSome, OnOk};
-ghost use Rattle.std.specs.Option.{ForSome};
+ghost use Rattle.std.specs.Prelude.{◌≡◌, ◌++◌, List, string_bytes, IfOk, IfSome, OnOk};
 ghost use Rattle.custody_steps.specs.WorldOf.{world_of, net_of};
 ghost use Rattle.custody_store.specs.Contents.{event_of};
 ghost use Rattle.loss_rules.specs.Rules.{AreRulesKept, EachOutputKeeps};
 ghost use Rattle.loss_rules.specs.Sites.{BuffersAreDistinct};
 ghost use Rattle.loss_rules.specs.declared.label.Label.{Label};
 ghost use Rattle.loss_rules.specs.declared.label.Reach.{Reach};
-ghost use Rattle.plan_answers.specs.Replays.{told_line, IsKeptAs, lost_status, summary_line, AreListed, IsBadLineSaid, IsCodeOf, IsRefusalLine, IsWorldListing, IsReplayed, SaysNoLoss};
+ghost use Rattle.plan_answers.specs.Replays.{told_line, lost_status, summary_line, AreListed, IsBadLineSaid, IsCodeOf, IsRefusalLine, IsWorldListing, IsReplayed, SaysNoLoss};
 
-use custody_core::{Event, Net, Step, StepFault, StepsError, World, run};
+use custody_core::{Event, Net, Step, StepFault, StepsError, World, is_kept_as, run};
 use loss_checker::Duty;
 use program_text::{Status, put_hex};
 use std::alloc::{AllocError, Allocator};
@@ -147,27 +146,13 @@ fn list_fates<A: Allocator + Copy>(
     let mut lost = 0usize;
     let events = world.acknowledged();
     for (number, told) in events.iter().enumerate() {
-        let is_held = is_held(world, duty, number)?;
+        let is_held = is_kept_as(world, duty, number)?;
         put_fate(&mut lines, &told.event, is_held)?;
         if !is_held {
             lost += 1;
         }
     }
     Ok(Fates { lines, lost })
-}
-
-// Whether the acknowledged event of this number is kept as is asked.
-fn is_held<A: Allocator + Copy>(
-    world: &World<'_, A>,
-    duty: Duty,
-    number: usize,
-) -> Result<bool, AllocError>
-    ensures { IfOk result (λ yes. ForSome (slice_get (world_of world.now).acknowledged number) (λ told. IsTrue yes ↔ IsKeptAs duty (net_of world.now) (world_of world.now) told)) }
-{
-    match duty {
-        Duty::Any => Ok(world.kept(number)?.unwrap_or(false)),
-        Duty::Every => Ok(world.kept_every(number)?.unwrap_or(false)),
-    }
 }
 
 // Adds the line of an event.

@@ -6,7 +6,6 @@ use Rattle.custody_steps.specs.World.{opening}
 use Rattle.custody_steps.specs.WorldOf.{world_of}
 use Rattle.custody_core.proofs.EveryBranch.{each_branch}
 use Rattle.custody_core.proofs.EveryNetwork.{nothing_lost}
-use Rattle.custody_core.proofs.Headline.{kept}
 use Rattle.custody_core.proofs.HeldOnward.{held_onward}
 use Rattle.custody_core.proofs.Leads.{labelled, lead_on}
 use Rattle.custody_core.proofs.Made.{sourced}
@@ -51,12 +50,6 @@ returns-clause-net g c = c.collect.ensures.net ∙ c.loop-place.invariant.0
 
 pub returns-clause-taken : goal.returns-clause-taken
 returns-clause-taken g c = subst (Steps c.args.net.now opening c.args.steps.now) (sym c.collect.ensures.same) (rw (take_all c.loop-place.place c.args.steps.now c.loop-place-test.false) at c.loop-place.invariant.1)
-
-pub returns-clause-nothing_is_lost : goal.returns-clause-nothing_is_lost
-returns-clause-nothing_is_lost g c =
-    let net = c.args.net.now in
-    let taken = subst (Steps c.args.net.now opening c.args.steps.now) (sym c.collect.ensures.same) (rw (take_all c.loop-place.place c.args.steps.now c.loop-place-test.false) at c.loop-place.invariant.1) in
-    λ shape fit. kept net shape fit c.args.steps.now _ taken
 
 pub returns-clause-labelled_nothing_is_lost : goal.returns-clause-labelled_nothing_is_lost
 returns-clause-labelled_nothing_is_lost g c =

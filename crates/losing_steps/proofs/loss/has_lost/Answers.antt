@@ -9,13 +9,13 @@ use Rattle.losing_steps.proofs.loss.has_lost.Goals as goal
 
 pub returns-then-not-branch : goal.returns-then-not-branch
 returns-then-not-branch g c =
-    lost_there c.args.duty (net_of c.args.world.now) (world_of c.args.world.now) c.acknowledged-number-end.result.now c.loop-number.number c.in_ok-is_kept.field-0
-    c.acknowledged-number-end.ensures c.loop-number-test.true c.in_ok-is_kept.ensures c.if-not-branch.true
+    lost_there c.args.duty (net_of c.args.world.now) (world_of c.args.world.now) c.acknowledged-number-end.result.now c.loop-number.number c.in_ok-is_kept_as.field-0
+    c.acknowledged-number-end.ensures c.loop-number-test.true c.in_ok-is_kept_as.ensures c.if-not-branch.true
 
 pub loop-number-preserved : goal.loop-number-preserved
 loop-number-preserved g c =
-    kept_more c.args.duty (net_of c.args.world.now) (world_of c.args.world.now) c.loop-number.number c.in_ok-is_kept.field-0
-    c.loop-number.invariant c.in_ok-is_kept.ensures c.if-not-branch.false
+    kept_more c.args.duty (net_of c.args.world.now) (world_of c.args.world.now) c.loop-number.number c.in_ok-is_kept_as.field-0
+    c.loop-number.invariant c.in_ok-is_kept_as.ensures c.if-not-branch.false
 
 pub returns : goal.returns
 returns g c =

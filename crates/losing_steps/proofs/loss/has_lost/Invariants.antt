@@ -1,7 +1,7 @@
 use Rattle.std.proofs.Common.{ℕ, ◌<◌, slice_get}
 use Rattle.std.specs.Option.{ForSome}
 use Rattle.custody_steps.specs.WorldOf.{net_of, world_of}
-use Rattle.losing_steps.specs.Losses.{IsKeptAs}
+use Rattle.custody_core.specs.Custody.{IsKeptAs}
 use Rattle.losing_steps.proofs.loss.has_lost.Given as goal
 
 abbrev pub invariant-loop-number : goal.invariant-loop-number

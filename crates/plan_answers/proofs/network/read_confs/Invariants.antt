@@ -1,4 +1,4 @@
-use Rattle.std.proofs.Common.{◌≡◌, length, map, take, ℕ, List}
+use Rattle.std.proofs.Common.{◌≡◌, length, map, take}
 use Rattle.std.specs.List.{AllZip}
 use Rattle.plan_lines.specs.Plans.{texts as texts_of}
 use Rattle.program_text.specs.Texts.{IsTextOf}
