@@ -1,6 +1,6 @@
 -- After every list of steps nothing is lost in a network of one relay with one match and one file output that keeps.
 use Rattle.std.proofs.Common.{◌≡◌, true, List}
-use Rattle.labelled_ways.proofs.Ways.{labelled_safe}
+use Rattle.loss_rules.proofs.Ways.{labelled_safe}
 use Rattle.relay_net.specs.Network.{Network}
 use Rattle.step_lines.specs.declared.step.Step.{Step}
 use Rattle.custody_steps.specs.Steps.{Steps}
