@@ -17,9 +17,9 @@ use Rattle.loss_rules.specs.Rules.{AreRulesKept, IsLabelledClient}
 use Rattle.loss_rules.specs.Sites.{BuffersAreDistinct}
 use Rattle.loss_rules.specs.declared.label.Label.{Label}
 use Rattle.loss_rules.specs.declared.label.Reach.{Reach}
-use Rattle.labelled_ways.proofs.Passing.{entered-tag}
-use Rattle.labelled_ways.proofs.Sites.{site-of}
-use Rattle.labelled_ways.specs.SafeWays.{LabelledTagsAreSafe}
+use Rattle.loss_rules.proofs.Passing.{entered-tag}
+use Rattle.loss_rules.proofs.Sites.{site-of}
+use Rattle.loss_rules.specs.SafeWays.{LabelledTagsAreSafe}
 use Rattle.custody_core.proofs.Serials.{some_and, and_some}
 use Rattle.custody_core.proofs.Lists.{get-contains}
 use Rattle.custody_core.proofs.Ranked.{Labelling, IsTaken, IsSentOn, LeadOn}

@@ -5,11 +5,10 @@ ghost use Rattle.label_plan.specs.Lines.{IsLabelLine, OnlyAdds, are_label_words}
 ghost use Rattle.relay_faults.specs.Examined.{words_of};
 
 use loss_rules::{
-    Label, Labels, Reaches, clients_are_labelled, forwards_are_labelled, labels_are_matched,
-    reached_matches_keep, reaches_cover, relabels_are_labelled,
+    Label, Labels, Reaches, clients_are_labelled, first_cycle, forwards_are_labelled,
+    labels_are_matched, reached_matches_keep, reaches_cover, relabels_are_labelled,
 };
 use plan_lines::Plan;
-use relabel_cycles::first_cycle;
 use relay_faults::words;
 use relay_net::Net;
 use std::alloc::{AllocError, Allocator};

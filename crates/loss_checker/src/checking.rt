@@ -6,11 +6,10 @@ ghost use Rattle.loss_checker.specs.Kept.{AreKeptBefore};
 
 use loss_rules::{
     Answer, Duty, Labels, Place, Reaches, Rule, addresses_are_distinct, clients_are_labelled,
-    forwards_are_labelled, labels_are_matched, paths_are_distinct, reached_matches_keep,
-    reaches_cover, relabels_are_labelled, servers_are_sources,
+    first_cycle, forwards_are_labelled, labels_are_matched, paths_are_distinct,
+    reached_matches_keep, reaches_cover, relabels_are_labelled, servers_are_sources,
 };
 use plan_lines::Plan;
-use relabel_cycles::first_cycle;
 use std::alloc::{AllocError, Allocator};
 
 /// Whether each rule holds of the plan; or else the first rule that is broken, in the order of `Rule`, and where it is

@@ -13,13 +13,12 @@ use Rattle.relay_conf.specs.declared.relay.Relay.{Relay}
 use Rattle.relay_conf.specs.declared.relay.Scope.{Scope}
 use Rattle.relay_net.specs.Network.{Network, relay_at}
 use Rattle.loss_rules.specs.Labels.{IsReachOf}
-use Rattle.loss_rules.specs.Sites.{rule_at, output_in_rule, line_of, RelabelsTo}
+use Rattle.loss_rules.specs.Sites.{rule_at, output_in_rule, line_of, RelabelsTo, scope_count_of, outputs_of_match}
 use Rattle.loss_rules.specs.declared.label.Reach.{Reach}
-use Rattle.relabel_cycles.specs.Graphs.{relabel_of, relabels_at, HasRelabel, IsGraphOf}
-use Rattle.relabel_cycles.specs.Sites.{scope_count_of, outputs_of_match}
-use Rattle.relabel_cycles.specs.declared.relabel.Relabel.{Relabel}
+use Rattle.loss_rules.specs.Graphs.{relabel_of, relabels_at, HasRelabel, IsGraphOf}
+use Rattle.loss_rules.specs.declared.relabel.Relabel.{Relabel}
 use Rattle.route_graph.proofs.Members.{cons-cases, cons-head, cons-tail, nil-none}
-use Rattle.relabel_cycles.proofs.Members.{any-more, any-cases, one-more}
+use Rattle.loss_rules.proofs.Members.{any-more, any-cases, one-more}
 
 -- ---- outputs
 

@@ -6,8 +6,8 @@ use Rattle.relay_net.specs.Network.{Network}
 use Rattle.loss_rules.specs.Rules.{GoesTo, here, onward}
 use Rattle.loss_rules.specs.Sites.{line_of}
 use Rattle.loss_rules.specs.declared.label.Reach.{Reach}
-use Rattle.relabel_cycles.specs.Graphs.{HasRelabel, Leads, LeadsTo, already, further, IsGraphOf}
-use Rattle.relabel_cycles.specs.declared.relabel.Relabel.{Relabel}
+use Rattle.loss_rules.specs.Graphs.{HasRelabel, Leads, LeadsTo, already, further, IsGraphOf}
+use Rattle.loss_rules.specs.declared.relabel.Relabel.{Relabel}
 use Rattle.route_graph.proofs.Members.{nil-none}
 
 -- a scope that isn't there has no relabels

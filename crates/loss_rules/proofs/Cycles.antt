@@ -10,11 +10,11 @@ use Rattle.loss_rules.specs.Breaks.{IsFirstLine, BreaksAtOutput}
 use Rattle.loss_rules.specs.Rules.{IsOnNoCycle, NoRelabelCycle}
 use Rattle.loss_rules.specs.Sites.{line_of}
 use Rattle.loss_rules.specs.declared.label.Reach.{Reach}
-use Rattle.relabel_cycles.specs.Firsts.{IsFirst, earlier_of}
-use Rattle.relabel_cycles.specs.Graphs.{LeadsTo, IsGraphOf, IsOnCycle, IsOnCycleFrom}
-use Rattle.relabel_cycles.specs.declared.relabel.Relabel.{Relabel}
-use Rattle.relabel_cycles.proofs.Chains.{leads-within, goes-leads, leads-goes}
-use Rattle.relabel_cycles.proofs.Firsts.{first-joined, first-same}
+use Rattle.loss_rules.specs.Firsts.{IsLeast, earlier_of}
+use Rattle.loss_rules.specs.Graphs.{LeadsTo, IsGraphOf, IsOnCycle, IsOnCycleFrom}
+use Rattle.loss_rules.specs.declared.relabel.Relabel.{Relabel}
+use Rattle.loss_rules.proofs.Chains.{leads-within, goes-leads, leads-goes}
+use Rattle.loss_rules.proofs.Leasts.{first-joined, first-same}
 use Rattle.route_graph.proofs.Members.{nil-none}
 
 -- ---- the relabels of one scope
@@ -23,10 +23,10 @@ use Rattle.route_graph.proofs.Members.{nil-none}
 abbrev pub IsAmong : List (List Relabel) → ℕ → List Relabel → ℕ → Type 0
 IsAmong graph scope relabels line = (target : ℕ) × Contains relabels (record { target = target; line = line }) × LeadsTo graph target scope
 
-pub among-none : (graph : List (List Relabel)) (scope : ℕ) → IsFirst (IsAmong graph scope []) None
+pub among-none : (graph : List (List Relabel)) (scope : ℕ) → IsLeast (IsAmong graph scope []) None
 among-none graph scope = λ line h. nil-none (record { target = h.0; line = line }) h.1
 
-pub among-back : (graph : List (List Relabel)) (scope : ℕ) (relabels : List Relabel) (relabel : Relabel) (first : Option ℕ) → LeadsTo graph relabel.target scope → IsFirst (IsAmong graph scope relabels) first → IsFirst (IsAmong graph scope (relabels ++ relabel ∷ [])) (earlier_of first (Some relabel.line))
+pub among-back : (graph : List (List Relabel)) (scope : ℕ) (relabels : List Relabel) (relabel : Relabel) (first : Option ℕ) → LeadsTo graph relabel.target scope → IsLeast (IsAmong graph scope relabels) first → IsLeast (IsAmong graph scope (relabels ++ relabel ∷ [])) (earlier_of first (Some relabel.line))
 among-back graph scope relabels relabel first leads is =
     first-joined (IsAmong graph scope relabels) (λ line. line ≡ relabel.line) (IsAmong graph scope (relabels ++ relabel ∷ []))
     (λ line h. elim (Contains-push_cases relabels relabel (record { target = h.0; line = line }) h.1) [
@@ -37,7 +37,7 @@ among-back graph scope relabels relabel first leads is =
     (λ line e. (relabel.target, subst (λ (x : ℕ). Contains (relabels ++ relabel ∷ []) (record { target = relabel.target; line = x })) (sym e) (Contains-push relabels relabel), leads))
     first (Some relabel.line) is (refl, λ line less e. absurd (omega arith))
 
-pub among-gone : (graph : List (List Relabel)) (scope : ℕ) (relabels : List Relabel) (relabel : Relabel) (first : Option ℕ) → (LeadsTo graph relabel.target scope → ⊥) → IsFirst (IsAmong graph scope relabels) first → IsFirst (IsAmong graph scope (relabels ++ relabel ∷ [])) first
+pub among-gone : (graph : List (List Relabel)) (scope : ℕ) (relabels : List Relabel) (relabel : Relabel) (first : Option ℕ) → (LeadsTo graph relabel.target scope → ⊥) → IsLeast (IsAmong graph scope relabels) first → IsLeast (IsAmong graph scope (relabels ++ relabel ∷ [])) first
 among-gone graph scope relabels relabel first gone is =
     first-same (IsAmong graph scope relabels) (IsAmong graph scope (relabels ++ relabel ∷ []))
     (λ line h. elim (Contains-push_cases relabels relabel (record { target = h.0; line = line }) h.1) [
@@ -53,10 +53,10 @@ among-gone graph scope relabels relabel first gone is =
 abbrev pub IsBefore : List (List Relabel) → ℕ → ℕ → Type 0
 IsBefore graph count line = (scope : ℕ) × (scope < count) × IsOnCycleFrom graph scope line
 
-pub before-none : (graph : List (List Relabel)) → IsFirst (IsBefore graph 0) None
+pub before-none : (graph : List (List Relabel)) → IsLeast (IsBefore graph 0) None
 before-none graph = λ line h. absurd (let less : h.0 < 0 = h.1 in omega arith)
 
-pub before-more : (graph : List (List Relabel)) (scope : ℕ) (one two : Option ℕ) → IsFirst (IsBefore graph scope) one → IsFirst (IsOnCycleFrom graph scope) two → IsFirst (IsBefore graph (scope + 1)) (earlier_of one two)
+pub before-more : (graph : List (List Relabel)) (scope : ℕ) (one two : Option ℕ) → IsLeast (IsBefore graph scope) one → IsLeast (IsOnCycleFrom graph scope) two → IsLeast (IsBefore graph (scope + 1)) (earlier_of one two)
 before-more graph scope one two p q =
     first-joined (IsBefore graph scope) (IsOnCycleFrom graph scope) (IsBefore graph (scope + 1))
     (λ line h. let less : h.0 < scope + 1 = h.1 in elim (cases_eq h.0 scope) [
@@ -67,7 +67,7 @@ before-more graph scope one two p q =
     (λ line h. (scope, omega arith, h))
     one two p q
 
-pub before-all : (graph : List (List Relabel)) (count : ℕ) (first : Option ℕ) → count ≡ length graph → IsFirst (IsBefore graph count) first → IsFirst (IsOnCycle graph) first
+pub before-all : (graph : List (List Relabel)) (count : ℕ) (first : Option ℕ) → count ≡ length graph → IsLeast (IsBefore graph count) first → IsLeast (IsOnCycle graph) first
 before-all graph count first all =
     first-same (IsBefore graph count) (IsOnCycle graph)
     (λ line h. let less = leads-within graph h.0 h.1.0 line h.1.1 in (h.0, omega arith, h.1))
@@ -96,14 +96,14 @@ IsKeptBefore net reaches count = (place line : ℕ) → place < count → ¬ IsB
 pub kept-none : {A : Type 0} (net : Network A) (reaches : List (Reach A)) → IsKeptBefore net reaches 0
 kept-none net reaches place line less = absurd (omega arith)
 
-pub kept-more : {A : Type 0} (net : Network A) (reaches : List (Reach A)) (count : ℕ) (graph : List (List Relabel)) → IsGraphOf net reaches count graph → IsFirst (IsOnCycle graph) None → IsKeptBefore net reaches count → IsKeptBefore net reaches (count + 1)
+pub kept-more : {A : Type 0} (net : Network A) (reaches : List (Reach A)) (count : ℕ) (graph : List (List Relabel)) → IsGraphOf net reaches count graph → IsLeast (IsOnCycle graph) None → IsKeptBefore net reaches count → IsKeptBefore net reaches (count + 1)
 kept-more net reaches count graph is none before place line less = elim (cases_eq place count) [
   | inl same ↦ broken-graph net reaches place graph (subst (λ (x : ℕ). IsGraphOf net reaches x graph) (sym same) is) line (none line)
   | inr apart ↦ before place line (omega arith)
 ]
 
 -- the first line of the first relay that is broken
-pub first-broken : {A : Type 0} (net : Network A) (reaches : List (Reach A)) (place line : ℕ) (graph : List (List Relabel)) → IsGraphOf net reaches place graph → IsFirst (IsOnCycle graph) (Some line) → IsKeptBefore net reaches place → IsFirstLine (IsBroken net reaches) place line
+pub first-broken : {A : Type 0} (net : Network A) (reaches : List (Reach A)) (place line : ℕ) (graph : List (List Relabel)) → IsGraphOf net reaches place graph → IsLeast (IsOnCycle graph) (Some line) → IsKeptBefore net reaches place → IsFirstLine (IsBroken net reaches) place line
 first-broken net reaches place line graph is first before = record {
   breaks = graph-broken net reaches place graph is line first.0;
   relays_before = before;

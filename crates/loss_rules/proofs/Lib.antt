@@ -1,10 +1,24 @@
 mod BySite
+pub mod Building
+pub mod Chains
+pub mod Counts
+pub mod Cycles
+pub mod Decisions
+pub mod Hops
+pub mod Leasts
 pub mod Lines
 pub mod Matches
+pub mod Members
 pub mod News
 pub mod OneAnswer
+pub mod Passing
 pub mod Places
 pub mod Plans
 pub mod RuleNumbers
 pub mod Seeks
 pub mod SharedPaths
+pub mod Sites
+pub mod Takers
+pub mod Visits
+pub mod Ways
+pub mod Weights

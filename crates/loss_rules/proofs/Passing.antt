@@ -13,8 +13,8 @@ use Rattle.loss_rules.specs.Labels.{IsReachOf, FitsLabelWith, IsReached, EachRea
 use Rattle.loss_rules.specs.Rules.{IsMatched, LabelsAreMatched, IsCovered, FitsNoneBefore, ReachesCoverLabel, ReachesCover}
 use Rattle.loss_rules.specs.declared.label.Label.{Label}
 use Rattle.loss_rules.specs.declared.label.Reach.{Reach}
-use Rattle.labelled_ways.specs.SafeWays.{IsFirstTaker}
-use Rattle.labelled_ways.proofs.Takers.{some-taker}
+use Rattle.loss_rules.specs.SafeWays.{IsFirstTaker}
+use Rattle.loss_rules.proofs.Takers.{some-taker}
 
 -- what fits one of some patterns has no tag that they lack
 fits-have : (p : List Item) (patterns : List (List Item)) (tag : List ℕ) → Any (Fits p) patterns → IsTagOf p tag → HaveTag patterns tag

@@ -11,8 +11,8 @@ use Rattle.relay_net.specs.Ways.{table_at}
 use Rattle.route_graph.specs.Table.{Rule, rule_of, rules_of, table_of}
 use Rattle.route_graph.specs.Ways.{HaveTag, IsTakenBy, rules_at}
 use Rattle.loss_rules.specs.Sites.{rule_at, matches_at}
-use Rattle.labelled_ways.specs.SafeWays.{IsFirstTaker}
-use Rattle.labelled_ways.proofs.Decisions.{tag_decided, some_decided, least_of}
+use Rattle.loss_rules.specs.SafeWays.{IsFirstTaker}
+use Rattle.loss_rules.proofs.Decisions.{tag_decided, some_decided, least_of}
 
 -- ---- the matches of a scope, as rules of the table
 

@@ -3,12 +3,12 @@ use Rattle.std.proofs.Common.{◌≡◌, ◌≢◌, ◌∙◌, ℕ, ◌<◌, Boo
 use Rattle.std.proofs.lemmas.Bool.{cases_eq, cases_lt}
 use Rattle.std.proofs.lemmas.List.{length-set, length-replicate, get_or-replicate, get_or_past, get_or-set_other, get_or-set_same}
 use Rattle.std.proofs.lemmas.List.Elements.{Contains-append_left, Contains-append_right, Contains-append_cases, Contains-push_cases}
-use Rattle.relabel_cycles.specs.Graphs.{relabels_at, HasRelabel, Leads, LeadsTo, already, further}
-use Rattle.relabel_cycles.specs.Visits.{mark_at}
-use Rattle.relabel_cycles.specs.declared.relabel.Relabel.{Relabel}
-use Rattle.relabel_cycles.proofs.Chains.{leads-within, leads-on}
+use Rattle.loss_rules.specs.Graphs.{relabels_at, HasRelabel, Leads, LeadsTo, already, further}
+use Rattle.loss_rules.specs.Visits.{mark_at}
+use Rattle.loss_rules.specs.declared.relabel.Relabel.{Relabel}
+use Rattle.loss_rules.proofs.Chains.{leads-within, leads-on}
 use Rattle.route_graph.proofs.Members.{cons-cases, cons-head, nil-none}
-use Rattle.relabel_cycles.proofs.Members.{contains-map, map-contains}
+use Rattle.loss_rules.proofs.Members.{contains-map, map-contains}
 
 -- What is marked and what is to come fits the graph: all of it is led to, and what is marked leads no further.
 pub record IsVisit (graph : List (List Relabel)) (start : ℕ) (marks : List Bool) (ahead : List ℕ) : Type 0 where

@@ -18,12 +18,12 @@ use Rattle.loss_rules.specs.Rules.{AreRulesKept, GoesOn, GoesTo, here as arrived
 use Rattle.loss_rules.specs.Sites.{rule_at, output_in_rule, BuffersAreDistinct, RelabelsTo}
 use Rattle.loss_rules.specs.declared.label.Label.{Label}
 use Rattle.loss_rules.specs.declared.label.Reach.{Reach}
-use Rattle.labelled_ways.specs.SafeWays.{IsFirstTaker, IsLabelledOnward, IsSafeWay}
-use Rattle.labelled_ways.proofs.Counts.{AreApart, apart-few}
-use Rattle.labelled_ways.proofs.Hops.{to_buffer, to_scope, hop-output, output-hop, buffer-number, number-buffer, scope-relabel, relabel-scope, keeps-number}
-use Rattle.labelled_ways.proofs.Passing.{reached-tag, reach-labelled, label-pattern, pattern-taken, taken-reached}
-use Rattle.labelled_ways.proofs.Sites.{output-found, place-contains, scope_count, scope-within}
-use Rattle.labelled_ways.proofs.Takers.{taker-first, first-taker}
+use Rattle.loss_rules.specs.SafeWays.{IsFirstTaker, IsLabelledOnward, IsSafeWay}
+use Rattle.loss_rules.proofs.Counts.{AreApart, apart-few}
+use Rattle.loss_rules.proofs.Hops.{to_buffer, to_scope, hop-output, output-hop, buffer-number, number-buffer, scope-relabel, relabel-scope, keeps-number}
+use Rattle.loss_rules.proofs.Passing.{reached-tag, reach-labelled, label-pattern, pattern-taken, taken-reached}
+use Rattle.loss_rules.proofs.Sites.{output-found, place-contains, scope_count, scope-within}
+use Rattle.loss_rules.proofs.Takers.{taker-first, first-taker}
 
 -- The hop is that of an output in a match that has a reach with the tag.
 record IsHandedBy {A : Type 0} (net : Network A) (reaches : List (Reach A)) (place scope : ℕ) (tag : List ℕ) (hop : Hop) : Type 0 where

@@ -1,9 +1,9 @@
 -- How much of a graph is still to be gone through.
 use Rattle.std.proofs.Common.{◌≡◌, ℕ, zero, suc, ◌+◌, ◌<◌, Bool, true, false, List, [], ◌∷◌, ◌++◌, length, map, slice_set, arith}
 use Rattle.std.proofs.lemmas.List.{length-append, length-map}
-use Rattle.relabel_cycles.specs.Graphs.{relabels_at}
-use Rattle.relabel_cycles.specs.Visits.{mark_at}
-use Rattle.relabel_cycles.specs.declared.relabel.Relabel.{Relabel}
+use Rattle.loss_rules.specs.Graphs.{relabels_at}
+use Rattle.loss_rules.specs.Visits.{mark_at}
+use Rattle.loss_rules.specs.declared.relabel.Relabel.{Relabel}
 
 -- the scopes that aren't marked, and their relabels
 abbrev pub weight : List Bool → List (List Relabel) → ℕ

@@ -15,6 +15,11 @@ abbrev pub IsFirst : Type 0 → (ℕ → Type 0) → Option ℕ → Type 0
 IsFirst Kept Breaks None = Kept × ((line : ℕ) → ¬ Breaks line)
 IsFirst Kept Breaks (Some line) = Breaks line × ((l : ℕ) → l < line → ¬ Breaks l)
 
+-- This is the least line of which P holds, or it is none and P holds of no line.
+abbrev pub IsLeast : (ℕ → Type 0) → Option ℕ → Type 0
+IsLeast P None = (line : ℕ) → ¬ P line
+IsLeast P (Some first) = P first × ((line : ℕ) → line < first → ¬ P line)
+
 -- the lesser of two lines, each of which may be none
 abbrev pub earlier_of : Option ℕ → Option ℕ → Option ℕ
 earlier_of None two = two

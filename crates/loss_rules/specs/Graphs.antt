@@ -6,7 +6,7 @@ use Rattle.relay_net.specs.Network.{Network}
 use Rattle.loss_rules.specs.Labels.{IsReached}
 use Rattle.loss_rules.specs.Sites.{output_in_rule, line_of, RelabelsTo}
 use Rattle.loss_rules.specs.declared.label.Reach.{Reach}
-use Rattle.relabel_cycles.specs.declared.relabel.Relabel.{Relabel}
+use Rattle.loss_rules.specs.declared.relabel.Relabel.{Relabel}
 
 -- the relabel that an output is, if it is one
 abbrev pub relabel_of : {A : Type 0} → Output A → Option Relabel

@@ -2,9 +2,12 @@ pub mod Addresses
 pub mod Breaks
 pub mod BySite
 pub mod Firsts
+pub mod Graphs
 pub mod Labels
 pub mod Laws
 pub mod Matches
 pub mod Printed
 pub mod Rules
+pub mod SafeWays
 pub mod Sites
+pub mod Visits

@@ -1,5 +1,5 @@
 -- Where matches, outputs and servers stand in the configurations of a network.
-use Rattle.std.specs.Prelude.{◌≡◌, ℕ, List, [], Option, Some, slice_get, Contains}
+use Rattle.std.specs.Prelude.{◌≡◌, ℕ, List, [], Option, Some, length, slice_get, Contains}
 use Rattle.std.specs.Option.{option_and_then, option_map_or}
 use Rattle.relay_conf.specs.declared.output.Output.{Output}
 use Rattle.relay_conf.specs.declared.output.Output.TheVariants as output
@@ -15,6 +15,14 @@ rule_at net place scope rule = option_and_then (λ found. slice_get found.matche
 -- the matches of this scope of the relay at this place, in the order of the text; none, where there is no such scope
 abbrev pub matches_at : {A : Type 0} → Network A → ℕ → ℕ → List (MatchRule A)
 matches_at net place scope = option_map_or (λ found. found.matches.items) (option_and_then (λ relay. slice_get relay.scopes.items scope) (relay_at net place)) []
+
+-- how many scopes the relay at this place has; one that isn't there has none
+abbrev pub scope_count_of : {A : Type 0} → Network A → ℕ → ℕ
+scope_count_of net place = option_map_or (λ relay. length relay.scopes.items) (relay_at net place) 0
+
+-- the outputs of the match at this place of that scope of the relay; one that isn't there has none
+abbrev pub outputs_of_match : {A : Type 0} → Network A → ℕ → ℕ → ℕ → List (Output A)
+outputs_of_match net place scope rule = option_map_or (λ found. found.outputs.items) (rule_at net place scope rule) []
 
 -- the output with this place among those of that match
 abbrev pub output_in_rule : {A : Type 0} → Network A → ℕ → ℕ → ℕ → ℕ → Option (Output A)

@@ -3,8 +3,9 @@ ghost use Rattle.std.specs.Prelude.{IfOk, IfNone, IfSome};
 ghost use Rattle.loss_rules.specs.Breaks.{IsInConf, BreaksAtOutput};
 ghost use Rattle.loss_rules.specs.Rules.{IsOnNoCycle, NoRelabelCycle};
 
+use crate::answer::Place;
 use crate::graph::RelabelGraph;
-use loss_rules::{Place, Reach};
+use crate::label::Reach;
 use relay_net::Net;
 use std::alloc::{AllocError, Allocator};
 

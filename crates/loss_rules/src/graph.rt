@@ -1,14 +1,14 @@
 // The relabels of a relay's reached matches, as a graph of its scopes.
 ghost use Rattle.std.specs.Prelude.{◌≡◌, ◌<◌, ◌↔◌, [], ◌++◌, length, replicate, slice_set, IfOk, OnOk, IsTrue};
 ghost use Rattle.std.specs.List.{filter_map};
-ghost use Rattle.relabel_cycles.specs.Firsts.{IsFirst};
-ghost use Rattle.relabel_cycles.specs.Graphs.{relabel_of, relabels_at, LeadsTo, IsGraphOf, IsOnCycle, IsOnCycleFrom};
+ghost use Rattle.loss_rules.specs.Firsts.{IsLeast};
+ghost use Rattle.loss_rules.specs.Graphs.{relabel_of, relabels_at, LeadsTo, IsGraphOf, IsOnCycle, IsOnCycleFrom};
 
-use crate::first::earlier;
+use crate::label::Reach;
 use crate::relabel::{Relabel, as_relabel};
-use crate::sites::{match_outputs, scope_count};
+use crate::requirement::earlier;
+use crate::site::{match_outputs, scope_count};
 use crate::visit::Visit;
-use loss_rules::Reach;
 use relay_conf::Output;
 use relay_net::Net;
 use std::alloc::{AllocError, Allocator};
@@ -22,7 +22,7 @@ pub(crate) struct ScopeRelabels<A: Allocator> {
 
 impl<A: Allocator> Model for ScopeRelabels<A> {
     ghost use Rattle.std.specs.Prelude.{List};
-    ghost use Rattle.relabel_cycles.specs.declared.relabel.Relabel.{Relabel};
+    ghost use Rattle.loss_rules.specs.declared.relabel.Relabel.{Relabel};
 
     ghost Value = { List Relabel };
 
@@ -58,7 +58,7 @@ pub(crate) struct RelabelGraph<A: Allocator> {
 
 impl<A: Allocator> Model for RelabelGraph<A> {
     ghost use Rattle.std.specs.Prelude.{List};
-    ghost use Rattle.relabel_cycles.specs.declared.relabel.Relabel.{Relabel};
+    ghost use Rattle.loss_rules.specs.declared.relabel.Relabel.{Relabel};
 
     ghost Value = { List (List Relabel) };
 
@@ -89,7 +89,7 @@ impl<A: Allocator + Copy> RelabelGraph<A> {
 
     /// The first line of a relabel on a cycle, if there is one.
     pub fn first_line(&self) -> Result<Option<usize>, AllocError>
-        ensures { IfOk result (IsFirst (IsOnCycle self.now)) }
+        ensures { IfOk result (IsLeast (IsOnCycle self.now)) }
     {
         let mut first = None;
         for scope in 0..self.scopes.len() {
@@ -101,7 +101,7 @@ impl<A: Allocator + Copy> RelabelGraph<A> {
     // The first line of a relabel of the scope whose target leads back to it, if there is one.
     fn first_line_from(&self, scope: usize) -> Result<Option<usize>, AllocError>
         requires { scope < length self.now }
-        ensures { IfOk result (IsFirst (IsOnCycleFrom self.now scope)) }
+        ensures { IfOk result (IsLeast (IsOnCycleFrom self.now scope)) }
     {
         let mut first = None;
         for relabel in self.relabels(scope) {

@@ -1,6 +1,6 @@
 // A relabel.
 ghost use Rattle.std.specs.Prelude.{◌≡◌};
-ghost use Rattle.relabel_cycles.specs.Graphs.{relabel_of};
+ghost use Rattle.loss_rules.specs.Graphs.{relabel_of};
 
 use relay_conf::Output;
 use std::alloc::Allocator;

@@ -1,6 +1,6 @@
 // A search for the scopes that relabels lead to.
 ghost use Rattle.std.specs.Prelude.{◌≡◌, false, true, [], ◌∷◌, ◌++◌, IfOk, IfNone, IfSome, OnOk, map, replicate, slice_set};
-ghost use Rattle.relabel_cycles.specs.Visits.{mark_at};
+ghost use Rattle.loss_rules.specs.Visits.{mark_at};
 
 use crate::relabel::Relabel;
 use std::alloc::{AllocError, Allocator};

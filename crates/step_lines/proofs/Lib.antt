@@ -1,4 +1,5 @@
 pub mod LinesRead
 pub mod NoSteps
+pub mod OneText
 pub mod OneReading
 pub mod Places

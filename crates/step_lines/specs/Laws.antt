@@ -1,10 +1,11 @@
--- That a line says one thing.
-use Rattle.std.specs.Prelude.{◌≡◌, ℕ, List, [], ◌∷◌, ◌++◌, Some, None, codes}
+-- That a line says one thing, and a text.
+use Rattle.std.specs.Prelude.{◌≡◌, ℕ, List, [], ◌∷◌, ◌++◌, Some, None, codes, map}
+use Rattle.text_lines.specs.Lines.{text_lines}
 use Rattle.step_lines.specs.Texts.{texts_of}
 use Rattle.step_lines.specs.declared.step.ChunkName.{ChunkName}
 use Rattle.step_lines.specs.declared.step.Step.{Step}
 use Rattle.step_lines.specs.declared.step.Step.TheVariants as step
-use Rattle.step_lines.specs.StepLines.{Says}
+use Rattle.step_lines.specs.StepLines.{Says, SayAll, IsRefusedLine}
 
 -- What a step holds, without where it lies in memory.
 pub record Content : Type 0 where
@@ -49,3 +50,15 @@ SaysOneStep A = (line : List ℕ) (a b : Step A) → Says line (Some a) → Says
 -- A line that says nothing says no step.
 abbrev pub SaysNoStepToo : Type 0 → Type 0
 SaysNoStepToo A = (line : List ℕ) (a : Step A) → Says {A = A} line None → ¬ (Says line (Some a))
+
+-- Two lists of steps that a text says hold the same, step by step.
+abbrev pub HasOneReading : Type 0 → Type 0
+HasOneReading A = (text : List ℕ) (one two : List (Step A)) → SayAll (text_lines text) one → SayAll (text_lines text) two → map content one ≡ map content two
+
+-- A text is refused for one line alone.
+abbrev pub HasOneFault : Type 0 → Type 0
+HasOneFault A = (text : List ℕ) (one two : ℕ) → IsRefusedLine A text one → IsRefusedLine A text two → one ≡ two
+
+-- A text that says steps is refused for no line.
+abbrev pub IsFaultless : Type 0 → Type 0
+IsFaultless A = (text : List ℕ) (steps : List (Step A)) (line : ℕ) → SayAll (text_lines text) steps → ¬ IsRefusedLine A text line

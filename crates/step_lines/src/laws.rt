@@ -1,5 +1,5 @@
-// That a line says one thing.
-ghost use Rattle.step_lines.specs.Laws.{SaysOneStep, SaysNoStepToo};
+// That a line says one thing, and a text.
+ghost use Rattle.step_lines.specs.Laws.{SaysOneStep, SaysNoStepToo, HasOneReading, HasOneFault, IsFaultless};
 
 use std::alloc::Allocator;
 
@@ -8,4 +8,12 @@ use std::alloc::Allocator;
 pub fn each_line_says_one_thing<A: Allocator>()
     ensures step { SaysOneStep A }
     ensures nothing { SaysNoStepToo A }
+{}
+
+/// A text has one reading: two lists of steps that it says hold the same, step by step, wherever they lie in memory; a text that
+/// is refused is refused for one line, and says no steps.
+pub fn each_text_has_one_reading<A: Allocator>()
+    ensures reading { HasOneReading A }
+    ensures fault { HasOneFault A }
+    ensures faultless { IsFaultless A }
 {}

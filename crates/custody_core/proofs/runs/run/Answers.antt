@@ -10,7 +10,7 @@ use Rattle.custody_core.proofs.HeldOnward.{held_onward}
 use Rattle.custody_core.proofs.Leads.{labelled, lead_on}
 use Rattle.custody_core.proofs.Made.{sourced}
 use Rattle.custody_core.proofs.StepsMore.{steps_more}
-use Rattle.labelled_ways.proofs.Ways.{labelled_safe, labelled_kept}
+use Rattle.loss_rules.proofs.Ways.{labelled_safe, labelled_kept}
 use Rattle.step_lines.proofs.Places.{split_at, take_next}
 use Rattle.custody_core.proofs.runs.run.Goals as goal
 

@@ -1,7 +1,7 @@
 use Rattle.std.proofs.Common.{◌≡◌, Some, None, slice_get, refl, sym, ap, ◌∙◌}
 use Rattle.std.specs.Option.{option_copied}
 use Rattle.relay_net.proofs.Gets.{got}
-use Rattle.relabel_cycles.proofs.sites.match_outputs.Goals as goal
+use Rattle.loss_rules.proofs.site.match_outputs.Goals as goal
 
 pub returns-in-Some-get-2 : goal.returns-in-Some-get-2
 returns-in-Some-get-2 g c =

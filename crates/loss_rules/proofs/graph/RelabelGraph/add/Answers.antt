@@ -1,9 +1,9 @@
 use Rattle.std.proofs.Common.{◌≡◌, ◌≤◌, [], length, true, false, refl, sym, inl, inr, arith}
 use Rattle.std.proofs.lemmas.Bool.{cases_lt}
 use Rattle.std.proofs.lemmas.List.{set_past}
-use Rattle.relabel_cycles.specs.Graphs.{relabels_at}
-use Rattle.relabel_cycles.proofs.graph.RelabelGraph.add.Goals as goal
-use Rattle.relabel_cycles.proofs.graph.RelabelGraph.add.Goals.{in-Some+in_ok-add, in_default}
+use Rattle.loss_rules.specs.Graphs.{relabels_at}
+use Rattle.loss_rules.proofs.graph.RelabelGraph.add.Goals as goal
+use Rattle.loss_rules.proofs.graph.RelabelGraph.add.Goals.{in-Some+in_ok-add, in_default}
 
 pub returns : goal.returns
 returns g c = elim c.match-get_mut.branch [

@@ -1,5 +1,5 @@
 use Rattle.std.proofs.Common.{◌≡◌, [], replicate}
-use Rattle.relabel_cycles.proofs.graph.RelabelGraph.empty.Given as goal
+use Rattle.loss_rules.proofs.graph.RelabelGraph.empty.Given as goal
 
 abbrev pub invariant-loop : goal.invariant-loop
 invariant-loop g l = l.scopes.items ≡ replicate l.counter []

@@ -1,10 +1,10 @@
 use Rattle.std.proofs.Common.{◌≡◌, ◌++◌, ◌∷◌, ◌+◌, ◌∙◌, ℕ, Option, [], List, true, false, take, get_or, sym, subst, arith}
 use Rattle.std.proofs.lemmas.List.{take_all, take_more}
-use Rattle.relabel_cycles.specs.Firsts.{IsFirst}
-use Rattle.relabel_cycles.specs.declared.relabel.Relabel.{Relabel}
-use Rattle.relabel_cycles.proofs.Cycles.{IsAmong, among-back, among-gone}
-use Rattle.relabel_cycles.proofs.graph.RelabelGraph.first_line_from.Goals as goal
-use Rattle.relabel_cycles.proofs.graph.RelabelGraph.first_line_from.Goals.{then-branch, else-branch}
+use Rattle.loss_rules.specs.Firsts.{IsLeast}
+use Rattle.loss_rules.specs.declared.relabel.Relabel.{Relabel}
+use Rattle.loss_rules.proofs.Cycles.{IsAmong, among-back, among-gone}
+use Rattle.loss_rules.proofs.graph.RelabelGraph.first_line_from.Goals as goal
+use Rattle.loss_rules.proofs.graph.RelabelGraph.first_line_from.Goals.{then-branch, else-branch}
 
 pub loop-relabel-preserved : goal.loop-relabel-preserved
 loop-relabel-preserved g c =
@@ -14,14 +14,14 @@ loop-relabel-preserved g c =
     let scope = c.args.scope in
     let relabel : Relabel = get_or items index (record { target = 0; line = 0 }) in
     let cut : take (index + 1) items ≡ take index items ++ relabel ∷ [] = take_more items index (record { target = 0; line = 0 }) (omega arith) in
-    subst (λ (x : List Relabel). IsFirst (IsAmong graph scope x) c.if-branch.first) (sym cut) (elim c.if-branch.branch [
-      | then-branch w ↦ subst (λ (x : Option ℕ). IsFirst (IsAmong graph scope (take index items ++ relabel ∷ [])) x) (sym (w.first-is ∙ w.earlier-first.ensures))
+    subst (λ (x : List Relabel). IsLeast (IsAmong graph scope x) c.if-branch.first) (sym cut) (elim c.if-branch.branch [
+      | then-branch w ↦ subst (λ (x : Option ℕ). IsLeast (IsAmong graph scope (take index items ++ relabel ∷ [])) x) (sym (w.first-is ∙ w.earlier-first.ensures))
           (among-back graph scope (take index items) relabel c.loop-relabel.first (c.in_ok-leads.ensures.0 w.if-branch.true) c.loop-relabel.invariant)
-      | else-branch w ↦ subst (λ (x : Option ℕ). IsFirst (IsAmong graph scope (take index items ++ relabel ∷ [])) x) (sym w.first-is)
+      | else-branch w ↦ subst (λ (x : Option ℕ). IsLeast (IsAmong graph scope (take index items ++ relabel ∷ [])) x) (sym w.first-is)
           (among-gone graph scope (take index items) relabel c.loop-relabel.first (λ leads. let found = c.in_ok-leads.ensures.1 leads in let same : true ≡ false = sym found ∙ w.if-branch.false in cc) c.loop-relabel.invariant)
     ])
 
 pub returns : goal.returns
 returns g c =
     let all = take_all c.loop-relabel.relabel-index c.relabels-relabel-items.result.now (omega arith) ∙ c.relabels-relabel-items.ensures in
-    subst (λ (x : List Relabel). IsFirst (IsAmong c.args.self.now c.args.scope x) c.loop-relabel.first) all c.loop-relabel.invariant
+    subst (λ (x : List Relabel). IsLeast (IsAmong c.args.self.now c.args.scope x) c.loop-relabel.first) all c.loop-relabel.invariant

@@ -1,10 +1,10 @@
 use Rattle.std.proofs.Common.{◌≡◌, ◌++◌, ◌∷◌, ◌∙◌, ◌↔◌, ℕ, Bool, true, false, [], List, length, map, replicate, ap, sym, subst, arith}
-use Rattle.relabel_cycles.specs.Graphs.{LeadsTo}
-use Rattle.relabel_cycles.specs.Visits.{mark_at}
-use Rattle.relabel_cycles.specs.declared.relabel.Relabel.{Relabel}
-use Rattle.relabel_cycles.proofs.Visits.{visit-begun, visit-passed, visit-entered, visit-ended, visit-parts}
-use Rattle.relabel_cycles.proofs.Weights.{weight, entered-smaller}
-use Rattle.relabel_cycles.proofs.graph.RelabelGraph.leads.Goals as goal
+use Rattle.loss_rules.specs.Graphs.{LeadsTo}
+use Rattle.loss_rules.specs.Visits.{mark_at}
+use Rattle.loss_rules.specs.declared.relabel.Relabel.{Relabel}
+use Rattle.loss_rules.proofs.Visits.{visit-begun, visit-passed, visit-entered, visit-ended, visit-parts}
+use Rattle.loss_rules.proofs.Weights.{weight, entered-smaller}
+use Rattle.loss_rules.proofs.graph.RelabelGraph.leads.Goals as goal
 
 pub loop-scope-init : goal.loop-scope-init
 loop-scope-init g c =

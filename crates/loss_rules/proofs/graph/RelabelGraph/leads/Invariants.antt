@@ -1,7 +1,7 @@
 use Rattle.std.proofs.Common.{◌+◌, length}
-use Rattle.relabel_cycles.proofs.Visits.{IsVisit}
-use Rattle.relabel_cycles.proofs.Weights.{weight}
-use Rattle.relabel_cycles.proofs.graph.RelabelGraph.leads.Given as goal
+use Rattle.loss_rules.proofs.Visits.{IsVisit}
+use Rattle.loss_rules.proofs.Weights.{weight}
+use Rattle.loss_rules.proofs.graph.RelabelGraph.leads.Given as goal
 
 abbrev pub invariant-loop-scope : goal.invariant-loop-scope
 invariant-loop-scope g l = IsVisit l.self l.start l.visit.marks.items l.visit.ahead.items

@@ -1,10 +1,10 @@
 use Rattle.std.proofs.Common.{◌≡◌, ◌++◌, ◌∷◌, ◌+◌, [], take, subst, arith}
 use Rattle.std.proofs.lemmas.List.{take_all}
-use Rattle.relabel_cycles.specs.Graphs.{IsGraphOf}
-use Rattle.relabel_cycles.proofs.Building.{built-more, built-apart}
-use Rattle.relabel_cycles.proofs.Members.{one-more}
-use Rattle.relabel_cycles.proofs.graph.RelabelGraph.new.Goals as goal
-use Rattle.relabel_cycles.proofs.graph.RelabelGraph.new.Goals.{then-reach-place+in_ok-add, else-reach-place}
+use Rattle.loss_rules.specs.Graphs.{IsGraphOf}
+use Rattle.loss_rules.proofs.Building.{built-more, built-apart}
+use Rattle.loss_rules.proofs.Members.{one-more}
+use Rattle.loss_rules.proofs.graph.RelabelGraph.new.Goals as goal
+use Rattle.loss_rules.proofs.graph.RelabelGraph.new.Goals.{then-reach-place+in_ok-add, else-reach-place}
 
 pub loop-reach-preserved : goal.loop-reach-preserved
 loop-reach-preserved g c =

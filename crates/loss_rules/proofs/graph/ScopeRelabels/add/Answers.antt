@@ -1,10 +1,10 @@
 use Rattle.std.proofs.Common.{◌++◌, ◌∙◌, refl, ap, sym, arith}
 use Rattle.std.specs.List.{filter_map}
 use Rattle.std.proofs.lemmas.List.{take_all, append-nil}
-use Rattle.relabel_cycles.specs.Graphs.{relabel_of}
-use Rattle.relabel_cycles.proofs.Building.{relabels-more}
-use Rattle.relabel_cycles.proofs.graph.ScopeRelabels.add.Goals as goal
-use Rattle.relabel_cycles.proofs.graph.ScopeRelabels.add.Goals.{in-Some+in_ok-push, in_default}
+use Rattle.loss_rules.specs.Graphs.{relabel_of}
+use Rattle.loss_rules.proofs.Building.{relabels-more}
+use Rattle.loss_rules.proofs.graph.ScopeRelabels.add.Goals as goal
+use Rattle.loss_rules.proofs.graph.ScopeRelabels.add.Goals.{in-Some+in_ok-push, in_default}
 
 pub loop-output-preserved : goal.loop-output-preserved
 loop-output-preserved g c = relabels-more c.args.outputs.now c.loop-output.output-index c.output-item.result c.args.self.now c.loop-output.self-inside.relabels.items c.match-as_relabel.self-inside.relabels.items (omega arith) c.output-item.is c.loop-output.invariant (elim c.match-as_relabel.branch [
