@@ -1,21 +1,19 @@
 -- What became of the events so far, while they are listed one after another.
-use Rattle.std.proofs.Common.{inl, Result, Ok, Err, ◌≡◌, ◌<◌, ◌≤◌, ◌+◌, ℕ, List, [], ◌∷◌, ◌++◌, length, map, take, get_or, slice_get, option_map, Bool, true, false, cond, not, refl, sym, ap, ◌∙◌, subst, arith, add-one, append-nil}
+use Rattle.std.proofs.Common.{Result, ◌≡◌, ◌<◌, ◌≤◌, ◌+◌, ℕ, List, [], ◌∷◌, ◌++◌, length, map, take, get_or, slice_get, option_map, Bool, true, false, cond, not, refl, sym, ap, ◌∙◌, subst, arith, add-one, append-nil}
 use Rattle.std.specs.Prelude.{All, IfOk, IsSomeAnd, IsTrue, ◌↔◌, flat_map}
 use Rattle.std.proofs.lemmas.Grind.{flat_map-append}
-use Rattle.std.proofs.lemmas.List.{map-append, length-map}
-use Rattle.std.proofs.lemmas.List.Elements.{All-append, All-cons, All-head, All-nil, All-tail}
-use Rattle.std.proofs.lemmas.List.Sums.{sum_by-append, sum_by-cons}
+use Rattle.std.proofs.lemmas.List.{map-append}
+use Rattle.std.proofs.lemmas.List.Elements.{All-append, All-cons, All-nil}
+use Rattle.std.proofs.lemmas.List.Sums.{sum_by-append}
 use Rattle.std.proofs.Math.Seq.{take-suc, take-length}
 use Rattle.std.proofs.lemmas.Option.{slice_get-map, slice_get_read}
-use Rattle.message_book.specs.Book.{Told, told_of, told_events}
+use Rattle.message_book.specs.Book.{told_of, told_events}
 use Rattle.message_book.specs.declared.message.Acknowledged.{Acknowledged}
 use Rattle.relay_net.specs.Network.{Network}
 use Rattle.custody_steps.specs.World.{World}
-use Rattle.custody_store.specs.Buffers.{Event}
-use Rattle.custody_core.specs.Custody.{EachBranchKeeps, IsKeptAs, NothingIsLost}
+use Rattle.custody_core.specs.Custody.{IsKeptAs}
 use Rattle.loss_rules.specs.declared.label.Duty.{Duty}
-use Rattle.loss_rules.specs.declared.label.Duty.TheVariants as duty
-use Rattle.plan_answers.specs.Replays.{Fate, AreListed, IsWorldListing, SaysNoLoss, lost_among, lost_status, told_line, fate_line, held_line, summary_line}
+use Rattle.plan_answers.specs.Replays.{Fate, AreListed, IsWorldListing, lost_among, told_line, fate_line}
 use Rattle.program_text.specs.declared.status.Status.{Status}
 
 -- the lines of the first n events
@@ -78,57 +76,11 @@ listed_all asked net w events lines lost told so_far = record {
   lost_is = so_far.lost_is;
 }
 
--- Where nothing is lost, each event is listed as held.
-
--- the event that was acknowledged
-abbrev event_in : Told → Event
-event_in told = told.event
-
-said_held : (event : Event) (is_held : Bool) → IsTrue is_held → told_line is_held event ≡ held_line event
-said_held event is_held e = ap (λ b. told_line b event) e
-
--- the lines of events that are held, of which none is lost
-record AreHeld (fates : List Fate) : Type 0 where
-  lines : flat_map fate_line fates ≡ flat_map held_line (map event_in (map (λ fate. fate.told) fates))
-  lost : lost_among fates ≡ 0
-
-all_held : {A : Type 0} (asked : Duty) (net : Network A) (w : World) (fates : List Fate) → All (λ fate. IsTrue fate.is_held ↔ IsKeptAs asked net w fate.told) fates → All (IsKeptAs asked net w) (map (λ fate. fate.told) fates) → AreHeld fates
-all_held asked net w [] told kept = record { lines = refl; lost = refl }
-all_held asked net w (fate ∷ fates) told kept =
-    let one : IsTrue fate.is_held = (All-head (λ f. IsTrue f.is_held ↔ IsKeptAs asked net w f.told) fate fates told).1 (All-head (IsKeptAs asked net w) fate.told (map (λ f. f.told) fates) kept) in
-    let rest = all_held asked net w fates (All-tail (λ f. IsTrue f.is_held ↔ IsKeptAs asked net w f.told) fate fates told) (All-tail (IsKeptAs asked net w) fate.told (map (λ f. f.told) fates) kept) in
-    record {
-      lines = λ i. said_held fate.told.event fate.is_held one i ++ rest.lines i;
-      lost = sum_by-cons (λ (f : Fate). cond (not f.is_held) 1 0) fate fates ∙ ap (λ b. cond (not b) 1 0 + lost_among fates) one ∙ ap (λ n. 0 + n) rest.lost;
-    }
-
-no_loss : {A : Type 0} (asked : Duty) (net : Network A) (w : World) (steps : ℕ) (written : List ℕ) (status : Status) → IsWorldListing asked net w steps written status → All (IsKeptAs asked net w) w.acknowledged → SaysNoLoss written status
-no_loss asked net w steps written status h kept =
-    let fates = h.listed.fates in
-    let told = h.listed.are_fates.events in
-    let held = all_held asked net w fates h.listed.are_fates.held (subst (All (IsKeptAs asked net w)) (sym told) kept) in
-    let lost : h.lost ≡ 0 = h.listed.lost_is ∙ held.lost in
-    let events = map event_in w.acknowledged in
-    inl (record {
-      events = events;
-      steps = steps;
-      written_is = h.written_is ∙ ap (λ l. l ++ summary_line steps (length w.acknowledged) h.lost) (h.listed.lines_are ∙ held.lines ∙ ap (λ l. flat_map held_line (map event_in l)) told)
-          ∙ (λ i. flat_map held_line events ++ summary_line steps (sym (length-map w.acknowledged event_in) i) (lost i));
-      is_status = h.is_status ∙ ap lost_status lost;
-    })
-
--- what is listed of a world in its network, in the network that it was run in
-pub relisted : {A S E : Type 0} (asked : Duty) (listed : Result S E) (lines : S → List ℕ) (status : S → Status) (net net' : Network A) (w : World) (steps : ℕ) → net ≡ net'
-    → IfOk listed (λ said. IsWorldListing asked net w steps (lines said) (status said)) → IfOk listed (λ said. IsWorldListing asked net' w steps (lines said) (status said))
-relisted asked listed lines status net net' w steps = subst (λ n. IfOk listed (λ said. IsWorldListing asked n w steps (lines said) (status said)))
-
--- what is listed of a world that has lost nothing says of no event that it is lost
-pub listed_no_loss : {A S E : Type 0} (asked : Duty) (net : Network A) (listed : Result S E) (lines : S → List ℕ) (status : S → Status) (w : World) (steps : ℕ) → IfOk listed (λ said. IsWorldListing asked net w steps (lines said) (status said)) → All (IsKeptAs asked net w) w.acknowledged
-    → IfOk listed (λ said. SaysNoLoss (lines said) (status said))
-listed_no_loss asked net (Ok said) lines status w steps is kept = no_loss asked net w steps (lines said) (status said) is kept
-listed_no_loss asked net (Err e) lines status w steps is kept = tt
-
--- what is known of a world where the rules hold: each event is kept as is asked
-pub kept_as : {A : Type 0} (asked : Duty) (net : Network A) (w : World) → NothingIsLost net w → (asked ≡ duty.Every → EachBranchKeeps net w) → All (IsKeptAs asked net w) w.acknowledged
-kept_as duty.Any net w held along = held
-kept_as duty.Every net w held along = along refl
+-- what is listed of a world in its network, in the network that it was run in, and so of what is asked there and of how many steps there were
+pub relisted : {A S E : Type 0} (asked asked' : Duty) (net net' : Network A) (steps steps' : ℕ) (listed : Result S E) (lines : S → List ℕ) (status : S → Status) (w : World)
+    → asked ≡ asked' → net ≡ net' → steps ≡ steps'
+    → IfOk listed (λ said. IsWorldListing asked net w steps (lines said) (status said)) → IfOk listed (λ said. IsWorldListing asked' net' w steps' (lines said) (status said))
+relisted asked asked' net net' steps steps' listed lines status w same_asked same_net same_steps is =
+    subst (λ a. IfOk listed (λ said. IsWorldListing a net' w steps' (lines said) (status said))) same_asked
+    (subst (λ n. IfOk listed (λ said. IsWorldListing asked n w steps' (lines said) (status said))) same_net
+    (subst (λ k. IfOk listed (λ said. IsWorldListing asked net w k (lines said) (status said))) same_steps is))

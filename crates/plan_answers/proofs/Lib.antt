@@ -1,2 +1,3 @@
 pub mod Fates
 pub mod NetworkSteps
+pub mod Taken

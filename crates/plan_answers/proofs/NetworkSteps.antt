@@ -1,11 +1,9 @@
 -- From what is read and written to what `check` and `replay` print.
-use Rattle.std.proofs.Common.{◌≡◌, ◌<◌, ◌⊎◌, ℕ, List, [], ◌++◌, length, refl, sym, ap, ◌∙◌, subst, inl, inr, append_assoc, append-nil, length-append, arith, get_or}
+use Rattle.std.proofs.Common.{◌≡◌, ◌<◌, ◌⊎◌, ℕ, List, [], ◌++◌, length, refl, sym, ap, ◌∙◌, subst, inl, inr, append_assoc, append-nil}
 use Rattle.std.specs.Prelude.{Option}
-use Rattle.std.proofs.lemmas.List.{append_cancel_left}
 use Rattle.std.proofs.KnownBytes.{Appends-trans}
 use Rattle.loss_rules.specs.Breaks.{Subject}
 use Rattle.loss_rules.specs.declared.answer.Answer.{Answer}
-use Rattle.loss_rules.specs.declared.answer.Answer.TheVariants as answer
 use Rattle.plan_lines.specs.declared.error.PlanError.{PlanError}
 use Rattle.plan_answers.specs.declared.network.Stop.{Stop}
 use Rattle.plan_answers.specs.declared.network.Stop.TheVariants as stop
@@ -13,10 +11,8 @@ use Rattle.program_text.specs.declared.reading.ReadFault.{ReadFault}
 use Rattle.program_text.specs.declared.reading.ReadFault.TheVariants as unread
 use Rattle.program_text.specs.declared.status.Status.{Status}
 use Rattle.program_text.specs.declared.status.Status.TheVariants.{Usage}
-use Rattle.plan_answers.specs.Networks.{IsAnswered, IsRefusedPlan, StopsWith, IsFaultLine, IsStopLine, IsStopOf, SaysStop, PrintsStop, unread_line, PrintsCheck, PrintsReplay, PrintsNoLossUnderYes, AreReplayed, answer_line, answer_status, joined_status}
-use Rattle.program_text.specs.Lines.{memory_line}
+use Rattle.plan_answers.specs.Networks.{IsAnswered, IsRefusedPlan, StopsWith, IsFaultLine, IsStopLine, IsStopOf, SaysStop, PrintsStop, unread_line, PrintsCheck, PrintsReplay, AreReplayed, answer_line, answer_status, joined_status}
 use Rattle.program_text.specs.Output.{TakesPart, IsPrinted}
-use Rattle.plan_answers.specs.Replays.{SaysNoLoss}
 
 -- the answer's line is printed
 pub answered_check : (A : Type 0) (net : Option (List ℕ)) (named : List ℕ → Option (List ℕ)) (old new : Option (List ℕ)) (plan : Subject A) (found : Answer) (lines : List ℕ) (status : Status)
@@ -90,7 +86,7 @@ printed_behind a b c front behind meant status takes printed = (
 
 -- steps are listed behind the answer's line
 pub whole_replay : (A : Type 0) (net : Option (List ℕ)) (named : List ℕ → Option (List ℕ)) (steps old mid new : Option (List ℕ)) (plan : Subject A) (found : Answer) (front behind : List ℕ) (after status : Status)
-    → IsAnswered A net named plan found → front ≡ answer_line found → TakesPart old mid front [] → AreReplayed plan.duty plan.net steps behind after → IsPrinted mid new behind (joined_status found after) status
+    → IsAnswered A net named plan found → front ≡ answer_line found → TakesPart old mid front [] → AreReplayed plan found steps behind after → IsPrinted mid new behind (joined_status found after) status
     → PrintsReplay A net named steps old new status
 whole_replay A net named steps old mid new plan found front behind after status answered is takes replayed printed = inl (record {
   lines = front ++ behind;
@@ -114,72 +110,3 @@ unread_replay A net named steps old mid new plan found front behind fault status
   replayed = inl (record { plan = plan; found = found; answered = answered; behind = behind; lines_are = ap (λ l. l ++ behind) is; said = inr (stop_line fault behind line) });
   printed = printed_behind old mid new front behind Usage status takes printed;
 })
-
--- Behind a yes nothing is printed as lost.
-
--- `n` and `f` are not `y`
-n_is_no_y : ◌≡◌ {A = ℕ} 110 121 → ⊥
-n_is_no_y e = omega (arith, e)
-
-f_is_no_y : ◌≡◌ {A = ℕ} 102 121 → ⊥
-f_is_no_y e = omega (arith, e)
-
--- lines that begin with the line of a yes are that of the answer and others only where it is a yes
-under_yes : (found : Answer) (behind rest : List ℕ) → answer_line found ++ behind ≡ answer_line answer.Yes ++ rest → (found ≡ answer.Yes) × (behind ≡ rest)
-under_yes answer.Yes behind rest e = (refl, append_cancel_left (answer_line answer.Yes) behind rest e)
-under_yes (answer.No broken at) behind rest e = absurd (n_is_no_y (ap (λ (l : List ℕ). get_or l 0 0) e))
-
--- a stop's line is not that of a yes
-stop_under_yes : (stopped : Stop) (lines rest : List ℕ) → SaysStop stopped lines → lines ≡ answer_line answer.Yes ++ rest → ⊥
-stop_under_yes (stop.Plan fault) lines rest (inl is) e = f_is_no_y (ap (λ (l : List ℕ). get_or l 0 0) (sym is ∙ e))
-stop_under_yes (stop.Plan fault) lines rest (inr is) e = f_is_no_y (ap (λ (l : List ℕ). get_or l 0 0) (sym is ∙ e))
-stop_under_yes (stop.Unread unread.Memory) lines rest is e = f_is_no_y (ap (λ (l : List ℕ). get_or l 0 0) (sym is ∙ e))
-stop_under_yes (stop.Unread unread.Read) lines rest is e = f_is_no_y (ap (λ (l : List ℕ). get_or l 0 0) (sym is ∙ e))
-
-pub stopped_no_loss : (old new : Option (List ℕ)) (stopped : Stop) (status : Status) → PrintsStop stopped old new status → PrintsNoLossUnderYes old new status
-stopped_no_loss old new stopped status prints = record {
-  lines = prints.lines;
-  meant = Usage;
-  no_loss = λ rest e. absurd (stop_under_yes stopped prints.lines rest prints.said e);
-  printed = prints.printed;
-}
-
--- what stands behind the answer's line goes for what stands behind that of a yes
-behind_yes : (found : Answer) (front behind rest : List ℕ) → front ≡ answer_line found → front ++ behind ≡ answer_line answer.Yes ++ rest → (found ≡ answer.Yes) × (behind ≡ rest)
-behind_yes found front behind rest is e = under_yes found behind rest (ap (λ l. l ++ behind) (sym is) ∙ e)
-
-pub cut_no_loss : (old new : Option (List ℕ)) (found : Answer) (lines : List ℕ) → lines ≡ answer_line found → (unseen : List ℕ) × (0 < length unseen) × TakesPart old new lines unseen
-    → PrintsNoLossUnderYes old new Usage
-cut_no_loss old new found lines is cut =
-    let part = cut.2 in
-    let longer = length-append cut.0 memory_line in
-    record {
-      lines = lines ++ memory_line;
-      meant = Usage;
-      no_loss = λ rest e. inr (record { lines_are = inl (sym (behind_yes found lines memory_line rest is e).1); is_status = refl });
-      printed = (
-        cut.0 ++ memory_line,
-        record { written = part.written; appends = part.appends; whole = sym (append_assoc part.written cut.0 memory_line) ∙ ap (λ l. l ++ memory_line) part.whole },
-        inr (refl, omega (arith, longer, cut.1)),
-      );
-    }
-
-pub whole_no_loss : (old mid new : Option (List ℕ)) (found : Answer) (front behind : List ℕ) (after status : Status) → front ≡ answer_line found → TakesPart old mid front []
-    → (found ≡ answer.Yes → SaysNoLoss behind after) → IsPrinted mid new behind (joined_status found after) status → PrintsNoLossUnderYes old new status
-whole_no_loss old mid new found front behind after status is takes kept printed = record {
-  lines = front ++ behind;
-  meant = joined_status found after;
-  no_loss = λ rest e.
-      let u = behind_yes found front behind rest is e in
-      inl (subst (λ f. SaysNoLoss rest (joined_status f after)) (sym u.0) (subst (λ l. SaysNoLoss l after) u.1 (kept u.0)));
-  printed = printed_behind old mid new front behind (joined_status found after) status takes printed;
-}
-
-pub unread_no_loss : (old mid new : Option (List ℕ)) (found : Answer) (front behind : List ℕ) (fault : ReadFault) (status : Status) → front ≡ answer_line found → TakesPart old mid front []
-    → behind ≡ unread_line fault → IsPrinted mid new behind Usage status → PrintsNoLossUnderYes old new status
-unread_no_loss old mid new found front behind fault status is takes line printed = record {
-  lines = front ++ behind;
-  meant = Usage;
-  no_loss = λ rest e. inr (stop_line fault rest (sym (behind_yes found front behind rest is e).1 ∙ line));
-  printed = printed_behind old mid new front behind Usage status takes printed;
-}

@@ -5,14 +5,12 @@ use Rattle.loss_rules.specs.Breaks.{Subject, IsAnswer}
 use Rattle.loss_rules.specs.Printed.{answer_text}
 use Rattle.loss_rules.specs.declared.answer.Answer.{Answer}
 use Rattle.loss_rules.specs.declared.answer.Answer.TheVariants as answer
-use Rattle.loss_rules.specs.declared.label.Duty.{Duty}
 use Rattle.plan_lines.specs.Faults.{IsRefusal}
 use Rattle.plan_lines.specs.Forms.{confs_named}
 use Rattle.plan_lines.specs.Plans.{IsPlanOf}
 use Rattle.plan_lines.specs.Printed.{error_text}
 use Rattle.plan_lines.specs.declared.error.PlanError.{PlanError}
 use Rattle.plan_lines.specs.declared.error.PlanError.TheVariants as refusal
-use Rattle.relay_net.specs.Network.{Network}
 use Rattle.plan_answers.specs.declared.network.Stop.{Stop}
 use Rattle.plan_answers.specs.declared.network.Stop.TheVariants as stop
 use Rattle.program_text.specs.declared.reading.ReadFault.{ReadFault}
@@ -21,7 +19,7 @@ use Rattle.program_text.specs.declared.status.Status.{Status}
 use Rattle.program_text.specs.declared.status.Status.TheVariants.{Done, No, Usage}
 use Rattle.program_text.specs.Lines.{line, memory_line, read_line}
 use Rattle.program_text.specs.Output.{TakesPart, IsPrinted}
-use Rattle.plan_answers.specs.Replays.{IsReplayed, SaysNoLoss}
+use Rattle.plan_answers.specs.Replays.{IsReplayed}
 use Rattle.program_text.specs.Texts.{IsTextOf}
 
 -- What is read.
@@ -99,11 +97,11 @@ pub record PrintsStop (stopped : Stop) (old new : Option (List ℕ)) (status : S
   pub said : SaysStop stopped lines
   pub printed : IsPrinted old new lines Usage status
 
--- Steps of a text are taken in the network, of whose matches this is asked, and this is listed of them.
-pub record AreReplayed {A : Type 0} (asked : Duty) (net : Network A) (steps : Option (List ℕ)) (lines : List ℕ) (status : Status) : Type 0 where
+-- Steps of a text are taken in the network of a plan with this answer, and this is listed of them.
+pub record AreReplayed {A : Type 0} (plan : Subject A) (found : Answer) (steps : Option (List ℕ)) (lines : List ℕ) (status : Status) : Type 0 where
   pub text : List ℕ
   pub text_is : IsTextOf steps text
-  pub replayed : IsReplayed asked net text lines status
+  pub replayed : IsReplayed plan found text lines status
 
 -- All that is printed, in lines.
 
@@ -138,7 +136,7 @@ pub record IsBehindAnswer (A : Type 0) (net : Option (List ℕ)) (named : List �
   pub answered : IsAnswered A net named plan found
   pub behind : List ℕ
   pub lines_are : lines ≡ answer_line found ++ behind
-  pub said : ((after : Status) × AreReplayed plan.duty plan.net steps behind after × (status ≡ joined_status found after)) ⊎ IsStopLine behind status
+  pub said : ((after : Status) × AreReplayed plan found steps behind after × (status ≡ joined_status found after)) ⊎ IsStopLine behind status
 
 -- what `replay` prints of a plan and steps
 abbrev pub IsReplayedIn : (A : Type 0) → Option (List ℕ) → (List ℕ → Option (List ℕ)) → Option (List ℕ) → List ℕ → Status → Type 0
@@ -173,16 +171,3 @@ pub record PrintsLines (A : Type 0) (net : Option (List ℕ)) (named : List ℕ 
 -- all that `replay` does to a writer, and its status
 abbrev pub PrintsReplay : (A : Type 0) → Option (List ℕ) → (List ℕ → Option (List ℕ)) → Option (List ℕ) → Option (List ℕ) → Option (List ℕ) → Status → Type 0
 PrintsReplay A net named steps old new status = PrintsLines A net named steps old new status ⊎ EndsAtAnswer A net named old new status
-
--- Behind a yes nothing is lost.
-
--- Where the first of these lines is `yes`, those behind it say of no event that it is lost, or why the steps aren't read.
-abbrev pub SayNoLossUnderYes : List ℕ → Status → Type 0
-SayNoLossUnderYes lines status = (behind : List ℕ) → lines ≡ answer_line answer.Yes ++ behind → SaysNoLoss behind status ⊎ IsStopLine behind status
-
--- Such lines are printed; a writer that failed has a beginning of such.
-pub record PrintsNoLossUnderYes (old new : Option (List ℕ)) (status : Status) : Type 0 where
-  pub lines : List ℕ
-  pub meant : Status
-  pub no_loss : SayNoLossUnderYes lines meant
-  pub printed : IsPrinted old new lines meant status

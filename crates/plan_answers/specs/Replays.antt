@@ -1,13 +1,18 @@
 -- What is printed of steps that are taken in a network.
-use Rattle.std.specs.Prelude.{◌≡◌, ◌==◌, ℕ, List, ◌++◌, codes, decimal, length, map, flat_map, cond, not, count_by, All, Bool, true, IsTrue, ◌↔◌, ◌⊎◌}
+use Rattle.std.specs.Prelude.{◌≡◌, ◌==◌, ℕ, List, ◌++◌, codes, decimal, length, map, flat_map, cond, not, count_by, All, Bool, IsTrue, ◌↔◌, ◌⊎◌}
 use Rattle.hex.specs.Hex.{encode_lower}
-use Rattle.custody_core.specs.Custody.{IsKeptAs}
+use Rattle.custody_core.specs.Custody.{EachBranchKeeps, IsKeptAs, NothingIsLost, NothingIsMadeUp}
 use Rattle.custody_steps.specs.Steps.{Steps, IsRefusedAt}
 use Rattle.custody_steps.specs.World.{World, opening}
 use Rattle.custody_steps.specs.declared.fault.StepFault.{StepFault}
 use Rattle.custody_steps.specs.declared.fault.StepFault.TheVariants as refusal
 use Rattle.custody_store.specs.Buffers.{Event}
+use Rattle.loss_rules.specs.Breaks.{Subject}
+use Rattle.loss_rules.specs.Rules.{AreRulesKept, EachOutputKeeps}
+use Rattle.loss_rules.specs.declared.answer.Answer.{Answer}
+use Rattle.loss_rules.specs.declared.answer.Answer.TheVariants as answer
 use Rattle.loss_rules.specs.declared.label.Duty.{Duty}
+use Rattle.loss_rules.specs.declared.label.Duty.TheVariants as duty
 use Rattle.message_book.specs.Book.{Told}
 use Rattle.relay_net.specs.Network.{Network}
 use Rattle.step_lines.specs.StepLines.{SayAll, IsRefusedLine}
@@ -62,17 +67,6 @@ pub record IsWorldListing {A : Type 0} (asked : Duty) (net : Network A) (w : Wor
   pub written_is : written ≡ lines ++ summary_line steps (length w.acknowledged) lost
   pub is_status : status ≡ lost_status lost
 
--- the line of an event that is kept
-abbrev pub held_line : Event → List ℕ
-held_line event = told_line true event
-
--- The listing of a world that has lost nothing: each event's line says that it is held, and the last line that none is lost.
-pub record IsHeldListing (written : List ℕ) (status : Status) : Type 0 where
-  pub events : List Event
-  pub steps : ℕ
-  pub written_is : written ≡ flat_map held_line events ++ summary_line steps (length events) 0
-  pub is_status : status ≡ Done
-
 -- the code of a refusal; want of memory is none
 abbrev pub IsCodeOf : StepFault → List ℕ → Type 0
 IsCodeOf refusal.NoSuch code = code ≡ codes "S1"
@@ -86,13 +80,23 @@ pub record IsRefusalLine (number : ℕ) (fault : StepFault) (written : List ℕ)
   pub lines : written ≡ line (codes "refused step " ++ decimal number ++ codes " " ++ code)
   pub is_status : status ≡ No
 
--- The steps of the text were all taken, and this is listed of what they lead to.
-pub record AreTaken {A : Type 0} (asked : Duty) (net : Network A) (text written : List ℕ) (status : Status) : Type 0 where
+-- Where the answer is yes, the rules hold of the plan under which nothing is lost, with what it asks of each match.
+pub record IsYesEarned {A : Type 0} (plan : Subject A) (found : Answer) : Type 0 where
+  pub rules : found ≡ answer.Yes → AreRulesKept plan.net plan.labels plan.reaches
+  pub each_output : found ≡ answer.Yes → plan.duty ≡ duty.Every → EachOutputKeeps plan.net plan.reaches
+
+-- The steps of the text were all taken in the network of a plan with this answer, and this is listed of what they lead to. In that world
+-- nothing is made up, whatever the answer is; where it is yes, nothing that was acknowledged is lost, and, where the plan asks for it, each
+-- branch keeps.
+pub record AreTaken {A : Type 0} (plan : Subject A) (found : Answer) (text written : List ℕ) (status : Status) : Type 0 where
   pub steps : List (Step A)
   pub read : SayAll (text_lines text) steps
   pub world : World
-  pub taken : Steps net opening steps world
-  pub listed : IsWorldListing asked net world (length steps) written status
+  pub taken : Steps plan.net opening steps world
+  pub nothing_is_made_up : NothingIsMadeUp plan.net world
+  pub nothing_is_lost : found ≡ answer.Yes → NothingIsLost plan.net world
+  pub each_branch_keeps : found ≡ answer.Yes → plan.duty ≡ duty.Every → EachBranchKeeps plan.net world
+  pub listed : IsWorldListing plan.duty plan.net world (length steps) written status
 
 -- A step of the text is refused, and this is its line.
 pub record IsRefusal {A : Type 0} (net : Network A) (text written : List ℕ) (status : Status) : Type 0 where
@@ -114,11 +118,6 @@ pub record IsBadText (A : Type 0) (text written : List ℕ) (status : Status) : 
   pub refused : IsRefusedLine A text number
   pub said : IsBadLineSaid number written status
 
--- the listing of the steps that a text says, where this is asked of the network's matches
-abbrev pub IsReplayed : {A : Type 0} → Duty → Network A → List ℕ → List ℕ → Status → Type 0
-IsReplayed {A} asked net text written status = AreTaken asked net text written status ⊎ (IsRefusal net text written status ⊎ IsBadText A text written status)
-
--- What is listed says of no event that it is lost: each is held, or one line says that a step is refused, or that a line is of no step's form.
-abbrev pub SaysNoLoss : List ℕ → Status → Type 0
-SaysNoLoss written status = IsHeldListing written status
-    ⊎ (((number : ℕ) × (fault : StepFault) × IsRefusalLine number fault written status) ⊎ ((number : ℕ) × IsBadLineSaid number written status))
+-- the listing of the steps that a text says, in the network of a plan with this answer
+abbrev pub IsReplayed : {A : Type 0} → Subject A → Answer → List ℕ → List ℕ → Status → Type 0
+IsReplayed {A} plan found text written status = AreTaken plan found text written status ⊎ (IsRefusal plan.net text written status ⊎ IsBadText A text written status)

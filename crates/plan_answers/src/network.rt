@@ -1,14 +1,13 @@
 //! The words `check` and `replay`: what the checker says of a plan, and what becomes of the events that steps send.
 ghost use Rattle.std.specs.Prelude.{◌≡◌, length, map, string_bytes, IfOk, IfErr};
 ghost use Rattle.std.specs.List.{AllZip};
-ghost use Rattle.loss_rules.specs.Rules.{AreRulesKept, EachOutputKeeps};
 ghost use Rattle.plan_lines.specs.Plans.{texts as texts_of};
-ghost use Rattle.plan_answers.specs.Networks.{answer_line, answer_status, joined_status, unread_line as unread_line_of, AreReplayed, IsAnswered, IsPlanRead, IsStopOf, PrintsCheck, PrintsNoLossUnderYes, PrintsReplay, PrintsStop, StopsWith};
-ghost use Rattle.plan_answers.specs.Replays.{SaysNoLoss};
+ghost use Rattle.plan_answers.specs.Networks.{answer_line, answer_status, joined_status, unread_line as unread_line_of, AreReplayed, IsAnswered, IsPlanRead, IsStopOf, PrintsCheck, PrintsReplay, PrintsStop, StopsWith};
+ghost use Rattle.plan_answers.specs.Replays.{IsYesEarned};
 ghost use Rattle.program_text.specs.Texts.{IsTextOf};
 
 use crate::replay::{Said, replay};
-use loss_checker::{Answer, Duty, Plan, PlanError, check, conf_names};
+use loss_checker::{Answer, Plan, PlanError, check, conf_names};
 use program_text::{Open, OutputFault, ReadFault, Status, put_all, put_last, read_whole};
 use std::alloc::{AllocError, Allocator};
 use std::io::{ErrorKind, Read, Write};
@@ -30,8 +29,9 @@ pub fn run_check<A: Allocator + Copy, R: Read, O: Open, W: Write>(
 }
 
 /// Prints what `run_check` does. Where that is an answer, it takes the steps that `steps` gives in the plan's network, and prints
-/// what becomes of the events that were acknowledged, or why a step isn't taken; nothing of the steps is read before. Behind
-/// a yes it never prints that an event is lost.
+/// what becomes of the events that were acknowledged, or why a step isn't taken; nothing of the steps is read before. In the world
+/// that the steps lead to, whatever a sink holds a client sent; where the answer is yes, each event that was acknowledged is held under a
+/// tag that it may bear, and kept along each branch of its way if the plan asks for that. So behind a yes each is printed as held.
 pub fn run_replay<A: Allocator + Copy, R: Read, S: Read, O: Open, W: Write>(
     alloc: A,
     net: &mut R,
@@ -39,9 +39,7 @@ pub fn run_replay<A: Allocator + Copy, R: Read, S: Read, O: Open, W: Write>(
     files: &O,
     out: &mut W,
 ) -> Status
-    ensures replayed { PrintsReplay A (R.remaining net.old) (O.text_of files.now) (S.remaining steps.old) (W.contents out.old) (W.contents out.new) result }
-    // Where the first line is `yes`, each event that was acknowledged is printed as held.
-    ensures nothing_is_lost { PrintsNoLossUnderYes (W.contents out.old) (W.contents out.new) result }
+    ensures { PrintsReplay A (R.remaining net.old) (O.text_of files.now) (S.remaining steps.old) (W.contents out.old) (W.contents out.new) result }
 {
     let checked = match read_checked(alloc, net, files) {
         Ok(checked) => checked,
@@ -103,8 +101,7 @@ fn read_checked<A: Allocator + Copy, R: Read, O: Open>(
     files: &O,
 ) -> Result<Checked<A>, Stop>
     ensures answered { IfOk result (λ checked. IsAnswered A (R.remaining net.old) (O.text_of files.now) checked.plan checked.answer) }
-    ensures rules_kept { IfOk result (λ checked. checked.answer ≡ Answer.Yes → AreRulesKept checked.plan.net checked.plan.labels checked.plan.reaches) }
-    ensures each_keeps { IfOk result (λ checked. checked.answer ≡ Answer.Yes → checked.plan.duty ≡ Duty.Every → EachOutputKeeps checked.plan.net checked.plan.reaches) }
+    ensures earned { IfOk result (λ checked. IsYesEarned checked.plan checked.answer) }
     ensures line { IfOk result (λ checked. string_bytes checked.line ≡ answer_line checked.answer) }
     ensures stop { IfErr result (IsStopOf A (R.remaining net.old) (O.text_of files.now)) }
 {
@@ -174,17 +171,16 @@ fn read_conf<A: Allocator + Copy, O: Open>(
     }
 }
 
-// What becomes of the steps that are read, in the network of the plan.
+// What becomes of the steps that are read, in the network of the plan, whichever answer the plan has.
 fn replay_read<A: Allocator + Copy, S: Read>(
     alloc: A,
     plan: &Plan<A>,
     steps: &mut S,
 ) -> Result<Said<A>, ReadFault>
-    ensures replayed { IfOk result (λ said. AreReplayed plan.now.duty plan.now.net (S.remaining steps.old) said.lines.items said.status) }
-    ensures nothing_is_lost { AreRulesKept plan.now.net plan.now.labels plan.now.reaches → (plan.now.duty ≡ Duty.Every → EachOutputKeeps plan.now.net plan.now.reaches) → IfOk result (λ said. SaysNoLoss said.lines.items said.status) }
+    ensures { (found : Answer) → IsYesEarned plan.now found → IfOk result (λ said. AreReplayed plan.now found (S.remaining steps.old) said.lines.items said.status) }
 {
     let text = read_whole(alloc, steps)?;
-    let said = replay(alloc, plan.net(), plan.duty(), &text)?;
+    let said = replay(alloc, plan, &text)?;
     Ok(said)
 }
 

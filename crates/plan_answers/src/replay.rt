@@ -1,15 +1,12 @@
 //! The listing of steps that are taken in a network.
-ghost use Rattle.std.specs.Prelude.{◌≡◌, ◌++◌, List, string_bytes, IfOk, IfSome, OnOk};
+ghost use Rattle.std.specs.Prelude.{◌≡◌, ◌++◌, string_bytes, IfOk, IfSome, OnOk};
 ghost use Rattle.custody_steps.specs.WorldOf.{world_of, net_of};
 ghost use Rattle.custody_store.specs.Contents.{event_of};
-ghost use Rattle.loss_rules.specs.Rules.{AreRulesKept, EachOutputKeeps};
-ghost use Rattle.loss_rules.specs.Sites.{BuffersAreDistinct};
-ghost use Rattle.loss_rules.specs.declared.label.Label.{Label};
-ghost use Rattle.loss_rules.specs.declared.label.Reach.{Reach};
-ghost use Rattle.plan_answers.specs.Replays.{told_line, lost_status, summary_line, AreListed, IsBadLineSaid, IsCodeOf, IsRefusalLine, IsWorldListing, IsReplayed, SaysNoLoss};
+ghost use Rattle.loss_rules.specs.declared.answer.Answer.{Answer};
+ghost use Rattle.plan_answers.specs.Replays.{told_line, lost_status, summary_line, AreListed, IsBadLineSaid, IsCodeOf, IsRefusalLine, IsWorldListing, IsReplayed, IsYesEarned};
 
-use custody_core::{Event, Net, Step, StepFault, StepsError, World, is_kept_as, run};
-use loss_checker::Duty;
+use custody_core::{Event, Step, StepFault, StepsError, World, is_kept_as, run};
+use loss_checker::{Duty, Plan};
 use program_text::{Status, put_hex};
 use std::alloc::{AllocError, Allocator};
 
@@ -20,26 +17,24 @@ pub struct Said<A: Allocator> {
     pub status: Status,
 }
 
-/// Takes the steps of the text, one after another, in the network before its first step, and lists what becomes of
+/// Takes the steps of the text, one after another, in the plan's network before its first step, and lists what becomes of
 /// the events that they acknowledge; or which step is refused first; or which line is of no step's form. The only
-/// error is want of memory. An event is lost where it isn't kept as is asked. In a network that keeps the rules for some labels and
-/// reaches, with what is asked of each match, none of the events is lost.
+/// error is want of memory. An event is lost where it isn't kept as the plan asks. Whichever answer the plan has: where a yes means that
+/// the plan keeps the rules, nothing is lost under a yes.
 pub fn replay<A: Allocator + Copy>(
     alloc: A,
-    net: &Net<A>,
-    duty: Duty,
+    plan: &Plan<A>,
     text: &[u8],
 ) -> Result<Said<A>, AllocError>
-    ensures replayed { IfOk result (λ said. IsReplayed duty net.now text.now said.lines.items said.status) }
-    ensures nothing_is_lost { (labels : List (Label A)) (reaches : List (Reach A)) → BuffersAreDistinct net.now → AreRulesKept net.now labels reaches → (duty ≡ Duty.Every → EachOutputKeeps net.now reaches) → IfOk result (λ said. SaysNoLoss said.lines.items said.status) }
+    ensures { (found : Answer) → IsYesEarned plan.now found → IfOk result (λ said. IsReplayed plan.now found text.now said.lines.items said.status) }
 {
     let steps = match Step::read_all(alloc, text) {
         Ok(steps) => steps,
         Err(StepsError::BadLine(line)) => return list_bad_line(alloc, line),
         Err(StepsError::Memory) => return Err(AllocError),
     };
-    match run(alloc, net, &steps) {
-        Ok(world) => list_world(alloc, &world, duty, steps.len()),
+    match run(alloc, plan.net(), &steps) {
+        Ok(world) => list_world(alloc, &world, plan.duty(), steps.len()),
         Err((step, fault)) => list_refusal(alloc, step, fault),
     }
 }

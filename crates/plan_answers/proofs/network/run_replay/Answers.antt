@@ -2,18 +2,14 @@ use Rattle.std.proofs.Common.{subst, sym, ◌∙◌, ℕ, List}
 use Rattle.program_text.specs.declared.status.Status.{Status}
 use Rattle.plan_answers.specs.Networks.{AreReplayed}
 use Rattle.program_text.specs.Output.{IsPrinted}
-use Rattle.plan_answers.specs.Replays.{SaysNoLoss}
-use Rattle.plan_answers.proofs.NetworkSteps.{stopped_replay, whole_replay, unread_replay, stopped_no_loss, cut_no_loss, whole_no_loss, unread_no_loss}
+use Rattle.plan_answers.proofs.NetworkSteps.{stopped_replay, whole_replay, unread_replay}
 use Rattle.plan_answers.proofs.network.run_replay.Goals as goal
 
 pub returns-in-Err : goal.returns-in-Err
 returns-in-Err g c =
     let out = g.W.Write.contents in
-    record {
-      replayed = stopped_replay g.row.A.Denot (g.R.Read.remaining c.args.net.now) (g.O.Open.text_of c.args.files.now) (g.S.Read.remaining c.args.steps.now)
-          (out c.args.out.now) (out c.print_stop.new.out) c.in-Err.stop c.print_stop.result c.in-Err.ensures.stop c.print_stop.ensures;
-      nothing_is_lost = stopped_no_loss (out c.args.out.now) (out c.print_stop.new.out) c.in-Err.stop c.print_stop.result c.print_stop.ensures;
-    }
+    stopped_replay g.row.A.Denot (g.R.Read.remaining c.args.net.now) (g.O.Open.text_of c.args.files.now) (g.S.Read.remaining c.args.steps.now)
+    (out c.args.out.now) (out c.print_stop.new.out) c.in-Err.stop c.print_stop.result c.in-Err.ensures.stop c.print_stop.ensures
 
 pub returns-in-Ok-replay_read : goal.returns-in-Ok-replay_read
 returns-in-Ok-replay_read g c =
@@ -22,19 +18,12 @@ returns-in-Ok-replay_read g c =
     let checked = c.in-Ok.checked in
     let said = c.in-Ok-replay_read.said in
     let line = c.as_bytes.ensures.value ∙ c.in-Ok.ensures.line in
-    let replayed = subst (λ (l : List ℕ). AreReplayed checked.plan.duty checked.plan.net steps l said.status) (sym c.deref.ensures.value) c.in-Ok-replay_read.ensures.replayed in
+    let replayed = subst (λ (l : List ℕ). AreReplayed checked.plan checked.answer steps l said.status) (sym c.deref.ensures.value) (c.in-Ok-replay_read.ensures checked.answer c.in-Ok.ensures.earned) in
     let printed = subst (λ (m : Status). IsPrinted (out c.put_all.new.out) (out c.put_last.new.out) c.deref.result.now m c.put_last.result) c.joined.ensures c.put_last.ensures in
-    record {
-      replayed = whole_replay g.row.A.Denot (g.R.Read.remaining c.args.net.now) (g.O.Open.text_of c.args.files.now) steps
-          (out c.args.out.now) (out c.put_all.new.out) (out c.put_last.new.out)
-          checked.plan checked.answer c.as_bytes.result.now c.deref.result.now said.status c.put_last.result
-          c.in-Ok.ensures.answered line c.in_default.ensures.ok replayed printed;
-      nothing_is_lost = whole_no_loss (out c.args.out.now) (out c.put_all.new.out) (out c.put_last.new.out)
-          checked.answer c.as_bytes.result.now c.deref.result.now said.status c.put_last.result
-          line c.in_default.ensures.ok
-          (λ is. subst (λ (l : List ℕ). SaysNoLoss l said.status) (sym c.deref.ensures.value) (c.in-Ok-replay_read.ensures.nothing_is_lost (c.in-Ok.ensures.rules_kept is) (c.in-Ok.ensures.each_keeps is)))
-          printed;
-    }
+    whole_replay g.row.A.Denot (g.R.Read.remaining c.args.net.now) (g.O.Open.text_of c.args.files.now) steps
+    (out c.args.out.now) (out c.put_all.new.out) (out c.put_last.new.out)
+    checked.plan checked.answer c.as_bytes.result.now c.deref.result.now said.status c.put_last.result
+    c.in-Ok.ensures.answered line c.in_default.ensures.ok replayed printed
 
 pub returns : goal.returns
 returns g c =
@@ -42,18 +31,7 @@ returns g c =
     let checked = c.in-Ok.checked in
     let line = c.as_bytes.ensures.value ∙ c.in-Ok.ensures.line in
     let unread = c.as_bytes-in-Err-replay_read.ensures.value ∙ c.unread_line.ensures in
-    record {
-      replayed = unread_replay g.row.A.Denot (g.R.Read.remaining c.args.net.now) (g.O.Open.text_of c.args.files.now) (g.S.Read.remaining c.args.steps.now)
-          (out c.args.out.now) (out c.put_all.new.out) (out c.put_last-in-Err-replay_read.new.out)
-          checked.plan checked.answer c.as_bytes.result.now c.as_bytes-in-Err-replay_read.result.now c.in-Err-replay_read.fault c.put_last-in-Err-replay_read.result
-          c.in-Ok.ensures.answered line c.in_default.ensures.ok unread c.put_last-in-Err-replay_read.ensures;
-      nothing_is_lost = unread_no_loss (out c.args.out.now) (out c.put_all.new.out) (out c.put_last-in-Err-replay_read.new.out)
-          checked.answer c.as_bytes.result.now c.as_bytes-in-Err-replay_read.result.now c.in-Err-replay_read.fault c.put_last-in-Err-replay_read.result
-          line c.in_default.ensures.ok unread c.put_last-in-Err-replay_read.ensures;
-    }
-
-pub returns-in-Err-put_all-clause-nothing_is_lost : goal.returns-in-Err-put_all-clause-nothing_is_lost
-returns-in-Err-put_all-clause-nothing_is_lost g c =
-    let out = g.W.Write.contents in
-    cut_no_loss (out c.args.out.now) (out c.put_all.new.out) c.in-Ok.checked.answer c.as_bytes.result.now
-    (c.as_bytes.ensures.value ∙ c.in-Ok.ensures.line) c.in-Err-put_all.ensures.err
+    unread_replay g.row.A.Denot (g.R.Read.remaining c.args.net.now) (g.O.Open.text_of c.args.files.now) (g.S.Read.remaining c.args.steps.now)
+    (out c.args.out.now) (out c.put_all.new.out) (out c.put_last-in-Err-replay_read.new.out)
+    checked.plan checked.answer c.as_bytes.result.now c.as_bytes-in-Err-replay_read.result.now c.in-Err-replay_read.fault c.put_last-in-Err-replay_read.result
+    c.in-Ok.ensures.answered line c.in_default.ensures.ok unread c.put_last-in-Err-replay_read.ensures
