@@ -120,6 +120,6 @@ pub(crate) fn is_kept<A: Allocator + Copy>(alloc: A, plan: &Plan<A>) -> Result<b
     Ok(
         labels_are_matched(net, plan.labels()).is_none()
             && reached_matches_keep(net, plan.duty(), &reaches).is_none()
-            && first_cycle(alloc, net, plan.reaches())?.is_none(),
+            && first_cycle(alloc, net, &reaches)?.is_none(),
     )
 }

@@ -26,28 +26,26 @@ pub fn check<A: Allocator + Copy>(alloc: A, plan: &Plan<A>) -> Result<Answer, Al
     // Under the duty every it means besides that each output of each reached match keeps, or is a relabel.
     ensures each_keeps { IfOk result (λ answer. answer ≡ Answer.Yes → plan.now.duty ≡ Duty.Every → EachOutputKeeps plan.now.net plan.now.reaches) }
 {
-    if let Err(answer) = look_up_and_keep(alloc, plan)? {
-        return Ok(answer);
-    }
-    let cycle = first_cycle(alloc, plan.net(), plan.reaches())?;
-    match keep(plan, Rule::NoRelabelCycle, cycle) {
-        Ok(()) => Ok(Answer::Yes),
-        Err(answer) => Ok(answer),
-    }
-}
-
-// Whether the rules before the last one hold, once labels and reaches can be looked up. The inner `Err` is the answer where one
-// doesn't.
-fn look_up_and_keep<A: Allocator + Copy>(
-    alloc: A,
-    plan: &Plan<A>,
-) -> Result<Result<(), Answer>, AllocError>
-    ensures kept { IfOk result (λ kept. OnOk kept (AreKeptBefore plan.now 10)) }
-    ensures broken { IfOk result (λ kept. IfErr kept (IsAnswer plan.now)) }
-{
     let labels = Labels::new(alloc, plan.labels())?;
     let reaches = Reaches::new(alloc, plan.reaches())?;
-    Ok(keep_all_but_the_last(plan, &labels, &reaches))
+    if let Err(answer) = keep_all_but_the_last(plan, &labels, &reaches) {
+        return Ok(answer);
+    }
+    let cycle = first_cycle(alloc, plan.net(), &reaches)?;
+    Ok(last_answer(plan, cycle))
+}
+
+// The answer where all rules but the last hold, of which this is the first place where it is broken, if it is.
+fn last_answer<A: Allocator>(plan: &Plan<A>, broken: Option<Place>) -> Answer
+    requires before { AreKeptBefore plan.now (rule_number Rule.NoRelabelCycle) }
+    requires holds { IfNone broken (IsKept plan.now Rule.NoRelabelCycle) }
+    requires breaks { IfSome broken (IsBrokenAt plan.now Rule.NoRelabelCycle) }
+    ensures { IsAnswer plan.now result }
+{
+    match keep(plan, Rule::NoRelabelCycle, broken) {
+        Ok(()) => Answer::Yes,
+        Err(answer) => answer,
+    }
 }
 
 // Whether the rules before the last one hold. An `Err` is the answer where one doesn't.

@@ -1,24 +1,25 @@
--- How the graph of a relay grows with the reaches that are gone through.
-use Rattle.std.proofs.Common.{◌≡◌, ◌≢◌, ◌∙◌, ℕ, ◌+◌, ◌<◌, Option, Some, None, List, [], ◌∷◌, ◌++◌, length, get_or, take, replicate, slice_set, slice_get, zero, suc, ◌⊎◌, inl, inr, arith, subst, sym, ap, refl, Contains}
+-- How the graph of a relay grows with the matches that are gone through.
+use Rattle.std.proofs.Common.{◌≡◌, ◌∙◌, ℕ, ◌+◌, ◌-◌, ◌<◌, ◌≤◌, ◌↔◌, Option, Some, None, List, [], ◌∷◌, ◌++◌, length, get_or, take, slice_get, zero, suc, inl, inr, arith, subst, sym, ap, refl, Contains}
 use Rattle.std.specs.List.{filter_map}
 use Rattle.std.specs.Option.{option_map_or, option_and_then}
 use Rattle.std.proofs.lemmas.Bool.{cases_eq, cases_lt}
-use Rattle.std.proofs.lemmas.List.{length-set, length-replicate, get_or-replicate, get_or_past, get_or-set_other, get_or-set_same, set_past, append_assoc}
+use Rattle.std.proofs.lemmas.List.{length-append, get_or_past, get_or_append_left, get_or-append_right, append_assoc}
+use Rattle.std.proofs.lemmas.Option.{slice_get_within, option_and_then_some}
 use Rattle.std.proofs.lemmas.List.Elements.{Contains-append_left, Contains-append_right, Contains-append_cases, filter_map-append}
-use Rattle.std.proofs.lemmas.List.Quantifiers.{Any-push}
 use Rattle.relay_conf.specs.declared.output.Output.{Output}
 use Rattle.relay_conf.specs.declared.output.Output.TheVariants as output
 use Rattle.relay_conf.specs.declared.relay.MatchRule.{MatchRule}
 use Rattle.relay_conf.specs.declared.relay.Relay.{Relay}
 use Rattle.relay_conf.specs.declared.relay.Scope.{Scope}
 use Rattle.relay_net.specs.Network.{Network, relay_at}
-use Rattle.loss_rules.specs.Labels.{IsReachOf}
-use Rattle.loss_rules.specs.Sites.{rule_at, output_in_rule, line_of, RelabelsTo, scope_count_of, outputs_of_match}
+use Rattle.loss_rules.specs.Labels.{IsReached}
+use Rattle.loss_rules.specs.Sites.{rule_at, matches_at, output_in_rule, line_of, RelabelsTo, scope_count_of}
 use Rattle.loss_rules.specs.declared.label.Reach.{Reach}
-use Rattle.loss_rules.specs.Graphs.{relabel_of, relabels_at, HasRelabel, IsGraphOf}
+use Rattle.loss_rules.specs.Graphs.{relabel_of, relabels_at, HasRelabel, HasReachedRelabel, IsGraphOf}
 use Rattle.loss_rules.specs.declared.relabel.Relabel.{Relabel}
 use Rattle.route_graph.proofs.Members.{cons-cases, cons-head, cons-tail, nil-none}
-use Rattle.loss_rules.proofs.Members.{any-more, any-cases, one-more}
+use Rattle.loss_rules.proofs.Matches.{rule_listed}
+use Rattle.loss_rules.proofs.Members.{one-more}
 
 -- ---- outputs
 
@@ -73,11 +74,6 @@ relabels-more {A} outputs count output before held more less is old new =
 
 -- ---- places
 
--- the outputs of a match, one by one
-output-of-match : {A : Type 0} (rule : Option (MatchRule A)) (place : ℕ) → option_and_then (λ found. slice_get found.outputs.items place) rule ≡ slice_get (option_map_or (λ found. found.outputs.items) rule []) place
-output-of-match None place = refl
-output-of-match (Some rule) place = refl
-
 within-scopes : {A : Type 0} (scopes : List (Scope A)) (scope rule output : ℕ) (found : Output A) → option_and_then (λ r. slice_get r.outputs.items output) (option_and_then (λ s. slice_get s.matches.items rule) (slice_get scopes scope)) ≡ Some found → scope < length scopes
 within-scopes [] scope rule output found at = absurd (cc)
 within-scopes (first ∷ scopes) zero rule output found at = omega arith
@@ -93,98 +89,93 @@ scope-within net place scope rule output found at = within-relay (relay_at net p
 
 -- ---- the graph
 
--- The graph has a list for each scope of the relay, and in them the relabels of the matches that these reaches reach.
-pub record IsBuilt {A : Type 0} (net : Network A) (reaches : List (Reach A)) (place : ℕ) (graph : List (List Relabel)) : Type 0 where
-  pub sized : length graph ≡ scope_count_of net place
-  pub is : IsGraphOf net reaches place graph
+-- In this line of the relay one of the first matches of the scope, if it is reached, has a relabel to that target.
+abbrev pub HasRelabelBelow : {A : Type 0} → Network A → List (Reach A) → ℕ → ℕ → ℕ → ℕ → ℕ → Type 0
+HasRelabelBelow {A} net reaches place scope count target line = (rule output : ℕ) × (found : Output A) × (rule < count) × (output_in_rule net place scope rule output ≡ Some found)
+    × IsReached reaches place scope rule × RelabelsTo found target × (line_of found ≡ line)
 
-empty-none : (count scope target line : ℕ) → HasRelabel (replicate count []) scope target line → ⊥
-empty-none count scope target line has =
-    let e : relabels_at (replicate count []) scope ≡ [] = elim (cases_lt scope count) [
-      | inl less ↦ get_or-replicate count scope [] [] less
-      | inr past ↦ get_or_past (replicate count []) scope [] (omega (arith, length-replicate {A = List Relabel} count []))
-    ] in
-    nil-none (record { target = target; line = line }) (subst (λ (x : List Relabel). Contains x (record { target = target; line = line })) e has)
+module _ {A : Type 0} (net : Network A) (reaches : List (Reach A)) (place scope : ℕ) where
+  abbrev pub AreBelow : ℕ → List Relabel → Type 0
+  AreBelow count relabels = (target line : ℕ) → Contains relabels (record { target = target; line = line }) ↔ HasRelabelBelow net reaches place scope count target line
 
--- no reach is gone through
-pub built-empty : {A : Type 0} (net : Network A) (place count : ℕ) → count ≡ scope_count_of net place → IsBuilt net [] place (replicate count [])
-built-empty net place count sized = record {
-  sized = length-replicate count [] ∙ sized;
-  is = λ scope target line. (λ has. absurd (empty-none count scope target line has), λ r. absurd (let less : r.4.0 < 0 = r.4.2 in omega arith));
-}
+  pub below-none : AreBelow 0 []
+  below-none target line = (λ c. absurd (nil-none _ c), λ b. absurd (let less : b.0 < 0 = b.3 in omega arith))
 
--- a reach of another relay
-pub built-apart : {A : Type 0} (net : Network A) (reaches : List (Reach A)) (place : ℕ) (graph : List (List Relabel)) (reach : Reach A) → reach.place ≢ place → IsBuilt net reaches place graph → IsBuilt net (reaches ++ reach ∷ []) place graph
-built-apart net reaches place graph reach apart built = record {
-  sized = built.sized;
-  is = λ scope target line. (
-    λ has. (let r = (built.is scope target line).0 has in (r.0, r.1, r.2, r.3, any-more (IsReachOf place scope r.0) reaches reach r.4, r.5, r.6)),
-    λ r. elim (any-cases (IsReachOf place scope r.0) reaches reach r.4) [
-      | inl h ↦ (built.is scope target line).1 (r.0, r.1, r.2, r.3, h, r.5, r.6)
-      | inr h ↦ absurd (apart h.place_is)
+  listed : (count output : ℕ) (taker : MatchRule A) → slice_get (matches_at net place scope) count ≡ Some taker → output_in_rule net place scope count output ≡ slice_get taker.outputs.items output
+  listed count output taker is = ap (option_and_then (λ found. slice_get found.outputs.items output)) (rule_listed net place scope count ∙ is)
+
+  -- one more match, which is reached
+  pub below-more : (count : ℕ) (taker : MatchRule A) (relabels more : List Relabel) → slice_get (matches_at net place scope) count ≡ Some taker → IsReached reaches place scope count
+      → more ≡ relabels ++ filter_map relabel_of taker.outputs.items → AreBelow count relabels → AreBelow (count + 1) more
+  below-more count taker relabels more is reached grown below target line = (
+    λ c. elim (Contains-append_cases relabels (filter_map relabel_of taker.outputs.items) _ (subst (λ (x : List Relabel). Contains x (record { target = target; line = line })) grown c)) [
+      | inl k ↦ (let b = (below target line).0 k in (b.0, b.1, b.2, omega (arith, b.3), b.4, b.5, b.6, b.7))
+      | inr k ↦ (let r = relabels-outputs taker.outputs.items target line k in (count, r.0, r.1, omega arith, listed count r.0 taker is ∙ r.2, reached, r.3, r.4))
     ],
-  );
-}
+    λ b. subst (λ (x : List Relabel). Contains x (record { target = target; line = line })) (sym grown) (elim (cases_eq b.0 count) [
+      | inr apart ↦ Contains-append_left relabels (filter_map relabel_of taker.outputs.items) _ ((below target line).1 (b.0, b.1, b.2, omega (arith, apart, b.3), b.4, b.5, b.6, b.7))
+      | inl same ↦ (
+          let at : output_in_rule net place scope count b.1 ≡ Some b.2 = subst (λ (x : ℕ). output_in_rule net place scope x b.1 ≡ Some b.2) same b.4 in
+          Contains-append_right relabels (filter_map relabel_of taker.outputs.items) _ (outputs-relabels taker.outputs.items b.1 b.2 (record { target = target; line = line }) (sym (listed count b.1 taker is) ∙ at) (relabel-is b.2 target line b.6 b.7)))
+    ]),
+  )
 
--- what a scope has, and what it gets
-set-cases : (graph : List (List Relabel)) (at scope : ℕ) (more : List Relabel) (relabel : Relabel) → Contains (relabels_at (slice_set graph at (relabels_at graph at ++ more)) scope) relabel → Contains (relabels_at graph scope) relabel ⊎ ((scope ≡ at) × Contains more relabel)
-set-cases graph at scope more relabel c = elim (cases_eq scope at) [
-  | inr apart ↦ inl (subst (λ (x : List Relabel). Contains x relabel) (get_or-set_other graph at scope (relabels_at graph at ++ more) [] apart) c)
-  | inl same ↦ elim (cases_lt at (length graph)) [
-    | inr past ↦ (let e : relabels_at (slice_set graph at (relabels_at graph at ++ more)) scope ≡ [] = get_or_past (slice_set graph at (relabels_at graph at ++ more)) scope [] (omega (arith, length-set graph at (relabels_at graph at ++ more))) in
-        absurd (nil-none relabel (subst (λ (x : List Relabel). Contains x relabel) e c)))
-    | inl less ↦ (let e : relabels_at (slice_set graph at (relabels_at graph at ++ more)) scope ≡ relabels_at graph at ++ more = rw same (get_or-set_same graph at (relabels_at graph at ++ more) [] less) in
-        elim (Contains-append_cases (relabels_at graph at) more relabel (subst (λ (x : List Relabel). Contains x relabel) e c)) [
-          | inl k ↦ inl (subst (λ (x : ℕ). Contains (relabels_at graph x) relabel) (sym same) k)
-          | inr k ↦ inr (same, k)
-        ])
+  -- one more match, which isn't
+  pub below-apart : (count : ℕ) (relabels : List Relabel) → ¬ IsReached reaches place scope count → AreBelow count relabels → AreBelow (count + 1) relabels
+  below-apart count relabels not below target line = (
+    λ c. (let b = (below target line).0 c in (b.0, b.1, b.2, omega (arith, b.3), b.4, b.5, b.6, b.7)),
+    λ b. elim (cases_eq b.0 count) [
+      | inr apart ↦ (below target line).1 (b.0, b.1, b.2, omega (arith, apart, b.3), b.4, b.5, b.6, b.7)
+      | inl same ↦ absurd (not (subst (λ (x : ℕ). IsReached reaches place scope x) same b.5))
+    ],
+  )
+
+  match-within : (rule output : ℕ) (found : Output A) → output_in_rule net place scope rule output ≡ Some found → rule < length (matches_at net place scope)
+  match-within rule output found at =
+      option_and_then_some (λ m. slice_get m.outputs.items output) (rule_at net place scope rule) found at (λ taker there o.
+      slice_get_within (matches_at net place scope) rule taker (sym (rule_listed net place scope rule) ∙ there))
+
+  -- all matches were gone through
+  pub below-all : (count : ℕ) (relabels : List Relabel) → length (matches_at net place scope) ≤ count → AreBelow count relabels
+      → (target line : ℕ) → Contains relabels (record { target = target; line = line }) ↔ HasReachedRelabel net reaches place scope target line
+  below-all count relabels end below target line = (
+    λ c. (let b = (below target line).0 c in (b.0, b.1, b.2, b.4, b.5, b.6, b.7)),
+    λ r. (below target line).1 (r.0, r.1, r.2, omega (arith, end, match-within r.0 r.1 r.2 r.3), r.3, r.4, r.5, r.6),
+  )
+
+module _ {A : Type 0} (net : Network A) (reaches : List (Reach A)) (place : ℕ) where
+  -- The graph has a list for each of the first scopes, so many of them: the relabels of its reached matches.
+  pub record IsBuilt (count : ℕ) (graph : List (List Relabel)) : Type 0 where
+    pub sized : length graph ≡ count
+    pub is : (scope target line : ℕ) → scope < count → HasRelabel graph scope target line ↔ HasReachedRelabel net reaches place scope target line
+
+  pub built-none : IsBuilt 0 []
+  built-none = record { sized = refl; is = λ scope target line less. absurd (omega (arith, less)) }
+
+  -- one more scope
+  pub built-more : (count : ℕ) (graph : List (List Relabel)) (relabels : List Relabel) → ((target line : ℕ) → Contains relabels (record { target = target; line = line }) ↔ HasReachedRelabel net reaches place count target line)
+      → IsBuilt count graph → IsBuilt (count + 1) (graph ++ relabels ∷ [])
+  built-more count graph relabels here built = record {
+    sized = let long = length-append graph (relabels ∷ []) in omega (arith, long, built.sized);
+    is = λ scope target line less. elim (cases_eq scope count) [
+      | inl same ↦ (
+          let none : scope - scope ≡ 0 = omega arith in
+          let e : relabels_at (graph ++ relabels ∷ []) scope ≡ relabels = get_or-append_right graph (relabels ∷ []) scope scope [] (built.sized ∙ sym same) (omega arith) ∙ ap (λ (n : ℕ). get_or (relabels ∷ []) n []) none in
+          subst (λ (x : ℕ). Contains (relabels_at (graph ++ relabels ∷ []) scope) (record { target = target; line = line }) ↔ HasReachedRelabel net reaches place x target line) (sym same)
+          (subst (λ (x : List Relabel). Contains x (record { target = target; line = line }) ↔ HasReachedRelabel net reaches place count target line) (sym e) (here target line)))
+      | inr apart ↦ (
+          let e : relabels_at (graph ++ relabels ∷ []) scope ≡ relabels_at graph scope = get_or_append_left graph (relabels ∷ []) [] scope (omega (arith, less, apart, built.sized)) in
+          subst (λ (x : List Relabel). Contains x (record { target = target; line = line }) ↔ HasReachedRelabel net reaches place scope target line) (sym e) (built.is scope target line (omega (arith, less, apart))))
+    ];
+  }
+
+  -- all scopes were gone through
+  pub built-all : (count : ℕ) (graph : List (List Relabel)) → count ≡ scope_count_of net place → IsBuilt count graph → IsGraphOf net reaches place graph
+  built-all count graph all built scope target line = elim (cases_lt scope count) [
+    | inl less ↦ built.is scope target line less
+    | inr past ↦ (
+        let e : relabels_at graph scope ≡ [] = get_or_past graph scope [] (omega (arith, past, built.sized)) in (
+          λ has. absurd (nil-none _ (subst (λ (x : List Relabel). Contains x (record { target = target; line = line })) e has)),
+          λ r. absurd (let less = scope-within net place scope r.0 r.1 r.2 r.3 in omega (arith, less, past, all)),
+        ))
   ]
-]
-
-set-adds : (graph : List (List Relabel)) (at : ℕ) (more : List Relabel) → at < length graph → relabels_at (slice_set graph at (relabels_at graph at ++ more)) at ≡ relabels_at graph at ++ more
-set-adds graph at more less = get_or-set_same graph at (relabels_at graph at ++ more) [] less
-
-set-keeps : (graph : List (List Relabel)) (at scope : ℕ) (more : List Relabel) (relabel : Relabel) → Contains (relabels_at graph scope) relabel → Contains (relabels_at (slice_set graph at (relabels_at graph at ++ more)) scope) relabel
-set-keeps graph at scope more relabel c = elim (cases_lt at (length graph)) [
-  | inr past ↦ subst (λ (x : List (List Relabel)). Contains (relabels_at x scope) relabel) (sym (set_past graph at (relabels_at graph at ++ more) past)) c
-  | inl less ↦ elim (cases_eq scope at) [
-    | inr apart ↦ subst (λ (x : List Relabel). Contains x relabel) (sym (get_or-set_other graph at scope (relabels_at graph at ++ more) [] apart)) c
-    | inl same ↦ subst (λ (x : ℕ). Contains (relabels_at (slice_set graph at (relabels_at graph at ++ more)) x) relabel) (sym same)
-        (subst (λ (x : List Relabel). Contains x relabel) (sym (set-adds graph at more less)) (Contains-append_left (relabels_at graph at) more relabel (subst (λ (x : ℕ). Contains (relabels_at graph x) relabel) same c)))
-  ]
-]
-
--- a reach of this relay
-pub built-more : {A : Type 0} (net : Network A) (reaches : List (Reach A)) (place : ℕ) (graph : List (List Relabel)) (reach : Reach A) → reach.place ≡ place → IsBuilt net reaches place graph → IsBuilt net (reaches ++ reach ∷ []) place (slice_set graph reach.scope (relabels_at graph reach.scope ++ filter_map relabel_of (outputs_of_match net place reach.scope reach.rule)))
-built-more {A} net reaches place graph reach here built =
-    let outputs : List (Output A) = outputs_of_match net place reach.scope reach.rule in
-    let more = filter_map relabel_of outputs in
-    record {
-      sized = length-set graph reach.scope (relabels_at graph reach.scope ++ more) ∙ built.sized;
-      is = λ scope target line. (
-        λ has. elim (set-cases graph reach.scope scope more (record { target = target; line = line }) has) [
-          | inl c ↦ (let r = (built.is scope target line).0 c in (r.0, r.1, r.2, r.3, any-more (IsReachOf place scope r.0) reaches reach r.4, r.5, r.6))
-          | inr (same, c) ↦ (
-              let r = relabels-outputs outputs target line c in
-              let at : output_in_rule net place reach.scope reach.rule r.0 ≡ Some r.1 = output-of-match (rule_at net place reach.scope reach.rule) r.0 ∙ r.2 in (
-                reach.rule,
-                r.0,
-                r.1,
-                subst (λ (x : ℕ). output_in_rule net place x reach.rule r.0 ≡ Some r.1) (sym same) at,
-                Any-push (IsReachOf place scope reach.rule) reaches reach (record { place_is = here; scope_is = sym same; rule_is = refl }),
-                r.3,
-                r.4,
-              ))
-        ],
-        λ r. elim (any-cases (IsReachOf place scope r.0) reaches reach r.4) [
-          | inl h ↦ set-keeps graph reach.scope scope more (record { target = target; line = line }) ((built.is scope target line).1 (r.0, r.1, r.2, r.3, h, r.5, r.6))
-          | inr h ↦ (
-              let at : output_in_rule net place reach.scope reach.rule r.1 ≡ Some r.2 = subst (λ (x : ℕ). output_in_rule net place reach.scope x r.1 ≡ Some r.2) (sym h.rule_is) (subst (λ (x : ℕ). output_in_rule net place x r.0 r.1 ≡ Some r.2) (sym h.scope_is) r.3) in
-              let less = scope-within net place reach.scope reach.rule r.1 r.2 at in
-              let kept = outputs-relabels outputs r.1 r.2 (record { target = target; line = line }) (sym (output-of-match (rule_at net place reach.scope reach.rule) r.1) ∙ at) (relabel-is r.2 target line r.5 r.6) in
-              subst (λ (x : ℕ). HasRelabel (slice_set graph reach.scope (relabels_at graph reach.scope ++ more)) x target line) h.scope_is
-              (subst (λ (x : List Relabel). Contains x (record { target = target; line = line })) (sym (set-adds graph reach.scope more (omega (arith, less, built.sized))))
-              (Contains-append_right (relabels_at graph reach.scope) more (record { target = target; line = line }) kept)))
-        ],
-      );
-    }

@@ -1,11 +1,10 @@
 -- That a plan has one answer.
-use Rattle.std.proofs.Common.{◌≡◌, ℕ, ◌<◌, ◌≤◌, List, Some, slice_get, get_or, refl, sym, ap, subst, ◌∙◌, arith, ◌⊎◌, inl, inr, All, Any}
+use Rattle.std.proofs.Common.{◌≡◌, ℕ, ◌<◌, List, slice_get, refl, sym, ap, subst, ◌∙◌, arith, inl, inr, All}
 use Rattle.std.proofs.lemmas.Bool.{cases_lt}
 use Rattle.std.proofs.lemmas.Option.{same_Some, slice_get_within, get_or_from_slice_get}
 use Rattle.relay_net.specs.Network.{Network}
-use Rattle.loss_rules.specs.Breaks.{Subject, IsFirstLine, IsInConf, IsInPlan, BreaksAtMatch, BreaksAtOutput, BreaksAtServer, BreaksAtClient, BreaksAtLabel, BreaksAtSource, IsFirstTwice, IsKept, IsBrokenAt, IsAnswer, rule_number}
+use Rattle.loss_rules.specs.Breaks.{Subject, IsFirstLine, IsInConf, IsInPlan, BreaksAtSource, IsFirstTwice, IsKept, IsBrokenAt, IsAnswer, rule_number}
 use Rattle.loss_rules.specs.Rules.{RelayIsNew, AddressesAreDistinct, IsLabelledClient, IsMatched, ReachesCoverLabel}
-use Rattle.loss_rules.specs.declared.answer.Answer.{Answer}
 use Rattle.loss_rules.specs.declared.answer.Answer.TheVariants as answer
 use Rattle.loss_rules.specs.declared.answer.Place.{Place}
 use Rattle.loss_rules.specs.declared.answer.Place.TheVariants as place

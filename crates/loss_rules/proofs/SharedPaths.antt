@@ -1,11 +1,11 @@
 -- Outputs that share a path.
-use Rattle.std.proofs.Common.{◌≡◌, ℕ, ◌<◌, Some, sym, arith, ◌⊎◌, inl, inr}
+use Rattle.std.proofs.Common.{◌≡◌, ℕ, ◌<◌, sym, arith, ◌⊎◌, inl, inr}
 use Rattle.std.proofs.lemmas.Bool.{cases_lt}
 use Rattle.relay_conf.specs.declared.output.Output.{Output}
 use Rattle.relay_net.specs.Network.{Network}
 use Rattle.loss_rules.specs.Breaks.{IsFirstOfPath}
 use Rattle.loss_rules.specs.Rules.{SharePath, PathsAreDistinct}
-use Rattle.loss_rules.specs.Sites.{output_in_rule, EachOutput, line_of}
+use Rattle.loss_rules.specs.Sites.{EachOutput, line_of}
 
 -- numbers are equal or not
 equal_or_not : (m n : ℕ) → (m ≡ n) ⊎ (¬ (m ≡ n))

@@ -16,7 +16,7 @@ use Rattle.relay_net.specs.declared.node.Node.{Node}
 use Rattle.tag_pattern.specs.Items.{Item}
 use Rattle.tag_pattern.specs.Patterns.{Fits, Meets}
 use Rattle.loss_rules.specs.Labels.{FitsLabel, FitsLabelWith, FitsReach, IsReached, EachReach}
-use Rattle.loss_rules.specs.Sites.{rule_at, output_in_rule, EachMatch, EachOutput, EachServer, line_of, RelabelsTo}
+use Rattle.loss_rules.specs.Sites.{rule_at, output_in_rule, EachMatch, EachOutput, EachServer, RelabelsTo}
 use Rattle.loss_rules.specs.declared.label.Duty.{Duty}
 use Rattle.loss_rules.specs.declared.label.Duty.TheVariants as duty
 use Rattle.loss_rules.specs.declared.label.Label.{Label}

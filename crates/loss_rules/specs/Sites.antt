@@ -20,10 +20,6 @@ matches_at net place scope = option_map_or (λ found. found.matches.items) (opti
 abbrev pub scope_count_of : {A : Type 0} → Network A → ℕ → ℕ
 scope_count_of net place = option_map_or (λ relay. length relay.scopes.items) (relay_at net place) 0
 
--- the outputs of the match at this place of that scope of the relay; one that isn't there has none
-abbrev pub outputs_of_match : {A : Type 0} → Network A → ℕ → ℕ → ℕ → List (Output A)
-outputs_of_match net place scope rule = option_map_or (λ found. found.outputs.items) (rule_at net place scope rule) []
-
 -- the output with this place among those of that match
 abbrev pub output_in_rule : {A : Type 0} → Network A → ℕ → ℕ → ℕ → ℕ → Option (Output A)
 output_in_rule net place scope rule output = option_and_then (λ found. slice_get found.outputs.items output) (rule_at net place scope rule)

@@ -4,8 +4,8 @@ ghost use Rattle.loss_rules.specs.Breaks.{IsInConf, BreaksAtOutput};
 ghost use Rattle.loss_rules.specs.Rules.{IsOnNoCycle, NoRelabelCycle};
 
 use crate::answer::Place;
+use crate::by_site::Reaches;
 use crate::graph::RelabelGraph;
-use crate::label::Reach;
 use relay_net::Net;
 use std::alloc::{AllocError, Allocator};
 
@@ -14,12 +14,12 @@ use std::alloc::{AllocError, Allocator};
 /// the plan, and in each by lines.
 ///
 /// For each such relabel all that its target leads to is gone through, so the time of a relay grows by the number of
-/// its relabels, times that of its relabels and scopes; and each relay goes through the reaches once. The memory that
-/// is taken holds the scopes and the relabels of one relay at a time. The only error is want of memory.
+/// its relabels, times that of its relabels and scopes; and each of its matches is looked up among the reaches. The memory
+/// that is taken holds the scopes and the relabels of one relay at a time. The only error is want of memory.
 pub fn first_cycle<A: Allocator + Copy, B: Allocator + Copy>(
     alloc: A,
     net: &Net<B>,
-    reaches: &[Reach<B>],
+    reaches: &Reaches<'_, B>,
 ) -> Result<Option<Place>, AllocError>
     ensures none { IfOk result (λ found. IfNone found (NoRelabelCycle net.now reaches.now)) }
     ensures some { IfOk result (λ found. IfSome found (IsInConf net.now (BreaksAtOutput net.now (λ place scope rule output relabel. IsOnNoCycle net.now reaches.now place scope rule relabel)))) }

@@ -1,13 +1,14 @@
 // The relabels of a relay's reached matches, as a graph of its scopes.
-ghost use Rattle.std.specs.Prelude.{◌≡◌, ◌<◌, ◌↔◌, [], ◌++◌, length, replicate, slice_set, IfOk, OnOk, IsTrue};
+ghost use Rattle.std.specs.Prelude.{◌≡◌, ◌<◌, ◌↔◌, ℕ, ◌++◌, length, Contains, IfOk, OnOk, IsTrue};
 ghost use Rattle.std.specs.List.{filter_map};
 ghost use Rattle.loss_rules.specs.Firsts.{IsLeast};
-ghost use Rattle.loss_rules.specs.Graphs.{relabel_of, relabels_at, LeadsTo, IsGraphOf, IsOnCycle, IsOnCycleFrom};
+ghost use Rattle.loss_rules.specs.Graphs.{relabel_of, relabels_at, LeadsTo, HasReachedRelabel, IsGraphOf, IsOnCycle, IsOnCycleFrom};
 
-use crate::label::Reach;
+use crate::by_site::Reaches;
+use crate::fitting::is_reached;
 use crate::relabel::{Relabel, as_relabel};
 use crate::requirement::earlier;
-use crate::site::{match_outputs, scope_count};
+use crate::site::{Site, matches_at, scope_count};
 use crate::visit::Visit;
 use relay_conf::Output;
 use relay_net::Net;
@@ -30,6 +31,33 @@ impl<A: Allocator> Model for ScopeRelabels<A> {
 }
 
 impl<A: Allocator> ScopeRelabels<A> {
+    // Those of the reached matches of this scope.
+    fn new<B: Allocator + Copy>(
+        alloc: A,
+        net: &Net<B>,
+        place: usize,
+        scope: usize,
+        reaches: &Reaches<'_, B>,
+    ) -> Result<ScopeRelabels<A>, AllocError>
+        ensures { IfOk result (λ found. (target line : ℕ) → Contains found (record { target = target; line = line }) ↔ HasReachedRelabel net.now reaches.now place scope target line) }
+    {
+        let mut found = ScopeRelabels {
+            relabels: Vec::new(alloc),
+        };
+        for (rule, taker) in matches_at(net, place, scope).iter().enumerate() {
+            let at = Site {
+                place,
+                scope,
+                rule,
+                output: 0,
+            };
+            if is_reached(reaches, at) {
+                found.add(&taker.outputs)?;
+            }
+        }
+        Ok(found)
+    }
+
     // The relabels, in the order in which they were added.
     fn relabels(&self) -> &[Relabel]
         ensures { result.now ≡ self.now }
@@ -66,25 +94,20 @@ impl<A: Allocator> Model for RelabelGraph<A> {
 }
 
 impl<A: Allocator + Copy> RelabelGraph<A> {
-    /// The relabels of the reached matches of the relay at this place.
+    /// The relabels of the reached matches of the relay at this place. Each of its matches is looked up among the reaches.
     pub fn new<B: Allocator + Copy>(
         alloc: A,
         net: &Net<B>,
         place: usize,
-        reaches: &[Reach<B>],
+        reaches: &Reaches<'_, B>,
     ) -> Result<RelabelGraph<A>, AllocError>
         ensures { IfOk result (IsGraphOf net.now reaches.now place) }
     {
-        let mut graph = RelabelGraph::empty(alloc, scope_count(net, place))?;
-        for reach in reaches {
-            if reach.place == place {
-                graph.add(
-                    reach.scope,
-                    match_outputs(net, place, reach.scope, reach.rule),
-                )?;
-            }
+        let mut scopes = Vec::new(alloc);
+        for scope in 0..scope_count(net, place) {
+            scopes.push(ScopeRelabels::new(alloc, net, place, scope, reaches)?)?;
         }
-        Ok(graph)
+        Ok(RelabelGraph { scopes })
     }
 
     /// The first line of a relabel on a cycle, if there is one.
@@ -125,29 +148,6 @@ impl<A: Allocator + Copy> RelabelGraph<A> {
             }
         }
         Ok(visit.is_marked(last))
-    }
-
-    // A graph of so many scopes without relabels.
-    fn empty(alloc: A, count: usize) -> Result<RelabelGraph<A>, AllocError>
-        ensures { IfOk result (λ graph. graph ≡ replicate count []) }
-    {
-        let mut scopes = Vec::with_capacity(alloc, count)?;
-        for _ in 0..count {
-            scopes.push(ScopeRelabels {
-                relabels: Vec::new(alloc),
-            })?;
-        }
-        Ok(RelabelGraph { scopes })
-    }
-
-    // Adds the relabels among these outputs to those of the scope, if it is there.
-    fn add<B: Allocator>(&mut self, scope: usize, outputs: &[Output<B>]) -> Result<(), AllocError>
-        ensures { OnOk result (self.new ≡ slice_set self.old scope (relabels_at self.old scope ++ filter_map relabel_of outputs.now)) }
-    {
-        if let Some(found) = self.scopes.get_mut(scope) {
-            found.add(outputs)?;
-        }
-        Ok(())
     }
 
     // The relabels of the scope. One that isn't there has none.

@@ -1,6 +1,6 @@
 // Where something stands in the configurations of a network.
 ghost use Rattle.std.specs.Prelude.{◌≡◌};
-ghost use Rattle.loss_rules.specs.Sites.{line_of as line_of_output, matches_at as matches_there, outputs_of_match, scope_count_of};
+ghost use Rattle.loss_rules.specs.Sites.{line_of as line_of_output, matches_at as matches_there, scope_count_of};
 
 use relay_conf::{MatchRule, Output};
 use relay_net::Net;
@@ -55,26 +55,5 @@ pub(crate) fn scope_count<A: Allocator + Copy>(net: &Net<A>, place: usize) -> us
     match net.relays().get(place) {
         Some(node) => node.relay.scopes.len(),
         None => 0,
-    }
-}
-
-/// The outputs of the match at this place of that scope of the relay. One that isn't there has none.
-pub(crate) fn match_outputs<A: Allocator + Copy>(
-    net: &Net<A>,
-    place: usize,
-    scope: usize,
-    rule: usize,
-) -> &[Output<A>]
-    ensures { result.now ≡ outputs_of_match net.now place scope rule }
-{
-    let Some(node) = net.relays().get(place) else {
-        return &[];
-    };
-    let Some(found) = node.relay.scopes.get(scope) else {
-        return &[];
-    };
-    match found.matches.get(rule) {
-        Some(taker) => &taker.outputs,
-        None => &[],
     }
 }

@@ -1,18 +1,16 @@
-use Rattle.std.proofs.Common.{◌≡◌, ◌++◌, ◌∷◌, ◌+◌, [], take, subst, arith}
-use Rattle.std.proofs.lemmas.List.{take_all}
-use Rattle.loss_rules.specs.Graphs.{IsGraphOf}
-use Rattle.loss_rules.proofs.Building.{built-more, built-apart}
-use Rattle.loss_rules.proofs.Members.{one-more}
+use Rattle.std.proofs.Common.{◌≡◌, ◌+◌, sym, subst, ◌∙◌, arith}
+use Rattle.loss_rules.proofs.Building.{IsBuilt, built-none, built-more, built-all}
 use Rattle.loss_rules.proofs.graph.RelabelGraph.new.Goals as goal
-use Rattle.loss_rules.proofs.graph.RelabelGraph.new.Goals.{then-reach-place+in_ok-add, else-reach-place}
 
-pub loop-reach-preserved : goal.loop-reach-preserved
-loop-reach-preserved g c =
-    let cut : take (c.loop-reach.reach-index + 1) c.args.reaches.now ≡ take c.loop-reach.reach-index c.args.reaches.now ++ c.reach-item.result ∷ [] = one-more c.args.reaches.now c.loop-reach.reach-index c.reach-item.result (omega arith) c.reach-item.is in
-    rw cut (elim c.if-reach-place.branch [
-      | then-reach-place+in_ok-add w ↦ rw (w.graph-is, w.in_ok-add.ensures, w.match_outputs.ensures) (built-more c.args.net.now _ c.args.place _ c.reach-item.result w.if-reach-place.true c.loop-reach.invariant)
-      | else-reach-place w ↦ rw w.graph-is (built-apart c.args.net.now _ c.args.place _ c.reach-item.result w.if-reach-place.false c.loop-reach.invariant)
-    ])
+pub loop-scope-init : goal.loop-scope-init
+loop-scope-init g c = subst (IsBuilt c.args.net.now c.args.reaches.now c.args.place 0) (sym c.new-scopes.ensures.items) (built-none c.args.net.now c.args.reaches.now c.args.place)
+
+pub loop-scope-preserved : goal.loop-scope-preserved
+loop-scope-preserved g c =
+    subst (IsBuilt c.args.net.now c.args.reaches.now c.args.place (c.loop-scope.scope + 1)) (sym c.in_ok-push.ensures.items)
+    (built-more c.args.net.now c.args.reaches.now c.args.place c.loop-scope.scope c.loop-scope.scopes.items c.in_ok-new.field-0 c.in_ok-new.ensures c.loop-scope.invariant)
 
 pub returns : goal.returns
-returns g c = subst (λ x. IsGraphOf c.args.net.now x c.args.place c.loop-reach.graph) (take_all c.loop-reach.reach-index c.args.reaches.now (omega arith)) c.loop-reach.invariant.is
+returns g c =
+    let all : c.loop-scope.scope ≡ c.scope_count-scope-end.result = omega arith in
+    built-all c.args.net.now c.args.reaches.now c.args.place c.loop-scope.scope c.loop-scope.scopes.items (all ∙ c.scope_count-scope-end.ensures) c.loop-scope.invariant
