@@ -44,7 +44,7 @@ fault_not_pending bytes fault h (inl none) =
 fault_not_pending bytes fault h (inr begun) = let e = one_answer_to bytes (Refuses fault) Wants h begun in cc
 
 -- the beginning of a text item is open, unless it is one
-longer_open : (front more : List ℕ) → IsTextItem (front ++ more) → (IsTextItem front → ⊥) → IsOpen front
+pub longer_open : (front more : List ℕ) → IsTextItem (front ++ more) → (IsTextItem front → ⊥) → IsOpen front
 longer_open front [] h none = absurd (none (subst IsTextItem (append-nil front) h))
 longer_open front (m ∷ more) h none = record { more = m ∷ more; some = omega arith; ends = h; unended = none }
 

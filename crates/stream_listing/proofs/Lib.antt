@@ -4,3 +4,4 @@ pub mod DecodeSteps
 pub mod HexReadings
 pub mod FaultLaws
 pub mod Listings
+pub mod RestFaults

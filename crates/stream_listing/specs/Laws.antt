@@ -22,3 +22,8 @@ pub record IsFaultForGood (bytes : List ℕ) (fault : ModeFault) : Type 0 where
 -- so it is with each fault of a stream
 abbrev pub StandsForGood : Type 0
 StandsForGood = (bytes : List ℕ) (fault : ModeFault) → StreamFault bytes fault → IsFaultForGood bytes fault
+
+-- Bytes where the messages of a stream end, which are neither none nor the beginning of an item, have a fault: it can't be that they have
+-- none.
+abbrev pub EndsWithFault : Type 0
+EndsWithFault = (bytes : List ℕ) → IsRest bytes → ¬ (IsPending bytes) → ¬ ((fault : ModeFault) → ¬ (StreamFault bytes fault))

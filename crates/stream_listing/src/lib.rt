@@ -7,4 +7,4 @@ mod laws;
 mod lines;
 
 pub use decode::run_decode;
-pub use laws::{one_listing, stands_for_good};
+pub use laws::{ends_with_fault, one_listing, stands_for_good};
