@@ -36,14 +36,6 @@ IsSingle (Holds container n) = ⊥
 IsSingle (Counted container width) = ⊥
 IsSingle Never = ⊥
 
--- how many bytes a scalar has whose first byte is of this shape, where the shape alone says it
-abbrev pub fixed_by : Shape → ℕ
-fixed_by (Fixed kind n) = 1 + n
-fixed_by (Sized kind width extra) = 0
-fixed_by (Holds container n) = 0
-fixed_by (Counted container width) = 0
-fixed_by Never = 0
-
 -- what keeps a step's numbers small
 abbrev pub IsSmall : Step → Type 0
 IsSmall (step.Whole size) = Unit {0}

@@ -6,7 +6,7 @@ ghost use Rattle.msgpack_bytes.specs.Steps.{IsNext, IsSmall, BeginsSame, step_by
 
 use crate::format::{Container, Shape, Step};
 use crate::number::number_at;
-use crate::table::{fixed_size, is_single, shape};
+use crate::table::{is_single, shape};
 
 /// The step where the next item begins, of which `came` bytes stood in earlier pieces; the others are those of this
 /// piece from `at` on. `front` has the first five of all, with 0 for those that are missing, where some came before.
@@ -58,20 +58,6 @@ pub fn single(bytes: &[u8], at: usize) -> bool
     match bytes.get(at) {
         None => false,
         Some(first) => is_single(*first),
-    }
-}
-
-/// How many bytes the scalar at `at` has, where it is whole and its first byte alone says it, and else 0.
-#[inline(always)]
-pub fn fixed(bytes: &[u8], at: usize) -> usize
-    ensures { (may_open : Bool) → 0 < result → Step.Whole result ≡ step_of may_open (drop at bytes.now) }
-{
-    match bytes.get(at) {
-        None => 0,
-        Some(first) => {
-            let size = fixed_size(*first);
-            if size <= bytes.len() - at { size } else { 0 }
-        }
     }
 }
 

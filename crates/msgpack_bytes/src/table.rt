@@ -2,7 +2,7 @@
 ghost use Rattle.std.specs.Prelude.{◌≡◌, IsTrue};
 ghost use Rattle.msgpack_bytes.specs.Format.{shape_of};
 ghost use Rattle.msgpack_bytes.specs.Reads.{IsFit};
-ghost use Rattle.msgpack_bytes.specs.Steps.{IsSingle, fixed_by};
+ghost use Rattle.msgpack_bytes.specs.Steps.{IsSingle};
 
 use crate::format::{Container, Kind, Shape};
 
@@ -177,49 +177,5 @@ pub fn is_single(first: u8) -> bool
         0x00..=0x7f | 0xe0..=0xff => true,
         0xc0 | 0xc2 | 0xc3 => true,
         _ => false,
-    }
-}
-
-/// How many bytes the scalar has that begins with this byte, where the byte alone says it, and else 0.
-#[inline(always)]
-#[tactic(auto, unfolding(crate::specs::Format::shape_of))]
-pub fn fixed_size(first: u8) -> usize
-    ensures { result ≡ fixed_by (shape_of first) }
-{
-    match first {
-        0xa0 | 0xc0 | 0xc2 | 0xc3 => 1,
-        0xa1 | 0xcc | 0xd0 => 2,
-        0xa2 | 0xcd | 0xd1 | 0xd4 => 3,
-        0xa3 | 0xd5 => 4,
-        0xa4 | 0xca | 0xce | 0xd2 => 5,
-        0xa5 | 0xd6 => 6,
-        0xa6 => 7,
-        0xa7 => 8,
-        0xa8 | 0xcb | 0xcf | 0xd3 => 9,
-        0xa9 | 0xd7 => 10,
-        0xaa => 11,
-        0xab => 12,
-        0xac => 13,
-        0xad => 14,
-        0xae => 15,
-        0xaf => 16,
-        0xb0 => 17,
-        0xb1 | 0xd8 => 18,
-        0xb2 => 19,
-        0xb3 => 20,
-        0xb4 => 21,
-        0xb5 => 22,
-        0xb6 => 23,
-        0xb7 => 24,
-        0xb8 => 25,
-        0xb9 => 26,
-        0xba => 27,
-        0xbb => 28,
-        0xbc => 29,
-        0xbd => 30,
-        0xbe => 31,
-        0xbf => 32,
-        0x00..=0x7f | 0xe0..=0xff => 1,
-        0x80..=0x9f | 0xc1 | 0xc4..=0xc9 | 0xd9..=0xdf => 0,
     }
 }

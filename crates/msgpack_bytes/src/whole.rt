@@ -8,7 +8,7 @@ ghost use Rattle.msgpack_bytes.specs.Steps.{step_of};
 use crate::answers::{MsgFault, Scan};
 use crate::format::Step;
 use crate::scanner::{DEEPEST, LONGEST};
-use crate::steps::{fixed, single, step};
+use crate::steps::{single, step};
 
 /// Where the item at `at` ends, if one stands there, or can once more bytes are there.
 ///
@@ -48,16 +48,11 @@ fn scan_items(bytes: &[u8], at: usize, size: usize, items: u32) -> Scan
     let mut room = LONGEST - (size + items as usize);
     let mut i = at + size;
     while levels > 0 {
-        let known = fixed(bytes, i);
         if left == 0 {
             levels -= 1;
             if levels > 0 {
                 left = missing[levels - 1];
             }
-        } else if 1 < known && known - 1 <= room {
-            left -= 1;
-            room -= known - 1;
-            i += known;
         } else if single(bytes, i) {
             left -= 1;
             i += 1;

@@ -11,14 +11,6 @@ loop-levels-preserved-then-levels-gt0 c = keeps_pop c.loop-levels.invariant c.if
 pub loop-levels-preserved-else-levels-gt0 : goal.loop-levels-preserved-else-levels-gt0
 loop-levels-preserved-else-levels-gt0 c = keeps_last c.loop-levels.invariant c.if-left-eq0.true (omega arith)
 
-pub loop-levels-smaller-then-known-room : goal.loop-levels-smaller-then-known-room
-loop-levels-smaller-then-known-room c =
-    let within = (keeps_whole c.loop-levels.invariant (omega arith) (omega arith) _ (c.fixed-known.ensures (nat_le c.loop-levels.levels 64) (omega arith)) (omega arith)).state.within in
-    omega arith
-
-pub loop-levels-preserved-then-known-room : goal.loop-levels-preserved-then-known-room
-loop-levels-preserved-then-known-room c = keeps_whole c.loop-levels.invariant (omega arith) (omega arith) _ (c.fixed-known.ensures (nat_le c.loop-levels.levels 64) (omega arith)) (omega arith)
-
 pub loop-levels-smaller-then-single : goal.loop-levels-smaller-then-single
 loop-levels-smaller-then-single c =
     let within = (keeps_single c.loop-levels.invariant (omega arith) (omega arith) (c.if-single.ensures (nat_le c.loop-levels.levels 64) refl)).state.within in
