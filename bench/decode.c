@@ -83,6 +83,16 @@ static Buffer message_mode(void) {
   return b;
 }
 
+/* Arrays of 1,000 items of one byte: integers and bools. */
+static Buffer one_byte_items(void) {
+  Buffer b = {0};
+  while (b.length < TARGET) {
+    put(&b, "\xdc\x03\xe8", 3);
+    for (int k = 0; k < 1000; k++) put_byte(&b, k & 1 ? 0xc3 : k * 7 & 0x7f);
+  }
+  return b;
+}
+
 static Buffer packed_forward(void) {
   Buffer b = {0};
   for (unsigned i = 0; b.length < TARGET;) {
@@ -249,6 +259,8 @@ int main(void) {
   Buffer messages = message_mode();
   Row scans[] = {{"plain C skipper", skip_all, 0, 0}, {"relaynet scan", scan_all, 0, 0}};
   measure("Message mode, where items end (speed: beside the C skipper)", messages, scans, 2);
+  Row small[] = {{"plain C skipper", skip_all, 0, 0}, {"relaynet scan", scan_all, 0, 0}};
+  measure("arrays of 1,000 one-byte items, where they end (speed: beside the C skipper)", one_byte_items(), small, 2);
   Row reads[] = {{"msgpack-c unpack", unpack_all, 0, 0}, {"relaynet read", read_all, 0, 0}};
   measure("Message mode, whole messages (speed: beside msgpack-c)", messages, reads, 2);
   Row feeds[] = {{"one whole piece", feed_whole, 0, 0}, {"pieces of 65,536 bytes", feed_pieces, 0, 0}};

@@ -67,7 +67,6 @@ module _ (bytes : List ℕ) (at : ℕ) (h : at ≤ length bytes) where
 
 -- with the innermost count in its place, the stack says what is missing
 pub record Keeps (bytes : List ℕ) (at i : ℕ) (missing : List ℕ) (left levels room : ℕ) : Type 0 where
-  pub some : 0 < levels
   pub size : length missing ≡ 65
   pub state : State bytes at i (slice_set missing (levels - 1) left) levels room
 
@@ -92,34 +91,37 @@ keeps_first bytes missing at items size h none e fits =
     let room : 16777215 - (size - 1 + items) ≡ longest - (size + items) = omega arith in
     let s = state_opens (begun bytes at h) (omega arith) (omega arith) items size e (omega arith) in
     record {
-      some = omega arith;
       size = ap length none;
       state = subst (λ (m : List ℕ). State bytes at (at + size) (slice_set m 1 items) 2 (longest - (size + items))) (sym none) (subst (λ (r : ℕ). State bytes at (at + size) (slice_set (replicate 65 0) 1 items) 2 r) room s);
     }
 
-pub keeps_end : {bytes : List ℕ} {at i : ℕ} {missing : List ℕ} {left levels room : ℕ} → Keeps bytes at i missing left levels room → left ≡ 0 → levels ≤ 1 → IsScanned bytes at (scan.End i)
-keeps_end {bytes} {at} {i} {missing} {left} {levels} {room} k none last =
-    let some = k.some in
+pub keeps_end : {bytes : List ℕ} {at i : ℕ} {missing : List ℕ} {left levels room : ℕ} → Keeps bytes at i missing left levels room → levels ≡ 0 → IsScanned bytes at (scan.End i)
+keeps_end k none = state_end k.state none
+
+popped : {bytes : List ℕ} {at i : ℕ} {missing : List ℕ} {left levels room : ℕ} → Keeps bytes at i missing left levels room → left ≡ 0 → 0 < levels → State bytes at i (slice_set missing (levels - 1) left) (levels - 1) room
+popped {bytes} {at} {i} {missing} {left} {levels} {room} k none some =
     let size = k.size in
     let few = k.state.few in
     let top = set_here missing (levels - 1) left (omega arith) in
-    state_end (state_pop k.state k.some (top ∙ none)) (omega arith)
+    state_pop k.state some (top ∙ none)
 
-pub keeps_pop : {bytes : List ℕ} {at i : ℕ} {missing : List ℕ} {left levels room : ℕ} → Keeps bytes at i missing left levels room → left ≡ 0 → 1 < levels
+pub keeps_last : {bytes : List ℕ} {at i : ℕ} {missing : List ℕ} {left levels room : ℕ} → Keeps bytes at i missing left levels room → left ≡ 0 → levels ≡ 1 → Keeps bytes at i missing left (levels - 1) room
+keeps_last {bytes} {at} {i} {missing} {left} {levels} {room} k none one =
+    let same : levels - 1 ≡ levels - 1 - 1 = omega arith in
+    record { size = k.size; state = subst (λ (j : ℕ). State bytes at i (slice_set missing j left) (levels - 1) room) same (popped k none (omega arith)) }
+
+pub keeps_pop : {bytes : List ℕ} {at i : ℕ} {missing : List ℕ} {left levels room : ℕ} → Keeps bytes at i missing left levels room → left ≡ 0 → 0 < levels
     → Keeps bytes at i missing (slice_index missing (levels - 1 - 1)) (levels - 1) room
-keeps_pop {bytes} {at} {i} {missing} {left} {levels} {room} k none more =
-    let size = k.size in
-    let few = k.state.few in
-    let top = set_here missing (levels - 1) left (omega arith) in
-    let s = state_below missing (levels - 1) left (omega arith) k.size (state_pop k.state k.some (top ∙ none)) in
-    record { some = omega arith; size = k.size; state = subst (λ (m : List ℕ). State bytes at i m (levels - 1) room) (sym (set-get_or missing (levels - 1 - 1) 0)) s }
+keeps_pop {bytes} {at} {i} {missing} {left} {levels} {room} k none some =
+    let s = state_below missing (levels - 1) left (omega arith) k.size (popped k none some) in
+    record { size = k.size; state = subst (λ (m : List ℕ). State bytes at i m (levels - 1) room) (sym (set-get_or missing (levels - 1 - 1) 0)) s }
 
-module _ {bytes : List ℕ} {at i : ℕ} {missing : List ℕ} {left levels room : ℕ} (k : Keeps bytes at i missing left levels room) (top : 0 < left) where
+module _ {bytes : List ℕ} {at i : ℕ} {missing : List ℕ} {left levels room : ℕ} (k : Keeps bytes at i missing left levels room) (some : 0 < levels) (top : 0 < left) where
   abbrev stack : List ℕ
   stack = slice_set missing (levels - 1) left
 
   here : slice_index stack (levels - 1) ≡ left
-  here = let some = k.some in let size = k.size in let few = k.state.few in set_here missing (levels - 1) left (omega arith)
+  here = let size = k.size in let few = k.state.few in set_here missing (levels - 1) left (omega arith)
 
   some_here : 0 < slice_index stack (levels - 1)
   some_here = let e = here in omega arith
@@ -128,39 +130,36 @@ module _ {bytes : List ℕ} {at i : ℕ} {missing : List ℕ} {left levels room 
   one_less = ap (λ (n : ℕ). slice_set stack (levels - 1) (n - 1)) here ∙ set-set missing (levels - 1) left (left - 1)
 
   pub keeps_wrong : step.Wrong ≡ step_of (nat_le levels 64) (drop i bytes) → IsScanned bytes at (scan.Bad fault.Reserved)
-  keeps_wrong e = state_wrong k.state k.some some_here e
+  keeps_wrong e = state_wrong k.state some some_here e
 
   pub keeps_deep : step.Deep ≡ step_of (nat_le levels 64) (drop i bytes) → IsScanned bytes at (scan.Bad fault.TooDeep)
-  keeps_deep e = state_deep k.state k.some some_here e
+  keeps_deep e = state_deep k.state some some_here e
 
   pub keeps_lacks : (size : ℕ) → step.Lacks size ≡ step_of (nat_le levels 64) (drop i bytes) → size - 1 ≤ room → IsScanned bytes at scan.Need
-  keeps_lacks size e fits = state_lacks k.state k.some some_here size e fits
+  keeps_lacks size e fits = state_lacks k.state some some_here size e fits
 
   pub keeps_lacks_long : (size : ℕ) → step.Lacks size ≡ step_of (nat_le levels 64) (drop i bytes) → room < size - 1 → IsScanned bytes at (scan.Bad fault.TooLong)
-  keeps_lacks_long size e past = state_lacks_long k.state k.some some_here size e past
+  keeps_lacks_long size e past = state_lacks_long k.state some some_here size e past
 
   pub keeps_whole_long : (size : ℕ) → step.Whole size ≡ step_of (nat_le levels 64) (drop i bytes) → room < size - 1 → IsScanned bytes at (scan.Bad fault.TooLong)
-  keeps_whole_long size e past = state_whole_long k.state k.some some_here size e past
+  keeps_whole_long size e past = state_whole_long k.state some some_here size e past
 
   pub keeps_opens_long : (items size : ℕ) → step.Opens items size ≡ step_of (nat_le levels 64) (drop i bytes) → room < size - 1 + items → IsScanned bytes at (scan.Bad fault.TooLong)
-  keeps_opens_long items size e past = state_opens_long k.state k.some some_here items size e past
+  keeps_opens_long items size e past = state_opens_long k.state some some_here items size e past
 
   pub keeps_whole : (size : ℕ) → step.Whole size ≡ step_of (nat_le levels 64) (drop i bytes) → size - 1 ≤ room → Keeps bytes at (i + size) missing (left - 1) levels (room - (size - 1))
   keeps_whole size e fits = record {
-    some = k.some;
     size = k.size;
-    state = subst (λ (m : List ℕ). State bytes at (i + size) m levels (room - (size - 1))) one_less (state_whole k.state k.some some_here size e fits);
+    state = subst (λ (m : List ℕ). State bytes at (i + size) m levels (room - (size - 1))) one_less (state_whole k.state some some_here size e fits);
   }
 
   pub keeps_opens : (items size : ℕ) → step.Opens items size ≡ step_of (nat_le levels 64) (drop i bytes) → size - 1 + items ≤ room
       → Keeps bytes at (i + size) (slice_set missing (levels - 1) (left - 1)) items (levels + 1) (room - (size - 1 + items))
   keeps_opens items size e fits =
-      let some = k.some in
       let long = k.size in
       let level : levels ≡ levels + 1 - 1 = omega arith in
-      let s = state_opens k.state k.some some_here items size e fits in
+      let s = state_opens k.state some some_here items size e fits in
       record {
-        some = omega arith;
         size = omega (arith, length-set {A = ℕ});
         state = subst (λ (j : ℕ). State bytes at (i + size) (slice_set (slice_set missing (levels - 1) (left - 1)) j items) (levels + 1) (room - (size - 1 + items))) level
             (subst (λ (m : List ℕ). State bytes at (i + size) (slice_set m levels items) (levels + 1) (room - (size - 1 + items))) one_less s);

@@ -32,6 +32,7 @@ pub fn scan(bytes: &[u8], at: usize) -> Scan
 }
 
 // Where the container at `at` ends, whose header has `size` bytes, and which has so many items.
+#[inline(never)]
 fn scan_items(bytes: &[u8], at: usize, size: usize, items: u32) -> Scan
     requires within { at ≤ length bytes.now }
     requires opens { Step.Opens items size ≡ step_of true (drop at bytes.now) }
@@ -46,10 +47,12 @@ fn scan_items(bytes: &[u8], at: usize, size: usize, items: u32) -> Scan
     // How far the least end may still move on, where each missing item takes one byte.
     let mut room = LONGEST - (size + items as usize);
     let mut i = at + size;
-    while left > 0 || levels > 1 {
+    while levels > 0 {
         if left == 0 {
             levels -= 1;
-            left = missing[levels - 1];
+            if levels > 0 {
+                left = missing[levels - 1];
+            }
         } else if single(bytes, i) {
             left -= 1;
             i += 1;
