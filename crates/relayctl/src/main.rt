@@ -8,19 +8,22 @@ mod words;
 use explain::run_explain;
 use label::run_label;
 use program_text::{Folder, Status, put_last};
+use route_listing::run_ways;
 use std::io::ErrorKind;
 use std::process::ExitCode;
 use std::{env, io};
 use words::{Word, read_word};
 
-const USAGE: &str = "usage: relayctl label NET | explain NET | --help";
+const USAGE: &str = "usage: relayctl label NET | explain NET | ways CONF TAG.. | --help";
 
-const HELP: &str = "usage: relayctl label NET | explain NET | --help
+const HELP: &str = "usage: relayctl label NET | explain NET | ways CONF TAG.. | --help
 
-label NET    prints the plan NET with the label and reach lines that it lacks
-explain NET  prints the answer of relaynet check to the plan NET, what a broken
-             rule or a fault means, what mends it, and steps that lose an event
---help       prints this
+label NET        prints the plan NET with the label and reach lines that it lacks
+explain NET      prints the answer of relaynet check to the plan NET, what a broken
+                 rule or a fault means, what mends it, and steps that lose an event
+ways CONF TAG..  prints to which outputs each TAG goes from each source of the
+                 configuration CONF
+--help           prints this
 
 docs/RELAYCTL.md says more.
 ";
@@ -40,6 +43,7 @@ fn run(rt: &HostRuntime, word: Option<Word<'_>>) -> Status {
         Some(Word::Explain(net)) => {
             run_explain(rt.alloc(), net, &mut folder.text(net), &folder, out)
         }
+        Some(Word::Ways(conf, tags)) => run_ways(rt.alloc(), &mut folder.text(conf), tags, out),
         None => usage(rt),
     }
 }
