@@ -1,10 +1,8 @@
 //! A relay's data folder, whose files are opened for reading alone.
 use program_text::{Open, ReadFault};
 use std::alloc::{AllocError, Allocator};
-use std::fs;
 use std::fs::File;
-use std::io;
-use std::str;
+use std::{fs, io, str};
 
 /// The folder of this path.
 #[derive(Clone, Copy)]

@@ -66,10 +66,7 @@ fn list_text<A: Allocator + Copy>(
 }
 
 // The line of a journal that isn't read.
-fn unread_lines<A: Allocator + Copy>(
-    alloc: A,
-    name: &str,
-) -> Result<JournalLines<A>, AllocError>
+fn unread_lines<A: Allocator + Copy>(alloc: A, name: &str) -> Result<JournalLines<A>, AllocError>
     ensures { IfOk result (λ listed. IsShownAs name.now Unread listed.lines.items listed.is_sound) }
 {
     let line = format!(in alloc; "journal {name} unread\n")?;
@@ -80,10 +77,7 @@ fn unread_lines<A: Allocator + Copy>(
 }
 
 // The line of a journal that ends before a Seal.
-fn unsealed_lines<A: Allocator + Copy>(
-    alloc: A,
-    name: &str,
-) -> Result<JournalLines<A>, AllocError>
+fn unsealed_lines<A: Allocator + Copy>(alloc: A, name: &str) -> Result<JournalLines<A>, AllocError>
     ensures { IfOk result (λ listed. IsShownAs name.now Unsealed listed.lines.items listed.is_sound) }
 {
     let line = format!(in alloc; "journal {name} unsealed\n")?;
@@ -94,10 +88,7 @@ fn unsealed_lines<A: Allocator + Copy>(
 }
 
 // The line of a journal that is damaged.
-fn damaged_lines<A: Allocator + Copy>(
-    alloc: A,
-    name: &str,
-) -> Result<JournalLines<A>, AllocError>
+fn damaged_lines<A: Allocator + Copy>(alloc: A, name: &str) -> Result<JournalLines<A>, AllocError>
     ensures { IfOk result (λ listed. IsShownAs name.now Damaged listed.lines.items listed.is_sound) }
 {
     let line = format!(in alloc; "journal {name} damaged\n")?;
