@@ -1,9 +1,14 @@
 -- From what is read and written to what `check` and `replay` print.
-use Rattle.std.proofs.Common.{◌≡◌, ◌<◌, ◌⊎◌, ℕ, List, [], ◌++◌, length, refl, sym, ap, ◌∙◌, subst, inl, inr, append_assoc, append-nil}
+use Rattle.std.proofs.Common.{◌≡◌, ◌<◌, ◌⊎◌, ℕ, List, [], ◌++◌, length, map, refl, sym, ap, ◌∙◌, subst, inl, inr, append_assoc, append-nil, length-append, arith, get_or}
 use Rattle.std.specs.Prelude.{Option}
+use Rattle.std.specs.Borrow.{Bor}
+use Rattle.std.specs.List.{AllZip}
+use Rattle.std.proofs.lemmas.List.{append_cancel_left}
 use Rattle.std.proofs.KnownBytes.{Appends-trans}
 use Rattle.loss_rules.specs.Breaks.{Subject}
 use Rattle.loss_rules.specs.declared.answer.Answer.{Answer}
+use Rattle.loss_rules.specs.declared.answer.Answer.TheVariants as answer
+use Rattle.plan_lines.specs.Forms.{confs_named}
 use Rattle.plan_lines.specs.declared.error.PlanError.{PlanError}
 use Rattle.plan_answers.specs.declared.network.Stop.{Stop}
 use Rattle.plan_answers.specs.declared.network.Stop.TheVariants as stop
@@ -11,8 +16,10 @@ use Rattle.program_text.specs.declared.reading.ReadFault.{ReadFault}
 use Rattle.program_text.specs.declared.reading.ReadFault.TheVariants as unread
 use Rattle.program_text.specs.declared.status.Status.{Status}
 use Rattle.program_text.specs.declared.status.Status.TheVariants.{Usage}
-use Rattle.plan_answers.specs.Networks.{IsAnswered, IsRefusedPlan, StopsWith, IsFaultLine, IsStopLine, IsStopOf, SaysStop, PrintsStop, unread_line, PrintsCheck, PrintsReplay, AreReplayed, answer_line, answer_status, joined_status}
+use Rattle.plan_answers.specs.Networks.{AreRead, IsAnswered, IsRefusedPlan, StopsWith, IsFaultLine, IsStopLine, IsStopOf, SaysStop, PrintsStop, unread_line, PrintsCheck, PrintsReplay, AreReplayed, answer_line, answer_status, joined_status}
+use Rattle.program_text.specs.Lines.{memory_line}
 use Rattle.program_text.specs.Output.{TakesPart, IsPrinted}
+use Rattle.program_text.specs.Texts.{IsTextOf}
 
 -- the answer's line is printed
 pub answered_check : (A : Type 0) (net : Option (List ℕ)) (named : List ℕ → Option (List ℕ)) (old new : Option (List ℕ)) (plan : Subject A) (found : Answer) (lines : List ℕ) (status : Status)
@@ -24,6 +31,18 @@ answered_check A net named old new plan found lines status answered is printed =
   printed = printed;
 }
 
+-- the names as bytes
+abbrev pub bytes : List (Bor (List ℕ)) → List (List ℕ)
+bytes names = map (λ (name : Bor (List ℕ)). name.now) names
+
+-- the texts were read by the names in the plan's text
+pub are_read : (net : Option (List ℕ)) (named : List ℕ → Option (List ℕ)) (text : List ℕ) (names : List (Bor (List ℕ))) (confs : List (List ℕ))
+    → IsTextOf net text → bytes names ≡ confs_named text → AllZip (λ name conf. IsTextOf (named name) conf) (bytes names) confs → AreRead net named text confs
+are_read net named text names confs net_is is zip = record {
+  net_is = net_is;
+  confs_are = subst (λ (n : List (List ℕ)). AllZip (λ name conf. IsTextOf (named name) conf) n confs) is zip;
+}
+
 -- a plan that is refused stops with its fault
 pub refused_stop : (A : Type 0) (net : Option (List ℕ)) (named : List ℕ → Option (List ℕ)) (fault : PlanError) (stopped : Stop)
     → IsRefusedPlan A net named fault → StopsWith fault stopped → IsStopOf A net named stopped
@@ -31,7 +50,7 @@ refused_stop A net named fault (stop.Plan other) refused is = (subst (IsRefusedP
 refused_stop A net named fault (stop.Unread cause) refused is = tt
 
 -- what stops is printed in place of an answer
-stop_said : (A : Type 0) (net : Option (List ℕ)) (named : List ℕ → Option (List ℕ)) (stopped : Stop) (lines : List ℕ) → IsStopOf A net named stopped → SaysStop stopped lines
+pub stop_said : (A : Type 0) (net : Option (List ℕ)) (named : List ℕ → Option (List ℕ)) (stopped : Stop) (lines : List ℕ) → IsStopOf A net named stopped → SaysStop stopped lines
     → IsFaultLine A net named lines Usage ⊎ IsStopLine lines Usage
 stop_said A net named (stop.Plan fault) lines of (inl is) = inl (record { fault = fault; refused = of.0; named_fault = of.1; lines_are = is; is_status = refl })
 stop_said A net named (stop.Plan fault) lines of (inr is) = inr (record { lines_are = inl is; is_status = refl })

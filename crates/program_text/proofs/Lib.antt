@@ -1,1 +1,2 @@
+pub mod ListingSteps
 pub mod OutputSteps

@@ -1,35 +1,16 @@
 -- From what is read and written to what a relay prints.
-use Rattle.std.proofs.Common.{◌≡◌, ◌∙◌, ap, inl, ℕ, zero, suc, ◌+◌, List, [], ◌∷◌, ◌++◌, length, refl, subst, sym, Option, Some, None, Result, Ok, Err}
-use Rattle.std.specs.Prelude.{IfOk, IfErr, slice_get}
+use Rattle.std.proofs.Common.{◌≡◌, ◌∙◌, ap, inl, ℕ, zero, suc, ◌+◌, List, [], ◌∷◌, ◌++◌, length, refl, subst, sym, Option, Some, None}
+use Rattle.std.specs.Prelude.{slice_get}
 use Rattle.std.proofs.lemmas.List.{length-append}
 use Rattle.std.proofs.lemmas.Option.{none-some, same_Some}
 use Rattle.relay_conf.specs.declared.relay.Relay.{Relay}
-use Rattle.plan_lines.specs.Plans.{IsRelayOfText}
 use Rattle.loop_core.specs.declared.fault.LoopFault.{LoopFault}
-use Rattle.relay_run.specs.declared.conf.ConfStop.{ConfStop}
-use Rattle.relay_run.specs.declared.conf.ConfStop.TheVariants as stop
 use Rattle.program_text.specs.declared.status.Status.{Status}
 use Rattle.program_text.specs.declared.status.Status.TheVariants.{Done, Usage}
 use Rattle.relay_run.specs.Delivering.{Delivery, AreDeliveriesIn, IsDeliveryAt}
 use Rattle.program_text.specs.Output.{TakesPart, IsPrinted}
-use Rattle.relay_run.specs.Starting.{IsConfStop, IsRelayRead, IsTextStop, PrintsReady, PrintsRun, fault_line, ready_lines}
-use Rattle.program_text.specs.Texts.{IsTextOf}
+use Rattle.relay_run.specs.Starting.{PrintsReady, PrintsRun, fault_line, ready_lines}
 use Rattle.program_text.proofs.OutputSteps.{TakesPart-none}
-
--- the text that was read describes the relay
-pub relay_read : (A : Type 0) (conf : Option (List ℕ)) (text : List ℕ) (r : Result (Relay A) ConfStop) → IsTextOf conf text → IfOk r (IsRelayOfText text) → IfOk r (IsRelayRead conf)
-relay_read A conf text (Ok relay) is of = record { text = text; text_is = is; relay_is = of }
-relay_read A conf text (Err stopped) is of = tt
-
-stopped_so : (conf : Option (List ℕ)) (text : List ℕ) (stopped : ConfStop) → IsTextOf conf text → IsTextStop text stopped → IsConfStop conf stopped
-stopped_so conf text (stop.Text fault) is of = (text, is, of)
-stopped_so conf text (stop.Relay fault) is of = (text, is, of)
-stopped_so conf text (stop.Unread fault) is of = tt
-
--- or it describes none
-pub relay_stopped : (A : Type 0) (conf : Option (List ℕ)) (text : List ℕ) (r : Result (Relay A) ConfStop) → IsTextOf conf text → IfErr r (IsTextStop text) → IfErr r (IsConfStop conf)
-relay_stopped A conf text (Ok relay) is of = tt
-relay_stopped A conf text (Err stopped) is of = stopped_so conf text stopped is of
 
 -- no source is printed
 pub none_ready : (old : Option (List ℕ)) → PrintsReady old old

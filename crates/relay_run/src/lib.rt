@@ -1,10 +1,8 @@
 //! The word `relay`: a relay that runs until a fault.
 #![tactic(auto)]
 
-mod conf;
 mod flush;
 mod relay;
 
-pub use conf::{ConfStop, read_relay};
 pub use flush::{Delivering, Home, delivering_of};
 pub use relay::Runner;

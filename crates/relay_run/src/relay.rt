@@ -1,14 +1,14 @@
 //! The word `relay`: a relay that runs until a fault.
-ghost use Rattle.std.specs.Prelude.{◌≡◌, ◌≢◌, None, IfOk, IfSome, IfNone, string_bytes};
+ghost use Rattle.std.specs.Prelude.{◌≡◌, ◌≢◌, None, IfOk, IfSome, IfNone};
 ghost use Rattle.plan_lines.specs.Forms.{relay_number};
-ghost use Rattle.relay_run.specs.Starting.{ready_lines, fault_line as fault_line_of, stop_line as stop_line_of, PrintsConfStop, PrintsReady, PrintsRelay, PrintsRun};
+ghost use Rattle.relay_run.specs.Starting.{ready_lines, fault_line as fault_line_of, PrintsReady, PrintsRelay, PrintsRun};
 
-use crate::conf::{ConfStop, read_relay};
 use crate::flush::{Delivering, Folder, Home, Pool, copy_of, delivering_of};
 use conf_values::whole_number;
 use mio_relay::{Ended, InLoop, LoopFault, SystemFolders};
-use program_text::{ReadFault, Status, put_all, put_last};
+use program_text::{Status, put_all, put_last};
 use relay_conf::Relay;
+use relay_reading::{print_conf_stop, read_relay};
 use std::alloc::{AllocError, Allocator, Global};
 use std::io::{Read, Write};
 use std::net::{Net, TcpListener, TcpStream};
@@ -69,7 +69,7 @@ where
         let alloc = self.rt.alloc();
         match read_relay(alloc, conf) {
             Ok(relay) => self.run_read(relay, number, out),
-            Err(stop) => print_stop(alloc, stop, out),
+            Err(stop) => print_conf_stop(alloc, stop, out),
         }
     }
 
@@ -156,28 +156,6 @@ fn number_of(word: &str) -> Option<u32>
     match whole_number(word.as_bytes()) {
         Some(number) if number <= 4_294_967_295 => Some(number as u32),
         _ => None,
-    }
-}
-
-// Prints why there is no relay.
-fn print_stop<A: Allocator, W: Write>(alloc: A, stop: ConfStop, out: &mut W) -> Status
-    ensures { PrintsConfStop stop (W.contents out.old) (W.contents out.new) result }
-{
-    match stop_line(alloc, stop) {
-        Ok(line) => put_last(out, line.as_bytes(), Status::Usage),
-        Err(AllocError) => put_last(out, b"fault memory\n", Status::Usage),
-    }
-}
-
-// The line of a fault of the configuration.
-fn stop_line<A: Allocator>(alloc: A, stop: ConfStop) -> Result<String<A>, AllocError>
-    ensures { IfOk result (λ line. string_bytes line ≡ stop_line_of stop) }
-{
-    match stop {
-        ConfStop::Text(fault) => format!(in alloc; "fault {fault}\n"),
-        ConfStop::Relay(fault) => format!(in alloc; "fault {fault}\n"),
-        ConfStop::Unread(ReadFault::Memory) => String::from_str(alloc, "fault memory\n"),
-        ConfStop::Unread(ReadFault::Read) => String::from_str(alloc, "fault read\n"),
     }
 }
 

@@ -6,21 +6,26 @@ mod label;
 mod words;
 
 use explain::run_explain;
+use folder_listing::{DataFolder, run_show};
 use label::run_label;
-use program_text::{Folder, Status, put_last};
-use std::io::ErrorKind;
+use program_text::{Folder, ReadFault, Status, put_last};
+use route_listing::run_ways;
+use std::io::{ErrorKind, Write};
 use std::process::ExitCode;
 use std::{env, io};
 use words::{Word, read_word};
 
-const USAGE: &str = "usage: relayctl label NET | explain NET | --help";
+const USAGE: &str = "usage: relayctl label NET | explain NET | ways CONF TAG.. | show DIR | --help";
 
-const HELP: &str = "usage: relayctl label NET | explain NET | --help
+const HELP: &str = "usage: relayctl label NET | explain NET | ways CONF TAG.. | show DIR | --help
 
-label NET    prints the plan NET with the label and reach lines that it lacks
-explain NET  prints the answer of relaynet check to the plan NET, what a broken
-             rule or a fault means, what mends it, and steps that lose an event
---help       prints this
+label NET        prints the plan NET with the label and reach lines that it lacks
+explain NET      prints the answer of relaynet check to the plan NET, what a broken
+                 rule or a fault means, what mends it, and steps that lose an event
+ways CONF TAG..  prints to which outputs each TAG goes from each source of the
+                 configuration CONF
+show DIR         prints which chunks the journals in a relay's data folder DIR hold
+--help           prints this
 
 docs/RELAYCTL.md says more.
 ";
@@ -40,7 +45,19 @@ fn run(rt: &HostRuntime, word: Option<Word<'_>>) -> Status {
         Some(Word::Explain(net)) => {
             run_explain(rt.alloc(), net, &mut folder.text(net), &folder, out)
         }
+        Some(Word::Ways(conf, tags)) => run_ways(rt.alloc(), &mut folder.text(conf), tags, out),
+        Some(Word::Show(path)) => show_folder(rt, path, out),
         None => usage(rt),
+    }
+}
+
+// Shows the journals of a data folder.
+fn show_folder<W: Write>(rt: &HostRuntime, path: &str, out: &mut W) -> Status {
+    let folder = DataFolder::new(rt, path);
+    match folder.journals(rt.alloc()) {
+        Ok(names) => run_show(rt.alloc(), &names, &folder, out),
+        Err(ReadFault::Memory) => put_last(out, b"fault memory\n", Status::Usage),
+        Err(ReadFault::Read) => put_last(out, b"fault read\n", Status::Usage),
     }
 }
 

@@ -9,22 +9,32 @@ pub enum Word<'a> {
     Label(&'a str),
     /// Explain the checker's answer to a plan, at this path.
     Explain(&'a str),
+    /// Say where these tags go under the configuration at this path.
+    Ways(&'a str, &'a [String]),
+    /// Show what the journals in the data folder at this path hold.
+    Show(&'a str),
 }
 
 /// Reads the words, of which the first is the program's own name. `None` where they ask for nothing that there is.
 pub fn read_word(words: &[String]) -> Option<Word<'_>> {
+    if words.len() > 2 && words[1].as_str() == "ways" {
+        return Some(Word::Ways(&words[2], &words[3..]));
+    }
     match words {
         [_, word] => {
             if word.as_str() == "--help" {
                 return Some(Word::Help);
             }
         }
-        [_, word, net] => {
+        [_, word, path] => {
             if word.as_str() == "label" {
-                return Some(Word::Label(net));
+                return Some(Word::Label(path));
             }
             if word.as_str() == "explain" {
-                return Some(Word::Explain(net));
+                return Some(Word::Explain(path));
+            }
+            if word.as_str() == "show" {
+                return Some(Word::Show(path));
             }
         }
         _ => (),

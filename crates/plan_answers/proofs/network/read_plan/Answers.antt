@@ -1,26 +1,9 @@
-use Rattle.std.proofs.Common.{◌≡◌, ℕ, List, map, ap, subst, ◌∙◌}
-use Rattle.std.specs.Prelude.{Option}
-use Rattle.std.specs.Borrow.{Bor}
-use Rattle.std.specs.List.{AllZip}
+use Rattle.std.proofs.Common.{◌≡◌, ℕ, List, ap, subst, ◌∙◌}
 use Rattle.plan_lines.specs.Faults.{IsRefusal}
 use Rattle.plan_lines.specs.Forms.{confs_named}
 use Rattle.plan_lines.specs.Plans.{IsPlanOf, texts as texts_of}
-use Rattle.plan_answers.specs.Networks.{AreRead}
-use Rattle.program_text.specs.Texts.{IsTextOf}
-use Rattle.plan_answers.proofs.NetworkSteps.{refused_stop}
+use Rattle.plan_answers.proofs.NetworkSteps.{bytes, are_read, refused_stop}
 use Rattle.plan_answers.proofs.network.read_plan.Goals as goal
-
--- the names as bytes
-abbrev bytes : List (Bor (List ℕ)) → List (List ℕ)
-bytes names = map (λ (name : Bor (List ℕ)). name.now) names
-
--- the texts were read by the names in the plan's text
-are_read : (net : Option (List ℕ)) (named : List ℕ → Option (List ℕ)) (text : List ℕ) (names : List (Bor (List ℕ))) (confs : List (List ℕ))
-    → IsTextOf net text → bytes names ≡ confs_named text → AllZip (λ name conf. IsTextOf (named name) conf) (bytes names) confs → AreRead net named text confs
-are_read net named text names confs net_is is zip = record {
-  net_is = net_is;
-  confs_are = subst (λ (n : List (List ℕ)). AllZip (λ name conf. IsTextOf (named name) conf) n confs) is zip;
-}
 
 pub returns-in-Ok-clause-plan : goal.returns-in-Ok-clause-plan
 returns-in-Ok-clause-plan g c =

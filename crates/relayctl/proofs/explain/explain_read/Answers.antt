@@ -4,7 +4,7 @@ use Rattle.plan_lines.specs.Faults.{IsRefusal}
 use Rattle.plan_lines.specs.Forms.{confs_named}
 use Rattle.plan_lines.specs.Plans.{IsPlanOf, texts as texts_of}
 use Rattle.plan_lines.specs.declared.error.PlanError.TheVariants as refusal
-use Rattle.relayctl.proofs.Stops.{bytes, are_read}
+use Rattle.plan_answers.proofs.NetworkSteps.{bytes, are_read}
 use Rattle.relayctl.proofs.explain.explain_read.Goals as goal
 
 pub returns-in-Ok : goal.returns-in-Ok

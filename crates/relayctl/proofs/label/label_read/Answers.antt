@@ -2,7 +2,7 @@ use Rattle.std.proofs.Common.{◌≡◌, ℕ, List, ap, subst, ◌∙◌}
 use Rattle.plan_lines.specs.Faults.{IsRefusal}
 use Rattle.plan_lines.specs.Forms.{confs_named}
 use Rattle.plan_lines.specs.Plans.{texts as texts_of}
-use Rattle.relayctl.proofs.Stops.{bytes, are_read, refused_stop}
+use Rattle.plan_answers.proofs.NetworkSteps.{bytes, are_read, refused_stop}
 use Rattle.relayctl.proofs.label.label_read.Goals as goal
 
 pub returns : goal.returns

@@ -2,7 +2,7 @@
 ghost use Rattle.std.specs.Prelude.{IfOk, IfErr};
 ghost use Rattle.relay_conf.specs.Buffers.{HaveOwnBuffers};
 ghost use Rattle.plan_lines.specs.Plans.{IsRelayOfText};
-ghost use Rattle.relay_run.specs.Starting.{IsRelayRead, IsConfStop, IsTextStop};
+ghost use Rattle.relay_reading.specs.Stops.{IsRelayRead, IsConfStop, IsTextStop};
 
 use conf_text::{ConfError, ConfFault};
 use program_text::{ReadFault, read_whole};
@@ -23,7 +23,7 @@ pub enum ConfStop {
 
 impl From<ReadFault> for ConfStop {
     ghost use Rattle.std.specs.Prelude.{◌≡◌};
-    ghost use Rattle.relay_run.specs.declared.conf.ConfStop.TheVariants.{Unread};
+    ghost use Rattle.relay_reading.specs.declared.reading.ConfStop.TheVariants.{Unread};
 
     ghost from_gives = { λ fault stop. stop ≡ Unread fault };
 

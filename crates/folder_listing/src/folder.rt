@@ -1,0 +1,60 @@
+//! A relay's data folder, whose files are opened for reading alone.
+use program_text::{Open, ReadFault};
+use std::alloc::{AllocError, Allocator};
+use std::fs::File;
+use std::{fs, io, str};
+
+/// The folder of this path.
+#[derive(Clone, Copy)]
+pub struct DataFolder<'a> {
+    rt: &'a HostRuntime,
+    path: &'a str,
+}
+
+impl<'a> DataFolder<'a> {
+    /// The folder of this path, from the working folder.
+    pub fn new(rt: &'a HostRuntime, path: &'a str) -> DataFolder<'a> {
+        DataFolder { rt, path }
+    }
+
+    /// The names of its journals, sorted. An error says that the folder can't be read, or that there is no memory.
+    pub fn journals<A: Allocator + Copy>(&self, alloc: A) -> Result<Vec<String<A>, A>, ReadFault> {
+        let mut names = Vec::new(alloc);
+        let Ok(entries) = fs::read_dir(self.rt, self.path) else {
+            return Err(ReadFault::Read);
+        };
+        for entry in entries {
+            let Ok(entry) = entry else {
+                return Err(ReadFault::Read);
+            };
+            if let Ok(name) = str::from_utf8(entry.file_name().as_bytes())
+                && name.ends_with(".journal")
+            {
+                names.push(String::from_str(alloc, name)?)?;
+            }
+        }
+        names.sort()?;
+        Ok(names)
+    }
+
+    // The path of a file.
+    fn path_of(&self, name: &str) -> Result<String, AllocError> {
+        let mut path = String::from_str(self.rt.alloc(), self.path)?;
+        path.push('/')?;
+        path.push_str(name)?;
+        Ok(path)
+    }
+}
+
+impl Open for DataFolder<'_> {
+    ghost use Rattle.std.specs.Prelude.{None};
+
+    ghost text_of = { λ _ _. None };
+
+    type Reader = File;
+
+    fn open(&self, name: &str) -> io::Result<File> {
+        let path = self.path_of(name)?;
+        File::open(self.rt, path.as_str())
+    }
+}
