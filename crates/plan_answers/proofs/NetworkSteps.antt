@@ -1,13 +1,11 @@
 -- From what is read and written to what `check` and `replay` print.
-use Rattle.std.proofs.Common.{◌≡◌, ◌<◌, ◌⊎◌, ℕ, List, [], ◌++◌, length, map, refl, sym, ap, ◌∙◌, subst, inl, inr, append_assoc, append-nil, length-append, arith, get_or}
+use Rattle.std.proofs.Common.{◌≡◌, ◌<◌, ◌⊎◌, ℕ, List, [], ◌++◌, length, map, refl, sym, ap, ◌∙◌, subst, inl, inr, append_assoc, append-nil}
 use Rattle.std.specs.Prelude.{Option}
 use Rattle.std.specs.Borrow.{Bor}
 use Rattle.std.specs.List.{AllZip}
-use Rattle.std.proofs.lemmas.List.{append_cancel_left}
 use Rattle.std.proofs.KnownBytes.{Appends-trans}
 use Rattle.loss_rules.specs.Breaks.{Subject}
 use Rattle.loss_rules.specs.declared.answer.Answer.{Answer}
-use Rattle.loss_rules.specs.declared.answer.Answer.TheVariants as answer
 use Rattle.plan_lines.specs.Forms.{confs_named}
 use Rattle.plan_lines.specs.declared.error.PlanError.{PlanError}
 use Rattle.plan_answers.specs.declared.network.Stop.{Stop}
@@ -17,7 +15,6 @@ use Rattle.program_text.specs.declared.reading.ReadFault.TheVariants as unread
 use Rattle.program_text.specs.declared.status.Status.{Status}
 use Rattle.program_text.specs.declared.status.Status.TheVariants.{Usage}
 use Rattle.plan_answers.specs.Networks.{AreRead, IsAnswered, IsRefusedPlan, StopsWith, IsFaultLine, IsStopLine, IsStopOf, SaysStop, PrintsStop, unread_line, PrintsCheck, PrintsReplay, AreReplayed, answer_line, answer_status, joined_status}
-use Rattle.program_text.specs.Lines.{memory_line}
 use Rattle.program_text.specs.Output.{TakesPart, IsPrinted}
 use Rattle.program_text.specs.Texts.{IsTextOf}
 
