@@ -1,5 +1,5 @@
 -- What a relay is started with, and what it prints.
-use Rattle.std.specs.Prelude.{◌≡◌, ◌⊎◌, ℕ, List, [], ◌++◌, codes, decimal, Option, Some, None}
+use Rattle.std.specs.Prelude.{◌⊎◌, ℕ, List, [], ◌++◌, codes, decimal, Option, Some, None}
 use Rattle.std.specs.List.{flat_map}
 use Rattle.loop_core.specs.declared.fault.LoopFault.{LoopFault}
 use Rattle.loop_core.specs.declared.fault.LoopFault.TheVariants as ends
