@@ -1,4 +1,5 @@
 //! A relay's data folder, whose files are opened for reading alone.
+use crate::kind::{DataFile, Kind};
 use program_text::{Open, ReadFault};
 use std::alloc::{AllocError, Allocator};
 use std::fs::File;
@@ -17,8 +18,34 @@ impl<'a> DataFolder<'a> {
         DataFolder { rt, path }
     }
 
-    /// The names of its journals, sorted. An error says that the folder can't be read, or that there is no memory.
-    pub fn journals<A: Allocator + Copy>(&self, alloc: A) -> Result<Vec<String<A>, A>, ReadFault> {
+    /// Its journals, and behind them its sinks' files, each sorted by their names. An error says that the folder can't be read, or that there is no memory.
+    pub fn files<A: Allocator + Copy>(&self, alloc: A) -> Result<Vec<DataFile<A>, A>, ReadFault> {
+        let mut files = Vec::new(alloc);
+        self.put_files(alloc, &mut files, Kind::Journal, ".journal")?;
+        self.put_files(alloc, &mut files, Kind::Sink, ".sink")?;
+        Ok(files)
+    }
+
+    // Adds the files of a kind, whose names end so, sorted by their names.
+    fn put_files<A: Allocator + Copy>(
+        &self,
+        alloc: A,
+        files: &mut Vec<DataFile<A>, A>,
+        kind: Kind,
+        ending: &str,
+    ) -> Result<(), ReadFault> {
+        for name in self.names(alloc, ending)? {
+            files.push(DataFile { name, kind })?;
+        }
+        Ok(())
+    }
+
+    // The names that end so, sorted.
+    fn names<A: Allocator + Copy>(
+        &self,
+        alloc: A,
+        ending: &str,
+    ) -> Result<Vec<String<A>, A>, ReadFault> {
         let mut names = Vec::new(alloc);
         let Ok(entries) = fs::read_dir(self.rt, self.path) else {
             return Err(ReadFault::Read);
@@ -28,7 +55,7 @@ impl<'a> DataFolder<'a> {
                 return Err(ReadFault::Read);
             };
             if let Ok(name) = str::from_utf8(entry.file_name().as_bytes())
-                && name.ends_with(".journal")
+                && name.ends_with(ending)
             {
                 names.push(String::from_str(alloc, name)?)?;
             }

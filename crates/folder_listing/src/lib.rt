@@ -1,9 +1,11 @@
-//! The word `show`: what the journals in a relay's data folder hold. Nothing is written.
+//! The word `show`: what the journals and sinks in a relay's data folder hold. Nothing is written.
 #![tactic(auto)]
 
+mod file;
 mod folder;
-mod journal;
+mod kind;
 mod show;
 
 pub use folder::DataFolder;
+pub use kind::{DataFile, Kind};
 pub use show::run_show;

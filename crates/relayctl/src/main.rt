@@ -24,7 +24,8 @@ explain NET      prints the answer of relaynet check to the plan NET, what a bro
                  rule or a fault means, what mends it, and steps that lose an event
 ways CONF TAG..  prints to which outputs each TAG goes from each source of the
                  configuration CONF
-show DIR         prints which chunks the journals in a relay's data folder DIR hold
+show DIR         prints which chunks the journals in a relay's data folder DIR hold,
+                 and how many events its sinks hold
 --help           prints this
 
 docs/RELAYCTL.md says more.
@@ -51,11 +52,11 @@ fn run(rt: &HostRuntime, word: Option<Word<'_>>) -> Status {
     }
 }
 
-// Shows the journals of a data folder.
+// Shows the journals and sinks of a data folder.
 fn show_folder<W: Write>(rt: &HostRuntime, path: &str, out: &mut W) -> Status {
     let folder = DataFolder::new(rt, path);
-    match folder.journals(rt.alloc()) {
-        Ok(names) => run_show(rt.alloc(), &names, &folder, out),
+    match folder.files(rt.alloc()) {
+        Ok(files) => run_show(rt.alloc(), &files, &folder, out),
         Err(ReadFault::Memory) => put_last(out, b"fault memory\n", Status::Usage),
         Err(ReadFault::Read) => put_last(out, b"fault read\n", Status::Usage),
     }

@@ -11,7 +11,7 @@ use Rattle.std.proofs.lemmas.Grind.{flat_map-append}
 use Rattle.disk_files.specs.Disk.{Disk, Folder, SameDisk, reads, read_of}
 use Rattle.disk_files.specs.Moments.{History, now, Elapses}
 use Rattle.event_modes.proofs.Stored.{all_push}
-use Rattle.sink_series.specs.Events.{Event, IsEvent, item_of, run_of, BeginsNone, Holds}
+use Rattle.sink_series.specs.Events.{Event, IsEvent, item_of, run_of, BeginsNone, Holds, Counts}
 use Rattle.sink_series.specs.Names.{sink_name}
 use Rattle.sink_series.specs.Folders.{FileHolds, HasFile, HoldsTo}
 use Rattle.sink_series.specs.Still.{IsStill}
@@ -33,12 +33,34 @@ read_more bytes rest behind events more event so_far is first pushed = record {
 pub read_end : (bytes rest : List ℕ) (events : List Event) → ReadOn bytes events rest → BeginsNone rest → Holds bytes events
 read_end bytes rest events so_far none = record { each = so_far.each; rest = rest; whole = so_far.whole; torn = none }
 
+-- so many events so far, and what is behind them
+pub record CountOn (bytes : List ℕ) (count : ℕ) (rest : List ℕ) : Type 0 where
+  pub events : List Event
+  pub so_far : ReadOn bytes events rest
+  pub count_is : count ≡ length events
+  pub few : count + length rest ≤ length bytes
+
+pub count_start : (bytes : List ℕ) → CountOn bytes 0 bytes
+count_start bytes = record { events = []; so_far = record { each = tt; whole = refl }; count_is = refl; few = omega arith }
+
+pub count_end : (bytes rest : List ℕ) (count : ℕ) → CountOn bytes count rest → BeginsNone rest → Counts bytes count (length rest)
+unfolding read_end
+count_end bytes rest count on none = record { events = on.events; holds = read_end bytes rest on.events on.so_far none; count_is = on.count_is; torn_is = refl }
+
 item_some : (event : Event) → 1 ≤ length (item_of event)
 unfolding item_of
 item_some event = omega arith
 
 pub shorter : (event : Event) (rest behind : List ℕ) → rest ≡ item_of event ++ behind → length behind < length rest
 shorter event rest behind first = omega (arith, item_some event, ap length first, length-append (item_of event) behind)
+
+pub count_more : (bytes rest behind : List ℕ) (count : ℕ) (event : Event) → CountOn bytes count rest → IsEvent event → rest ≡ item_of event ++ behind → CountOn bytes (count + 1) behind
+count_more bytes rest behind count event on is first = record {
+  events = on.events ++ event ∷ [];
+  so_far = read_more bytes rest behind on.events (on.events ++ event ∷ []) event on.so_far is first refl;
+  count_is = omega (arith, on.count_is, length-append on.events (event ∷ []));
+  few = omega (arith, on.few, shorter event rest behind first);
+}
 
 -- ---- one file more
 

@@ -38,6 +38,13 @@ pub record Holds (bytes : List ℕ) (events : List Event) : Type 0 where
   pub whole : bytes ≡ run_of events ++ rest
   pub torn : BeginsNone rest
 
+-- the content of the bytes are so many events, and behind them stand so many bytes
+pub record Counts (bytes : List ℕ) (count torn : ℕ) : Type 0 where
+  pub events : List Event
+  pub holds : Holds bytes events
+  pub count_is : count ≡ length events
+  pub torn_is : torn ≡ length holds.rest
+
 -- the events of writes, of which the last is the first here, in the order in which they were written
 abbrev pub written_by : List (List Event) → List Event
 written_by [] = []

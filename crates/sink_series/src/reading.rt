@@ -1,13 +1,38 @@
 //! The content of bytes.
 ghost use Rattle.std.specs.Prelude.{◌≡◌, ℕ, ◌≤◌, List, ◌∷◌, ◌++◌, length, IfOk, IsSomeAnd, MatchOption};
 ghost use Rattle.event_modes.specs.Message.{longest_tag};
-ghost use Rattle.sink_series.specs.Events.{Event, IsEvent, item_of, BeginsNone, Holds};
+ghost use Rattle.sink_series.specs.Events.{Event, IsEvent, item_of, BeginsNone, Holds, Counts};
 
 use crate::event::SinkEvent;
 use crate::writing::put_front;
 use event_modes::{Entries, LONGEST_TAG};
 use msgpack_bytes::{array_of, next_item, next_text};
 use std::alloc::{AllocError, Allocator};
+
+/// What the bytes of a sink's file hold, counted.
+#[derive(Clone, Copy, Debug, PartialEq, Eq)]
+pub struct EventCount {
+    /// How many events they hold.
+    pub events: usize,
+    /// How many bytes stand behind the last of these: no whole item begins there.
+    pub torn: usize,
+}
+
+/// Counts the content of the bytes. The error is want of memory.
+pub fn count_events<A: Allocator + Copy>(alloc: A, bytes: &[u8]) -> Result<EventCount, AllocError>
+    ensures { IfOk result (λ counted. Counts bytes.now counted.events counted.torn) }
+{
+    let mut count = 0;
+    let mut rest = bytes;
+    while let Some(first) = next_event(alloc, rest)? {
+        count += 1;
+        rest = first.1;
+    }
+    Ok(EventCount {
+        events: count,
+        torn: rest.len(),
+    })
+}
 
 /// The content of the bytes.
 pub(crate) fn read_events<A: Allocator + Copy>(
