@@ -7,5 +7,5 @@ pub mod Standing
 pub mod Coming
 pub mod Telling
 pub mod Answered
-pub mod Sketching
-pub mod Fed
+pub mod Placing
+pub mod Ordering

@@ -1,0 +1,1 @@
+-- The serials of live chunks rise.

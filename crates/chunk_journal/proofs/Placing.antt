@@ -1,0 +1,1 @@
+-- The places of entries as a journal goes on.
