@@ -9,3 +9,4 @@ pub mod Telling
 pub mod Answered
 pub mod Placing
 pub mod Ordering
+pub mod Fed
