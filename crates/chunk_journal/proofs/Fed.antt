@@ -1,20 +1,20 @@
 -- What an outline has read of the bytes that were fed.
-use Rattle.std.proofs.Common.{◌≡◌, inl, inr, ℕ, ◌+◌, ◌-◌, ◌<◌, ◌≤◌, Bool, true, false, List, [], ◌∷◌, ◌++◌, length, take, drop, refl, sym, ap, subst, ◌∙◌, arith, append_assoc, append-nil}
+use Rattle.std.proofs.Common.{◌≡◌, inr, ℕ, ◌+◌, ◌-◌, ◌<◌, ◌≤◌, Bool, true, false, List, [], ◌∷◌, ◌++◌, length, take, drop, refl, sym, ap, subst, ◌∙◌, arith, append_assoc, append-nil}
 use Rattle.std.specs.List.{concat}
 use Rattle.std.specs.Int.{w16, w32, w64, to_be_bytes}
 use Rattle.std.proofs.lemmas.List.{take_at, drop_at, length-append, drop-drop, length-drop}
-use Rattle.buffer_state.specs.State.{State, size, empty}
+use Rattle.buffer_state.specs.State.{State}
 use Rattle.buffer_state.specs.Steps.{settled}
 use Rattle.chunk_journal.specs.Outlines.{IsOutlined}
 use Rattle.chunk_journal.specs.Records.{Record, Seal, Append, Queue, Purge, body_of, record_bytes}
-use Rattle.chunk_journal.specs.Journal.{IsTorn, IsBad, journal_bytes}
+use Rattle.chunk_journal.specs.Journal.{IsTorn, journal_bytes}
 use Rattle.chunk_journal.specs.Reading.{Begins}
 use Rattle.chunk_journal.specs.Meaning.{after, EndsUnsealed, IsDamaged, IsReplayed}
-use Rattle.chunk_journal.specs.Places.{Spots, places_at, LieAt, entries_at, ArePlaced, SamePlaces, entries_size, EndsAt}
+use Rattle.chunk_journal.specs.Places.{Spots, places_at, LieAt, entries_at, ArePlaced, SamePlaces, EndsAt}
 use Rattle.chunk_journal.specs.Replaying.{Place, SoFar}
 use Rattle.chunk_journal.specs.Feeding.{Heard, HasFound, Reads, StandsAt, IsAfter, TakesAt}
-use Rattle.chunk_journal.proofs.Coming.{nothing_yet, comes_on, is_damaged, ends_unsealed, is_replayed}
-use Rattle.chunk_journal.proofs.Placing.{lie_on, lie_none, places_follow}
+use Rattle.chunk_journal.proofs.Coming.{comes_on, is_damaged, ends_unsealed, is_replayed}
+use Rattle.chunk_journal.proofs.Placing.{lie_on, places_follow}
 use Rattle.chunk_journal.proofs.Ordering.{stands_in_order}
 
 -- ---- where a record's entries lie
@@ -48,17 +48,6 @@ ends_there seen rest behind place (Append serial tag entries) end s b ends =
 ends_there seen rest behind place (Queue serial) end s b ends = tt
 ends_there seen rest behind place (Purge serial) end s b ends = tt
 
--- a record's entries are within it
-pub size_within : (rest behind : List ℕ) (item : Record) → Begins rest item behind → entries_size item + length behind ≤ length rest
-size_within rest behind (Seal next) b = (let w = ap length b.whole in omega (arith, w, length-append (record_bytes (Seal next)) behind))
-size_within rest behind (Append serial tag entries) b =
-    let f = front_of serial tag entries in
-    let n : length (record_bytes (Append serial tag entries)) ≡ length f.0 + size entries = ap length f.1 ∙ length-append f.0 (concat entries) in
-    let w : length rest ≡ length (record_bytes (Append serial tag entries)) + length behind = ap length b.whole ∙ length-append (record_bytes (Append serial tag entries)) behind in
-    omega (arith, n, w)
-size_within rest behind (Queue serial) b = (let w = ap length b.whole in omega (arith, w, length-append (record_bytes (Queue serial)) behind))
-size_within rest behind (Purge serial) b = (let w = ap length b.whole in omega (arith, w, length-append (record_bytes (Purge serial)) behind))
-
 -- a record has bytes
 pub shorter_behind : (rest behind : List ℕ) (item : Record) → Begins rest item behind → length behind < length rest
 shorter_behind rest behind item b = omega (arith, ap length b.whole, length-append (record_bytes item) behind)
@@ -89,16 +78,6 @@ is_after heard seen e n r = record { fed = n; stands = subst (λ (b : Bool). Sta
 
 pub is_stopped : (heard : Heard) (seen : List ℕ) → heard.is_damaged ≡ true → heard.fed ≡ length seen → IsDamaged seen → IsAfter heard seen
 is_stopped heard seen e n d = record { fed = n; stands = subst (λ (b : Bool). StandsAt b heard seen) (sym e) d }
-
-pub was_damaged : (heard : Heard) (seen : List ℕ) → HasFound heard → IsAfter heard seen → IsDamaged seen
-was_damaged heard seen e a = subst (λ (b : Bool). StandsAt b heard seen) e a.stands
-
--- nothing was fed
-pub at_first : IsAfter (record { place = record { is_sealed = false; state = empty }; spots = []; rest = []; fed = 0; is_damaged = false }) []
-at_first = record {
-  fed = refl;
-  stands = record { so_far = nothing_yet [] (record { is_sealed = false; state = empty }) refl; placed = λ q. lie_none [] [] [] refl refl };
-}
 
 -- places that are the same hold the same
 placed_same : (seen : List ℕ) (old new : Spots) (state : State) → SamePlaces old new → ArePlaced seen old state → ArePlaced seen new state
@@ -133,9 +112,6 @@ module _ (heard : Heard) (seen : List ℕ) (r : Reads heard seen) where
   pub step_refused : (place : Place) (spots : Spots) (behind : List ℕ) (item : Record) (end : ℕ) → Begins heard.rest item behind → TakesAt heard.place heard.spots item end place spots false → IsDamaged seen
   step_refused place spots behind item end b takes =
       is_damaged seen heard.rest heard.place r.so_far (inr (record { item = item; behind = behind; begins = b; refused = takes }))
-
-  pub step_bad : IsBad heard.rest → IsDamaged seen
-  step_bad bad = is_damaged seen heard.rest heard.place r.so_far (inl bad)
 
   -- a piece more
   pub held_more : (piece : List ℕ) (fed : ℕ) → Reads (record heard { rest = heard.rest ++ piece; fed = fed }) (seen ++ piece)

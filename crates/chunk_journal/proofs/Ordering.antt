@@ -1,11 +1,11 @@
 -- The serials of live chunks rise.
-use Rattle.std.proofs.Common.{◌≡◌, ◌⊎◌, inl, inr, ℕ, ◌+◌, ◌<◌, ◌≤◌, Bool, true, false, cond, List, [], ◌∷◌, ◌++◌, Option, Some, None, refl, sym, ap, subst, ◌∙◌, arith}
+use Rattle.std.proofs.Common.{◌≡◌, ◌⊎◌, inl, inr, ℕ, ◌+◌, ◌<◌, ◌≤◌, Bool, true, false, cond, List, [], ◌∷◌, ◌++◌, Option, Some, None, refl, sym, subst, arith}
 use Rattle.std.specs.Prelude.{IsSomeAnd}
 use Rattle.std.specs.Option.{option_map_or}
 use Rattle.std.specs.declared.cmp.Ordering.TheVariants.{Less}
 use Rattle.std.specs.List.{AllByRecursion}
 use Rattle.std.specs.List.Sorted.{IsStrictlySortedBy}
-use Rattle.std.specs.Map.{set_value, remove_entry, keys_of}
+use Rattle.std.specs.Map.{remove_entry, keys_of}
 use Rattle.std.specs.Ordering.{nat_cmp}
 use Rattle.std.specs.BTreeMap.{is_at}
 use Rattle.std.proofs.lemmas.List.{map-append}
@@ -13,11 +13,11 @@ use Rattle.std.proofs.lemmas.Map.{keys-set_value}
 use Rattle.buffer_state.specs.declared.chunk.Stage.TheVariants.{Staged, Queued}
 use Rattle.buffer_state.specs.Slots.{AreBelow}
 use Rattle.buffer_state.specs.State.{Chunk, Numbered, State, chunk_at, empty, IsStagedOf}
-use Rattle.buffer_state.specs.Steps.{CanAppend, with_chunk, appended, added, restaged, last_serial}
+use Rattle.buffer_state.specs.Steps.{CanAppend, with_chunk, appended, added, last_serial}
 use Rattle.buffer_state.proofs.Slots.{all_last}
 use Rattle.buffer_state.proofs.Steps.{below_more, rising_last}
 use Rattle.chunk_journal.specs.Records.{Record, Seal, Append, Queue, Purge}
-use Rattle.chunk_journal.specs.Meaning.{Tells, Allows, Each, after, after_all, IsUnsealed, Leads}
+use Rattle.chunk_journal.specs.Meaning.{Tells, Allows, Each, after, after_all}
 use Rattle.chunk_journal.specs.Laws.{LeadsInOrder, TellsInOrder}
 use Rattle.chunk_journal.specs.Replaying.{Stands}
 

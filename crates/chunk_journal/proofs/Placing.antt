@@ -1,5 +1,5 @@
 -- The places of entries as a journal goes on.
-use Rattle.std.proofs.Common.{◌≡◌, ℕ, ◌+◌, ◌-◌, ◌≤◌, Bool, true, false, cond, List, [], ◌∷◌, ◌++◌, length, take, drop, Option, Some, None, refl, sym, ap, ap₂, subst, ◌∙◌, arith, IsSome}
+use Rattle.std.proofs.Common.{◌≡◌, ℕ, ◌-◌, Bool, true, false, cond, List, [], ◌∷◌, ◌++◌, length, take, drop, Option, Some, None, refl, sym, ap, ap₂, subst, ◌∙◌, arith, IsSome}
 use Rattle.std.specs.Prelude.{◌≢◌}
 use Rattle.std.specs.Option.{option_map_or}
 use Rattle.std.specs.List.{AllByRecursion, concat}
@@ -15,14 +15,14 @@ use Rattle.std.proofs.lemmas.Map.{lookup-set_value, lookup-remove_entry}
 use Rattle.std.proofs.lemmas.Map.Keys.{IsDistinct-from_sorted}
 use Rattle.buffer_state.specs.declared.chunk.Stage.{Stage}
 use Rattle.buffer_state.specs.declared.chunk.Stage.TheVariants.{Staged, Queued}
-use Rattle.buffer_state.specs.State.{Chunk, Numbered, State, chunk_at, size}
+use Rattle.buffer_state.specs.State.{Chunk, State, chunk_at, size}
 use Rattle.buffer_state.specs.Steps.{with_chunk, appended, added, restaged, removed}
 use Rattle.buffer_state.proofs.Serials.{at_same, at_itself}
 use Rattle.chunk_journal.specs.declared.places.Extent.{Extent}
-use Rattle.chunk_journal.specs.Records.{Record, Seal, Append, Queue, Purge}
+use Rattle.chunk_journal.specs.Records.{Seal, Append, Queue, Purge}
 use Rattle.chunk_journal.specs.Meaning.{after}
 use Rattle.chunk_journal.specs.Laws.{PlacesFollow}
-use Rattle.chunk_journal.specs.Places.{Spots, places_at, bytes_from, bytes_at, IsWithin, LieAt, entries_at, ArePlaced, extent_before, EndsAt, MovesPlaces, AddsPlace}
+use Rattle.chunk_journal.specs.Places.{places_at, bytes_from, bytes_at, IsWithin, LieAt, entries_at, extent_before, EndsAt}
 
 -- ---- bytes that stay where they are
 

@@ -1,15 +1,14 @@
 //! A journal that comes by pieces, replayed without its entries.
 
 ghost use Rattle.std.specs.Prelude.{◌≡◌, ◌≤◌, ◌<◌, ◌+◌, ◌++◌, ◌^◌, ◌⊎◌, [], ℕ, List, false, length, Ok, Err, IfOk, IfErr, OnOk, OnErr, true};
+ghost use Rattle.buffer_state.specs.Steps.{settled};
 ghost use Rattle.chunk_journal.specs.Journal.{IsTorn};
 ghost use Rattle.chunk_journal.specs.Meaning.{EndsUnsealed, IsDamaged};
 ghost use Rattle.chunk_journal.specs.Reading.{parsed_of};
-ghost use Rattle.buffer_state.specs.Steps.{settled};
 ghost use Rattle.chunk_journal.specs.Outlines.{IsOutlined};
 ghost use Rattle.chunk_journal.specs.Places.{SamePlaces, entries_size};
-ghost use Rattle.chunk_journal.specs.Replaying.{Place};
 ghost use Rattle.chunk_journal.specs.Drafts.{place_of};
-ghost use Rattle.chunk_journal.specs.Feeding.{Heard, IsAfter, HasFound, TakesAt};
+ghost use Rattle.chunk_journal.specs.Feeding.{IsAfter, HasFound, TakesAt};
 ghost use Rattle.chunk_journal.specs.declared.fault.ReplayError.TheVariants.{Memory, NotSealed, BadRecord};
 
 use crate::fault::ReplayError;

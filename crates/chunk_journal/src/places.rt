@@ -1,6 +1,6 @@
 //! Where the entries of live chunks lie in a journal.
 
-ghost use Rattle.std.specs.Prelude.{◌≡◌, ◌<◌, ◌-◌, ◌++◌, [], ◌∷◌, None, OnOk, OnErr};
+ghost use Rattle.std.specs.Prelude.{◌≡◌, ◌<◌, ◌++◌, [], ◌∷◌, None, OnOk, OnErr};
 ghost use Rattle.chunk_journal.specs.Places.{spot_at, places_at, HasRoom, SamePlaces, AddsPlace, DropsPlaces};
 
 use std::alloc::{AllocError, Allocator};

@@ -2,9 +2,7 @@ use Rattle.std.proofs.Common.{◌≡◌, ◌-◌, ℕ, Bool, true, false, List, 
 use Rattle.std.specs.Prelude.{vec_len}
 use Rattle.chunk_journal.specs.Records.{Record}
 use Rattle.chunk_journal.specs.Reading.{Begins, parsed_of}
-use Rattle.chunk_journal.specs.Replaying.{Place}
 use Rattle.chunk_journal.specs.Drafts.{place_of}
-use Rattle.chunk_journal.specs.Places.{Spots}
 use Rattle.chunk_journal.specs.Feeding.{Heard, Reads, IsAfter, TakesAt}
 use Rattle.chunk_journal.proofs.Fed.{ends_behind, tail_is, going, reading, is_after, is_stopped, stepped, stayed, step_refused}
 use Rattle.chunk_journal.proofs.outline.Outline.step.Goals as goal
