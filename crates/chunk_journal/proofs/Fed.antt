@@ -5,6 +5,7 @@ use Rattle.std.specs.Int.{w16, w32, w64, to_be_bytes}
 use Rattle.std.proofs.lemmas.List.{take_at, drop_at, length-append, drop-drop, length-drop}
 use Rattle.buffer_state.specs.State.{State}
 use Rattle.buffer_state.specs.Steps.{settled}
+use Rattle.chunk_journal.specs.Laws.{EndsWithEntries}
 use Rattle.chunk_journal.specs.Outlines.{IsOutlined}
 use Rattle.chunk_journal.specs.Records.{Record, Seal, Append, Queue, Purge, body_of, record_bytes}
 use Rattle.chunk_journal.specs.Journal.{IsTorn, journal_bytes}
@@ -47,6 +48,18 @@ ends_there seen rest behind place (Append serial tag entries) end s b ends =
     (within_others before (concat entries) behind seen end whole ends, omega (arith, ends))
 ends_there seen rest behind place (Queue serial) end s b ends = tt
 ends_there seen rest behind place (Purge serial) end s b ends = tt
+
+-- the entries of a record that comes last
+pub ends_last : EndsWithEntries
+ends_last seen (Seal next) = tt
+ends_last seen (Append serial tag entries) =
+    let f = front_of serial tag entries in
+    let all = seen ++ record_bytes (Append serial tag entries) in
+    let whole : all ≡ (seen ++ f.0) ++ (concat entries ++ []) =
+    ap (λ (z : List ℕ). seen ++ z) (f.1 ∙ ap (λ (z : List ℕ). f.0 ++ z) (sym (append-nil (concat entries)))) ∙ sym (append_assoc seen f.0 (concat entries ++ [])) in
+    (within_others (seen ++ f.0) (concat entries) [] all (length all) whole (omega arith), omega arith)
+ends_last seen (Queue serial) = tt
+ends_last seen (Purge serial) = tt
 
 -- a record has bytes
 pub shorter_behind : (rest behind : List ℕ) (item : Record) → Begins rest item behind → length behind < length rest

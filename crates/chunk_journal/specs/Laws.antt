@@ -63,3 +63,7 @@ LeadsInOrder = (records : List Record) (state : State) → Leads records state �
 -- and so do records before a Seal
 abbrev pub TellsInOrder : Type 0
 TellsInOrder = (records : List Record) → IsUnsealed records → IsStrictlySortedBy nat_cmp (keys_of (after_all empty records).chunks)
+
+-- whatever stands before a record, its entries end where it ends
+abbrev pub EndsWithEntries : Type 0
+EndsWithEntries = (seen : List ℕ) (item : Record) → EndsAt (seen ++ record_bytes item) item (length (seen ++ record_bytes item))

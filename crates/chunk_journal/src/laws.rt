@@ -1,6 +1,6 @@
 //! What holds of every journal.
 
-ghost use Rattle.chunk_journal.specs.Laws.{BeginsOneWay, ReadsOneWay, CutsWhole, NeverUnreads, EndsWithin, CutsBefore, CutsBehind, AnswersOneWay, MeansItsChunks, PlacesFollow, LeadsInOrder, TellsInOrder};
+ghost use Rattle.chunk_journal.specs.Laws.{BeginsOneWay, ReadsOneWay, CutsWhole, NeverUnreads, EndsWithin, CutsBefore, CutsBehind, AnswersOneWay, MeansItsChunks, PlacesFollow, LeadsInOrder, TellsInOrder, EndsWithEntries};
 
 use msgpack_bytes::prefix_free;
 
@@ -52,4 +52,9 @@ pub fn places_follow()
 pub fn leads_in_order()
     ensures before { TellsInOrder }
     ensures behind { LeadsInOrder }
+{}
+
+/// A record's entries are the end of its bytes.
+pub fn ends_with_entries()
+    ensures { EndsWithEntries }
 {}

@@ -13,8 +13,8 @@ mod writing;
 
 pub use fault::ReplayError;
 pub use laws::{
-    answers_one_way, begins_one_way, cuts_generation, cuts_whole, leads_in_order, means_its_chunks,
-    places_follow, reads_one_way,
+    answers_one_way, begins_one_way, cuts_generation, cuts_whole, ends_with_entries,
+    leads_in_order, means_its_chunks, places_follow, reads_one_way,
 };
 pub use outline::{Outline, Outlined};
 pub use places::{Extent, Places};
