@@ -144,6 +144,8 @@ module _ {D : Type 0} (is_honest : D → Type 0) (history : D → History) (open
     room = omega (arith, first.room, second.room);
     cause = cause_then (fault_count old) (fault_count mid) (fault_count new) x r first.cause second.cause;
     elsewhere = λ h name other is apart. second.elsewhere (first.honest h) name other (first.stays_open to ∙ is) apart ∙ first.elsewhere h name other is apart;
+    grows = λ h name is. (let one = first.grows h name is in let two = second.grows (first.honest h) name (first.stays_open to ∙ is) in
+        record { bytes = one.bytes ++ two.bytes; grew = grown_twice name one.bytes two.bytes (now (history old)) (now (history mid)) (now (history new)) one.grew two.grew });
     ok = λ h source name seen c w. on_ok r (second.ok (first.honest h) source name seen (copies_on x s W B old mid source name seen first h c) w)
         (λ more. grown_twice name (B seen) (C seen) (now (history old)) (now (history mid)) (now (history new)) (first.ok h source name seen c w) more);
     err = λ h source name seen c w. on_err r (second.err (first.honest h) source name seen (copies_on x s W B old mid source name seen first h c) w)
@@ -168,6 +170,7 @@ module _ {D : Type 0} (is_honest : D → Type 0) (history : D → History) (open
     room = omega (arith, adds.room, less);
     cause = adds.cause;
     elsewhere = adds.elsewhere;
+    grows = adds.grows;
     ok = λ h source name seen c v. (let both = same h source name seen c v in subst (λ (b : List ℕ). OnOk r (Changes name (grown b) (now (history old)) (now (history new)))) both.1 (adds.ok h source name seen c both.0));
     err = λ h source name seen c v. (let both = same h source name seen c v in subst (λ (b : List ℕ). OnErr r (Partly name b (now (history old)) (now (history new)))) both.1 (adds.err h source name seen c both.0));
     moments = λ h source name seen c v. (let both = same h source name seen c v in subst (λ (b : List ℕ). LeavesOnly (history old) (history new) (IsLeftOf (Partly name b (now (history old))))) both.1 (adds.moments h source name seen c both.0));
@@ -183,6 +186,7 @@ module _ {D : Type 0} (is_honest : D → Type 0) (history : D → History) (open
     room = omega (arith, adds.room, less);
     cause = adds.cause;
     elsewhere = adds.elsewhere;
+    grows = adds.grows;
     ok = λ h source name seen c w. tt;
     err = λ h source name seen c w. partly_more name (B seen) (C seen) (now (history old)) (now (history new)) (adds.err h source name seen c w);
     moments = λ h source name seen c w. weaker (history old) (history new) (IsLeftOf (Partly name (B seen) (now (history old)))) (IsLeftOf (Partly name (B seen ++ C seen) (now (history old))))
@@ -201,6 +205,7 @@ module _ {D : Type 0} (is_honest : D → Type 0) (history : D → History) (open
     room = omega (arith, room);
     cause = cause;
     elsewhere = λ h name other is apart. same h other;
+    grows = λ h name is. record { bytes = []; grew = grown_none name (now (history old)) (now (history new)) (same h) };
     ok = λ h source name seen c w. always_ok r (grown_none name (now (history old)) (now (history new)) (same h));
     err = λ h source name seen c w. always_err r (partly_none name [] (now (history old)) (now (history new)) (same h));
     moments = λ h source name seen c w. goes_on (history old) (history old) (history new) (IsLeftOf (Partly name [] (now (history old))))
@@ -223,6 +228,7 @@ module _ {D : Type 0} (is_honest : D → Type 0) (history : D → History) (open
     elsewhere = λ h name other is apart. by_either r (ok h name is) (err h name is)
         (λ changes. elsewhere (now (history old)) (now (history new)) name other _ changes (eqb_apart name other apart))
         (λ some. elsewhere (now (history old)) (now (history new)) name other _ some.1 (eqb_apart name other apart));
+    grows = λ h name is. by_either r (ok h name is) (err h name is) (λ changes. record { bytes = bytes; grew = changes }) (λ some. record { bytes = take some.0 bytes; grew = some.1 });
     ok = λ h source name seen c w. answered_ok _ r (ok h name c.name_is);
     err = λ h source name seen c w. answered_err _ r (partly_of r bytes name (now (history old)) (now (history new)) (err h name c.name_is));
     moments = λ h source name seen c w. goes_on (history old) (history old) (history new) (IsLeftOf (Partly name bytes (now (history old))))
@@ -239,6 +245,7 @@ module _ {D : Type 0} (is_honest : D → Type 0) (history : D → History) (open
     room = omega arith;
     cause = record { later = omega arith; passed = refl; failed = λ no. absurd (cc no); short = λ no. refl };
     elsewhere = λ h name other is apart. refl;
+    grows = λ h name is. record { bytes = []; grew = grown_none name (now (history dir)) (now (history dir)) (λ q. refl) };
     ok = λ h source name seen c w. grown_none name (now (history dir)) (now (history dir)) (λ q. refl);
     err = λ h source name seen c w. tt;
     moments = λ h source name seen c w. started (history dir) _ (λ folder left. record { disk = now (history dir); so = partly_none name [] (now (history dir)) (now (history dir)) (λ q. refl); stays = left });

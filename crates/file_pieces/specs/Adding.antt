@@ -36,6 +36,11 @@ pub record HasPieceCause {T : Type 0} (before after : ℕ) (result : Result T Pi
   pub failed : IsErrOf result Fault → Rises before after
   pub short : IsErrOf result Short → after ≡ before
 
+-- some bytes were added
+pub record Grows (name : List ℕ) (before after : Disk) : Type 0 where
+  pub bytes : List ℕ
+  pub grew : Changes name (grown bytes) before after
+
 -- The call adds these bytes, which may be some of the source's, where the source has what is asked of it; or, after an error, a beginning of them. At no moment
 -- does a stop leave anything else. Files of other names stay as they are, and each open file stays open.
 pub record Adds {D T : Type 0} (is_honest : D → Type 0) (history : D → History) (opened : D → FileNo → Option (List ℕ)) (bytes_left : D → FileNo → ℕ) (fault_count : D → ℕ)
@@ -45,6 +50,7 @@ pub record Adds {D T : Type 0} (is_honest : D → Type 0) (history : D → Histo
   pub room : bytes_left old to ≤ bytes_left new to + size
   pub cause : HasPieceCause (fault_count old) (fault_count new) result
   pub elsewhere : is_honest old → (name other : List ℕ) → opened old to ≡ Some name → other ≢ name → now (history new) other ≡ now (history old) other
+  pub grows : is_honest old → (name : List ℕ) → opened old to ≡ Some name → Grows name (now (history old)) (now (history new))
   pub ok : is_honest old → (source name seen : List ℕ) → Copies (opened old) (now (history old)) from to source name seen → Has seen
       → OnOk result (Changes name (grown (bytes seen)) (now (history old)) (now (history new)))
   pub err : is_honest old → (source name seen : List ℕ) → Copies (opened old) (now (history old)) from to source name seen → Has seen

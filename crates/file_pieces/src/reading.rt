@@ -1,6 +1,6 @@
 //! Bytes of a file.
 
-ghost use Rattle.std.specs.Prelude.{◌≡◌, ◌≤◌, List, ℕ, Some, IsSome, length, OnOk, IsErrOf};
+ghost use Rattle.std.specs.Prelude.{◌≡◌, ◌≤◌, ◌-◌, List, ℕ, Some, IsSome, length, OnOk, IsErrOf};
 ghost use Rattle.disk_files.specs.Disk.{SameDisk, reads};
 ghost use Rattle.disk_files.specs.Moments.{Elapses, now};
 ghost use Rattle.disk_files.specs.declared.dir.FileNo.{FileNo};
@@ -30,6 +30,9 @@ pub fn read_exact<D: Dir>(
     ensures whole { D.is_honest dir.old → (name seen : List ℕ) → D.opened dir.old file ≡ Some name
         → reads (now (D.history dir.old)) name ≡ Some seen → HasPart seen at (length into.old)
         → IsErrOf result PieceError.Short → ⊥ }
+    // What is answered was there.
+    ensures there { D.is_honest dir.old → (name seen : List ℕ) → D.opened dir.old file ≡ Some name
+        → reads (now (D.history dir.old)) name ≡ Some seen → OnOk result (length into.old ≤ length seen - at) }
     ensures len { length into.new ≡ length into.old }
     ensures opened { (other : FileNo) → D.opened dir.new other ≡ D.opened dir.old other }
     ensures room { (other : FileNo) → D.bytes_left dir.old other ≤ D.bytes_left dir.new other }

@@ -15,3 +15,9 @@ returns-clause-bytes g c honest name seen named found has =
     let count = c.in_ok-read.ensures.count honest name seen named found in
     let part = has.0 in
     read_whole c.args.into.now c.read_at.new.into (drop c.args.at seen) c.in_ok-read.read (omega (arith, count, part)) (c.in_ok-read.ensures.bytes honest name seen named found)
+
+pub returns-clause-there : goal.returns-clause-there
+returns-clause-there g c honest name seen named found =
+    let count = c.in_ok-read.ensures.count honest name seen named found in
+    let len : length c.read_at.new.into ≡ length c.args.into.now = search rules in
+    omega (arith, count, len, c.if-read-into.false)
