@@ -1,13 +1,23 @@
 //! Journals that come by pieces, and where their entries lie.
 
-use chunk_journal::{Extent, Outline, Outlined, ReplayError};
-use std::alloc::Global;
+use buffer_state::Stage;
+use chunk_journal::{Extent, Outline, Outlined, Places, ReplayError};
+use std::alloc::{AllocError, Global};
 
 // Seal 0, Append 0 of tag a with one entry, Queue 0.
 const JOURNAL: [u8; 49] = [
     0, 0, 0, 9, 1, 0, 0, 0, 0, 0, 0, 0, 0, // the Seal
     0, 0, 0, 0x13, 2, 0, 0, 0, 0, 0, 0, 0, 0, 0, 1, 0x61, 0, 0, 0, 1, 0x92, 1, 0x80, // the Append
     0, 0, 0, 9, 3, 0, 0, 0, 0, 0, 0, 0, 0, // the Queue
+];
+
+// Seal 0, two Appends of tag a with one entry each, Queue 0, Purge 0.
+const PURGED: [u8; 85] = [
+    0, 0, 0, 9, 1, 0, 0, 0, 0, 0, 0, 0, 0, // the Seal
+    0, 0, 0, 0x13, 2, 0, 0, 0, 0, 0, 0, 0, 0, 0, 1, 0x61, 0, 0, 0, 1, 0x92, 1, 0x80, // one Append
+    0, 0, 0, 0x13, 2, 0, 0, 0, 0, 0, 0, 0, 0, 0, 1, 0x61, 0, 0, 0, 1, 0x92, 2, 0x80, // another
+    0, 0, 0, 9, 3, 0, 0, 0, 0, 0, 0, 0, 0, // the Queue
+    0, 0, 0, 9, 4, 0, 0, 0, 0, 0, 0, 0, 0, // the Purge
 ];
 
 // What a journal that comes by pieces of this length is answered by.
@@ -29,13 +39,14 @@ fn outlined(alloc: Global, journal: &[u8], length: usize) -> Result<Outlined<Glo
 }
 
 fn is_the_chunk(outlined: &Outlined<Global>) -> bool {
-    let Some(chunk) = outlined.chunks.get(&0) else {
+    let Some(chunk) = outlined.chunks.chunk(0) else {
         return false;
     };
-    chunk.extents() == [Extent { at: 33, length: 3 }].as_slice()
+    outlined.places.at(0) == [Extent { at: 33, length: 3 }].as_slice()
         && chunk.count() == 1
         && chunk.size() == 3
         && chunk.tag() == b"a".as_slice()
+        && chunk.stage() == Stage::Queued
 }
 
 #[test]
@@ -43,7 +54,7 @@ fn one_chunk_however_it_comes(rt: HostRuntime) -> Result<(), ReplayError> {
     for length in 1..50usize {
         let outlined = outlined(rt.alloc(), &JOURNAL, length)?;
         assert!(rt; is_the_chunk(&outlined));
-        assert!(rt; outlined.next_serial == 1 && outlined.used == 49);
+        assert!(rt; outlined.chunks.next() == 1 && outlined.used == 49);
     }
     Ok(())
 }
@@ -57,5 +68,36 @@ fn no_seal_and_no_record(rt: HostRuntime) -> Result<(), ReplayError> {
     wrong[17] = 9;
     assert!(rt; matches!(outlined(alloc, &wrong, 7), Err(ReplayError::BadRecord)));
     assert!(rt; matches!(outlined(alloc, &wrong, 49), Err(ReplayError::BadRecord)));
+    Ok(())
+}
+
+#[test]
+fn places_of_a_chunk_go_with_it(rt: HostRuntime) -> Result<(), ReplayError> {
+    let alloc = rt.alloc();
+    let both = [Extent { at: 33, length: 3 }, Extent { at: 56, length: 3 }];
+    for length in 1..86usize {
+        let (queued, _) = PURGED.split_at(72);
+        let before = outlined(alloc, queued, length)?;
+        assert!(rt; before.places.at(0) == both.as_slice() && before.chunks.chunk(0).is_some());
+        let after = outlined(alloc, &PURGED, length)?;
+        assert!(rt; after.places.at(0).is_empty() && after.chunks.chunk(0).is_none());
+        assert!(rt; after.chunks.next() == 1 && after.used == 85);
+    }
+    Ok(())
+}
+
+#[test]
+fn places_come_and_go(rt: HostRuntime) -> Result<(), AllocError> {
+    let first = Extent { at: 33, length: 3 };
+    let second = Extent { at: 56, length: 4 };
+    let mut places = Places::new(rt.alloc());
+    assert!(rt; places.at(7).is_empty());
+    places.reserve(7)?;
+    places.add(7, first);
+    places.append(9, second)?;
+    places.append(7, second)?;
+    assert!(rt; places.at(7) == [first, second].as_slice() && places.at(9) == [second].as_slice());
+    places.remove(7);
+    assert!(rt; places.at(7).is_empty() && places.at(9).len() == 1);
     Ok(())
 }

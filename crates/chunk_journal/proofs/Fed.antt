@@ -1,22 +1,22 @@
 -- What an outline has read of the bytes that were fed.
-use Rattle.std.proofs.Common.{◌≡◌, inl, inr, ℕ, ◌+◌, ◌-◌, ◌<◌, ◌≤◌, Bool, true, false, List, [], ◌∷◌, ◌++◌, length, take, drop, refl, sym, ap, ap₂, subst, ◌∙◌, arith, append_assoc}
-use Rattle.std.specs.List.{AllByRecursion, concat}
+use Rattle.std.proofs.Common.{◌≡◌, inr, ℕ, ◌+◌, ◌-◌, ◌<◌, ◌≤◌, Bool, true, false, List, [], ◌∷◌, ◌++◌, length, take, drop, refl, sym, ap, subst, ◌∙◌, arith, append_assoc, append-nil}
+use Rattle.std.specs.List.{concat}
 use Rattle.std.specs.Int.{w16, w32, w64, to_be_bytes}
-use Rattle.std.proofs.lemmas.List.{take_at, drop_at, length-append, take-append-le, drop-append-le, drop-drop, length-drop}
-use Rattle.event_modes.specs.Rows.{items_of, AreStored}
-use Rattle.event_modes.proofs.Counted.{length-items}
-use Rattle.buffer_state.specs.State.{Numbered, size, empty}
+use Rattle.std.proofs.lemmas.List.{take_at, drop_at, length-append, drop-drop, length-drop}
+use Rattle.buffer_state.specs.State.{State}
 use Rattle.buffer_state.specs.Steps.{settled}
-use Rattle.chunk_journal.specs.declared.sketch.Extent.{Extent}
-use Rattle.chunk_journal.specs.Outlines.{Sketched, Drawn, bytes_from, bytes_at, AreOutlinesOf, IsOutlined}
+use Rattle.chunk_journal.specs.Laws.{EndsWithEntries}
+use Rattle.chunk_journal.specs.Outlines.{IsOutlined}
 use Rattle.chunk_journal.specs.Records.{Record, Seal, Append, Queue, Purge, body_of, record_bytes}
-use Rattle.chunk_journal.specs.Journal.{IsTorn, IsBad, journal_bytes}
+use Rattle.chunk_journal.specs.Journal.{IsTorn, journal_bytes}
 use Rattle.chunk_journal.specs.Reading.{Begins}
-use Rattle.chunk_journal.specs.Meaning.{EndsUnsealed, IsDamaged, IsReplayed}
+use Rattle.chunk_journal.specs.Meaning.{after, EndsUnsealed, IsDamaged, IsReplayed}
+use Rattle.chunk_journal.specs.Places.{Spots, places_at, LieAt, entries_at, ArePlaced, SamePlaces, EndsAt}
 use Rattle.chunk_journal.specs.Replaying.{Place, SoFar}
-use Rattle.chunk_journal.specs.Sketches.{chunks_of, state_at, place_at, AreKept, TakesAt}
-use Rattle.chunk_journal.specs.Feeding.{Heard, HasFound, Reads, StandsAt, IsAfter, entries_size, EndsAt}
-use Rattle.chunk_journal.proofs.Coming.{nothing_yet, comes_on, is_damaged, ends_unsealed, is_replayed}
+use Rattle.chunk_journal.specs.Feeding.{Heard, HasFound, Reads, StandsAt, IsAfter, TakesAt}
+use Rattle.chunk_journal.proofs.Coming.{comes_on, is_damaged, ends_unsealed, is_replayed}
+use Rattle.chunk_journal.proofs.Placing.{lie_on, places_follow}
+use Rattle.chunk_journal.proofs.Ordering.{stands_in_order}
 
 -- ---- where a record's entries lie
 
@@ -49,16 +49,17 @@ ends_there seen rest behind place (Append serial tag entries) end s b ends =
 ends_there seen rest behind place (Queue serial) end s b ends = tt
 ends_there seen rest behind place (Purge serial) end s b ends = tt
 
--- a record's entries are within it
-pub size_within : (rest behind : List ℕ) (item : Record) → Begins rest item behind → entries_size item + length behind ≤ length rest
-size_within rest behind (Seal next) b = (let w = ap length b.whole in omega (arith, w, length-append (record_bytes (Seal next)) behind))
-size_within rest behind (Append serial tag entries) b =
+-- the entries of a record that comes last
+pub ends_last : EndsWithEntries
+ends_last seen (Seal next) = tt
+ends_last seen (Append serial tag entries) =
     let f = front_of serial tag entries in
-    let n : length (record_bytes (Append serial tag entries)) ≡ length f.0 + size entries = ap length f.1 ∙ length-append f.0 (concat entries) in
-    let w : length rest ≡ length (record_bytes (Append serial tag entries)) + length behind = ap length b.whole ∙ length-append (record_bytes (Append serial tag entries)) behind in
-    omega (arith, n, w)
-size_within rest behind (Queue serial) b = (let w = ap length b.whole in omega (arith, w, length-append (record_bytes (Queue serial)) behind))
-size_within rest behind (Purge serial) b = (let w = ap length b.whole in omega (arith, w, length-append (record_bytes (Purge serial)) behind))
+    let all = seen ++ record_bytes (Append serial tag entries) in
+    let whole : all ≡ (seen ++ f.0) ++ (concat entries ++ []) =
+    ap (λ (z : List ℕ). seen ++ z) (f.1 ∙ ap (λ (z : List ℕ). f.0 ++ z) (sym (append-nil (concat entries)))) ∙ sym (append_assoc seen f.0 (concat entries ++ [])) in
+    (within_others (seen ++ f.0) (concat entries) [] all (length all) whole (omega arith), omega arith)
+ends_last seen (Queue serial) = tt
+ends_last seen (Purge serial) = tt
 
 -- a record has bytes
 pub shorter_behind : (rest behind : List ℕ) (item : Record) → Begins rest item behind → length behind < length rest
@@ -91,107 +92,57 @@ is_after heard seen e n r = record { fed = n; stands = subst (λ (b : Bool). Sta
 pub is_stopped : (heard : Heard) (seen : List ℕ) → heard.is_damaged ≡ true → heard.fed ≡ length seen → IsDamaged seen → IsAfter heard seen
 is_stopped heard seen e n d = record { fed = n; stands = subst (λ (b : Bool). StandsAt b heard seen) (sym e) d }
 
-pub was_damaged : (heard : Heard) (seen : List ℕ) → HasFound heard → IsAfter heard seen → IsDamaged seen
-was_damaged heard seen e a = subst (λ (b : Bool). StandsAt b heard seen) e a.stands
-
--- nothing was fed
-pub at_first : IsAfter (record { drawn = record { chunks = []; next = 0; is_sealed = false }; rest = []; fed = 0; is_damaged = false }) []
-at_first = record {
-  fed = refl;
-  stands = record { queue = []; so_far = nothing_yet [] (record { is_sealed = false; state = empty }) refl; kept = tt };
-}
+-- places that are the same hold the same
+placed_same : (seen : List ℕ) (old new : Spots) (state : State) → SamePlaces old new → ArePlaced seen old state → ArePlaced seen new state
+placed_same seen old new state same placed = λ q. subst (λ (bytes : List ℕ). LieAt bytes (places_at new q) (entries_at state q)) (append-nil seen)
+    (lie_on seen [] (places_at old q) (places_at new q) (entries_at state q) (entries_at state q) (placed q) (same q) refl)
 
 module _ (heard : Heard) (seen : List ℕ) (r : Reads heard seen) where
+  -- where the entries of the record that comes next end
+  pub ends_behind : (behind : List ℕ) (item : Record) → heard.fed ≡ length seen → Begins heard.rest item behind → EndsAt seen item (heard.fed - length behind)
+  ends_behind behind item fed b =
+      let s = shorter_behind heard.rest behind item b in
+      let w : length seen ≡ length (journal_bytes r.so_far.records) + length heard.rest = ap length r.so_far.begins.whole ∙ length-append (journal_bytes r.so_far.records) heard.rest in
+      ends_there seen heard.rest behind heard.place item (heard.fed - length behind) r.so_far b (omega (arith, s, w, fed))
+
   -- one record more
-  pub stepped : (drawn : Drawn) (behind : List ℕ) (item : Record) → Begins heard.rest item behind → TakesAt seen heard.drawn item drawn true → Reads (record heard { drawn = drawn; rest = behind }) seen
-  stepped drawn behind item b takes =
-      let t = takes r.kept in
-      let n = t.1 r.queue in
-      record {
-        queue = n.0;
-        so_far = comes_on seen heard.rest behind (place_at seen r.queue heard.drawn) (place_at seen n.0 drawn) r.so_far (record { item = item; begins = b; goes = n.1 });
-        kept = t.0;
-      }
+  pub stepped : (place : Place) (spots : Spots) (behind : List ℕ) (item : Record) (end : ℕ) → Begins heard.rest item behind → EndsAt seen item end → TakesAt heard.place heard.spots item end place spots true
+      → Reads (record heard { place = place; spots = spots; rest = behind }) seen
+  stepped place spots behind item end b ends takes = record {
+    so_far = comes_on seen heard.rest behind heard.place place r.so_far (record { item = item; begins = b; goes = takes.0 });
+    placed = subst (ArePlaced seen spots) (sym takes.0.state) (subst (λ (bytes : List ℕ). ArePlaced bytes spots (after heard.place.state item)) (append-nil seen)
+        (places_follow seen [] heard.spots spots heard.place.state item end (stands_in_order heard.place.is_sealed r.so_far.records heard.place.state r.so_far.stands) r.placed
+        (subst (λ (bytes : List ℕ). EndsAt bytes item end) (sym (append-nil seen)) ends) takes.1));
+  }
 
-  pub step_bad : IsBad heard.rest → IsDamaged seen
-  step_bad bad = is_damaged seen heard.rest (place_at seen r.queue heard.drawn) r.so_far (inl bad)
+  -- a record for which there was no memory
+  pub stayed : (place : Place) (spots : Spots) → place ≡ heard.place → SamePlaces heard.spots spots → Reads (record heard { place = place; spots = spots }) seen
+  stayed place spots e same = record {
+    so_far = subst (λ (p : Place). SoFar seen p heard.rest) (sym e) r.so_far;
+    placed = subst (λ (p : Place). ArePlaced seen spots p.state) (sym e) (placed_same seen heard.spots spots heard.place.state same r.placed);
+  }
 
-  pub step_refused : (drawn : Drawn) (behind : List ℕ) (item : Record) → Begins heard.rest item behind → TakesAt seen heard.drawn item drawn false → IsDamaged seen
-  step_refused drawn behind item b takes =
-      is_damaged seen heard.rest (place_at seen r.queue heard.drawn) r.so_far (inr (record { item = item; behind = behind; begins = b; refused = ((takes r.kept).1 r.queue).1 }))
+  pub step_refused : (place : Place) (spots : Spots) (behind : List ℕ) (item : Record) (end : ℕ) → Begins heard.rest item behind → TakesAt heard.place heard.spots item end place spots false → IsDamaged seen
+  step_refused place spots behind item end b takes =
+      is_damaged seen heard.rest heard.place r.so_far (inr (record { item = item; behind = behind; begins = b; refused = takes }))
 
--- ---- a piece more
-
-bytes_stay : (seen piece : List ℕ) (extents : List Extent) → AllByRecursion (λ (e : Extent). e.at + e.length ≤ length seen) extents → bytes_at (seen ++ piece) extents ≡ bytes_at seen extents
-bytes_stay seen piece [] all = refl
-bytes_stay seen piece (e ∷ es) all =
-    let le = all.0 in
-    let d : drop e.at (seen ++ piece) ≡ drop e.at seen ++ piece = drop-append-le e.at seen piece (omega (arith, le)) in
-    let t : bytes_from (seen ++ piece) e ≡ bytes_from seen e = ap (take e.length) d ∙ take-append-le e.length (drop e.at seen) piece (omega (arith, le, length-drop e.at seen)) in
-    ap₂ (λ (x y : List ℕ). x ++ y) t (bytes_stay seen piece es all.1)
-
-within_more : (seen piece : List ℕ) (extents : List Extent) → AllByRecursion (λ (e : Extent). e.at + e.length ≤ length seen) extents → AllByRecursion (λ (e : Extent). e.at + e.length ≤ length (seen ++ piece)) extents
-within_more seen piece [] all = tt
-within_more seen piece (e ∷ es) all = ((let le = all.0 in omega (arith, le, length-append seen piece)), within_more seen piece es all.1)
-
-kept_stays : (seen piece : List ℕ) (es : List (ℕ × Sketched)) → AreKept seen es → AreKept (seen ++ piece) es × (chunks_of (seen ++ piece) es ≡ chunks_of seen es)
-kept_stays seen piece [] all = (tt, refl)
-kept_stays seen piece (e ∷ es) all =
-    let k = all.0 in
-    let same = bytes_stay seen piece e.1.extents k.within in
-    let rest = kept_stays seen piece es all.1 in (
-      (
-        record {
-          stored = subst (λ (z : List ℕ). AreStored e.1.count z) (sym same) k.stored;
-          sized = k.sized ∙ ap length (sym same);
-          within = within_more seen piece e.1.extents k.within;
-        },
-        rest.0,
-      ),
-      ap₂ (λ (bytes : List ℕ) (more : List Numbered). (e.0, record { tag = e.1.tag; entries = items_of e.1.count bytes; stage = e.1.stage }) ∷ more) same rest.1,
-    )
-
-pub held_more : (heard : Heard) (seen piece : List ℕ) (fed : ℕ) → Reads heard seen → Reads (record heard { rest = heard.rest ++ piece; fed = fed }) (seen ++ piece)
-held_more heard seen piece fed r =
-    let k = kept_stays seen piece heard.drawn.chunks r.kept in
-    let so_far : SoFar (seen ++ piece) (place_at seen r.queue heard.drawn) (heard.rest ++ piece) = record {
+  -- a piece more
+  pub held_more : (piece : List ℕ) (fed : ℕ) → Reads (record heard { rest = heard.rest ++ piece; fed = fed }) (seen ++ piece)
+  held_more piece fed = record {
+    so_far = record {
       records = r.so_far.records;
       begins = record { each = r.so_far.begins.each; whole = ap (λ (z : List ℕ). z ++ piece) r.so_far.begins.whole ∙ append_assoc (journal_bytes r.so_far.records) heard.rest piece };
       stands = r.so_far.stands;
-    } in
-    record {
-      queue = r.queue;
-      so_far = subst (λ (chunks : List Numbered). SoFar (seen ++ piece) (place_with r.queue chunks) (heard.rest ++ piece)) (sym k.1) so_far;
-      kept = k.0;
-    }
-  where
-    place_with : List ℕ → List Numbered → Place
-    place_with queue chunks = record { is_sealed = heard.drawn.is_sealed; state = record { chunks = chunks; next = heard.drawn.next; queue = queue } }
+    };
+    placed = λ q. lie_on seen piece (places_at heard.spots q) (places_at heard.spots q) (entries_at heard.place.state q) (entries_at heard.place.state q) (r.placed q) refl refl;
+  }
 
--- ---- the end
+  -- the end
+  pub outlined : (used : ℕ) → IsTorn heard.rest → heard.place.is_sealed ≡ true → heard.fed ≡ length seen → used + length heard.rest ≡ heard.fed → IsOutlined seen (settled heard.place.state) heard.spots used
+  outlined used torn sealed fed ends = record {
+    replayed = subst (IsReplayed seen (settled heard.place.state)) (omega (arith, fed, ends)) (is_replayed seen heard.rest heard.place (settled heard.place.state) r.so_far torn sealed refl);
+    placed = r.placed;
+  }
 
-outlines : (seen : List ℕ) (es : List (ℕ × Sketched)) → AreKept seen es → AreOutlinesOf seen es (chunks_of seen es)
-outlines seen [] all = tt
-outlines seen (e ∷ es) all = (
-  record {
-    serial = refl;
-    tag = refl;
-    stage = refl;
-    count = sym (length-items e.1.count (bytes_at seen e.1.extents));
-    entries = all.0.stored.items.whole;
-  },
-  outlines seen es all.1,
-)
-
-pub outlined : (heard : Heard) (seen : List ℕ) (used : ℕ) → Reads heard seen → IsTorn heard.rest → heard.drawn.is_sealed ≡ true → heard.fed ≡ length seen → used + length heard.rest ≡ heard.fed
-    → IsOutlined seen heard.drawn.chunks heard.drawn.next used
-outlined heard seen used r torn sealed fed ends = record {
-  state = settled (state_at seen r.queue heard.drawn);
-  replayed = subst (IsReplayed seen (settled (state_at seen r.queue heard.drawn))) (omega (arith, fed, ends))
-      (is_replayed seen heard.rest (place_at seen r.queue heard.drawn) (settled (state_at seen r.queue heard.drawn)) r.so_far torn sealed refl);
-  next_is = refl;
-  outlines = outlines seen heard.drawn.chunks r.kept;
-}
-
-pub unsealed : (heard : Heard) (seen : List ℕ) → Reads heard seen → IsTorn heard.rest → heard.drawn.is_sealed ≡ false → EndsUnsealed seen
-unsealed heard seen r torn e = ends_unsealed seen heard.rest (place_at seen r.queue heard.drawn) r.so_far torn e
+  pub unsealed : IsTorn heard.rest → heard.place.is_sealed ≡ false → EndsUnsealed seen
+  unsealed torn e = ends_unsealed seen heard.rest heard.place r.so_far torn e

@@ -7,5 +7,6 @@ pub mod Standing
 pub mod Coming
 pub mod Telling
 pub mod Answered
-pub mod Sketching
+pub mod Placing
+pub mod Ordering
 pub mod Fed

@@ -1,10 +1,14 @@
 -- What holds of journals, apart from any call.
 use Rattle.std.specs.Prelude.{ℕ, ◌≡◌, ◌+◌, ◌<◌, ◌≤◌, ◌^◌, List, [], ◌++◌, length, take}
+use Rattle.std.specs.List.Sorted.{IsStrictlySortedBy}
+use Rattle.std.specs.Map.{keys_of}
+use Rattle.std.specs.Ordering.{nat_cmp}
 use Rattle.buffer_state.specs.State.{Numbered, State, empty}
 use Rattle.buffer_state.specs.Steps.{reopened}
 use Rattle.chunk_journal.specs.Records.{Record, Seal, record_bytes, IsRecord}
 use Rattle.chunk_journal.specs.Journal.{IsJournal, journal_bytes, within}
 use Rattle.chunk_journal.specs.Meaning.{after, after_all, IsUnsealed, Leads, IsGeneration, beginning, AreTold, Answer, IsAnswer}
+use Rattle.chunk_journal.specs.Places.{Spots, ArePlaced, EndsAt, MovesPlaces}
 
 -- a record's bytes are no proper beginning of another's, and spell one record only
 abbrev pub BeginsOneWay : Type 0
@@ -46,3 +50,20 @@ AnswersOneWay = (bytes : List ℕ) (one other : Answer) → IsAnswer bytes one �
 abbrev pub MeansItsChunks : Type 0
 MeansItsChunks = (chunks : List Numbered) (next : ℕ) → AreTold 0 chunks next → next < 2 ^ 64
     → IsGeneration (beginning chunks next) (reopened (record { chunks = chunks; next = next; queue = [] }))
+
+-- Where each live chunk's entries lie at its places, and then a record comes, and the places change as its end says, the entries lie there again.
+abbrev pub PlacesFollow : Type 0
+PlacesFollow = (seen more : List ℕ) (old new : Spots) (state : State) (item : Record) (end : ℕ) → IsStrictlySortedBy nat_cmp (keys_of state.chunks)
+    → ArePlaced seen old state → EndsAt (seen ++ more) item end → MovesPlaces item end old new → ArePlaced (seen ++ more) new (after state item)
+
+-- a generation leads to chunks whose serials rise
+abbrev pub LeadsInOrder : Type 0
+LeadsInOrder = (records : List Record) (state : State) → Leads records state → IsStrictlySortedBy nat_cmp (keys_of state.chunks)
+
+-- and so do records before a Seal
+abbrev pub TellsInOrder : Type 0
+TellsInOrder = (records : List Record) → IsUnsealed records → IsStrictlySortedBy nat_cmp (keys_of (after_all empty records).chunks)
+
+-- whatever stands before a record, its entries end where it ends
+abbrev pub EndsWithEntries : Type 0
+EndsWithEntries = (seen : List ℕ) (item : Record) → EndsAt (seen ++ record_bytes item) item (length (seen ++ record_bytes item))

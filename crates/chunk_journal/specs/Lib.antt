@@ -8,6 +8,6 @@ pub mod Fields
 pub mod Reading
 pub mod Replaying
 pub mod Drafts
+pub mod Places
 pub mod Outlines
-pub mod Sketches
 pub mod Feeding

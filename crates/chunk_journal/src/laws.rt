@@ -1,6 +1,6 @@
 //! What holds of every journal.
 
-ghost use Rattle.chunk_journal.specs.Laws.{BeginsOneWay, ReadsOneWay, CutsWhole, NeverUnreads, EndsWithin, CutsBefore, CutsBehind, AnswersOneWay, MeansItsChunks};
+ghost use Rattle.chunk_journal.specs.Laws.{BeginsOneWay, ReadsOneWay, CutsWhole, NeverUnreads, EndsWithin, CutsBefore, CutsBehind, AnswersOneWay, MeansItsChunks, PlacesFollow, LeadsInOrder, TellsInOrder, EndsWithEntries};
 
 use msgpack_bytes::prefix_free;
 
@@ -41,4 +41,20 @@ pub fn answers_one_way()
 /// A generation that only begins means the chunks that it tells.
 pub fn means_its_chunks()
     ensures { MeansItsChunks }
+{}
+
+/// The places of entries follow the records of a journal.
+pub fn places_follow()
+    ensures { PlacesFollow }
+{}
+
+/// The serials of live chunks rise, before a Seal and behind it.
+pub fn leads_in_order()
+    ensures before { TellsInOrder }
+    ensures behind { LeadsInOrder }
+{}
+
+/// A record's entries are the end of its bytes.
+pub fn ends_with_entries()
+    ensures { EndsWithEntries }
 {}

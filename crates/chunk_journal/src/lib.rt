@@ -5,18 +5,19 @@ mod fault;
 mod fields;
 mod laws;
 mod outline;
+mod places;
 mod reading;
 mod record;
 mod replaying;
-mod sketch;
 mod writing;
 
 pub use fault::ReplayError;
 pub use laws::{
-    answers_one_way, begins_one_way, cuts_generation, cuts_whole, means_its_chunks, reads_one_way,
+    answers_one_way, begins_one_way, cuts_generation, cuts_whole, ends_with_entries,
+    leads_in_order, means_its_chunks, places_follow, reads_one_way,
 };
 pub use outline::{Outline, Outlined};
+pub use places::{Extent, Places};
 pub use record::Record;
 pub use replaying::{Replayed, replay};
-pub use sketch::{Extent, OutlinedChunk};
 pub use writing::put_record;

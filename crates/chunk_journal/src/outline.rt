@@ -1,36 +1,41 @@
 //! A journal that comes by pieces, replayed without its entries.
 
 ghost use Rattle.std.specs.Prelude.{◌≡◌, ◌≤◌, ◌<◌, ◌+◌, ◌++◌, ◌^◌, ◌⊎◌, [], ℕ, List, false, length, Ok, Err, IfOk, IfErr, OnOk, OnErr, true};
+ghost use Rattle.buffer_state.specs.Steps.{settled};
 ghost use Rattle.chunk_journal.specs.Journal.{IsTorn};
 ghost use Rattle.chunk_journal.specs.Meaning.{EndsUnsealed, IsDamaged};
 ghost use Rattle.chunk_journal.specs.Reading.{parsed_of};
 ghost use Rattle.chunk_journal.specs.Outlines.{IsOutlined};
-ghost use Rattle.chunk_journal.specs.Sketches.{TakesAt};
-ghost use Rattle.chunk_journal.specs.Feeding.{IsAfter, HasFound, entries_size, EndsAt};
+ghost use Rattle.chunk_journal.specs.Places.{SamePlaces, entries_size};
+ghost use Rattle.chunk_journal.specs.Drafts.{place_of};
+ghost use Rattle.chunk_journal.specs.Feeding.{IsAfter, HasFound, TakesAt};
 ghost use Rattle.chunk_journal.specs.declared.fault.ReplayError.TheVariants.{Memory, NotSealed, BadRecord};
 
 use crate::fault::ReplayError;
+use crate::places::{Extent, Places};
 use crate::reading::{Next, Parsed, next_record};
-use crate::sketch::{Extent, OutlinedChunk, Sketch};
+use crate::replaying::{Draft, take_append, take_purge, take_queue, take_seal};
+use buffer_state::Chunks;
 use std::alloc::{AllocError, Allocator};
-use std::collections::BTreeMap;
 use std::marker::Model;
 
 /// What a journal means, with the places of its entries in it.
 #[derive(Drop)]
 pub struct Outlined<A: Allocator> {
-    /// The live chunks; the queue goes by rising serial.
-    pub chunks: BTreeMap<u64, OutlinedChunk<A>, A>,
-    pub next_serial: u64,
+    /// The live chunks and the next serial; the queue goes by rising serial.
+    pub chunks: Chunks<A>,
+    /// Where the chunks' entries lie.
+    pub places: Places<A>,
     /// How many bytes the whole records have. What stands behind them is torn.
     pub used: u64,
 }
 
-/// A replay of a journal that comes by pieces. It holds the places of entries, tags, and the record that isn't whole yet with the piece fed last.
+/// A replay of a journal that comes by pieces. Of the bytes that were fed it holds the record that isn't whole yet with the piece fed last.
 #[derive(Drop)]
 pub struct Outline<A: Allocator> {
     alloc: A,
-    sketch: Sketch<A>,
+    draft: Draft<A>,
+    places: Places<A>,
     // what was fed behind the records that were read, from `start` on
     held: Vec<u8, A>,
     start: usize,
@@ -40,11 +45,12 @@ pub struct Outline<A: Allocator> {
 
 impl<A: Allocator> Model for Outline<A> {
     ghost use Rattle.std.specs.Prelude.{◌≤◌, ◌+◌, vec_len, drop};
+    ghost use Rattle.chunk_journal.specs.Drafts.{place_of};
     ghost use Rattle.chunk_journal.specs.Feeding.{Heard};
 
     ghost Value = { Heard };
 
-    ghost view = { λ o. record { drawn = o.sketch; rest = drop o.start o.held.items; fed = o.fed; is_damaged = o.is_damaged } };
+    ghost view = { λ o. record { place = place_of o.draft; spots = o.places; rest = drop o.start o.held.items; fed = o.fed; is_damaged = o.is_damaged } };
 
     ghost invariant = { λ o. (o.start ≤ vec_len o.held) × (vec_len o.held ≤ o.start + o.fed) };
 }
@@ -57,7 +63,11 @@ impl<A: Allocator + Copy> Outline<A> {
     {
         Outline {
             alloc,
-            sketch: Sketch::new(alloc),
+            draft: Draft {
+                chunks: Chunks::new(alloc),
+                is_sealed: false,
+            },
+            places: Places::new(alloc),
             held: Vec::new(alloc),
             start: 0,
             fed: 0,
@@ -97,7 +107,7 @@ impl<A: Allocator + Copy> Outline<A> {
     /// `BadRecord` where it is damaged, `NotSealed` where its whole records end before a Seal, and else only want of memory.
     /// Each hands the outline back.
     pub fn finish(self) -> Result<Outlined<A>, (ReplayError, Outline<A>)>
-        ensures ok { (seen : List ℕ) → IsAfter self seen → IfOk result (λ outlined. IsOutlined seen outlined.chunks.entries outlined.next_serial outlined.used) }
+        ensures ok { (seen : List ℕ) → IsAfter self seen → IfOk result (λ outlined. IsOutlined seen outlined.chunks outlined.places outlined.used) }
         ensures not_sealed { (seen : List ℕ) → IsAfter self seen → IfErr result (λ refused. refused.0 ≡ NotSealed → EndsUnsealed seen) }
         ensures damaged { (seen : List ℕ) → IsAfter self seen → IfErr result (λ refused. refused.0 ≡ BadRecord → IsDamaged seen) }
         ensures back { (seen : List ℕ) → IsAfter self seen → IfErr result (λ refused. IsAfter refused.1 seen) }
@@ -107,31 +117,46 @@ impl<A: Allocator + Copy> Outline<A> {
         if let Err(fault) = outline.read_on() {
             return Err((fault, outline));
         }
-        if !outline.sketch.is_sealed() {
+        if !outline.draft.is_sealed {
             return Err((ReplayError::NotSealed, outline));
+        }
+        if outline.settle().is_err() {
+            return Err((ReplayError::Memory, outline));
         }
         Ok(outline.into_outlined())
     }
 
+    // Lets the queue go by rising serial.
+    fn settle(&mut self) -> Result<(), AllocError>
+        ensures ok { OnOk result (self.new ≡ record self.old { place = record { is_sealed = self.old.place.is_sealed; state = settled self.old.place.state } }) }
+        ensures err { OnErr result (self.new ≡ self.old) }
+    {
+        self.draft.chunks.settle()
+    }
+
     // What the records that were read mean.
     fn into_outlined(self) -> Outlined<A>
-        ensures chunks { result.chunks.entries ≡ self.drawn.chunks }
-        ensures next { result.next_serial ≡ self.drawn.next }
+        ensures chunks { result.chunks ≡ self.place.state }
+        ensures places { result.places ≡ self.spots }
         ensures used { result.used + length self.rest ≡ self.fed }
     {
         let Outline {
             alloc: _,
-            sketch,
+            draft,
+            places,
             held,
             start,
             fed,
             is_damaged: _,
         } = self;
         let used = fed - (held.len() - start) as u64;
-        let next_serial = sketch.next();
+        let Draft {
+            chunks,
+            is_sealed: _,
+        } = draft;
         Outlined {
-            chunks: sketch.into_chunks(),
-            next_serial,
+            chunks,
+            places,
             used,
         }
     }
@@ -171,7 +196,7 @@ impl<A: Allocator + Copy> Outline<A> {
             Next::Whole(parsed, behind) => {
                 let left = behind.len();
                 let end = self.fed - left as u64;
-                if !take_record(&mut self.sketch, parsed, end)? {
+                if !take_record(&mut self.draft, &mut self.places, parsed, end)? {
                     return Err(self.damaged());
                 }
                 self.start = self.held.len() - left;
@@ -208,31 +233,41 @@ impl<A: Allocator + Copy> Outline<A> {
     }
 }
 
-// Replays a record that ends at this place, unless it can't stand there. An `Err` changes nothing.
+// Replays a record whose entries end there, unless it can't stand here. An `Err` changes nothing.
 fn take_record<A: Allocator + Copy>(
-    sketch: &mut Sketch<A>,
+    draft: &mut Draft<A>,
+    places: &mut Places<A>,
     parsed: Parsed<'_, A>,
     end: u64,
 ) -> Result<bool, AllocError>
     requires { entries_size (parsed_of parsed) ≤ end }
-    ensures ok { (seen : List ℕ) → EndsAt seen (parsed_of parsed.entry) end → IfOk result (TakesAt seen sketch.old (parsed_of parsed.entry) sketch.new) }
-    ensures err { OnErr result (sketch.new ≡ sketch.old) }
+    ensures ok { IfOk result (TakesAt (place_of draft.old) places.old (parsed_of parsed.entry) end (place_of draft.new) places.new) }
+    ensures place { OnErr result (place_of draft.new ≡ place_of draft.old) }
+    ensures places { OnErr result (SamePlaces places.old places.new) }
 {
     match parsed {
-        Parsed::Seal { next } => Ok(sketch.take_seal(next)),
+        Parsed::Seal { next } => Ok(take_seal(draft, next)),
         Parsed::Append {
             serial,
             tag,
             entries,
         } => {
+            places.reserve(serial)?;
+            if !take_append(draft, serial, tag, &entries)? {
+                return Ok(false);
+            }
             let length = entries.as_bytes().len() as u64;
-            let extent = Extent {
-                at: end - length,
-                length,
-            };
-            sketch.take_append(serial, tag, entries.count(), extent)
+            let at = end - length;
+            places.add(serial, Extent { at, length });
+            Ok(true)
         }
-        Parsed::Queue { serial } => Ok(sketch.take_queue(serial)),
-        Parsed::Purge { serial } => Ok(sketch.take_purge(serial)),
+        Parsed::Queue { serial } => take_queue(draft, serial),
+        Parsed::Purge { serial } => {
+            if !take_purge(draft, serial) {
+                return Ok(false);
+            }
+            places.remove(serial);
+            Ok(true)
+        }
     }
 }

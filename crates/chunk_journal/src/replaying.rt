@@ -1,6 +1,6 @@
 //! What a journal means.
 
-ghost use Rattle.std.specs.Prelude.{◌≡◌, ◌≤◌, ◌+◌, IfOk, IsTrue, ◌↔◌, Err};
+ghost use Rattle.std.specs.Prelude.{◌≡◌, ◌≤◌, ◌+◌, IfOk, OnErr, IsTrue, ◌↔◌, Err};
 ghost use Rattle.buffer_state.specs.State.{size, empty, IsAt};
 ghost use Rattle.buffer_state.specs.Steps.{CanAppend, greatest_size};
 ghost use Rattle.chunk_journal.specs.Records.{Record, Seal, Append, Queue, Purge};
@@ -105,7 +105,7 @@ fn take_record<A: Allocator + Copy>(
     }
 }
 
-fn take_seal<A: Allocator + Copy>(draft: &mut Draft<A>, next: u64) -> bool
+pub fn take_seal<A: Allocator + Copy>(draft: &mut Draft<A>, next: u64) -> bool
     ensures { Takes (place_of draft.old) (Seal next) (place_of draft.new) result }
 {
     if draft.is_sealed || next < draft.chunks.next() {
@@ -116,13 +116,14 @@ fn take_seal<A: Allocator + Copy>(draft: &mut Draft<A>, next: u64) -> bool
     true
 }
 
-fn take_append<A: Allocator + Copy>(
+pub fn take_append<A: Allocator + Copy>(
     draft: &mut Draft<A>,
     serial: u64,
     tag: &[u8],
     entries: &Entries<A>,
 ) -> Result<bool, AllocError>
-    ensures { IfOk result (Takes (place_of draft.old) (Append serial tag.now entries.now) (place_of draft.new)) }
+    ensures ok { IfOk result (Takes (place_of draft.old) (Append serial tag.now entries.now) (place_of draft.new)) }
+    ensures err { OnErr result (draft.new ≡ draft.old) }
 {
     let next = draft.chunks.next();
     if draft.is_sealed && serial > next {
@@ -138,8 +139,12 @@ fn take_append<A: Allocator + Copy>(
     Ok(true)
 }
 
-fn take_queue<A: Allocator + Copy>(draft: &mut Draft<A>, serial: u64) -> Result<bool, AllocError>
-    ensures { IfOk result (Takes (place_of draft.old) (Queue serial) (place_of draft.new)) }
+pub fn take_queue<A: Allocator + Copy>(
+    draft: &mut Draft<A>,
+    serial: u64,
+) -> Result<bool, AllocError>
+    ensures ok { IfOk result (Takes (place_of draft.old) (Queue serial) (place_of draft.new)) }
+    ensures err { OnErr result (draft.new ≡ draft.old) }
 {
     if !is_at(&draft.chunks, serial, Stage::Staged) {
         return Ok(false);
@@ -151,7 +156,7 @@ fn take_queue<A: Allocator + Copy>(draft: &mut Draft<A>, serial: u64) -> Result<
     Ok(true)
 }
 
-fn take_purge<A: Allocator + Copy>(draft: &mut Draft<A>, serial: u64) -> bool
+pub fn take_purge<A: Allocator + Copy>(draft: &mut Draft<A>, serial: u64) -> bool
     ensures { Takes (place_of draft.old) (Purge serial) (place_of draft.new) result }
 {
     if !draft.is_sealed || !is_at(&draft.chunks, serial, Stage::Queued) {

@@ -11,4 +11,4 @@ returns-clause-ok g c = λ seen a.
     let a1 : IsAfter mid seen = c.read_on.ensures.after seen a in
     let long : mid.fed + length c.args.piece.now ≡ length (seen ++ c.args.piece.now) = (let f = a1.fed in omega (arith, f, length-append seen c.args.piece.now)) in
     subst (λ (h : Heard). IsAfter h (seen ++ c.args.piece.now)) (sym c.in_ok-hold.ensures.ok)
-    (is_after _ (seen ++ c.args.piece.now) off long (held_more mid seen c.args.piece.now (mid.fed + length c.args.piece.now) (reading mid seen off a1)))
+    (is_after _ (seen ++ c.args.piece.now) off long (held_more mid seen (reading mid seen off a1) c.args.piece.now (mid.fed + length c.args.piece.now)))
