@@ -15,7 +15,7 @@ use Rattle.msgpack_bytes.proofs.States.{state_start, state_end, state_pop, state
 
 -- ---- the sizes of steps
 
-whole_some : (may_open : Bool) (rest : List ℕ) (size : ℕ) → step.Whole size ≡ step_of may_open rest → (0 < size) × (size ≤ length rest)
+pub whole_some : (may_open : Bool) (rest : List ℕ) (size : ℕ) → step.Whole size ≡ step_of may_open rest → (0 < size) × (size ≤ length rest)
 whole_some may_open rest size e = let w = told may_open rest (step.Whole size) e in (w.some, w.there)
 
 pub opens_some : (may_open : Bool) (rest : List ℕ) (items size : ℕ) → step.Opens items size ≡ step_of may_open rest → (0 < size) × (size ≤ length rest)
