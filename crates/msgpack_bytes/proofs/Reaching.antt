@@ -1,7 +1,6 @@
 -- What holds at each turn of a scan that knows where the innermost level has to end.
-use Rattle.std.proofs.Common.{ℕ, suc, ◌≡◌, ◌+◌, ◌-◌, ◌<◌, ◌≤◌, Bool, true, nat_le, List, [], ◌∷◌, ◌++◌, length, drop, slice_index, slice_set, replicate, refl, ap, sym, subst, ◌∙◌, arith, length-append, length-drop}
+use Rattle.std.proofs.Common.{ℕ, suc, ◌≡◌, ◌+◌, ◌-◌, ◌<◌, ◌≤◌, true, nat_le, List, [], ◌∷◌, ◌++◌, length, drop, slice_index, slice_set, replicate, refl, sym, subst, ◌∙◌, arith, length-append, length-drop}
 use Rattle.std.proofs.lemmas.List.{set-append_left, get_or_append_left}
-use Rattle.msgpack_bytes.specs.declared.answers.Scan.{Scan}
 use Rattle.msgpack_bytes.specs.declared.answers.Scan.TheVariants as scan
 use Rattle.msgpack_bytes.specs.declared.answers.MsgFault.TheVariants as fault
 use Rattle.msgpack_bytes.specs.declared.format.Step.TheVariants as step
