@@ -15,7 +15,7 @@ use Rattle.msgpack_bytes.proofs.States.{state_start, state_end, state_pop, state
 
 -- ---- the sizes of steps
 
-whole_some : (may_open : Bool) (rest : List ℕ) (size : ℕ) → step.Whole size ≡ step_of may_open rest → (0 < size) × (size ≤ length rest)
+pub whole_some : (may_open : Bool) (rest : List ℕ) (size : ℕ) → step.Whole size ≡ step_of may_open rest → (0 < size) × (size ≤ length rest)
 whole_some may_open rest size e = let w = told may_open rest (step.Whole size) e in (w.some, w.there)
 
 pub opens_some : (may_open : Bool) (rest : List ℕ) (items size : ℕ) → step.Opens items size ≡ step_of may_open rest → (0 < size) × (size ≤ length rest)
@@ -164,8 +164,3 @@ module _ {bytes : List ℕ} {at i : ℕ} {missing : List ℕ} {left levels room 
         state = subst (λ (j : ℕ). State bytes at (i + size) (slice_set (slice_set missing (levels - 1) (left - 1)) j items) (levels + 1) (room - (size - 1 + items))) level
             (subst (λ (m : List ℕ). State bytes at (i + size) (slice_set m levels items) (levels + 1) (room - (size - 1 + items))) one_less s);
       }
-
-  pub keeps_single : step.Whole 1 ≡ step_of (nat_le levels 64) (drop i bytes) → Keeps bytes at (i + 1) missing (left - 1) levels room
-  keeps_single e =
-      let same : room - (1 - 1) ≡ room = omega arith in
-      subst (λ (r : ℕ). Keeps bytes at (i + 1) missing (left - 1) levels r) same (keeps_whole 1 e (omega arith))

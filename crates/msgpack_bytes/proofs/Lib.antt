@@ -15,6 +15,7 @@ pub mod States
 pub mod Alike
 pub mod Standing
 pub mod Innermost
+pub mod Reaching
 pub mod Spelled
 pub mod Lawful
 pub mod Rows

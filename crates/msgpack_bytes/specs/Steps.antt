@@ -38,9 +38,9 @@ IsSingle Never = ⊥
 
 -- what keeps a step's numbers small
 abbrev pub IsSmall : Step → Type 0
-IsSmall (step.Whole size) = Unit {0}
+IsSmall (step.Whole size) = size < 2 ^ 33
 IsSmall (step.Opens items size) = (items < 2 ^ 33) × (size ≤ 5)
-IsSmall (step.Lacks size) = Unit {0}
+IsSmall (step.Lacks size) = size < 2 ^ 34
 IsSmall step.Deep = Unit {0}
 IsSmall step.Wrong = Unit {0}
 

@@ -5,7 +5,7 @@ ghost use Rattle.msgpack_bytes.specs.Reads.{IsFit};
 ghost use Rattle.msgpack_bytes.specs.Steps.{IsNext, IsSmall, BeginsSame, step_by, step_of};
 
 use crate::format::{Container, Shape, Step};
-use crate::number::number_at;
+use crate::number::{byte, number_at};
 use crate::table::{is_single, shape};
 
 /// The step where the next item begins, of which `came` bytes stood in earlier pieces; the others are those of this
@@ -34,20 +34,51 @@ fn cut_step(front: &[u8; 5], len: usize, may_open: bool) -> Step
     step_behind(front, 1, len - 1, shape(front[0]), may_open)
 }
 
-/// The step at `at`.
+/// The step at `at`; those of a log's usual items are told by the first byte alone, or by the second.
 #[inline(always)]
+#[tactic(auto, unfolding(crate::specs::Format::shape_of))]
 pub fn step(bytes: &[u8], at: usize, may_open: bool) -> Step
     requires { at ≤ length bytes.now }
     ensures is { result ≡ step_of may_open (drop at bytes.now) }
     ensures small { IsSmall result }
 {
-    match bytes.get(at) {
-        None => Step::Lacks(1),
-        Some(first) => {
-            let left = bytes.len() - at - 1;
-            step_behind(bytes, at + 1, left, shape(*first), may_open)
-        }
+    let Some(first) = bytes.get(at) else {
+        return Step::Lacks(1);
+    };
+    let left = bytes.len() - at - 1;
+    match *first {
+        0xa0..=0xbf => scalar(1 + usize::from(*first - 0xa0), left),
+        0x80..=0x8f => opening(2 * u64::from(*first - 0x80), may_open),
+        0x90..=0x9f => opening(u64::from(*first - 0x90), may_open),
+        0xcc | 0xd0 => scalar(2, left),
+        0xcd | 0xd1 | 0xd4 => scalar(3, left),
+        0xd5 => scalar(4, left),
+        0xca | 0xce | 0xd2 => scalar(5, left),
+        0xd6 => scalar(6, left),
+        0xcb | 0xcf | 0xd3 => scalar(9, left),
+        0xd7 => scalar(10, left),
+        0xd8 => scalar(18, left),
+        0xc4 | 0xd9 => scalar(2 + byte(bytes, at + 1) as usize, left),
+        // Made anew, so that the answers above stay out of memory.
+        _ => match any_step(bytes, at, may_open) {
+            Step::Whole(size) => Step::Whole(size),
+            Step::Opens { items, size } => Step::Opens { items, size },
+            Step::Lacks(size) => Step::Lacks(size),
+            Step::Deep => Step::Deep,
+            Step::Wrong => Step::Wrong,
+        },
     }
+}
+
+// The step at `at`, whatever item begins there.
+#[inline(never)]
+fn any_step(bytes: &[u8], at: usize, may_open: bool) -> Step
+    requires { at < length bytes.now }
+    ensures is { result ≡ step_of may_open (drop at bytes.now) }
+    ensures small { IsSmall result }
+{
+    let left = bytes.len() - at - 1;
+    step_behind(bytes, at + 1, left, shape(bytes[at]), may_open)
 }
 
 /// Whether a scalar of one byte stands at `at`; an empty str is left to `step`.
@@ -101,13 +132,29 @@ fn step_behind(bytes: &[u8], start: usize, left: usize, shape: Shape, may_open: 
 // A scalar of `size` bytes, of which the first and `left` more are there.
 #[inline(always)]
 fn scalar(size: usize, left: usize) -> Step
-    requires { left < usize.MAX }
-    ensures { result ≡ if nat_lt (left + 1) size then Step.Lacks size else Step.Whole size }
+    requires left { left < usize.MAX }
+    requires size { size < 2 ^ 33 }
+    ensures is { result ≡ if nat_lt (left + 1) size then Step.Lacks size else Step.Whole size }
+    ensures small { IsSmall result }
 {
     if left + 1 < size {
         Step::Lacks(size)
     } else {
         Step::Whole(size)
+    }
+}
+
+// A container of so many items, whose count is in its first byte.
+#[inline(always)]
+fn opening(items: u64, may_open: bool) -> Step
+    requires { items < 2 ^ 33 }
+    ensures is { result ≡ if may_open then Step.Opens items 1 else Step.Deep }
+    ensures small { IsSmall result }
+{
+    if may_open {
+        Step::Opens { items, size: 1 }
+    } else {
+        Step::Deep
     }
 }
 

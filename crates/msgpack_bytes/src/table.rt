@@ -173,9 +173,8 @@ pub fn shape(first: u8) -> Shape
 pub fn is_single(first: u8) -> bool
     ensures { IsTrue result → IsSingle (shape_of first) }
 {
-    match first {
-        0x00..=0x7f | 0xe0..=0xff => true,
-        0xc0 | 0xc2 | 0xc3 => true,
-        _ => false,
+    if first < 0x80 || first >= 0xe0 {
+        return true;
     }
+    matches!(first, 0xc0 | 0xc2 | 0xc3)
 }

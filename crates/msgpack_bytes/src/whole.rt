@@ -1,5 +1,5 @@
 // Where an item ends whose bytes are all at hand.
-ghost use Rattle.std.specs.Prelude.{ℕ, Bool, true, ◌≡◌, ◌+◌, ◌≤◌, length, drop};
+ghost use Rattle.std.specs.Prelude.{ℕ, Bool, true, ◌≡◌, ◌+◌, ◌≤◌, length};
 ghost use Rattle.msgpack_bytes.specs.declared.answers.Scan.{Scan};
 ghost use Rattle.msgpack_bytes.specs.Item.{longest};
 ghost use Rattle.msgpack_bytes.specs.Answers.{IsScanned};
@@ -25,57 +25,63 @@ pub fn scan(bytes: &[u8], at: usize) -> Scan
         Step::Lacks(size) if size <= LONGEST => Scan::Need,
         Step::Whole(size) if size <= LONGEST => Scan::End(at + size),
         Step::Opens { items, size } if size + items as usize <= LONGEST => {
-            scan_items(bytes, at, size, items as u32)
+            match scan_items(bytes.split_at(at).1, size, items as u32) {
+                Scan::End(end) => Scan::End(at + end),
+                Scan::Need => Scan::Need,
+                Scan::Bad(fault) => Scan::Bad(fault),
+            }
         }
         _ => Scan::Bad(MsgFault::TooLong),
     }
 }
 
-// Where the container at `at` ends, whose header has `size` bytes, and which has so many items.
+// Where the container ends that the bytes begin with, whose header has `size` bytes, and which has so many items.
 #[inline(never)]
-fn scan_items(bytes: &[u8], at: usize, size: usize, items: u32) -> Scan
-    requires within { at ≤ length bytes.now }
-    requires opens { Step.Opens items size ≡ step_of true (drop at bytes.now) }
+fn scan_items(bytes: &[u8], size: usize, items: u32) -> Scan
+    requires opens { Step.Opens items size ≡ step_of true bytes.now }
     requires short { size + items ≤ longest }
-    ensures { IsScanned bytes.now at result }
+    ensures { IsScanned bytes.now 0 result }
 {
-    // How many items each level outside the innermost still lacks; a fixed stack, so that no input asks for memory.
-    let mut missing = [0; DEEPEST + 1];
+    // How many items each level still lacks outside the innermost, of which there are at most so many; a fixed stack,
+    // so that no input asks for memory.
+    let mut missing = [0; DEEPEST];
     let mut levels = 2;
     // What the innermost level still lacks.
     let mut left = items;
-    // How far the least end may still move on, where each missing item takes one byte.
-    let mut room = LONGEST - (size + items as usize);
-    let mut i = at + size;
-    while levels > 0 {
+    // Where the innermost level has to end, so that each item that is missing outside it has room for one byte.
+    let mut limit = LONGEST;
+    let mut i = size;
+    loop {
         if left == 0 {
             levels -= 1;
-            if levels > 0 {
-                left = missing[levels - 1];
+            if levels == 0 {
+                return Scan::End(i);
             }
-        } else if single(bytes, i) {
-            left -= 1;
-            i += 1;
+            left = missing[levels - 1];
+            limit += left as usize;
         } else {
-            match step(bytes, i, levels <= DEEPEST) {
-                Step::Wrong => return Scan::Bad(MsgFault::Reserved),
-                Step::Deep => return Scan::Bad(MsgFault::TooDeep),
-                Step::Lacks(size) if size - 1 <= room => return Scan::Need,
-                Step::Whole(size) if size - 1 <= room => {
-                    left -= 1;
-                    room -= size - 1;
-                    i += size;
+            left -= 1;
+            if single(bytes, i) {
+                i += 1;
+            } else {
+                match step(bytes, i, levels <= DEEPEST) {
+                    Step::Wrong => return Scan::Bad(MsgFault::Reserved),
+                    Step::Deep => return Scan::Bad(MsgFault::TooDeep),
+                    Step::Lacks(size) if i + size + left as usize <= limit => return Scan::Need,
+                    Step::Whole(size) if i + size + left as usize <= limit => {
+                        i += size;
+                    }
+                    Step::Opens { items, size }
+                        if i + size + left as usize + items as usize <= limit => {
+                        missing[levels - 1] = left;
+                        levels += 1;
+                        limit -= left as usize;
+                        left = items as u32;
+                        i += size;
+                    }
+                    _ => return Scan::Bad(MsgFault::TooLong),
                 }
-                Step::Opens { items, size } if size - 1 + items as usize <= room => {
-                    missing[levels - 1] = left - 1;
-                    levels += 1;
-                    left = items as u32;
-                    room -= size - 1 + items as usize;
-                    i += size;
-                }
-                _ => return Scan::Bad(MsgFault::TooLong),
             }
         }
     }
-    Scan::End(i)
 }
