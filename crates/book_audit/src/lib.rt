@@ -10,6 +10,3 @@ pub use auditing::audit;
 pub use fault::{AckFault, AuditError};
 pub use line::{Leaf, Line, Part, Stub};
 pub use pages::OpenLines;
-
-#[cfg(test)]
-mod tests;

@@ -1,4 +1,4 @@
-//! Tests of configurations: their text and values, a relay that is read from one, and tag patterns.
+//! Tests of configurations: their text and values, a relay that is read from one, retries, and tag patterns.
 #![tactic(auto)]
 
 #[cfg(test)]
@@ -7,5 +7,7 @@ mod elements;
 mod patterns;
 #[cfg(test)]
 mod relays;
+#[cfg(test)]
+mod retries;
 #[cfg(test)]
 mod values;

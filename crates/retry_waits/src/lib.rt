@@ -10,6 +10,3 @@ mod wait;
 pub use failures::Failures;
 pub use settings::RetrySettings;
 pub use wait::retry_after;
-
-#[cfg(test)]
-mod tests;

@@ -1,4 +1,4 @@
-use super::*;
+use retry_waits::{Failures, RetrySettings, retry_after};
 use std::test::Fail;
 
 const SETTINGS: RetrySettings = RetrySettings {
