@@ -50,7 +50,7 @@ impl<A: Allocator + Copy> Subject<'_, A> {
             return Ok(());
         };
         for place in 0..self.plan.relay_lines().len() {
-            if let Some(other) = entry(self.plan, place) {
+            if let Some(other) = relay_at(self.plan, place) {
                 self.put_relay(out, &here, &other)?;
             }
         }
@@ -261,7 +261,7 @@ fn fits_one<A: Allocator>(pattern: &Plain<A>, others: &[Plain<A>]) -> bool {
 }
 
 // The relay at this place of the plan.
-fn entry<A: Allocator + Copy>(plan: &Plan<A>, place: usize) -> Option<Entry<'_, A>> {
+fn relay_at<A: Allocator + Copy>(plan: &Plan<A>, place: usize) -> Option<Entry<'_, A>> {
     Some(Entry {
         node: plan.net().relays().get(place)?,
         line: plan.relay_lines().get(place)?,
@@ -272,7 +272,7 @@ fn entry<A: Allocator + Copy>(plan: &Plan<A>, place: usize) -> Option<Entry<'_, 
 fn relay_in<A: Allocator + Copy>(plan: &Plan<A>, line: usize) -> Option<Entry<'_, A>> {
     for (place, other) in plan.relay_lines().iter().enumerate() {
         if other.line == line {
-            return entry(plan, place);
+            return relay_at(plan, place);
         }
     }
     None
