@@ -3,16 +3,14 @@ ghost use Rattle.std.specs.Prelude.{◌≡◌, ◌-◌, ◌++◌, map, string_by
 ghost use Rattle.std.specs.List.{flat_map};
 ghost use Rattle.buffer_state.specs.Shown.{numbered_facts, seen};
 ghost use Rattle.folder_listing.specs.Files.{Finding, Damaged, Holds, Means, Unread, Unsealed, chunk_line, kind_text, stage_text, IsContentOf, IsIn, IsMeaningOf, IsShown, IsShownAs};
-ghost use Rattle.program_text.specs.Texts.{IsTextOf};
 ghost use Rattle.folder_listing.specs.declared.kind.Kind.TheVariants.{Journal, Sink};
 
 use crate::kind::{DataFile, Kind};
 use buffer_state::{ChunkFacts, Chunks, LiveChunks, Stage};
 use chunk_journal::{ReplayError, Replayed, replay};
-use program_text::{Open, ReadFault, read_whole};
+use program_text::{Open, ReadFault, read_named};
 use sink_series::{EventCount, count_events};
 use std::alloc::{AllocError, Allocator};
-use std::io::ErrorKind;
 
 /// Lines of a file, and whether it could be read and isn't damaged.
 #[derive(Drop)]
@@ -45,21 +43,6 @@ fn list_named<A: Allocator + Copy, O: Open>(
         Ok(text) => list_text(alloc, kind, name, &text),
         Err(ReadFault::Memory) => Err(AllocError),
         Err(ReadFault::Read) => unread_lines(alloc, kind, name),
-    }
-}
-
-// The text of this name.
-fn read_named<A: Allocator + Copy, O: Open>(
-    alloc: A,
-    name: &str,
-    files: &O,
-) -> Result<Vec<u8, A>, ReadFault>
-    ensures { IfOk result (λ text. IsTextOf (O.text_of files.now name.now) text.items) }
-{
-    match files.open(name) {
-        Ok(mut reader) => read_whole(alloc, &mut reader),
-        Err(e) if e.kind() == ErrorKind::OutOfMemory => Err(ReadFault::Memory),
-        Err(_) => Err(ReadFault::Read),
     }
 }
 

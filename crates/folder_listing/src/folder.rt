@@ -1,8 +1,7 @@
-//! A relay's data folder, whose files are opened for reading alone.
+//! A relay's data folder, whose files are opened for reading alone. On standard error it is said what can't be read.
 use crate::kind::{DataFile, Kind};
-use program_text::{Open, ReadFault};
+use program_text::{Folder, NamedFile, Open, ReadFault};
 use std::alloc::{AllocError, Allocator};
-use std::fs::File;
 use std::{fs, io, str};
 
 /// The folder of this path.
@@ -47,8 +46,12 @@ impl<'a> DataFolder<'a> {
         ending: &str,
     ) -> Result<Vec<String<A>, A>, ReadFault> {
         let mut names = Vec::new(alloc);
-        let Ok(entries) = fs::read_dir(self.rt, self.path) else {
-            return Err(ReadFault::Read);
+        let entries = match fs::read_dir(self.rt, self.path) {
+            Ok(entries) => entries,
+            Err(e) => {
+                let _ = eprintln!(self.rt; "{}: {e}", self.path);
+                return Err(ReadFault::Read);
+            }
         };
         for entry in entries {
             let Ok(entry) = entry else {
@@ -73,15 +76,15 @@ impl<'a> DataFolder<'a> {
     }
 }
 
-impl Open for DataFolder<'_> {
+impl<'a> Open for DataFolder<'a> {
     ghost use Rattle.std.specs.Prelude.{None};
 
     ghost text_of = { λ _ _. None };
 
-    type Reader = File;
+    type Reader = NamedFile<'a>;
 
-    fn open(&self, name: &str) -> io::Result<File> {
+    fn open(&self, name: &str) -> io::Result<NamedFile<'a>> {
         let path = self.path_of(name)?;
-        File::open(self.rt, path.as_str())
+        Folder::new(self.rt).open(path.as_str())
     }
 }

@@ -8,9 +8,11 @@ ghost use Rattle.program_text.specs.Texts.{IsTextOf};
 
 use crate::replay::{Said, replay};
 use loss_checker::{Answer, Plan, PlanError, check, conf_names};
-use program_text::{Open, OutputFault, ReadFault, Status, put_all, put_last, read_whole};
+use program_text::{
+    Open, OutputFault, ReadFault, Status, put_all, put_last, read_named, read_whole,
+};
 use std::alloc::{AllocError, Allocator};
-use std::io::{ErrorKind, Read, Write};
+use std::io::{Read, Write};
 
 /// Prints what the checker says of the plan that `net` gives, with the configurations that it names: its answer, or
 /// the plan's first fault. Each text is read whole before a fault of the plan is looked for.
@@ -150,25 +152,10 @@ pub fn read_confs<A: Allocator + Copy, O: Open>(
 {
     let mut confs = Vec::new(alloc);
     for name in names {
-        let conf = read_conf(alloc, name, files)?;
+        let conf = read_named(alloc, name, files)?;
         confs.push(conf)?;
     }
     Ok(confs)
-}
-
-// The text of this name.
-fn read_conf<A: Allocator + Copy, O: Open>(
-    alloc: A,
-    name: &str,
-    files: &O,
-) -> Result<Vec<u8, A>, ReadFault>
-    ensures { IfOk result (λ conf. IsTextOf (O.text_of files.now name.now) conf.items) }
-{
-    match files.open(name) {
-        Ok(mut reader) => read_whole(alloc, &mut reader),
-        Err(e) if e.kind() == ErrorKind::OutOfMemory => Err(ReadFault::Memory),
-        Err(_) => Err(ReadFault::Read),
-    }
 }
 
 // What becomes of the steps that are read, in the network of the plan, whichever answer the plan has.

@@ -1,8 +1,8 @@
-//! Files, by paths from the working folder.
+//! Files, by paths from the working folder. On standard error it is said which of them can't be read.
 use crate::opening::Open;
 use std::fs::File;
 use std::io;
-use std::io::{ErrorKind, Read};
+use std::io::Read;
 
 /// The working folder.
 #[derive(Clone, Copy)]
@@ -26,15 +26,41 @@ impl<'a> Folder<'a> {
     }
 }
 
-impl Open for Folder<'_> {
+impl<'a> Open for Folder<'a> {
     ghost use Rattle.std.specs.Prelude.{None};
 
     ghost text_of = { λ _ _. None };
 
-    type Reader = File;
+    type Reader = NamedFile<'a>;
 
-    fn open(&self, name: &str) -> io::Result<File> {
-        File::open(self.rt, name)
+    fn open(&self, name: &str) -> io::Result<NamedFile<'a>> {
+        let rt = self.rt;
+        let path = String::from_str(rt.alloc(), name)?;
+        match File::open(rt, name) {
+            Ok(file) => Ok(NamedFile { rt, path, file }),
+            Err(e) => {
+                say_fault(rt, name, &e);
+                Err(e)
+            }
+        }
+    }
+}
+
+/// A file that is open, with the path by which it was opened.
+#[derive(Drop)]
+pub struct NamedFile<'a> {
+    rt: &'a HostRuntime,
+    path: String,
+    file: File,
+}
+
+impl Read for NamedFile<'_> {
+    fn read(&mut self, buf: &mut [u8]) -> io::Result<usize> {
+        let got = self.file.read(buf);
+        if let Err(e) = &got {
+            say_fault(self.rt, &self.path, e);
+        }
+        got
     }
 }
 
@@ -43,17 +69,22 @@ impl Open for Folder<'_> {
 pub struct FileText<'a> {
     rt: &'a HostRuntime,
     path: &'a str,
-    file: Option<File>,
+    file: Option<NamedFile<'a>>,
 }
 
 impl Read for FileText<'_> {
     fn read(&mut self, buf: &mut [u8]) -> io::Result<usize> {
         if self.file.is_none() {
-            self.file = Some(File::open(self.rt, self.path)?);
+            self.file = Some(Folder::new(self.rt).open(self.path)?);
         }
         match &mut self.file {
             Some(file) => file.read(buf),
-            None => Err(io::Error::from(ErrorKind::NotFound)),
+            None => Err(io::Error::from(io::ErrorKind::NotFound)),
         }
     }
+}
+
+// Says on standard error what is wrong with the file at this path.
+fn say_fault(rt: &HostRuntime, path: &str, fault: &io::Error) {
+    let _ = eprintln!(rt; "{path}: {fault}");
 }

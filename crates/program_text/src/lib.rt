@@ -10,8 +10,8 @@ mod reading;
 mod status;
 
 pub use digits::put_hex;
-pub use folder::{FileText, Folder};
+pub use folder::{FileText, Folder, NamedFile};
 pub use opening::Open;
 pub use output::{OutputFault, put_all, put_last};
-pub use reading::{MOST_READS, PIECE, ReadFault, read_whole};
+pub use reading::{MOST_READS, PIECE, ReadFault, read_named, read_whole};
 pub use status::Status;

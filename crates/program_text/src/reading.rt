@@ -2,6 +2,7 @@
 ghost use Rattle.std.specs.Prelude.{◌<◌, length, IfOk};
 ghost use Rattle.program_text.specs.Texts.{IsTextOf};
 
+use crate::opening::Open;
 use std::alloc::{AllocError, AllocFailed, Allocator};
 use std::io::{ErrorKind, Read};
 
@@ -39,6 +40,21 @@ impl<T: Drop> From<AllocFailed<T>> for ReadFault {
 
     fn from(_: AllocFailed<T>) -> ReadFault {
         ReadFault::Memory
+    }
+}
+
+/// The text of this name.
+pub fn read_named<A: Allocator + Copy, O: Open>(
+    alloc: A,
+    name: &str,
+    files: &O,
+) -> Result<Vec<u8, A>, ReadFault>
+    ensures { IfOk result (λ text. IsTextOf (O.text_of files.now name.now) text.items) }
+{
+    match files.open(name) {
+        Ok(mut reader) => read_whole(alloc, &mut reader),
+        Err(e) if e.kind() == ErrorKind::OutOfMemory => Err(ReadFault::Memory),
+        Err(_) => Err(ReadFault::Read),
     }
 }
 

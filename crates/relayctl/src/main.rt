@@ -52,11 +52,16 @@ fn run(rt: &HostRuntime, word: Option<Word<'_>>) -> Status {
     }
 }
 
-// Shows the journals and sinks of a data folder.
+// Shows the journals and sinks of a data folder. Where there are none, that is said on standard error.
 fn show_folder<W: Write>(rt: &HostRuntime, path: &str, out: &mut W) -> Status {
     let folder = DataFolder::new(rt, path);
     match folder.files(rt.alloc()) {
-        Ok(files) => run_show(rt.alloc(), &files, &folder, out),
+        Ok(files) => {
+            if files.is_empty() {
+                let _ = eprintln!(rt; "{path}: no journals and no sinks are there");
+            }
+            run_show(rt.alloc(), &files, &folder, out)
+        }
         Err(ReadFault::Memory) => put_last(out, b"fault memory\n", Status::Usage),
         Err(ReadFault::Read) => put_last(out, b"fault read\n", Status::Usage),
     }
