@@ -129,9 +129,14 @@ impl<D: Dir, A: Allocator + Copy> SharedBuffer<D, A> {
 
     /// Goes on in a new generation of the journal, where it is long enough; else it does nothing.
     ///
-    /// The first of `Failed`, `LastSerial`, `Memory` and `Fault` that applies.
+    /// The first of `Failed`, `LastSerial`, `Memory`, `Fault` and `Damaged` that applies.
     pub fn renew<R: Wait>(&self, rt: &R) -> Result<(), BufferFault> {
         self.lock.lock(rt).renew()
+    }
+
+    /// Whether the device failed the buffer, so that it takes nothing and lets nothing go until it is opened again.
+    pub fn has_failed<R: Wait>(&self, rt: &R) -> bool {
+        self.lock.lock(rt).has_failed()
     }
 
     /// Whether the buffer has a chunk of this serial, staged, queued or claimed. Once it was let go it never has it again.
@@ -148,9 +153,11 @@ impl<D: Dir, A: Allocator + Copy> SharedBuffer<D, A> {
         self.lock.lock(rt).claim(self.leaf)
     }
 
-    /// The entries of a claimed chunk of this buffer.
+    /// The entries of a claimed chunk of this buffer, read from the journal.
     ///
-    /// `Gone` where the claim is of another buffer, or its chunk isn't live; `Memory`; `Fault` where a read failed, which leaves the buffer as it was.
+    /// `Gone` where the claim is of another buffer; then the first of `Failed`, `Gone`, `Memory`, `Fault` and `Damaged` that applies: `Gone`
+    /// where its chunk isn't live, `Fault` where a read failed, `Damaged` where the journal hasn't the bytes that were told.
+    /// Each leaves the buffer as it was.
     pub fn body<R: Wait>(&self, rt: &R, claim: &Claim<A>) -> Result<Entries<A>, BufferFault> {
         self.lock.lock(rt).body(self.leaf, claim)
     }
@@ -158,7 +165,7 @@ impl<D: Dir, A: Allocator + Copy> SharedBuffer<D, A> {
     /// Lets the chunk of a claim go, on evidence that it may. The journal isn't synced, so that a stop may bring the chunk back, queued.
     ///
     /// `Stranger` where the claim is of another buffer, or the evidence names another chunk, or is of a kind that this buffer doesn't take,
-    /// or is of another sink, tag or entries than the chunk's (in its place `Memory` or `Fault` where the entries couldn't be read).
+    /// or is of another sink, tag or entries than the chunk's (in its place `Failed`, `Memory`, `Fault` or `Damaged` where the entries couldn't be read).
     /// Then the first of `Failed`, `Gone`, `Memory` and `Fault` that applies. Each refusal hands claim and evidence back.
     pub fn purge<R: Wait>(
         &self,

@@ -1,8 +1,9 @@
 -- What a call's answer says of its plan.
-use Rattle.std.proofs.Common.{Bor, nat_eq, ◌+◌, ◌≡◌, ◌≢◌, ◌⊎◌, inl, inr, ◌↔◌, ℕ, ◌<◌, ◌≤◌, Bool, true, false, List, Option, Some, None, IsSome, refl, sym, ap, subst, ◌∙◌, arith}
+use Rattle.std.proofs.Common.{Bor, nat_eq, ◌+◌, ◌≡◌, ◌≢◌, ◌⊎◌, inl, inr, ◌↔◌, ℕ, ◌<◌, ◌≤◌, Bool, true, false, List, length, Option, Some, None, IsSome, refl, sym, ap, subst, ◌∙◌, arith}
 use Rattle.std.specs.Prelude.{Result, Ok, Err, IsSomeAnd, IsOk, OnOk, IfOk, is_err, IsTrue, is_some, option_copied, ◌&&◌, if◌then◌else◌}
 use Rattle.std.proofs.lemmas.Bool.{false≢true, eq-eqb, eqb-true}
 use Rattle.book_audit.specs.declared.line.Line.{Line}
+use Rattle.sink_series.specs.Views.{StoredView}
 use Rattle.buffer_state.specs.State.{State, Chunk, chunk_at}
 use Rattle.buffer_state.specs.Steps.{CanAppend}
 use Rattle.buffer_state.specs.declared.limits.AppendFault.{AppendFault}
@@ -83,3 +84,10 @@ if_ok (Err e) P Q f h = h
 pub put_at : {E : Type 0} (r : Result (Option Line) E) (P : Type 0) (n m : ℕ) → is_err r ≡ false → OnOk r P → IfOk r (λ old. n ≡ m + (if is_some old then 0 else 1)) → P × (n ≤ m + 1)
 put_at (Ok old) P n m e p len = (p, some_short old n m len)
 put_at (Err x) P n m e p len = absurd (cc e)
+
+-- entries that were read are those in a sink exactly where the chunk is, whose tag is looked at before
+pub whole_of_like : (o : Option Chunk) (stored : StoredView) (read : List (List ℕ)) (b : Bool) → IsSomeAnd o (λ chunk. read ≡ chunk.entries) → IsTrue b ↔ (read ≡ stored.entries)
+    → (IsTrue b → IsSomeAnd o (λ chunk. (chunk.tag ≡ stored.tag) × (length stored.entries ≡ length chunk.entries)))
+    → IsTrue b ↔ IsSomeAnd o (λ chunk. (chunk.tag ≡ stored.tag) × (chunk.entries ≡ stored.entries))
+whole_of_like None stored read b is same like = absurd is
+whole_of_like (Some chunk) stored read b is same like = ((λ t. ((like t).0, sym is ∙ same.0 t)), (λ whole. same.1 (is ∙ whole.1)))

@@ -1,9 +1,13 @@
 -- What shows that a chunk may leave its buffer, and when it serves.
-use Rattle.std.specs.Prelude.{ℕ, ◌≡◌, true, cond, List, Option, None, Some, IsSomeAnd, IfSome, Result, Ok, Err}
+use Rattle.std.specs.Prelude.{ℕ, ◌≡◌, ◌⊎◌, true, cond, List, length, Option, None, Some, IsSome, IsSomeAnd, IfSome, Result, Ok, Err}
+use Rattle.disk_files.specs.Moments.{History}
 use Rattle.event_modes.specs.declared.chunk_id.ChunkId.{ChunkId}
 use Rattle.sink_series.specs.Views.{StoredView}
 use Rattle.buffer_state.specs.State.{State, chunk_at}
 use Rattle.buffer_state.specs.Steps.{oldest}
+use Rattle.buffer_store.specs.Buffers.{Held}
+use Rattle.buffer_store.specs.Durability.{BeganWell}
+use Rattle.buffer_store.specs.declared.fault.BufferFault.{BufferFault}
 use Rattle.book_audit.specs.declared.line.Leaf.{Leaf}
 use Rattle.buffer_book.specs.declared.takes.Basis.{Basis}
 use Rattle.buffer_book.specs.declared.takes.Basis.TheVariants as basis
@@ -58,6 +62,10 @@ IsFor leaf takes claim shown = (claim.leaf ≡ leaf) × (named shown ≡ id_of c
 abbrev pub IsWhole : State → ℕ → StoredView → Type 0
 IsWhole state serial stored = IsSomeAnd (chunk_at state serial) (λ chunk. (chunk.tag ≡ stored.tag) × (chunk.entries ≡ stored.entries))
 
+-- what is in the sink has the tag of the live chunk of this serial, and as many entries
+abbrev pub IsLike : State → ℕ → StoredView → Type 0
+IsLike state serial stored = IsSomeAnd (chunk_at state serial) (λ chunk. (chunk.tag ≡ stored.tag) × (length stored.entries ≡ length chunk.entries))
+
 -- what the evidence shows to be in a sink
 abbrev pub stored_of : Shows → Option StoredView
 stored_of (Acknowledged id) = None
@@ -69,9 +77,21 @@ stored_of (Expired id) = None
 abbrev pub ShowsWhole : State → ℕ → Shows → Type 0
 ShowsWhole state serial shown = IfSome (stored_of shown) (IsWhole state serial)
 
+-- where the evidence shows what is in a sink, that is like the live chunk of this serial
+abbrev pub ShowsLike : State → ℕ → Shows → Type 0
+ShowsLike state serial shown = IfSome (stored_of shown) (IsLike state serial)
+
 -- The evidence lets the claimed chunk go: it is for it, and what it shows to be in a sink is the chunk's tag and entries.
 abbrev pub Serves : {A : Type 0} → Leaf → Takes A → State → Claimed → Shows → Type 0
 Serves leaf takes state claim shown = IsFor leaf takes claim shown × ShowsWhole state claim.serial shown
+
+-- what the evidence shows can be compared with what was appended: where it shows entries in a sink, the folder was honest when the buffer was opened, and had no stray generation
+abbrev pub CanCompare : {D : Type 0} → (D → Type 0) → (D → History) → Held D → Shows → Type 0
+CanCompare is_honest history buffer shown = IsSome (stored_of shown) → BeganWell is_honest history buffer
+
+-- the chunk's entries couldn't be read
+abbrev pub IsUnread : {T : Type 0} → Result T BufferFault → Type 0
+IsUnread result = (result ≡ Err BufferFault.Failed) ⊎ ((result ≡ Err BufferFault.Memory) ⊎ ((result ≡ Err BufferFault.Fault) ⊎ (result ≡ Err BufferFault.Damaged)))
 
 -- the chunk to drop to make room: the queued one of least serial, where chunks may be dropped
 abbrev pub to_drop : {A : Type 0} → Takes A → State → Option ℕ
@@ -81,6 +101,11 @@ to_drop takes state = cond takes.drops (oldest state) None
 abbrev pub IsRefused : {T C E : Type 0} → PurgeFault → Result T (PurgeFault × C × E) → Type 0
 IsRefused fault (Ok done) = ⊥
 IsRefused fault (Err refused) = refused.0 ≡ fault
+
+-- A buffer that the device failed before lets nothing go: the evidence doesn't serve, or the call is refused for that.
+abbrev pub IsStopped : {T C E : Type 0} → Result T (PurgeFault × C × E) → Type 0
+IsStopped (Ok done) = ⊥
+IsStopped (Err refused) = (refused.0 ≡ PurgeFault.Stranger) ⊎ (refused.0 ≡ PurgeFault.Buffer BufferFault.Failed)
 
 -- the answer, without what a refusal hands back
 abbrev pub answer_of : {T C E : Type 0} → Result T (PurgeFault × C × E) → Result T PurgeFault

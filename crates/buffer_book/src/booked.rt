@@ -7,6 +7,7 @@ ghost use Rattle.book_audit.specs.declared.fault.AuditError.{AuditError};
 ghost use Rattle.buffer_state.specs.State.{IsAt, chunk_at};
 ghost use Rattle.buffer_state.specs.Steps.{queued_last};
 ghost use Rattle.buffer_state.specs.declared.chunk.Stage.TheVariants.{Staged};
+ghost use Rattle.buffer_store.specs.Durability.{BeganWell};
 ghost use Rattle.buffer_store.specs.declared.fault.BufferFault.{BufferFault};
 ghost use Rattle.buffer_book.specs.Told.{counts_of};
 ghost use Rattle.buffer_book.specs.Books.{IsSound, Steady, Syncs, WantsRenewal};
@@ -125,14 +126,17 @@ impl<D: Dir, A: Allocator + Copy> Booked<D, A> {
 
     /// Goes on in a new generation of the journal, where the journal is long enough; else it does nothing. Chunks and book stay as they are.
     ///
-    /// The first of `Failed`, `LastSerial`, `Memory` and `Fault` that applies; `LastSerial` past the last generation. A failed buffer answers `Failed` also where nothing is to be done.
+    /// The first of `Failed`, `LastSerial`, `Memory`, `Fault` and `Damaged` that applies; `LastSerial` past the last generation, `Damaged` where the journal
+    /// hasn't the bytes that were told. A failed buffer answers `Failed` also where nothing is to be done.
     pub fn renew(&mut self) -> Result<(), BufferFault>
         ensures chunks { self.new.buffer.chunks ≡ self.old.buffer.chunks }
         ensures book { self.new ≡ record self.old { buffer = self.new.buffer; synced = self.new.synced } }
         ensures syncs { Syncs self.old self.new }
         ensures idle { self.old.buffer.failed ≡ false → (WantsRenewal self.old.buffer → ⊥) → (result ≡ Ok tt) × (self.new ≡ self.old) }
         ensures number { WantsRenewal self.old.buffer → OnOk result (self.new.buffer.journal.number ≡ self.old.buffer.journal.number + 1) }
-        ensures only { OnErr result ((result ≡ Err BufferFault.Failed) ⊎ ((result ≡ Err BufferFault.LastSerial) ⊎ ((result ≡ Err BufferFault.Memory) ⊎ (result ≡ Err BufferFault.Fault)))) }
+        ensures only { OnErr result ((result ≡ Err BufferFault.Failed) ⊎ ((result ≡ Err BufferFault.LastSerial) ⊎ ((result ≡ Err BufferFault.Memory)
+            ⊎ ((result ≡ Err BufferFault.Fault) ⊎ (result ≡ Err BufferFault.Damaged))))) }
+        ensures undamaged { BeganWell D.is_honest D.history self.old.buffer → result ≢ Err BufferFault.Damaged }
         ensures steady { Steady self.old.buffer self.new.buffer result }
     {
         if self.buffer.has_failed() {

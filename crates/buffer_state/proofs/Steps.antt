@@ -29,9 +29,9 @@ use Rattle.buffer_state.specs.declared.chunk.Stage.{Stage}
 use Rattle.buffer_state.specs.declared.chunk.Stage.TheVariants.{Staged, Queued, Claimed}
 use Rattle.buffer_state.specs.State.{State, Chunk, chunk_at, size, size_at, is_queued, is_staged, staged_of, newest_staged, queued_rising, IsAt, IsStagedOf}
 use Rattle.buffer_state.specs.Steps.{appended, restaged, queued_last, claimed, removed, settled, without, place_within, greatest_size, last_serial, CanAppend}
-use Rattle.buffer_state.specs.Slots.{Slot, Slots, slot_at, slot_size, changed_at, chunks_in, put, grown, roomed, fresh, staged_in, AreBelow}
+use Rattle.buffer_state.specs.Slots.{Slot, Slots, slot_at, slot_size, changed_at, chunks_in, put, grown, fresh, staged_in, AreBelow}
 use Rattle.buffer_state.specs.Views.{passes_at, is_waiting, is_claimed, claims, state_of, IsFree, IsEndOf, IsSound}
-use Rattle.buffer_state.proofs.Serials.{at_same, at_itself, at_above, apart, if_some, some_and, lookup_above, filter_same, set_itself, kept, kept_is}
+use Rattle.buffer_state.proofs.Serials.{at_same, at_itself, at_above, apart, if_some, some_and, lookup_above, filter_same, kept, kept_is}
 use Rattle.buffer_state.proofs.Slots.{lookup_chunks, set_chunks, removed_chunks, set_at, passes_itself, passes_set, passes_same, passes_removed, passes_last, if_set, if_removed, last_at, Without, all_map, all_last, all_both, without_free, without_rest, distinct_rest, distinct_last, filter_without}
 
 -- how a claim counts
@@ -322,11 +322,6 @@ pub found_at : (slots : Slots) (xs : List ℕ) (next s : ℕ) (state : State) (s
     → (v : Slot) × (slot_at slots s ≡ Some v) × (v.chunk.stage ≡ stage)
 found_at slots xs next s state stage is h = slot_there slots s (λ chunk. chunk.stage ≡ stage) (subst (λ (there : State). IsAt stage there s) (sym is) h)
 
--- the view where a chunk gets room
-pub room_view : (slots : Slots) (next s more : ℕ) (v : Slot) (xs : List ℕ) → slot_at slots s ≡ Some v → state_of (set_value (is_at (nat_cmp s)) slots (roomed more v)) xs next ≡ state_of slots xs next
-room_view slots next s more v xs at = same_view slots next s v at (roomed more v) xs refl ∙ ap (λ c. parts c next (filter (passes_at is_queued slots) xs))
-    (set_itself (is_at (nat_cmp s)) (chunks_in slots) v.chunk (lookup_chunks slots s ∙ ap (option_map (λ (slot : Slot). slot.chunk)) at))
-
 -- no chunks
 pub sound_new : {A : Type 0} (slots : Slots) (waiting : BTreeSet ℕ) (order : VecDeque ℕ A) → slots ≡ [] → waiting.keys ≡ [] → order.items ≡ [] → deque_len order ≡ 0 → IsSound slots waiting order 0
 unfolding IsStrictlySortedBy IsDistinct
@@ -458,13 +453,6 @@ and_some o P x at h = rw at h
 pub changed_is : (slots : Slots) (s : ℕ) (change : Slot → Slot) (v : Slot) → slot_at slots s ≡ Some v → changed_at s change slots ≡ set_value (is_at (nat_cmp s)) slots (change v)
 changed_is slots s change v at = rw at refl
 
-pub changed_there : (slots new : Slots) (s : ℕ) (change : Slot → Slot) (v : Slot) → slot_at slots s ≡ Some v → new ≡ changed_at s change slots → slot_at new s ≡ Some (change v)
-changed_there slots new s change v at is = ap (λ (t : Slots). slot_at t s) (is ∙ changed_is slots s change v at) ∙ set_at slots s s v (change v) at ∙ rw (at_itself s) refl
-
--- a chunk has this after a change
-pub ready_there : (slots new : Slots) (s : ℕ) (change : Slot → Slot) (v : Slot) (P : Slot → Type 0) → slot_at slots s ≡ Some v → new ≡ changed_at s change slots → P (change v) → IsSomeAnd (slot_at new s) P
-ready_there slots new s change v P at is h = and_some _ P (change v) (changed_there slots new s change v at is) h
-
 pub size_there : (slots : Slots) (xs : List ℕ) (next s : ℕ) (v : Slot) → slot_at slots s ≡ Some v → size_at (state_of slots xs next) s ≡ slot_size v
 size_there slots xs next s v at = ap (λ o. option_map_or (λ (chunk : Chunk). size chunk.entries) o 0) (chunk_there slots xs next s v at)
 
@@ -492,25 +480,6 @@ pub claim_ended : {A : Type 0} (slots : Slots) (waiting : BTreeSet ℕ) (order :
 claim_ended slots waiting order next sound s v xs at was end same =
     claim_view slots next s v at xs was (without_rest s xs (distinct_end end.0 (s ∷ xs) (subst (IsDistinct nat_eq) end.1 sound.distinct)))
     ∙ ap (λ (queue : List ℕ). claimed (parts (chunks_in slots) next queue)) (sym same)
-
--- a chunk grows
-pub grow_sound : {A : Type 0} (slots between new : Slots) (waiting : BTreeSet ℕ) (order : VecDeque ℕ A) (next s more : ℕ) (v : Slot) (piece : List (List ℕ)) → slot_at slots s ≡ Some v
-    → between ≡ changed_at s (roomed more) slots → new ≡ changed_at s (grown piece) between → IsSound slots waiting order next → IsSound new waiting order next
-grow_sound slots between new waiting order next s more v piece at first second sound =
-    let is : between ≡ set_value (is_at (nat_cmp s)) slots (roomed more v) = first ∙ changed_is slots s (roomed more) v at in
-    let mid : IsSound between waiting order next = rw is (sound_same slots waiting order next sound s v (roomed more v) at refl) in
-    let there : slot_at between s ≡ Some (roomed more v) = changed_there slots between s (roomed more) v at first in
-    rw (second ∙ changed_is between s (grown piece) (roomed more v) there)
-    (sound_same between waiting order next mid s (roomed more v) (grown piece (roomed more v)) there refl)
-
-pub grow_view : (slots between new : Slots) (xs : List ℕ) (next s more : ℕ) (v : Slot) (tag : List ℕ) (piece : List (List ℕ)) → slot_at slots s ≡ Some v
-    → between ≡ changed_at s (roomed more) slots → new ≡ changed_at s (grown piece) between → state_of new xs next ≡ appended s tag piece (state_of slots xs next)
-grow_view slots between new xs next s more v tag piece at first second =
-    let there : slot_at between s ≡ Some (roomed more v) = changed_there slots between s (roomed more) v at first in
-    ap (λ (t : Slots). state_of t xs next) (second ∙ changed_is between s (grown piece) (roomed more v) there)
-    ∙ grown_view between next s (roomed more v) there xs tag piece (grown piece (roomed more v)) refl
-    ∙ ap (λ (t : Slots). appended s tag piece (state_of t xs next)) (first ∙ changed_is slots s (roomed more) v at)
-    ∙ ap (appended s tag piece) (room_view slots next s more v xs at)
 
 -- the set of waiting serials, with the same serials
 pub sound_waiting : {A : Type 0} (slots : Slots) (waiting new : BTreeSet ℕ) (order : VecDeque ℕ A) (next : ℕ) → new.keys ≡ waiting.keys → IsSound slots waiting order next → IsSound slots new order next

@@ -18,7 +18,7 @@ use Rattle.std.proofs.lemmas.Map.Views.{All-values-set_value, All-map-remove_ent
 use Rattle.buffer_state.specs.declared.tags.TagIndex.{TagIndex}
 use Rattle.buffer_state.specs.Tags.{serials_at}
 use Rattle.buffer_state.specs.declared.chunk.Stage.{Stage}
-use Rattle.buffer_state.specs.State.{Chunk, is_staged, size}
+use Rattle.buffer_state.specs.State.{is_staged, size}
 use Rattle.buffer_state.specs.Slots.{Slot, Slots, grown, put, slot_at, slot_size, slots_size, staged_in, AreBelow}
 use Rattle.buffer_state.specs.Steps.{greatest_size, without}
 use Rattle.buffer_state.specs.Tables.{IsTable}
@@ -99,14 +99,6 @@ total_small slots tags total t =
 -- no chunk is too large
 pub small_at : {A : Type 0} (slots : Slots) (tags : TagIndex A) (total : ℕ) (s : ℕ) (v : Slot) → IsTable slots tags total → slot_at slots s ≡ Some v → slot_size v ≤ greatest_size
 small_at slots tags total s v t at = if_some _ (λ slot. slot_size slot ≤ greatest_size) v (IfSome-lookup_from_All (λ slot. slot_size slot ≤ greatest_size) (is_at (nat_cmp s)) slots t.small) at
-
--- a chunk gets room
-pub same_fits : {A : Type 0} (slots : Slots) (tags : TagIndex A) (total s : ℕ) (v w : Slot) → slot_at slots s ≡ Some v → IsTable slots tags total → w.chunk ≡ v.chunk
-    → IsTable (set_value (is_at (nat_cmp s)) slots w) tags total
-same_fits slots tags total s v w at t same = set_fits slots s v w at tags tags total total t
-    (rw (ap (λ (c : Chunk). size c.entries) same) (small_at slots tags total s v t at))
-    (ap (λ (c : Chunk). total + size c.entries) (sym same))
-    (λ tag. t.indexed tag ∙ sym (staged_same slots s v w at tag (ap (λ (c : Chunk). is_staged c.stage && bytes_eq tag c.tag) same)))
 
 -- a chunk grows
 pub grown_fits : {A : Type 0} (slots : Slots) (tags : TagIndex A) (total s added : ℕ) (v : Slot) (piece : List (List ℕ)) → slot_at slots s ≡ Some v → IsTable slots tags total

@@ -1,5 +1,7 @@
 pub mod State
 pub mod Steps
+pub mod Told
+pub mod Contents
 pub mod Slots
 pub mod Tags
 pub mod Tables

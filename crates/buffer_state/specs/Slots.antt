@@ -1,30 +1,32 @@
 -- What the contracts of a chunk in memory see.
-use Rattle.std.specs.Prelude.{ℕ, ◌<◌, ◌&&◌, Bool, List, ◌++◌, map, filter, sum_by, Option, bytes_eq}
+use Rattle.std.specs.Prelude.{ℕ, ◌≡◌, ◌<◌, ◌&&◌, Bool, List, ◌++◌, map, filter, sum_by, length, Option, bytes_eq}
 use Rattle.std.specs.List.{AllByRecursion}
 use Rattle.std.specs.Option.{option_map_or}
 use Rattle.std.specs.Map.{lookup, set_value, keys_of, values_of}
 use Rattle.std.specs.Ordering.{nat_cmp}
 use Rattle.std.specs.BTreeMap.{is_at}
+use Rattle.event_modes.specs.Rows.{IsStored}
 use Rattle.buffer_state.specs.declared.chunk.Stage.{Stage}
 use Rattle.buffer_state.specs.declared.chunk.Stage.TheVariants.{Staged}
 use Rattle.buffer_state.specs.State.{Chunk, Numbered, size, is_staged}
 
--- A chunk, and how many bytes more find room in it.
+-- A chunk, as it is held in memory.
 pub record Slot : Type 0 where
   pub chunk : Chunk
-  pub room : ℕ
 
--- with room for so many bytes
-abbrev pub roomed : ℕ → Slot → Slot
-roomed more slot = record slot { room = more }
+-- entries that can be stored, so many, of so many bytes
+pub record AreKept (count bytes : ℕ) (entries : List (List ℕ)) : Type 0 where
+  pub counted : count ≡ length entries
+  pub sized : bytes ≡ size entries
+  pub each : AllByRecursion IsStored entries
 
--- with these entries behind the others, and no more room that is known of
+-- with these entries behind the others
 abbrev pub grown : List (List ℕ) → Slot → Slot
-grown entries slot = record { chunk = record slot.chunk { entries = slot.chunk.entries ++ entries }; room = 0 }
+grown entries slot = record { chunk = record slot.chunk { entries = slot.chunk.entries ++ entries } }
 
 -- in this stage
 abbrev pub put : Stage → Slot → Slot
-put stage slot = record slot { chunk = record slot.chunk { stage = stage } }
+put stage slot = record { chunk = record slot.chunk { stage = stage } }
 
 -- slots by serial
 abbrev pub Slots : Type 0
@@ -33,10 +35,6 @@ Slots = List (ℕ × Slot)
 -- the slot of this serial
 abbrev pub slot_at : Slots → ℕ → Option Slot
 slot_at slots serial = lookup (is_at (nat_cmp serial)) slots
-
--- how many bytes more find room in the slot of this serial; 0 where there is none
-abbrev pub room_at : Slots → ℕ → ℕ
-room_at slots serial = option_map_or (λ slot. slot.room) (slot_at slots serial) 0
 
 -- the slots with the one of this serial changed
 abbrev pub changed_at : ℕ → (Slot → Slot) → Slots → Slots
@@ -48,7 +46,7 @@ chunks_in slots = map (λ numbered. (numbered.0, numbered.1.chunk)) slots
 
 -- a staged chunk of these entries
 abbrev pub fresh : List ℕ → List (List ℕ) → Slot
-fresh tag entries = record { chunk = record { tag = tag; entries = entries; stage = Staged }; room = 0 }
+fresh tag entries = record { chunk = record { tag = tag; entries = entries; stage = Staged } }
 
 -- how many bytes of entries a slot has
 abbrev pub slot_size : Slot → ℕ

@@ -24,11 +24,10 @@ pub record State : Type 0 where
   pub next : ℕ  -- the serial of the next new chunk
   pub queue : List ℕ  -- the queued serials, in the order in which they are claimed
 
--- A buffer at one time, and the serial of a chunk of it for which a step has been made ready, with room for so many bytes.
+-- A buffer at one time, and the serial of a chunk of it that all is ready to be queued for.
 pub record Readied : Type 0 where
   pub state : State
   pub serial : ℕ
-  pub room : ℕ
 
 -- the live chunk of this serial
 abbrev pub chunk_at : State → ℕ → Option Chunk

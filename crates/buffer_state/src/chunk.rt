@@ -1,11 +1,13 @@
 //! Live chunks.
 
-ghost use Rattle.std.specs.Prelude.{◌≡◌, ◌++◌, ◌+◌, ◌≤◌, ◌↔◌, length, IsTrue, OnOk, OnErr, IfOk};
-ghost use Rattle.std.specs.List.{concat, AllByRecursion};
+ghost use Rattle.std.specs.Prelude.{◌≡◌, ◌+◌, ◌≤◌, length, IfOk};
+ghost use Rattle.std.specs.List.{AllByRecursion};
 ghost use Rattle.event_modes.specs.Rows.{IsStored};
 ghost use Rattle.buffer_state.specs.State.{size, is_staged, is_queued};
-ghost use Rattle.buffer_state.specs.Slots.{fresh, roomed, grown, put};
+ghost use Rattle.buffer_state.specs.Steps.{greatest_size};
+ghost use Rattle.buffer_state.specs.Slots.{fresh, grown, put};
 
+use crate::content::Content;
 use event_modes::Entries;
 use std::alloc::{AllocError, Allocator};
 use std::marker::Model;
@@ -21,31 +23,24 @@ pub enum Stage {
     Claimed,
 }
 
-/// A live chunk: stored entries of one tag.
+/// A live chunk: stored entries of one tag. It knows how many they are and how many bytes they have, and hasn't the bytes.
 #[derive(Drop)]
 pub struct Chunk<A: Allocator> {
     tag: Vec<u8, A>,
-    // the entries, one after another, and how many they are
-    bytes: Vec<u8, A>,
     count: usize,
-    // how many bytes more find room
-    room: usize,
+    size: usize,
+    content: Content<A>,
     stage: Stage,
 }
 
 impl<A: Allocator> Model for Chunk<A> {
-    ghost use Rattle.std.specs.Prelude.{◌+◌, ◌≤◌, vec_len, vec_capacity};
-    ghost use Rattle.event_modes.specs.Rows.{items_of, AreStored};
-    ghost use Rattle.buffer_state.specs.Slots.{Slot};
+    ghost use Rattle.buffer_state.specs.Slots.{Slot, AreKept};
 
     ghost Value = { Slot };
 
-    ghost view = { λ c. record {
-      chunk = record { tag = c.tag.items; entries = items_of c.count c.bytes.items; stage = c.stage };
-      room = c.room;
-    } };
+    ghost view = { λ c. record { chunk = record { tag = c.tag.items; entries = c.content; stage = c.stage } } };
 
-    ghost invariant = { λ c. AreStored c.count c.bytes.items × (vec_len c.bytes + c.room ≤ vec_capacity c.bytes) };
+    ghost invariant = { λ c. AreKept c.count c.size c.content };
 }
 
 impl<A: Allocator> Chunk<A> {
@@ -81,7 +76,7 @@ impl<A: Allocator> Chunk<A> {
     pub fn size(&self) -> usize
         ensures { result ≡ size self.now.chunk.entries }
     {
-        self.bytes.len()
+        self.size
     }
 
     /// How many entries it has.
@@ -91,58 +86,21 @@ impl<A: Allocator> Chunk<A> {
         self.count
     }
 
-    /// Its entries, one after another.
-    pub fn as_bytes(&self) -> &[u8]
-        ensures all { result.now ≡ concat self.now.chunk.entries }
-        ensures stored { AllByRecursion IsStored self.now.chunk.entries }
+    /// Each of its entries is one that can be stored. The call does nothing: it stands for a theorem.
+    pub fn stays_stored(&self)
+        ensures { AllByRecursion IsStored self.now.chunk.entries }
     {
-        self.bytes.as_slice()
+        let _content = &self.content;
     }
 
-    /// Whether it has this tag and these entries.
-    pub fn has<B: Allocator>(&self, tag: &[u8], entries: &Entries<B>) -> bool
-        ensures { IsTrue result ↔ ((self.now.chunk.tag ≡ tag.now) × (self.now.chunk.entries ≡ entries.now)) }
-    {
-        self.tag() == tag && self.has_entries(entries)
-    }
-
-    fn has_entries<B: Allocator>(&self, entries: &Entries<B>) -> bool
-        ensures { IsTrue result ↔ (self.now.chunk.entries ≡ entries.now) }
-    {
-        self.count() == entries.count() && self.as_bytes() == entries.as_bytes()
-    }
-
-    /// A copy of its entries.
-    pub fn copied(&self, alloc: A) -> Result<Entries<A>, AllocError>
-        ensures { IfOk result (λ entries. entries ≡ self.now.chunk.entries) }
-    {
-        let Some(entries) = Entries::read(alloc, self.as_bytes(), self.count())? else {
-            unreachable!();
-        };
-        Ok(entries)
-    }
-
-    /// Makes room for so many bytes more. An `Err` changes nothing.
-    pub(crate) fn reserve(&mut self, more: usize) -> Result<(), AllocError>
-        ensures ok { OnOk result (self.new ≡ roomed more self.old) }
-        ensures err { OnErr result (self.new ≡ self.old) }
-    {
-        self.bytes.reserve(more)?;
-        self.room = more;
-        Ok(())
-    }
-
-    /// Adds entries behind the others, for which there is room.
-    pub(crate) fn grow<B: Allocator>(&mut self, entries: &Entries<B>)
-        requires room { size entries.now ≤ self.old.room }
+    /// Adds entries behind the others.
+    pub(crate) fn grow(&mut self, entries: &Entries<A>)
+        requires small { size self.old.chunk.entries + size entries.now ≤ greatest_size }
         ensures { self.new ≡ grown entries.now self.old }
     {
-        let added = self.bytes.extend_from_slice(entries.as_bytes());
-        if added.is_err() {
-            unreachable!();
-        }
+        self.size += entries.as_bytes().len();
         self.count += entries.count();
-        self.room = 0;
+        self.content = self.content.then(entries);
     }
 
     /// Puts it into another stage.
@@ -151,24 +109,17 @@ impl<A: Allocator> Chunk<A> {
     {
         self.stage = stage;
     }
-}
 
-impl<A: Allocator + Copy> Chunk<A> {
     /// A staged chunk of these entries.
-    pub(crate) fn new<B: Allocator>(
-        alloc: A,
-        tag: &[u8],
-        entries: &Entries<B>,
-    ) -> Result<Self, AllocError>
+    pub(crate) fn new(alloc: A, tag: &[u8], entries: &Entries<A>) -> Result<Self, AllocError>
         ensures { IfOk result (λ chunk. chunk ≡ fresh tag.now entries.now) }
     {
         let tag = Vec::from_slice(alloc, tag)?;
-        let bytes = Vec::from_slice(alloc, entries.as_bytes())?;
         Ok(Chunk {
             tag,
-            bytes,
             count: entries.count(),
-            room: 0,
+            size: entries.as_bytes().len(),
+            content: Content::of(entries),
             stage: Stage::Staged,
         })
     }

@@ -10,7 +10,7 @@ ghost use Rattle.std.specs.BTreeSet.{contains};
 ghost use Rattle.std.specs.VecDeque.{deque_len, deque_capacity};
 ghost use Rattle.buffer_state.specs.State.{State, empty, chunk_at, size, size_at, total_size, is_queued, IsAt, IsStagedOf};
 ghost use Rattle.buffer_state.specs.Steps.{CanAppend, planned, appended, queued_last, claimed, removed, settled, taken_back, oldest, first_of, greatest_size, place_within};
-ghost use Rattle.buffer_state.specs.Slots.{changed_at, chunks_in, roomed, slot_size, AreBelow};
+ghost use Rattle.buffer_state.specs.Slots.{chunks_in, slot_size, AreBelow};
 ghost use Rattle.buffer_state.specs.Views.{passes_at, IsEndOf};
 ghost use Rattle.buffer_state.specs.declared.chunk.Stage.TheVariants.{Staged, Queued, Claimed};
 
@@ -134,22 +134,32 @@ impl<A: Allocator + Copy> Chunks<A> {
     /// Appends entries at this serial.
     ///
     /// The error is want of memory, and changes nothing.
-    pub fn append<B: Allocator>(
+    pub fn append(
         &mut self,
         serial: u64,
         tag: &[u8],
-        entries: &Entries<B>,
+        entries: &Entries<A>,
     ) -> Result<(), AllocError>
         requires { CanAppend self.old serial tag.now entries.now }
         ensures ok { OnOk result (self.new ≡ appended serial tag.now entries.now self.old) }
         ensures err { OnErr result (self.new ≡ self.old) }
     {
         if serial < self.next {
-            return self.grow(serial, tag, entries);
+            self.grow(serial, entries);
+            return Ok(());
         }
         self.table.add(serial, tag, entries)?;
         self.next = serial + 1;
         Ok(())
+    }
+
+    /// Appends entries to the staged chunk of this serial. It takes no memory.
+    pub fn grow(&mut self, serial: u64, entries: &Entries<A>)
+        requires staged { IsAt Staged self.old serial }
+        requires small { size_at self.old serial + size entries.now ≤ greatest_size }
+        ensures { (tag : List ℕ) → self.new ≡ appended serial tag entries.now self.old }
+    {
+        self.table.grow(serial, entries);
     }
 
     /// Queues the staged chunk of this serial.
@@ -167,23 +177,22 @@ impl<A: Allocator + Copy> Chunks<A> {
         Ok(())
     }
 
-    /// Makes all the room for a step on the staged chunk of this serial: to queue it, or to append so many bytes of entries to it.
+    /// Makes all the room that queueing the staged chunk of this serial takes.
     ///
     /// The error is want of memory, and hands the chunks back.
-    pub fn ready(self, serial: u64, more: usize) -> Result<Ready<A>, Chunks<A>>
+    pub fn ready(self, serial: u64) -> Result<Ready<A>, Chunks<A>>
         requires { IsAt Staged self serial }
         ensures ok { IfOk result (λ ready. (ready.state ≡ self) × (ready.serial ≡ serial)) }
-        ensures room { IfOk result (λ ready. ready.room ≡ more) }
         ensures err { IfErr result (λ chunks. chunks ≡ self) }
     {
         let Chunks {
             alloc,
-            mut table,
+            table,
             mut waiting,
             mut queue,
             next,
         } = self;
-        if make_room(&mut table, &mut waiting, &mut queue, serial, more).is_err() {
+        if make_room(&mut waiting, &mut queue, serial).is_err() {
             return Err(Chunks {
                 alloc,
                 table,
@@ -307,26 +316,9 @@ impl<A: Allocator + Copy> Chunks<A> {
             None => 0,
         }
     }
-
-    // Appends entries to a chunk that is there.
-    fn grow<B: Allocator>(
-        &mut self,
-        serial: u64,
-        tag: &[u8],
-        entries: &Entries<B>,
-    ) -> Result<(), AllocError>
-        requires can { CanAppend self.old serial tag.now entries.now }
-        requires there { serial < self.old.next }
-        ensures ok { OnOk result (self.new ≡ appended serial tag.now entries.now self.old) }
-        ensures err { OnErr result (self.new ≡ self.old) }
-    {
-        self.table.reserve(serial, entries.as_bytes().len())?;
-        self.table.grow(serial, entries);
-        Ok(())
-    }
 }
 
-/// Chunks with all the room for a step on one of them, which is staged. The step isn't done yet, and can't fail.
+/// Chunks with all the room to queue one of them, which is staged. It isn't queued yet, and that can't fail.
 #[derive(Drop)]
 pub struct Ready<A: Allocator> {
     alloc: A,
@@ -343,10 +335,9 @@ impl<A: Allocator> Model for Ready<A> {
 
     ghost Value = { Readied };
 
-    ghost use Rattle.buffer_state.specs.Slots.{room_at};
     ghost use Rattle.buffer_state.specs.Views.{state_of, IsReady};
 
-    ghost view = { λ r. record { state = state_of r.table r.queue.items r.next; serial = r.serial; room = room_at r.table r.serial } };
+    ghost view = { λ r. record { state = state_of r.table r.queue.items r.next; serial = r.serial } };
 
     ghost invariant = { λ r. IsReady r.table r.waiting r.queue r.next r.serial };
 }
@@ -375,32 +366,7 @@ impl<A: Allocator + Copy> Ready<A> {
         }
     }
 
-    /// Appends entries to the chunk, for which room was made.
-    pub fn append<B: Allocator>(self, entries: &Entries<B>) -> Chunks<A>
-        requires room { size entries.now ≤ self.room }
-        requires small { size_at self.state self.serial + size entries.now ≤ greatest_size }
-        ensures { (tag : List ℕ) → result ≡ appended self.serial tag entries.now self.state }
-    {
-        let Ready {
-            alloc,
-            mut table,
-            mut waiting,
-            queue,
-            next,
-            serial,
-        } = self;
-        table.grow(serial, entries);
-        let _ = waiting.remove(&serial);
-        Chunks {
-            alloc,
-            table,
-            waiting,
-            queue,
-            next,
-        }
-    }
-
-    /// Leaves the step out.
+    /// Leaves it staged.
     pub fn leave(self) -> Chunks<A>
         ensures { result ≡ self.state }
     {
@@ -423,16 +389,12 @@ impl<A: Allocator + Copy> Ready<A> {
     }
 }
 
-// Makes the room that queueing and growing a chunk take.
+// Makes the room that queueing a chunk takes.
 fn make_room<A: Allocator + Copy>(
-    table: &mut Table<A>,
     waiting: &mut BTreeSet<u64, A>,
     queue: &mut VecDeque<u64, A>,
     serial: u64,
-    more: usize,
 ) -> Result<(), AllocError>
-    ensures table { (table.new ≡ table.old) ⊎ (table.new ≡ changed_at serial (roomed more) table.old) }
-    ensures roomed { OnOk result (table.new ≡ changed_at serial (roomed more) table.old) }
     ensures waits { OnOk result ((other : ℕ) → contains nat_cmp waiting.new other ≡ cond (is_at (nat_cmp serial) other) true (contains nat_cmp waiting.old other)) }
     ensures listed { IsStrictlySortedBy nat_cmp waiting.old.keys → IsStrictlySortedBy nat_cmp waiting.new.keys }
     ensures refused { OnErr result (waiting.new.keys ≡ waiting.old.keys) }
@@ -442,7 +404,6 @@ fn make_room<A: Allocator + Copy>(
     ensures room { OnOk result (deque_len queue.new + length waiting.old.keys + 1 ≤ deque_capacity queue.new) }
 {
     queue.reserve(waiting.len() + 1)?;
-    table.reserve(serial, more)?;
     let _ = waiting.insert(serial)?;
     Ok(())
 }

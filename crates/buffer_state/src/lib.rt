@@ -3,6 +3,7 @@
 
 mod chunk;
 mod chunks;
+mod content;
 mod limits;
 mod live;
 mod table;

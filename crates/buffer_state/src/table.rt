@@ -7,7 +7,7 @@ ghost use Rattle.std.specs.Ordering.{nat_cmp};
 ghost use Rattle.std.specs.BTreeMap.{is_at};
 ghost use Rattle.buffer_state.specs.State.{size, is_staged};
 ghost use Rattle.buffer_state.specs.Steps.{greatest_size};
-ghost use Rattle.buffer_state.specs.Slots.{Slot, slot_at, changed_at, roomed, grown, put, fresh, slot_size, slots_size, staged_in, AreBelow};
+ghost use Rattle.buffer_state.specs.Slots.{Slot, slot_at, changed_at, grown, put, fresh, slot_size, slots_size, staged_in, AreBelow};
 
 use crate::chunk::{Chunk, Stage};
 use crate::tags::TagIndex;
@@ -83,12 +83,7 @@ impl<A: Allocator + Copy> Table<A> {
     }
 
     /// A new chunk, whose serial is above all others. An `Err` changes nothing.
-    pub fn add<B: Allocator>(
-        &mut self,
-        serial: u64,
-        tag: &[u8],
-        entries: &Entries<B>,
-    ) -> Result<(), AllocError>
+    pub fn add(&mut self, serial: u64, tag: &[u8], entries: &Entries<A>) -> Result<(), AllocError>
         requires last { AreBelow serial (keys_of self.old) }
         requires small { size entries.now ≤ greatest_size }
         ensures ok { OnOk result (self.new ≡ self.old ++ (serial, fresh tag.now entries.now) ∷ []) }
@@ -119,21 +114,9 @@ impl<A: Allocator + Copy> Table<A> {
         }
     }
 
-    /// Makes room in a chunk for so many bytes more. An `Err` changes nothing.
-    pub fn reserve(&mut self, serial: u64, more: usize) -> Result<(), AllocError>
-        ensures ok { OnOk result (self.new ≡ changed_at serial (roomed more) self.old) }
-        ensures err { OnErr result (self.new ≡ self.old) }
-    {
-        let Some(chunk) = self.chunks.get_mut(&serial) else {
-            return Ok(());
-        };
-        chunk.reserve(more)?;
-        Ok(())
-    }
-
-    /// Adds entries to a chunk that has room for them.
-    pub fn grow<B: Allocator>(&mut self, serial: u64, entries: &Entries<B>)
-        requires ready { IsSomeAnd (slot_at self.old serial) (λ slot. (size entries.now ≤ slot.room) × (slot_size slot + size entries.now ≤ greatest_size)) }
+    /// Adds entries to a chunk.
+    pub fn grow(&mut self, serial: u64, entries: &Entries<A>)
+        requires small { IsSomeAnd (slot_at self.old serial) (λ slot. slot_size slot + size entries.now ≤ greatest_size) }
         ensures { self.new ≡ changed_at serial (grown entries.now) self.old }
     {
         let Some(chunk) = self.chunks.get_mut(&serial) else {

@@ -4,3 +4,4 @@ pub mod Logs
 pub mod Told
 pub mod Plans
 pub mod Lasting
+pub mod Bodies

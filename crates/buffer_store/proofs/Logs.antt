@@ -1,6 +1,6 @@
 -- One record more in the journal of a buffer.
 use Rattle.std.proofs.Common.{◌≡◌, ◌≢◌, ⊎_elim, inl, inr, ℕ, ◌≤◌, ◌||◌, Bool, true, false, List, refl, sym, ap, subst, ◌∙◌, arith}
-use Rattle.std.specs.Prelude.{Result, Ok, Err, OnOk, OnErr, is_err}
+use Rattle.std.specs.Prelude.{Result, Ok, Err, Vec, OnOk, OnErr, is_err}
 use Rattle.std.proofs.lemmas.Bool.{true≢false}
 use Rattle.disk_files.specs.Disk.{Disk, SameDisk}
 use Rattle.disk_files.specs.Moments.{History, Elapses, LeavesOnly, now}
@@ -15,34 +15,25 @@ use Rattle.journal_files.specs.Tellings.{Telling, IsTelling, OpensWithin, begun,
 use Rattle.journal_files.specs.Views.{OpenJournal, IsReady}
 use Rattle.journal_files.specs.Disks.{Keeps, Recovers, HasNoStray}
 use Rattle.journal_files.specs.Faults.{HasReason}
+use Rattle.journal_files.specs.declared.error.ReadError.{ReadError}
+use Rattle.journal_files.specs.declared.error.ReadError.TheVariants as read
 use Rattle.journal_files.proofs.Recovery.{recovers}
 use Rattle.journal_files.proofs.Strays.{kept_no_stray}
 use Rattle.journal_files.proofs.Steps.{more_steps, telling_begun}
 use Rattle.journal_files.proofs.OpeningMoments.{quiet}
-use Rattle.buffer_store.specs.Logs.{Logged, KeepsNow, Writes, Syncs, is_append}
+use Rattle.buffer_store.specs.Logs.{Logged, KeepsNow, Reads, Writes, Syncs, is_append}
+use Rattle.buffer_store.specs.Refusals.{of_read}
 use Rattle.buffer_store.specs.declared.fault.BufferFault.{BufferFault}
 use Rattle.buffer_store.specs.declared.fault.BufferFault.TheVariants as fault
 
--- what a journal keeps turns on where it is and on what its disk has
-pub keeps_same : (journal other : OpenJournal) (disk new : Disk) (t : Telling) → other.path ≡ journal.path → other.number ≡ journal.number → other.len ≡ journal.len → SameDisk new disk → Keeps journal disk t → Keeps other new t
-keeps_same journal other disk new t path number len same keeps = record {
-  telling = keeps.telling;
-  first = rw number keeps.first;
-  last = rw number keeps.last;
-  synced = keeps.synced;
-  there = rw (path, number) (same _ ∙ keeps.there);
-  holds = keeps.holds;
-  fits = keeps.fits;
-  counted = len ∙ keeps.counted;
-  newest = λ n lt small. rw path (same _ ∙ keeps.newest n (rw number at lt) small);
-}
-
--- the record was made ready: nothing else changed
+-- the record was made ready: what was told stays
 pub record IsReadied {D : Type 0} (is_honest : D → Type 0) (history : D → History) (fault_count : D → ℕ) (old mid : Logged D) : Type 0 where
   pub failed : mid.failed ≡ old.failed
   pub staged : mid.staged ≡ old.staged
   pub start : mid.start ≡ old.start
-  pub journal : mid.journal ≡ record old.journal { ready = mid.journal.ready }
+  pub path : mid.journal.path ≡ old.journal.path
+  pub number : mid.journal.number ≡ old.journal.number
+  pub keeps : is_honest old.dir → (t : Telling) → KeepsNow history old t → KeepsNow history mid t
   pub honest : is_honest old.dir → is_honest mid.dir
   pub time : is_honest old.dir → Elapses (history old.dir) (history mid.dir)
   pub same : is_honest old.dir → SameDisk (now (history mid.dir)) (now (history old.dir))
@@ -92,16 +83,48 @@ reason_none before after e not same = record { later = omega (arith, same); pass
 pub reason_ok : {T : Type 0} (before after : ℕ) (x : T) → after ≡ before → HasReason {T = T} {E = BufferFault} before after (Ok x) fault.Fault
 reason_ok before after x same = record { later = omega (arith, same); passed = same; failed = λ q. absurd (cc q); others = λ _. same }
 
+-- a read that was refused
+module _ {D A : Type 0} (is_honest : D → Type 0) (history : D → History) (fault_count : D → ℕ) (old new : Logged D) (serial : ℕ) (rest : new ≡ record old { dir = new.dir }) (honest : is_honest old.dir → is_honest new.dir)
+    (time : is_honest old.dir → Elapses (history old.dir) (history new.dir)) (same : is_honest old.dir → SameDisk (now (history new.dir)) (now (history old.dir))) where
+  refused_so : (e : ReadError) → HasReason {T = Vec ℕ A} (fault_count old.dir) (fault_count new.dir) (Err e) read.Fault
+      → (is_honest old.dir → (t : Telling) → KeepsNow history old t → e ≢ read.Short) → Reads {A = A} is_honest history fault_count old new serial (Err (of_read e))
+  refused_so read.Memory cause whole = record {
+    rest = rest;
+    only = inl refl;
+    honest = honest;
+    time = time;
+    same = same;
+    cause = reason_none (fault_count old.dir) (fault_count new.dir) fault.Memory (λ q. cc q) (cause.others (λ q. cc q));
+    bytes = λ h t keeps. tt;
+    whole = λ h t keeps q. absurd (cc q);
+  }
+  refused_so read.Fault cause whole = record {
+    rest = rest;
+    only = inr (inl refl);
+    honest = honest;
+    time = time;
+    same = same;
+    cause = reason_fault (fault_count old.dir) (fault_count new.dir) cause.later (cause.failed refl);
+    bytes = λ h t keeps. tt;
+    whole = λ h t keeps q. absurd (cc q);
+  }
+  refused_so read.Short cause whole = record {
+    rest = rest;
+    only = inr (inr refl);
+    honest = honest;
+    time = time;
+    same = same;
+    cause = reason_none (fault_count old.dir) (fault_count new.dir) fault.Damaged (λ q. cc q) (cause.others (λ q. cc q));
+    bytes = λ h t keeps. tt;
+    whole = λ h t keeps q. whole h t keeps refl;
+  }
+
+  pub reads_refused : (r : Result (Vec ℕ A) ReadError) (e : ReadError) → r ≡ Err e → HasReason (fault_count old.dir) (fault_count new.dir) r read.Fault
+      → (is_honest old.dir → (t : Telling) → KeepsNow history old t → r ≢ Err read.Short) → (result : Result (Vec ℕ A) BufferFault) → result ≡ Err (of_read e) → Reads is_honest history fault_count old new serial result
+  reads_refused r e is cause whole result answer = subst (Reads is_honest history fault_count old new serial) (sym answer)
+      (refused_so e (subst (λ (x : Result (Vec ℕ A) ReadError). HasReason (fault_count old.dir) (fault_count new.dir) x read.Fault) is cause) (λ h t keeps q. whole h t keeps (is ∙ ap (λ (f : ReadError). Err f) q)))
+
 module _ {D : Type 0} (is_honest : D → Type 0) (history : D → History) (fault_count : D → ℕ) (old mid : Logged D) (ready : IsReadied is_honest history fault_count old mid) (item : Record) where
-  path_mid : mid.journal.path ≡ old.journal.path
-  path_mid = ap (λ (j : OpenJournal). j.path) ready.journal
-
-  number_mid : mid.journal.number ≡ old.journal.number
-  number_mid = ap (λ (j : OpenJournal). j.number) ready.journal
-
-  keeps_mid : is_honest old.dir → (t : Telling) → KeepsNow history old t → KeepsNow history mid t
-  keeps_mid honest t keeps = keeps_same old.journal mid.journal (now (history old.dir)) (now (history mid.dir)) t path_mid number_mid (ap (λ (j : OpenJournal). j.len) ready.journal) (ready.same honest) keeps
-
   quiet_mid : is_honest old.dir → (t : Telling) → KeepsNow history old t → LeavesOnly (history old.dir) (history mid.dir) (OpensWithin old.journal.path t)
   quiet_mid honest t keeps = quiet old.journal.path t (history old.dir) (history mid.dir) (recovers old.journal (now (history old.dir)) t keeps) (ready.time honest) (ready.same honest)
 
@@ -116,15 +139,15 @@ module _ {D : Type 0} (is_honest : D → Type 0) (history : D → History) (faul
     flags = record { fails = λ q. absurd (cc q); stays = λ _. ready.failed };
     kept = ready.staged;
     staged = tt;
-    path = path_mid;
-    number = number_mid;
+    path = ready.path;
+    number = ready.number;
     start = ready.start;
     honest = ready.honest;
     elsewhere = λ honest name differs. ready.same honest name;
     untouched = λ honest no. ready.same honest;
     cause = reason_none (fault_count old.dir) (fault_count mid.dir) fault.Memory (λ q. cc q) ready.count;
     done = λ honest t keeps allowed. tt;
-    refused = λ honest t keeps no. keeps_mid honest t keeps;
+    refused = λ honest t keeps no. ready.keeps honest t keeps;
     recovers = λ honest t keeps allowed q. absurd (cc q);
     could = λ honest t keeps allowed q. absurd (cc q);
     stray = λ honest t keeps allowed q. absurd (cc q);
@@ -135,25 +158,25 @@ module _ {D : Type 0} (is_honest : D → Type 0) (history : D → History) (faul
   -- it was begun
   module _ (new : Logged D) (put : Result (Unit {0}) DirError) (puts : Puts is_honest history fault_count mid new item put) where
     path_new : new.journal.path ≡ old.journal.path
-    path_new = puts.path ∙ path_mid
+    path_new = puts.path ∙ ready.path
 
     number_new : new.journal.number ≡ old.journal.number
-    number_new = puts.number ∙ number_mid
+    number_new = puts.number ∙ ready.number
 
     could_new : (t : Telling) → KeepsNow history old t → Allows (state_of t) item → IsTelling (begun item t)
-    could_new t keeps allowed = telling_begun item t keeps.telling puts.ready.0 allowed
+    could_new t keeps allowed = telling_begun item t keeps.telling puts.ready.can allowed
 
     elsewhere_new : is_honest old.dir → (name : List ℕ) → name ≢ journal_name old.journal.path old.journal.number → now (history new.dir) name ≡ now (history old.dir) name
     elsewhere_new honest name differs =
-        puts.elsewhere (ready.honest honest) name (λ e. differs (e ∙ ap (λ (p : List ℕ). journal_name p mid.journal.number) path_mid ∙ ap (journal_name old.journal.path) number_mid)) ∙ ready.same honest name
+        puts.elsewhere (ready.honest honest) name (λ e. differs (e ∙ ap (λ (p : List ℕ). journal_name p mid.journal.number) ready.path ∙ ap (journal_name old.journal.path) ready.number)) ∙ ready.same honest name
 
     moments_new : is_honest old.dir → (t : Telling) → KeepsNow history old t → Allows (state_of t) item → LeavesOnly (history old.dir) (history new.dir) (OpensWithin old.journal.path (begun item t))
     moments_new honest t keeps allowed =
         joined (history old.dir) (history mid.dir) (history new.dir) (OpensWithin old.journal.path (begun item t)) (more_mid honest t keeps)
-        (subst (λ (p : List ℕ). LeavesOnly (history mid.dir) (history new.dir) (OpensWithin p (begun item t))) path_mid (puts.moments (ready.honest honest) t item (keeps_mid honest t keeps) puts.ready allowed))
+        (subst (λ (p : List ℕ). LeavesOnly (history mid.dir) (history new.dir) (OpensWithin p (begun item t))) ready.path (puts.moments (ready.honest honest) t item (ready.keeps honest t keeps) puts.ready allowed))
 
     stray_new : is_honest old.dir → (t : Telling) → KeepsNow history old t → HasNoStray old.journal.path (now (history new.dir))
-    stray_new honest t keeps = subst (λ (p : List ℕ). HasNoStray p (now (history new.dir))) path_mid (puts.stray (ready.honest honest) t (keeps_mid honest t keeps))
+    stray_new honest t keeps = subst (λ (p : List ℕ). HasNoStray p (now (history new.dir))) ready.path (puts.stray (ready.honest honest) t (ready.keeps honest t keeps))
 
     -- and the device failed
     pub writes_torn : (synced : Bool) → is_err put ≡ true → new.failed ≡ true → new.staged ≡ mid.staged → Writes {T = Unit {0}} is_honest history fault_count old new item synced (Err fault.Fault)
@@ -174,7 +197,7 @@ module _ {D : Type 0} (is_honest : D → Type 0) (history : D → History) (faul
           reason_fault (fault_count old.dir) (fault_count new.dir) (omega (arith, later, same)) (subst (λ (n : ℕ). Rises n (fault_count new.dir)) same up));
       done = λ honest t keeps allowed. tt;
       refused = λ honest t keeps no. absurd (no refl);
-      recovers = λ honest t keeps allowed q. subst (λ (p : List ℕ). Recovers p (now (history new.dir)) (begun item t)) path_mid (err_at put is (puts.err (ready.honest honest) t item (keeps_mid honest t keeps) puts.ready allowed));
+      recovers = λ honest t keeps allowed q. subst (λ (p : List ℕ). Recovers p (now (history new.dir)) (begun item t)) ready.path (err_at put is (puts.err (ready.honest honest) t item (ready.keeps honest t keeps) puts.ready allowed));
       could = λ honest t keeps allowed q. could_new t keeps allowed;
       stray = λ honest t keeps allowed q. stray_new honest t keeps;
       moments = moments_new;
@@ -182,7 +205,7 @@ module _ {D : Type 0} (is_honest : D → Type 0) (history : D → History) (faul
     }
 
     keeps_new : is_err put ≡ false → is_honest old.dir → (t : Telling) → KeepsNow history old t → Allows (state_of t) item → KeepsNow history new (begun item t)
-    keeps_new is honest t keeps allowed = ok_at put is (puts.ok (ready.honest honest) t item (keeps_mid honest t keeps) puts.ready allowed)
+    keeps_new is honest t keeps allowed = ok_at put is (puts.ok (ready.honest honest) t item (ready.keeps honest t keeps) puts.ready allowed)
 
     same_new : is_err put ≡ false → fault_count new.dir ≡ fault_count old.dir
     same_new is = same_at (fault_count mid.dir) (fault_count new.dir) put puts.cause is ∙ ready.count
@@ -280,4 +303,4 @@ pub writes_none : {D : Type 0} (is_honest : D → Type 0) (history : D → Histo
     → Writes is_honest history fault_count log log item synced result
 writes_none is_honest history fault_count log item synced result is =
     writes_memory is_honest history fault_count log log
-    (record { failed = refl; staged = refl; start = refl; journal = refl; honest = λ h. h; time = λ h. elapses_none (history log.dir); same = λ h name. refl; count = refl }) item synced result is
+    (record { failed = refl; staged = refl; start = refl; path = refl; number = refl; keeps = λ h t keeps. keeps; honest = λ h. h; time = λ h. elapses_none (history log.dir); same = λ h name. refl; count = refl }) item synced result is

@@ -63,7 +63,7 @@ module _ {D : Type 0} (is_honest : D → Type 0) (history : D → History) (faul
       path = refl;
       start = refl;
       honest = λ h. h;
-      untouched = λ h no name. refl;
+      untouched = λ h no torn name. refl;
       cause = reason_none (fault_count b.dir) (fault_count b.dir) e not refl;
     };
     number = refl;
@@ -145,7 +145,7 @@ module _ {D : Type 0} (is_honest : D → Type 0) (history : D → History) (faul
         path = w.path;
         start = w.start;
         honest = w.honest;
-        untouched = w.untouched;
+        untouched = λ honest no torn. w.untouched honest no;
         cause = w.cause;
       };
       number = w.number;
@@ -239,7 +239,7 @@ module _ {D T : Type 0} (is_honest : D → Type 0) (history : D → History) (fa
   durable_failed : Stays {T = T} is_honest history fault_count old new (Err fault.Failed) → old.failed ≡ true → IsDurable is_honest history old → IsDurable is_honest history new
   durable_failed stays before durable =
       let ne : refusing T fault.Failed ≢ Err fault.Fault = λ q. cc q in
-      let disk : SameDisk (now (history new.dir)) (now (history old.dir)) = stays.untouched durable.honest ne in
+      let disk : SameDisk (now (history new.dir)) (now (history old.dir)) = stays.untouched durable.honest ne (λ q. cc q) in
       let flag : new.failed ≡ true = stays.flags.stays ne ∙ before in
       let k = durable.failed before in
       record {
@@ -370,7 +370,7 @@ module _ {D : Type 0} (is_honest : D → Type 0) (history : D → History) (faul
       path = ap (λ (j : OpenJournal). j.path) s.journal;
       start = s.start;
       honest = s.honest;
-      untouched = λ honest no. untouched _ result s.only no;
+      untouched = λ honest no torn. untouched _ result s.only no;
       cause = s.cause;
     };
     number = ap (λ (j : OpenJournal). j.number) s.journal;
@@ -439,16 +439,17 @@ module _ {D : Type 0} (is_honest : D → Type 0) (history : D → History) (faul
       on_err (Ok x) p = tt
       on_err (Err e) p = p
 
-      by : (r : Result (Unit {0}) BufferFault) → OnErr r ((r ≡ Err fault.LastSerial) ⊎ ((r ≡ Err fault.Memory) ⊎ (r ≡ Err fault.Fault))) → r ≡ Err fault.Failed → ⊥
+      by : (r : Result (Unit {0}) BufferFault) → OnErr r ((r ≡ Err fault.LastSerial) ⊎ ((r ≡ Err fault.Memory) ⊎ ((r ≡ Err fault.Fault) ⊎ (r ≡ Err fault.Damaged)))) → r ≡ Err fault.Failed → ⊥
       by (Ok x) only q = cc q
       by (Err e) (inl m) q = cc (m, q)
       by (Err e) (inr (inl m)) q = cc (m, q)
-      by (Err e) (inr (inr m)) q = cc (m, q)
+      by (Err e) (inr (inr (inl m))) q = cc (m, q)
+      by (Err e) (inr (inr (inr m))) q = cc (m, q)
 
   pub renews_begins : (result : Result (Unit {0}) BufferFault) → Renews is_honest history fault_count log next chunks result → is_honest log.dir
       → Begins history (held_of log chunks settings) (held_of next chunks settings) None (λ _. opening chunks) result
   renews_begins (Ok x) s honest = record {
-    done = λ t holds. record { keeps = s.done honest t holds.keeps; means = s.starts };
+    done = λ t holds. record { keeps = s.done honest t holds.keeps holds.means; means = s.starts };
     refused = λ t holds no. tt;
     recovers = λ t holds q. absurd (cc q);
     could = λ t holds q. absurd (cc q);
@@ -458,7 +459,7 @@ module _ {D : Type 0} (is_honest : D → Type 0) (history : D → History) (faul
   }
   renews_begins (Err e) s honest = record {
     done = λ t holds. tt;
-    refused = λ t holds no. record { keeps = s.refused honest t holds.keeps no; means = holds.means };
+    refused = λ t holds no. record { keeps = s.refused honest t holds.keeps holds.means no; means = holds.means };
     recovers = λ t holds q. s.recovers honest t holds.keeps holds.means q;
     could = λ t holds q. holds.keeps.telling;
     stray = λ t holds q. s.stray honest t holds.keeps;

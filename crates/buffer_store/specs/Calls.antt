@@ -15,7 +15,7 @@ pub record Flags {T : Type 0} (old new : Bool) (result : Result T BufferFault) :
   pub fails : result ≡ Err BufferFault.Fault → new ≡ true
   pub stays : result ≢ Err BufferFault.Fault → new ≡ old
 
--- What each call that writes leaves alone. A refusal keeps the chunks, and but for a fault the folder too; a buffer that the device failed before refuses the call.
+-- What each call that writes leaves alone. A refusal keeps the chunks, and but for a fault or damage the folder too; a buffer that the device failed before refuses the call.
 pub record Stays {D T : Type 0} (is_honest : D → Type 0) (history : D → History) (fault_count : D → ℕ) (old new : Held D) (result : Result T BufferFault) : Type 0 where
   pub err : OnErr result (new.chunks ≡ old.chunks)
   pub failed : (result ≡ Err BufferFault.Failed) ↔ (old.failed ≡ true)
@@ -26,7 +26,7 @@ pub record Stays {D T : Type 0} (is_honest : D → Type 0) (history : D → Hist
   pub path : new.journal.path ≡ old.journal.path
   pub start : new.start ≡ old.start
   pub honest : is_honest old.dir → is_honest new.dir
-  pub untouched : is_honest old.dir → result ≢ Err BufferFault.Fault → OnErr result (SameDisk (now (history new.dir)) (now (history old.dir)))
+  pub untouched : is_honest old.dir → result ≢ Err BufferFault.Fault → result ≢ Err BufferFault.Damaged → OnErr result (SameDisk (now (history new.dir)) (now (history old.dir)))
   pub cause : HasReason (fault_count old.dir) (fault_count new.dir) result BufferFault.Fault
 
 -- the same of a call that stays within the generation: it keeps the files of all other names too

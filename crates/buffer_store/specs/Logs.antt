@@ -1,11 +1,12 @@
 -- The journal of a buffer in its folder, and what one record more makes of it. (Words of private functions.)
-use Rattle.std.specs.Prelude.{ℕ, ◌≡◌, ◌≢◌, ◌⊎◌, ◌↔◌, ◌≤◌, ◌+◌, ◌^◌, ◌||◌, Bool, true, false, cond, List, Option, None, Result, OnOk, OnErr, Err}
+use Rattle.std.specs.Prelude.{ℕ, ◌≡◌, ◌≢◌, ◌⊎◌, ◌↔◌, ◌≤◌, ◌+◌, ◌^◌, ◌||◌, Bool, true, false, cond, List, Option, None, Result, Vec, IfOk, OnOk, OnErr, Err}
 use Rattle.disk_files.specs.Disk.{SameDisk, reads}
-use Rattle.disk_files.specs.Moments.{History, LeavesOnly, now}
+use Rattle.disk_files.specs.Moments.{History, Elapses, LeavesOnly, now}
 use Rattle.disk_files.specs.declared.dir.FileNo.{FileNo}
 use Rattle.buffer_state.specs.Steps.{settled, reopened}
 use Rattle.chunk_journal.specs.Records.{Record, Seal, Append, Queue, Purge}
 use Rattle.chunk_journal.specs.Meaning.{Allows}
+use Rattle.chunk_journal.specs.Places.{entries_at}
 use Rattle.journal_files.specs.Folders.{journal_name}
 use Rattle.journal_files.specs.Tellings.{Telling, IsTelling, OpensWithin, begun, all_sure, opening, state_of}
 use Rattle.journal_files.specs.Views.{OpenJournal, IsOpenIn}
@@ -53,6 +54,17 @@ is_append (Purge serial) = false
 abbrev pub KeepsNow : {D : Type 0} → (D → History) → Logged D → Telling → Type 0
 KeepsNow history log t = Keeps log.journal (now (history log.dir)) t
 
+-- The bytes of the entries of this chunk are read. Nothing but time changes.
+pub record Reads {D A : Type 0} (is_honest : D → Type 0) (history : D → History) (fault_count : D → ℕ) (old new : Logged D) (serial : ℕ) (result : Result (Vec ℕ A) BufferFault) : Type 0 where
+  pub rest : new ≡ record old { dir = new.dir }
+  pub only : OnErr result ((result ≡ Err BufferFault.Memory) ⊎ ((result ≡ Err BufferFault.Fault) ⊎ (result ≡ Err BufferFault.Damaged)))
+  pub honest : is_honest old.dir → is_honest new.dir
+  pub time : is_honest old.dir → Elapses (history old.dir) (history new.dir)
+  pub same : is_honest old.dir → SameDisk (now (history new.dir)) (now (history old.dir))
+  pub cause : HasReason (fault_count old.dir) (fault_count new.dir) result BufferFault.Fault
+  pub bytes : is_honest old.dir → (t : Telling) → KeepsNow history old t → IfOk result (λ bytes. bytes.items ≡ entries_at (state_of t) serial)
+  pub whole : is_honest old.dir → (t : Telling) → KeepsNow history old t → result ≢ Err BufferFault.Damaged
+
 -- One record more is told, and synced or not. The error is want of memory or the device's fault.
 pub record Writes {D T : Type 0} (is_honest : D → Type 0) (history : D → History) (fault_count : D → ℕ) (old new : Logged D) (item : Record) (synced : Bool) (result : Result T BufferFault) : Type 0 where
   pub only : OnErr result ((result ≡ Err BufferFault.Memory) ⊎ (result ≡ Err BufferFault.Fault))
@@ -94,7 +106,7 @@ pub record Syncs {D T : Type 0} (is_honest : D → Type 0) (history : D → Hist
 
 -- The journal goes on in a new generation that tells these chunks.
 pub record Renews {D T : Type 0} (is_honest : D → Type 0) (history : D → History) (fault_count : D → ℕ) (old new : Logged D) (chunks : State) (result : Result T BufferFault) : Type 0 where
-  pub only : OnErr result ((result ≡ Err BufferFault.LastSerial) ⊎ ((result ≡ Err BufferFault.Memory) ⊎ (result ≡ Err BufferFault.Fault)))
+  pub only : OnErr result ((result ≡ Err BufferFault.LastSerial) ⊎ ((result ≡ Err BufferFault.Memory) ⊎ ((result ≡ Err BufferFault.Fault) ⊎ (result ≡ Err BufferFault.Damaged))))
   pub last : (result ≡ Err BufferFault.LastSerial) ↔ (2 ^ 32 ≤ old.journal.number + 1)
   pub flags : Flags old.failed new.failed result
   pub kept : OnErr result (new.staged ≡ old.staged)
@@ -105,14 +117,15 @@ pub record Renews {D T : Type 0} (is_honest : D → Type 0) (history : D → His
   pub honest : is_honest old.dir → is_honest new.dir
   pub elsewhere : is_honest old.dir → (name : List ℕ) → name ≢ journal_name old.journal.path old.journal.number → name ≢ journal_name old.journal.path (old.journal.number + 1)
       → now (history new.dir) name ≡ now (history old.dir) name
-  pub untouched : is_honest old.dir → result ≢ Err BufferFault.Fault → OnErr result (SameDisk (now (history new.dir)) (now (history old.dir)))
+  pub untouched : is_honest old.dir → result ≢ Err BufferFault.Fault → result ≢ Err BufferFault.Damaged → OnErr result (SameDisk (now (history new.dir)) (now (history old.dir)))
   pub cause : HasReason (fault_count old.dir) (fault_count new.dir) result BufferFault.Fault
   pub gone : is_honest old.dir → OnOk result (reads (now (history new.dir)) (journal_name old.journal.path old.journal.number) ≡ None)
   pub starts : OnOk result (settled (state_of (opening chunks)) ≡ reopened chunks)
-  pub done : is_honest old.dir → (t : Telling) → KeepsNow history old t → OnOk result (KeepsNow history new (opening chunks))
-  pub refused : is_honest old.dir → (t : Telling) → KeepsNow history old t → result ≢ Err BufferFault.Fault → OnErr result (KeepsNow history new t)
+  pub done : is_honest old.dir → (t : Telling) → KeepsNow history old t → settled (state_of t) ≡ reopened chunks → OnOk result (KeepsNow history new (opening chunks))
+  pub refused : is_honest old.dir → (t : Telling) → KeepsNow history old t → settled (state_of t) ≡ reopened chunks → result ≢ Err BufferFault.Fault → OnErr result (KeepsNow history new t)
   pub recovers : is_honest old.dir → (t : Telling) → KeepsNow history old t → settled (state_of t) ≡ reopened chunks → result ≡ Err BufferFault.Fault
       → Recovers old.journal.path (now (history new.dir)) t
   pub stray : is_honest old.dir → (t : Telling) → KeepsNow history old t → HasNoStray old.journal.path (now (history new.dir))
   pub moments : is_honest old.dir → (t : Telling) → KeepsNow history old t → settled (state_of t) ≡ reopened chunks
       → LeavesOnly (history old.dir) (history new.dir) (OpensWithin old.journal.path t)
+  pub whole : is_honest old.dir → (t : Telling) → KeepsNow history old t → settled (state_of t) ≡ reopened chunks → result ≢ Err BufferFault.Damaged

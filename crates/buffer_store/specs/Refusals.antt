@@ -5,6 +5,8 @@ use Rattle.disk_files.specs.declared.dir.DirError.{DirError}
 use Rattle.disk_files.specs.declared.dir.DirError.TheVariants as dir
 use Rattle.journal_files.specs.declared.error.OpenError.{OpenError}
 use Rattle.journal_files.specs.declared.error.OpenError.TheVariants as opening
+use Rattle.journal_files.specs.declared.error.ReadError.{ReadError}
+use Rattle.journal_files.specs.declared.error.ReadError.TheVariants as reading
 use Rattle.buffer_store.specs.declared.fault.BufferFault.{BufferFault}
 use Rattle.buffer_store.specs.declared.fault.BufferFault.TheVariants as fault
 
@@ -27,3 +29,9 @@ of_opening opening.Memory = fault.Memory
 of_opening opening.Fault = fault.Fault
 of_opening opening.Damaged = fault.Damaged
 of_opening opening.LastGeneration = fault.LastSerial
+
+-- why a chunk's entries aren't read: a journal that hasn't their bytes is damaged
+abbrev pub of_read : ReadError → BufferFault
+of_read reading.Memory = fault.Memory
+of_read reading.Fault = fault.Fault
+of_read reading.Short = fault.Damaged

@@ -1,8 +1,9 @@
 //! A buffer: what it holds, and the calls that write nothing.
 
-ghost use Rattle.std.specs.Prelude.{◌≡◌, ◌≢◌, ◌↔◌, ◌⊎◌, ◌≤◌, ℕ, true, false, Some, None, Ok, Err, IsSomeAnd, IfSome, IfOk, OnOk, OnErr};
+ghost use Rattle.std.specs.Prelude.{◌≡◌, ◌≢◌, ◌↔◌, ◌⊎◌, ◌≤◌, ℕ, true, false, length, Some, None, Ok, Err, IsSomeAnd, IfSome, IfOk, OnOk, OnErr};
 ghost use Rattle.disk_files.specs.Disk.{SameDisk};
 ghost use Rattle.disk_files.specs.Moments.{Elapses, now};
+ghost use Rattle.std.specs.List.{concat};
 ghost use Rattle.std.specs.List.Sorted.{IsStrictlySortedBy};
 ghost use Rattle.std.specs.Map.{keys_of};
 ghost use Rattle.std.specs.Ordering.{nat_cmp};
@@ -19,7 +20,7 @@ ghost use Rattle.buffer_store.specs.declared.fault.BufferFault.{BufferFault};
 use crate::fault::BufferFault;
 use crate::log::Log;
 use crate::settings::Settings;
-use buffer_state::{Chunks, LiveChunks};
+use buffer_state::{Chunk, Chunks, LiveChunks};
 use disk_files::Dir;
 use event_modes::Entries;
 use std::alloc::Allocator;
@@ -61,23 +62,34 @@ impl<D: Dir, A: Allocator + Copy> Buffer<D, A> {
         LiveChunks::of(&self.chunks)
     }
 
-    /// The entries of the live chunk of this serial.
+    /// The entries of the live chunk of this serial, read from the journal.
     ///
-    /// The first of `Gone`, `Memory` and `Fault` that applies: there is no such chunk; or a read failed, which leaves the buffer as it was.
+    /// The first of `Failed`, `Gone`, `Memory`, `Fault` and `Damaged` that applies: the device failed the buffer before; there is no such
+    /// chunk; a read failed; or the journal hasn't the bytes that were told. Each leaves the buffer as it was.
     pub fn body(&mut self, serial: u64) -> Result<Entries<A>, BufferFault>
-        ensures entries { IfOk result (λ entries. IsSomeAnd (chunk_at self.old.chunks serial) (λ chunk. entries ≡ chunk.entries)) }
-        ensures gone { (result ≡ Err BufferFault.Gone) ↔ (chunk_at self.old.chunks serial ≡ None) }
-        ensures only { OnErr result ((result ≡ Err BufferFault.Gone) ⊎ ((result ≡ Err BufferFault.Memory) ⊎ (result ≡ Err BufferFault.Fault))) }
+        ensures entries { BeganWell D.is_honest D.history self.old
+            → IfOk result (λ entries. IsSomeAnd (chunk_at self.old.chunks serial) (λ chunk. entries ≡ chunk.entries)) }
+        // Over whatever folder there are as many as were told.
+        ensures counted { IfOk result (λ entries. IsSomeAnd (chunk_at self.old.chunks serial) (λ chunk. length entries ≡ length chunk.entries)) }
+        ensures failed { (result ≡ Err BufferFault.Failed) ↔ (self.old.failed ≡ true) }
+        ensures gone { (result ≡ Err BufferFault.Gone) ↔ ((self.old.failed ≡ false) × (chunk_at self.old.chunks serial ≡ None)) }
+        ensures undamaged { BeganWell D.is_honest D.history self.old → result ≢ Err BufferFault.Damaged }
+        ensures only { OnErr result ((result ≡ Err BufferFault.Failed) ⊎ ((result ≡ Err BufferFault.Gone) ⊎ ((result ≡ Err BufferFault.Memory)
+            ⊎ ((result ≡ Err BufferFault.Fault) ⊎ (result ≡ Err BufferFault.Damaged))))) }
         ensures rest { self.new ≡ record self.old { dir = self.new.dir } }
         ensures honest { D.is_honest self.old.dir → D.is_honest self.new.dir }
         ensures time { D.is_honest self.old.dir → Elapses (D.history self.old.dir) (D.history self.new.dir) }
         ensures same { D.is_honest self.old.dir → SameDisk (now (D.history self.new.dir)) (now (D.history self.old.dir)) }
         ensures cause { HasReason (D.fault_count self.old.dir) (D.fault_count self.new.dir) result BufferFault.Fault }
     {
-        match self.chunks.chunk(serial) {
-            None => Err(BufferFault::Gone),
-            Some(chunk) => Ok(chunk.copied(self.alloc)?),
+        if self.has_failed() {
+            return Err(BufferFault::Failed);
         }
+        let Some(chunk) = self.chunks.chunk(serial) else {
+            return Err(BufferFault::Gone);
+        };
+        let bytes = self.log.body(self.alloc, serial)?;
+        entries_of(self.alloc, chunk, &bytes)
     }
 
     /// Whether the device failed the buffer, so that it is to be opened again.
@@ -166,5 +178,23 @@ impl<D: Dir, A: Allocator + Copy> Buffer<D, A> {
             settings: _,
         } = self;
         log.into_dir()
+    }
+}
+
+// The entries of the chunk, where these are their bytes.
+fn entries_of<A: Allocator>(
+    alloc: A,
+    chunk: &Chunk<A>,
+    bytes: &[u8],
+) -> Result<Entries<A>, BufferFault>
+    ensures entries { bytes.now ≡ concat chunk.now.chunk.entries → IfOk result (λ entries. entries ≡ chunk.now.chunk.entries) }
+    ensures counted { IfOk result (λ entries. length entries ≡ length chunk.now.chunk.entries) }
+    ensures undamaged { bytes.now ≡ concat chunk.now.chunk.entries → result ≢ Err BufferFault.Damaged }
+    ensures only { OnErr result ((result ≡ Err BufferFault.Memory) ⊎ (result ≡ Err BufferFault.Damaged)) }
+{
+    chunk.stays_stored();
+    match Entries::read(alloc, bytes, chunk.count())? {
+        Some(entries) => Ok(entries),
+        None => Err(BufferFault::Damaged),
     }
 }

@@ -2,7 +2,7 @@
 
 use buffer_state::AppendFault;
 use disk_files::DirError;
-use journal_files::OpenError;
+use journal_files::{OpenError, ReadError};
 use std::alloc::AllocError;
 use thiserror::Error;
 
@@ -18,7 +18,7 @@ pub enum BufferFault {
     /// The chunk isn't in the state that the call needs, or there is none.
     #[error("B3")]
     Gone,
-    /// The device failed in this call. From then on each call that writes answers `Failed`.
+    /// The device failed in this call. Where the call writes, each that comes after it answers `Failed`.
     #[error("B4")]
     Fault,
     /// The device failed before. The buffer is to be opened again.
@@ -27,7 +27,7 @@ pub enum BufferFault {
     /// The serials have run out, or the generations of the journal.
     #[error("B6")]
     LastSerial,
-    /// The journal has something whole that is no record, or that can't stand there.
+    /// The journal has something whole that is no record, or that can't stand there; or it hasn't the bytes that were told.
     #[error("B7")]
     Damaged,
     /// There was no memory.
@@ -87,6 +87,21 @@ impl From<OpenError> for BufferFault {
             OpenError::Fault => BufferFault::Fault,
             OpenError::Damaged => BufferFault::Damaged,
             OpenError::LastGeneration => BufferFault::LastSerial,
+        }
+    }
+}
+
+impl From<ReadError> for BufferFault {
+    ghost use Rattle.std.specs.Prelude.{◌≡◌};
+    ghost use Rattle.buffer_store.specs.Refusals.{of_read};
+
+    ghost from_gives = { λ refused e. e ≡ of_read refused };
+
+    fn from(refused: ReadError) -> BufferFault {
+        match refused {
+            ReadError::Memory => BufferFault::Memory,
+            ReadError::Fault => BufferFault::Fault,
+            ReadError::Short => BufferFault::Damaged,
         }
     }
 }

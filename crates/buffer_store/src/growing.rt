@@ -1,4 +1,4 @@
-//! Entries are added to a chunk, or a chunk is queued, in memory and in the journal: all memory is asked for first.
+//! Entries are added to a chunk, or a chunk is queued or let go, in memory and in the journal: all memory is asked for first.
 
 ghost use Rattle.std.specs.Prelude.{◌≡◌, ◌≤◌, true, false, None, length, Err, IfOk, OnOk, OnErr};
 ghost use Rattle.event_modes.specs.Message.{longest_tag};
@@ -19,13 +19,12 @@ use std::alloc::Allocator;
 use std::mem;
 
 /// Appends entries to the staged chunk of this serial, which has this tag, or as a new chunk where it comes next.
-pub(crate) fn add_entries<D: Dir, A: Allocator + Copy, B: Allocator>(
-    alloc: A,
+pub(crate) fn add_entries<D: Dir, A: Allocator + Copy>(
     chunks: &mut Chunks<A>,
     log: &mut Log<D, A>,
     serial: u64,
     tag: &[u8],
-    entries: &Entries<B>,
+    entries: &Entries<A>,
     synced: bool,
 ) -> Result<(), BufferFault>
     requires going { log.old.failed ≡ false }
@@ -40,17 +39,17 @@ pub(crate) fn add_entries<D: Dir, A: Allocator + Copy, B: Allocator>(
     if serial == chunks.next() {
         add_chunk(chunks, log, serial, tag, entries, synced)
     } else {
-        grow_chunk(alloc, chunks, log, serial, tag, entries, synced)
+        grow_chunk(chunks, log, serial, tag, entries, synced)
     }
 }
 
 // Appends entries as a new chunk of this serial, which comes next.
-fn add_chunk<D: Dir, A: Allocator + Copy, B: Allocator>(
+fn add_chunk<D: Dir, A: Allocator + Copy>(
     chunks: &mut Chunks<A>,
     log: &mut Log<D, A>,
     serial: u64,
     tag: &[u8],
-    entries: &Entries<B>,
+    entries: &Entries<A>,
     synced: bool,
 ) -> Result<(), BufferFault>
     requires going { log.old.failed ≡ false }
@@ -76,13 +75,12 @@ fn add_chunk<D: Dir, A: Allocator + Copy, B: Allocator>(
 }
 
 // Appends entries to the staged chunk of this serial, which has this tag.
-fn grow_chunk<D: Dir, A: Allocator + Copy, B: Allocator>(
-    alloc: A,
+fn grow_chunk<D: Dir, A: Allocator + Copy>(
     chunks: &mut Chunks<A>,
     log: &mut Log<D, A>,
     serial: u64,
     tag: &[u8],
-    entries: &Entries<B>,
+    entries: &Entries<A>,
     synced: bool,
 ) -> Result<(), BufferFault>
     requires going { log.old.failed ≡ false }
@@ -98,14 +96,9 @@ fn grow_chunk<D: Dir, A: Allocator + Copy, B: Allocator>(
         tag,
         entries,
     };
-    let ready = make_ready(alloc, chunks, serial, entries.as_bytes().len())?;
-    let told = log.write(&item, synced);
-    if told.is_err() {
-        *chunks = ready.leave();
-        return told;
-    }
-    *chunks = ready.append(entries);
-    told
+    log.write(&item, synced)?;
+    chunks.grow(serial, entries);
+    Ok(())
 }
 
 /// Queues the staged chunk of this serial.
@@ -122,7 +115,7 @@ pub(crate) fn queue_chunk<D: Dir, A: Allocator + Copy>(
     ensures wrote { Writes D.is_honest D.history D.fault_count log.old log.new (Queue serial) true result }
 {
     let item: Record<'_, A> = Record::Queue { serial };
-    let ready = make_ready(alloc, chunks, serial, 0)?;
+    let ready = make_ready(alloc, chunks, serial)?;
     let told = log.write(&item, true);
     if told.is_err() {
         *chunks = ready.leave();
@@ -149,20 +142,19 @@ pub(crate) fn remove_chunk<D: Dir, A: Allocator + Copy>(
     Ok(())
 }
 
-// Takes the chunks out, with the room for a step on a staged chunk that adds so many bytes. They are to be put back.
+// Takes the chunks out, with the room to queue a staged chunk. They are to be put back.
 fn make_ready<A: Allocator + Copy>(
     alloc: A,
     chunks: &mut Chunks<A>,
     serial: u64,
-    more: usize,
 ) -> Result<Ready<A>, BufferFault>
     requires { IsAt Staged chunks.old serial }
-    ensures ok { IfOk result (λ ready. (ready.state ≡ chunks.old) × (ready.serial ≡ serial) × (ready.room ≡ more)) }
+    ensures ok { IfOk result (λ ready. (ready.state ≡ chunks.old) × (ready.serial ≡ serial)) }
     ensures err { OnErr result (chunks.new ≡ chunks.old) }
     ensures only { OnErr result (result ≡ Err BufferFault.Memory) }
 {
     let taken = mem::replace(chunks, Chunks::new(alloc));
-    match taken.ready(serial, more) {
+    match taken.ready(serial) {
         Ok(ready) => Ok(ready),
         Err(back) => {
             *chunks = back;

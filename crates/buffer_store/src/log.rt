@@ -4,7 +4,7 @@ ghost use Rattle.std.specs.Prelude.{◌≡◌, ◌||◌, ◌≤◌, length, fals
 ghost use Rattle.chunk_journal.specs.Records.{body_of, longest_body};
 ghost use Rattle.chunk_journal.specs.Spelled.{record_of, HasShortTag};
 ghost use Rattle.journal_files.specs.Views.{HasShortTags};
-ghost use Rattle.buffer_store.specs.Logs.{Writes, Syncs, Renews, is_append};
+ghost use Rattle.buffer_store.specs.Logs.{Reads, Writes, Syncs, Renews, is_append};
 
 use crate::fault::BufferFault;
 use buffer_state::Chunks;
@@ -67,6 +67,21 @@ impl<D: Dir, A: Allocator> Log<D, A> {
         dir
     }
 
+    /// Syncs all that was told. After `Fault` nothing may be told any more.
+    pub(crate) fn sync(&mut self) -> Result<(), BufferFault>
+        requires going { self.old.failed ≡ false }
+        ensures { Syncs D.is_honest D.history D.fault_count self.old self.new result }
+    {
+        if self.journal.sync(&mut self.dir).is_err() {
+            self.failed = true;
+            return Err(BufferFault::Fault);
+        }
+        self.staged = false;
+        Ok(())
+    }
+}
+
+impl<D: Dir, A: Allocator + Copy> Log<D, A> {
     /// Tells a record, and syncs it and all before it if that is wanted. All memory is asked for before the folder is changed.
     ///
     /// `Memory` changes nothing. After `Fault` the record is there or not, and nothing may be told any more.
@@ -91,25 +106,20 @@ impl<D: Dir, A: Allocator> Log<D, A> {
         self.staged = is_staged_by(item, self.staged);
         Ok(())
     }
-}
 
-impl<D: Dir, A: Allocator> Log<D, A> {
-    /// Syncs all that was told. After `Fault` nothing may be told any more.
-    pub(crate) fn sync(&mut self) -> Result<(), BufferFault>
+    /// The bytes of the entries of the live chunk of this serial; none where there is no such chunk.
+    ///
+    /// `Memory`, `Fault` where a read failed, or `Damaged` where the journal has fewer bytes than were told. None changes anything.
+    pub(crate) fn body(&mut self, alloc: A, serial: u64) -> Result<Vec<u8, A>, BufferFault>
         requires going { self.old.failed ≡ false }
-        ensures { Syncs D.is_honest D.history D.fault_count self.old self.new result }
+        ensures { Reads D.is_honest D.history D.fault_count self.old self.new serial result }
     {
-        if self.journal.sync(&mut self.dir).is_err() {
-            self.failed = true;
-            return Err(BufferFault::Fault);
-        }
-        self.staged = false;
-        Ok(())
+        Ok(self.journal.body(alloc, &mut self.dir, serial)?)
     }
-}
 
-impl<D: Dir, A: Allocator + Copy> Log<D, A> {
     /// Goes on in the next generation, which tells these chunks. After `Fault` nothing may be told any more.
+    ///
+    /// `Damaged` where the journal has fewer bytes than were told.
     pub(crate) fn renew(&mut self, chunks: &Chunks<A>) -> Result<(), BufferFault>
         requires going { self.old.failed ≡ false }
         requires tags { HasShortTags chunks.now }
@@ -122,6 +132,7 @@ impl<D: Dir, A: Allocator + Copy> Log<D, A> {
             }
             Err(RenewError::Memory) => Err(BufferFault::Memory),
             Err(RenewError::LastGeneration) => Err(BufferFault::LastSerial),
+            Err(RenewError::Short) => Err(BufferFault::Damaged),
             Err(RenewError::Fault) => {
                 self.failed = true;
                 Err(BufferFault::Fault)

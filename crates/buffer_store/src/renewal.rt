@@ -7,6 +7,7 @@ ghost use Rattle.buffer_state.specs.State.{total_size};
 ghost use Rattle.journal_files.specs.Folders.{journal_name};
 ghost use Rattle.journal_files.specs.Tellings.{opening};
 ghost use Rattle.buffer_store.specs.Calls.{Stays, Begins};
+ghost use Rattle.buffer_store.specs.Durability.{BeganWell};
 ghost use Rattle.buffer_store.specs.declared.fault.BufferFault.{BufferFault};
 
 use crate::buffer::Buffer;
@@ -27,11 +28,14 @@ impl<D: Dir, A: Allocator + Copy> Buffer<D, A> {
 
     /// Goes on in a new generation of the journal, which tells only what is live. The chunks stay as they are.
     ///
-    /// The first of `Failed`, `LastSerial`, `Memory` and `Fault` that applies; `LastSerial` past the last generation.
+    /// The first of `Failed`, `LastSerial`, `Memory`, `Fault` and `Damaged` that applies; `LastSerial` past the last generation,
+    /// `Damaged` where the journal hasn't the bytes that were told.
     pub fn renew(&mut self) -> Result<(), BufferFault>
         ensures same { self.new.chunks ≡ self.old.chunks }
         ensures last { (result ≡ Err BufferFault.LastSerial) ↔ ((self.old.failed ≡ false) × (2 ^ 32 ≤ self.old.journal.number + 1)) }
-        ensures only { OnErr result ((result ≡ Err BufferFault.Failed) ⊎ ((result ≡ Err BufferFault.LastSerial) ⊎ ((result ≡ Err BufferFault.Memory) ⊎ (result ≡ Err BufferFault.Fault)))) }
+        ensures only { OnErr result ((result ≡ Err BufferFault.Failed) ⊎ ((result ≡ Err BufferFault.LastSerial) ⊎ ((result ≡ Err BufferFault.Memory)
+            ⊎ ((result ≡ Err BufferFault.Fault) ⊎ (result ≡ Err BufferFault.Damaged))))) }
+        ensures undamaged { BeganWell D.is_honest D.history self.old → result ≢ Err BufferFault.Damaged }
         ensures number { OnOk result (self.new.journal.number ≡ self.old.journal.number + 1) }
         ensures staged { OnOk result (self.new.staged ≡ false) }
         ensures rest { Stays D.is_honest D.history D.fault_count self.old self.new result }

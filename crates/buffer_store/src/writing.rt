@@ -28,11 +28,7 @@ impl<D: Dir, A: Allocator + Copy> Buffer<D, A> {
     ///
     /// The first of `Failed`, `TooLarge`, `Full`, `LastSerial`, `Memory` and `Fault` that applies. None changes the chunks; after `Fault`
     /// the entries are there or not when the buffer is opened again.
-    pub fn stage<B: Allocator>(
-        &mut self,
-        tag: &[u8],
-        entries: &Entries<B>,
-    ) -> Result<Appended, BufferFault>
+    pub fn stage(&mut self, tag: &[u8], entries: &Entries<A>) -> Result<Appended, BufferFault>
         requires some { 0 < length entries.now }
         requires tag { length tag.now ≤ longest_tag }
         ensures place { IfOk result (λ put. planned self.old.limits self.old.chunks tag.now entries.now ≡ Ok put.serial) }
@@ -50,11 +46,7 @@ impl<D: Dir, A: Allocator + Copy> Buffer<D, A> {
     }
 
     /// Appends entries as `stage` does, and syncs the journal. Asks for and refuses the same.
-    pub fn append<B: Allocator>(
-        &mut self,
-        tag: &[u8],
-        entries: &Entries<B>,
-    ) -> Result<Appended, BufferFault>
+    pub fn append(&mut self, tag: &[u8], entries: &Entries<A>) -> Result<Appended, BufferFault>
         requires some { 0 < length entries.now }
         requires tag { length tag.now ≤ longest_tag }
         ensures place { IfOk result (λ put. planned self.old.limits self.old.chunks tag.now entries.now ≡ Ok put.serial) }
@@ -72,10 +64,10 @@ impl<D: Dir, A: Allocator + Copy> Buffer<D, A> {
     }
 
     // Appends entries, and syncs the journal if that is wanted.
-    fn add<B: Allocator>(
+    fn add(
         &mut self,
         tag: &[u8],
-        entries: &Entries<B>,
+        entries: &Entries<A>,
         synced: bool,
     ) -> Result<Appended, BufferFault>
         requires some { 0 < length entries.now }
@@ -93,7 +85,6 @@ impl<D: Dir, A: Allocator + Copy> Buffer<D, A> {
     {
         let serial = self.plan(tag, entries)?;
         add_entries(
-            self.alloc,
             &mut self.chunks,
             &mut self.log,
             serial,

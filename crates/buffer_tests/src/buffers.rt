@@ -164,9 +164,10 @@ fn limits(rt: HostRuntime) {
     );
 }
 
-const FAILED: [Row; 2] = [
+const FAILED: [Row; 3] = [
     (Step::Append(b'a', 1), Answer::Refused(BufferFault::Fault)),
     (Step::Append(b'a', 1), Answer::Refused(BufferFault::Failed)),
+    (Step::Body(0), Answer::Refused(BufferFault::Failed)),
 ];
 
 // The append's sync fails once, and the buffer stays failed.
@@ -211,6 +212,48 @@ fn sync_that_fails(rt: HostRuntime) {
     assert_eq!(rt;
         sit_all(rt.alloc(), WIDE, &KEPT_APPEND),
         (KEPT_APPEND.len(), Went::Through)
+    );
+}
+
+// A read of a chunk's entries fails once, and the buffer goes on as it was. A renewal copies those of a claimed chunk and a staged one,
+// which grows then.
+const UNREAD: [Sitting; 2] = [
+    Sitting {
+        calls: Failing::At(OPENING + 2),
+        rows: &[
+            (Step::Append(b'a', 1), Answer::Serial(0)),
+            (Step::Body(0), Answer::Refused(BufferFault::Fault)),
+            (Step::Look(0), Answer::At(Stage::Staged)),
+            (Step::Body(0), Answer::Entries(1)),
+            (Step::Append(b'a', 2), Answer::Serial(0)),
+            (Step::Enqueue(0), Answer::Done),
+            (Step::Claim, Answer::Serial(0)),
+            (Step::Append(b'b', 1), Answer::Serial(1)),
+            (Step::Body(0), Answer::Entries(3)),
+            (Step::Renew, Answer::Done),
+            (Step::Body(0), Answer::Entries(3)),
+            (Step::Append(b'b', 1), Answer::Serial(1)),
+            (Step::Body(1), Answer::Entries(2)),
+            (Step::Body(2), Answer::Refused(BufferFault::Gone)),
+        ],
+        keep: Keep::Least,
+    },
+    Sitting {
+        calls: Failing::Never,
+        rows: &[
+            (Step::Body(0), Answer::Entries(3)),
+            (Step::Body(1), Answer::Entries(2)),
+            (Step::First, Answer::Serial(0)),
+        ],
+        keep: Keep::Least,
+    },
+];
+
+#[test]
+fn read_that_fails(rt: HostRuntime) {
+    assert_eq!(rt;
+        sit_all(rt.alloc(), WIDE, &UNREAD),
+        (UNREAD.len(), Went::Through)
     );
 }
 

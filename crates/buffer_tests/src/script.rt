@@ -14,8 +14,8 @@ pub const WIDE: Limits = Limits {
     total: u64::MAX,
 };
 
-/// Opening a new folder asks for two lists, a file, two appends and a sync. Then an append asks for an append and a sync.
-pub const OPENING: u64 = 6;
+/// Opening a new folder asks for two lists, a file, an append and a sync. Then an append asks for an append and a sync.
+pub const OPENING: u64 = 5;
 
 /// A call of a buffer, or a look at it. A tag has one byte, and each entry is the same.
 #[derive(Clone, Copy)]

@@ -20,13 +20,14 @@ const SYNCED: [Row; 5] = [
     (Step::Sync, Answer::Done),
 ];
 
-const FAILED: [Row; 6] = [
+const FAILED: [Row; 7] = [
     (Step::Stage(b'a', 1), Answer::Serial(0)),
     (Step::Stage(b'a', 1), Answer::Serial(0)),
     (Step::Sync, Answer::Refused(BufferFault::Fault)),
     (Step::Sync, Answer::Refused(BufferFault::Failed)),
     (Step::Stage(b'a', 1), Answer::Refused(BufferFault::Failed)),
-    (Step::Body(0), Answer::Entries(2)),
+    (Step::Body(0), Answer::Refused(BufferFault::Failed)),
+    (Step::Facts(0), Answer::Facts(b'a', 2, 6)),
 ];
 
 const PURGED: [Row; 5] = [

@@ -6,6 +6,7 @@
 //!     buffer_trial fill FOLDER COUNT SIZE    appends so many entries of so many bytes
 //!     buffer_trial churn FOLDER COUNT SIZE   appends so many, and queues, claims and purges each at once
 //!     buffer_trial open FOLDER               prints how many bytes of entries the live chunks have
+//!     buffer_trial renew FOLDER              renews the journal, and prints how many entries the first chunk has, read from it
 //!     buffer_trial stage FOLDER COUNT SIZE EACH      stages so many entries of so many bytes, with one sync for each so many
 //!     buffer_trial queue COUNT               stages so many chunks of one tag in memory, and queues them
 #![tactic(auto)]
@@ -23,6 +24,9 @@ const ENTRY_LEN: usize = 11;
 
 // Each chunk gets so many entries before it is queued.
 const QUEUED_AT: u64 = 8;
+
+// A chunk takes so many bytes of entries at most.
+const CHUNK_LIMIT: u64 = 262_144;
 
 type Folder<'a> = RealDir<&'a HostRuntime, Global>;
 
@@ -50,8 +54,8 @@ fn entry_of(rt: &HostRuntime, number: u64) -> io::Result<Entries<Global>> {
 fn open<'a>(rt: &'a HostRuntime, folder: &str) -> io::Result<Buffer<Folder<'a>, Global>> {
     let settings = Settings {
         limits: Limits {
-            chunk: 8_388_608,
-            total: 536_870_912,
+            chunk: CHUNK_LIMIT,
+            total: 2_147_483_648,
         },
         renewed_past: RENEWED_PAST_IN_FILES,
     };
@@ -242,12 +246,31 @@ fn open_again(rt: &HostRuntime, folder: &str) -> io::Result<u8> {
     Ok(0)
 }
 
+fn renew(rt: &HostRuntime, folder: &str) -> io::Result<u8> {
+    let mut buffer = open(rt, folder)?;
+    if buffer.renew().is_err() {
+        return Ok(1);
+    }
+    let serial = match buffer.chunks().iter().next() {
+        Some(first) => first.serial,
+        None => return Ok(1),
+    };
+    match buffer.body(serial) {
+        Ok(entries) => {
+            println!(rt; "{}", entries.count())?;
+            Ok(0)
+        }
+        Err(_) => Ok(1),
+    }
+}
+
 fn answer(rt: &HostRuntime) -> io::Result<u8> {
     let words: Vec<String> = env::args(rt)?.collect(rt.alloc())?;
     match words.as_slice() {
         [_, word, folder] if word.as_str() == "append" => append_all(rt, folder),
         [_, word, folder] if word.as_str() == "list" => list(rt, folder),
         [_, word, folder] if word.as_str() == "open" => open_again(rt, folder),
+        [_, word, folder] if word.as_str() == "renew" => renew(rt, folder),
         [_, word, count] if word.as_str() == "queue" => match count.parse() {
             Ok(count) => queue_all(rt, count),
             Err(_) => Ok(2),

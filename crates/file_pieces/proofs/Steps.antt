@@ -11,7 +11,7 @@ use Rattle.disk_files.specs.declared.dir.DirError.TheVariants as dir
 use Rattle.disk_files.proofs.Moments.{elsewhere, follows, goes_on, started, joined, weaker}
 use Rattle.disk_files.proofs.Table.{same_name}
 use Rattle.std.proofs.lemmas.List.{take_all}
-use Rattle.file_pieces.specs.Adding.{Partly, IsLeftOf, Copies, HasPieceCause, Adds, HasAny}
+use Rattle.file_pieces.specs.Adding.{Partly, IsLeftOf, Copies, HasPieceCause, Grows, Adds, HasAny}
 use Rattle.file_pieces.specs.declared.error.PieceError.{PieceError}
 use Rattle.file_pieces.specs.declared.error.PieceError.TheVariants.{Fault, Short}
 use Rattle.file_pieces.specs.Pieces.{part_of, HasPart, piece_bytes, pieces_bytes, piece_room, total_room, AreWithin}

@@ -6,9 +6,13 @@ use Rattle.std.proofs.CrossingOver as over
 use Rattle.std.proofs.MapsCrossingOver as maps
 use Rattle.std.specs.declared.alloc.Allocator as alloc
 use Rattle.disk_files.specs.declared.dir.Dir as dir
+use Rattle.buffer_state.specs.contracts.content.Content as Content
 use Rattle.buffer_state.specs.contracts.chunk.Chunk as Chunk
 use Rattle.buffer_state.specs.contracts.chunks.Chunks as Chunks
 use Rattle.book_audit.specs.contracts.pages.OpenLines as OpenLines
+use Rattle.chunk_journal.specs.contracts.places.Extents as Extents
+use Rattle.chunk_journal.specs.contracts.places.Places as Places
+use Rattle.journal_files.specs.contracts.journal.Journal as Journal
 use Rattle.buffer_store.specs.contracts.log.Log as Log
 use Rattle.buffer_store.specs.contracts.buffer.Buffer as Buffer
 use Rattle.buffer_book.specs.contracts.past.Past as Past
@@ -16,18 +20,30 @@ use Rattle.buffer_book.specs.contracts.booked.Booked as Booked
 use Rattle.ack_receipt.specs.contracts.shared.SharedBuffer as Shared
 
 module _ (A : RattleType) (a : alloc.Ghosts A.Denot) where
+  Content-send : IsSend (Content.the_field A a).row
+  Content-send = search (crosses, sendable) depth 20
+
   Chunk-send : IsSend A → Frees a a.dealloc_token → IsSend (Chunk.the_field A a).row
-  Chunk-send sa f = search (over.crosses, sendable) depth 20
+  Chunk-send sa f = let c = Content-send in search (over.crosses, sendable) depth 20
 
   Chunks-send : IsSend A → Frees a a.dealloc_token → IsSend (Chunks.the_field A a).row
   Chunks-send sa f = let c = Chunk-send sa f in search (maps.crosses, over.crosses, sendable) depth 30
+
+  Extents-send : IsSend A → Frees a a.dealloc_token → IsSend (Extents.the_field A a).row
+  Extents-send sa f = search (over.crosses, sendable) depth 20
+
+  Places-send : IsSend A → Frees a a.dealloc_token → IsSend (Places.the_field A a).row
+  Places-send sa f = let e = Extents-send sa f in search (maps.crosses, over.crosses, sendable) depth 30
+
+  Journal-send : IsSend A → Frees a a.dealloc_token → IsSend (Journal.the_field A a).row
+  Journal-send sa f = let p = Places-send sa f in search (crosses, over.crosses, sendable) depth 20
 
   Lines-send : IsSend A → Frees a a.dealloc_token → IsSend (OpenLines.the_field A a).row
   Lines-send sa f = search (maps.crosses, crosses, over.crosses, sendable) depth 20
 
 module _ (D A : RattleType) (d : dir.Ghosts D.Denot) (a : alloc.Ghosts A.Denot) where
   Log-send : IsSend D → IsSend A → Frees a a.dealloc_token → IsSend (Log.the_field D A d a).row
-  Log-send sd sa f = search (crosses, over.crosses, maps.crosses, sendable) depth 20
+  Log-send sd sa f = let j = Journal-send A a sa f in search (crosses, over.crosses, maps.crosses, sendable) depth 20
 
   Buffer-send : IsSend D → IsSend A → Frees a a.dealloc_token → IsSend (Buffer.the_field D A d a).row
   Buffer-send sd sa f = let l = Log-send sd sa f in let c = Chunks-send A a sa f in search sendable depth 20
@@ -41,6 +57,9 @@ module _ (D A : RattleType) (d : dir.Ghosts D.Denot) (a : alloc.Ghosts A.Denot) 
       let l = Lines-send A a sa f in
       let p = Past-send in
       search (maps.crosses, sendable) depth 20
+
+  pub Shared-send : IsSend D → IsSend A → Frees a a.dealloc_token → IsSend (Shared.the_field D A d a).row
+  Shared-send sd sa f = let b = Booked-send sd sa f in search (crosses, over.crosses, maps.crosses, sendable) depth 20
 
   pub Shared-sync : IsSend D → IsSend A → IsSync A → Frees a a.dealloc_token → IsSync (Shared.the_field D A d a).row
   Shared-sync sd sa ya f = let b = Booked-send sd sa f in search (crosses, over.crosses, maps.crosses, sendable) depth 20

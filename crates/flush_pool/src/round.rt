@@ -84,7 +84,7 @@ where
         }
     }
 
-    // Has a chunk carried, and purges it at once on what shows that it arrived.
+    // Has a chunk carried, and purges it at once on what shows that it arrived. Where the buffer failed, whose entries can't be read then, the worker ends.
     fn deliver(&mut self, claim: Claim<A>) -> Result<Outcome, BufferFault>
         requires { claim.leaf ≡ self.old.leaf }
         ensures { IsDelivered claim self.old self.new result }
@@ -97,6 +97,10 @@ where
             Err(CarryFault::Memory) => {
                 self.give_back(claim);
                 Err(BufferFault::Memory)
+            }
+            Err(_) if self.has_failed() => {
+                self.give_back(claim);
+                Err(BufferFault::Failed)
             }
             Err(_) => self.put_back(claim),
         }

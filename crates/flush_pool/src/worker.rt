@@ -195,6 +195,11 @@ where
         self.diary = self.diary.then(&Deed::Forgot(serial));
     }
 
+    /// Whether the buffer has failed, whose chunks can neither be read nor purged then.
+    pub(crate) fn has_failed(&self) -> bool {
+        self.buffer.has_failed(self.rt)
+    }
+
     /// Whether the worker is to end.
     pub(crate) fn is_stopped(&self) -> bool {
         self.stop.load(Ordering::SeqCst)

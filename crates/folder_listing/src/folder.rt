@@ -85,6 +85,6 @@ impl<'a> Open for DataFolder<'a> {
 
     fn open(&self, name: &str) -> io::Result<NamedFile<'a>> {
         let path = self.path_of(name)?;
-        Folder::new(self.rt).open(path.as_str())
+        Folder::saying(self.rt).open(path.as_str())
     }
 }

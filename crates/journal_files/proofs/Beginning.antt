@@ -16,17 +16,20 @@ use Rattle.buffer_state.specs.Steps.{settled, reopened}
 use Rattle.chunk_journal.specs.Records.{Record, Seal, record_bytes, IsRecord}
 use Rattle.chunk_journal.specs.Journal.{journal_bytes}
 use Rattle.chunk_journal.specs.Meaning.{IsReplayed, EndsUnsealed, after_all, telling, AreTold}
+use Rattle.chunk_journal.specs.Places.{Spots, ArePlaced}
 use Rattle.chunk_journal.proofs.Coming.{journal_push}
 use Rattle.chunk_journal.proofs.Telling.{told_so}
 use Rattle.journal_files.specs.Folders.{journal_name, IsPassedOver, PassesAbove, Opens}
 use Rattle.journal_files.specs.Tellings.{Telling, records_of, state_at_seal, state_of, reopened_at, opening, IsTelling, IsOfSome, OpensWithin}
+use Rattle.journal_files.specs.declared.placing.Placing.TheVariants.{Stays}
 use Rattle.journal_files.specs.Views.{OpenJournal}
 use Rattle.journal_files.specs.Disks.{Keeps, Recovers, HasNoneFrom}
-use Rattle.journal_files.specs.Pieces.{HasNew, IsUnfinished, IsSealing, IsLeftOf, Partly, sealed}
+use Rattle.file_pieces.specs.Adding.{IsLeftOf, Partly}
+use Rattle.journal_files.specs.Pieces.{HasNew, IsUnfinished, IsSealing, sealed}
 use Rattle.journal_files.proofs.Names.{apart, numbers_apart}
 use Rattle.journal_files.proofs.Cuts.{IsCut, cut}
 use Rattle.journal_files.proofs.Recovery.{file_with, passed_none, recovers}
-use Rattle.journal_files.proofs.Steps.{all_last, counted_more}
+use Rattle.journal_files.proofs.Steps.{all_last}
 
 -- ---- what it tells
 
@@ -69,9 +72,9 @@ some_second name told seal old mid new first second =
 -- ---- whole
 
 module _ (journal : OpenJournal) (s : State) (can : CanOpen s) (old mid new : Disk) (told seal : List ℕ) where
-  pub whole : told ≡ journal_bytes (flat_map telling s.chunks) → seal ≡ record_bytes (Seal s.next) → 1 ≤ journal.number → journal.number < 2 ^ 32 → journal.len ≡ counted_more (length told) (length seal)
+  pub whole : told ≡ journal_bytes (flat_map telling s.chunks) → seal ≡ record_bytes (Seal s.next) → 1 ≤ journal.number → journal.number < 2 ^ 32 → journal.len ≡ length told + length seal → ArePlaced (journal_bytes (records_of (opening s))) journal.places (state_of (opening s))
       → HasNoneFrom journal.path old journal.number → HasNew (journal_name journal.path journal.number) told old mid → Changes (journal_name journal.path journal.number) (sealed seal) mid new → Keeps journal new (opening s)
-  whole told_is seal_is first last len_is none made changes =
+  whole told_is seal_is first last len_is placed none made changes =
       let name = journal_name journal.path journal.number in
       let after = follows old mid new name (Some (grown told fresh)) (sealed seal) made.made changes in
       let bytes : told ++ seal ≡ journal_bytes (records_of (opening s)) = ap (λ (z : List ℕ). z ++ seal) told_is ∙ ap (λ (z : List ℕ). journal_bytes (flat_map telling s.chunks) ++ z) seal_is ∙ sym (bytes_of s) in
@@ -86,6 +89,7 @@ module _ (journal : OpenJournal) (s : State) (can : CanOpen s) (old mid new : Di
         counted = omega (arith, len_is, ap length bytes, length-append told seal);
         newest = λ n above below.
             elsewhere old new name (journal_name journal.path n) _ after (numbers_apart journal.path journal.number n last below (λ e. omega (arith, e, above))) ∙ none n (omega (arith, above)) below;
+        placed = placed;
       }
 
 -- ---- other files
@@ -239,6 +243,7 @@ kept_above journal disk after t keeps same = record {
   fits = keeps.fits;
   counted = keeps.counted;
   newest = λ n above below. same n (omega (arith, above)) below ∙ keeps.newest n above below;
+  placed = keeps.placed;
 }
 
 -- a new generation opens to the state of the older one
@@ -267,11 +272,12 @@ module _ (path : List ℕ) (number : ℕ) (s : State) (can : CanOpen s) (name to
   stops_early t old new m none before some =
       stops_so t old new (record_bytes (Seal s.next)) refl m none before (some_first name told (record_bytes (Seal s.next)) old new some)
 
-  pub ends : (journal : OpenJournal) (old mid new : Disk) (seal : List ℕ) → journal.path ≡ path → journal.number ≡ number → journal.len ≡ counted_more (length told) (length seal) → seal ≡ record_bytes (Seal s.next) → HasNoneFrom path old number
+  pub ends : (journal : OpenJournal) (old mid new : Disk) (seal : List ℕ) → journal.path ≡ path → journal.number ≡ number → journal.len ≡ length told + length seal → ArePlaced (journal_bytes (records_of (opening s))) journal.places (state_of (opening s))
+      → seal ≡ record_bytes (Seal s.next) → HasNoneFrom path old number
       → HasNew name told old mid → Changes name (sealed seal) mid new → Keeps journal new (opening s)
-  ends journal old mid new seal path_is number_is len_is seal_is none made changes =
+  ends journal old mid new seal path_is number_is len_is placed seal_is none made changes =
       let named : name ≡ journal_name journal.path journal.number = name_is ∙ ap (λ (p : List ℕ). journal_name p number) (sym path_is) ∙ ap (λ (n : ℕ). journal_name journal.path n) (sym number_is) in
-      whole journal s can old mid new told seal told_is seal_is (omega (arith, first, number_is)) (omega (arith, last, number_is)) len_is
+      whole journal s can old mid new told seal told_is seal_is (omega (arith, first, number_is)) (omega (arith, last, number_is)) len_is placed
       (λ n from below. ap (λ (p : List ℕ). old (journal_name p n)) path_is ∙ none n (omega (arith, from, number_is)) below)
       (subst (λ (z : List ℕ). HasNew z told old mid) named made) (subst (λ (z : List ℕ). Changes z (sealed seal) mid new) named changes)
 
@@ -282,14 +288,15 @@ module _ (path : List ℕ) (number : ℕ) (s : State) (can : CanOpen s) (name to
         weaker old mid (IsLeftOf (IsUnfinished name told (now old))) (OpensWithin path t)
         (λ folder left. stops_early t (now old) left.disk m none before left.so folder left.stays) makes
 
-    module _ (file : FileNo) (seal : List ℕ) (seal_is : seal ≡ record_bytes (Seal s.next)) (made : HasNew name told (now old) (now mid)) where
+    module _ (file : FileNo) (places : Spots) (placed : ArePlaced (journal_bytes (records_of (opening s))) places (state_of (opening s))) (seal : List ℕ) (seal_is : seal ≡ record_bytes (Seal s.next))
+        (made : HasNew name told (now old) (now mid)) where
       seal_left : (disk : Disk) → IsSealing name seal (now mid) disk → Recovers path disk t
       seal_left disk (inl same) folder leaves = making.each mid.moment making.later (omega arith) folder (leaves_same disk (now mid) folder same leaves)
       seal_left disk (inr (inl some)) folder leaves = stops_so t (now old) disk seal seal_is m none before (some_second name told seal (now old) (now mid) disk made some) folder leaves
       seal_left disk (inr (inr changes)) folder leaves =
-          let journal : OpenJournal = record { path = path; number = number; file = file; len = counted_more (length told) (length seal); ready = [] } in
+          let journal : OpenJournal = record { path = path; number = number; file = file; len = length told + length seal; ready = []; places = places; placing = Stays } in
           renewed path t s folder can.leads m
-          (recovers journal disk (opening s) (ends journal (now old) (now mid) disk seal refl refl refl seal_is none made changes) folder leaves)
+          (recovers journal disk (opening s) (ends journal (now old) (now mid) disk seal refl refl refl placed seal_is none made changes) folder leaves)
 
       pub sealing : (new : History) → LeavesOnly mid new (IsLeftOf (IsSealing name seal (now mid))) → LeavesOnly old new (OpensWithin path t)
       sealing new seals =

@@ -1,15 +1,10 @@
 -- The generation that opening begins is above all that were ever there.
 use Rattle.std.proofs.Common.{◌≡◌, ◌⊎◌, ℕ, ◌+◌, ◌<◌, ◌≤◌, ◌^◌, List, Option, Some, None, refl, sym, subst, ◌∙◌, arith, inl, inr, ⊎_elim}
-use Rattle.std.specs.Prelude.{◌≢◌, IsSome, Result, Err}
+use Rattle.std.specs.Prelude.{IsSome}
 use Rattle.std.specs.Ordering.{nat_cmp}
 use Rattle.std.specs.BTreeMap.{BTreeMap, get}
 use Rattle.disk_files.specs.declared.dir.FileNo.{FileNo}
 use Rattle.disk_files.specs.Disk.{File, Disk, Folder, SameDisk, read_of, reads}
-use Rattle.disk_files.specs.declared.dir.DirError.{DirError}
-use Rattle.disk_files.specs.declared.dir.DirError.TheVariants as dir
-use Rattle.journal_files.specs.declared.error.OpenError.{OpenError}
-use Rattle.journal_files.specs.declared.error.OpenError.TheVariants as opening
-use Rattle.journal_files.specs.Faults.{open_error}
 use Rattle.journal_files.specs.Folders.{journal_name, IsNext}
 use Rattle.journal_files.specs.Tellings.{Telling}
 use Rattle.journal_files.specs.Views.{OpenJournal}
@@ -59,10 +54,3 @@ is_next path folder greatest number is found = subst (IsNext path folder) (sym i
   before = ⊎_elim (λ none. inl (omega (arith, none))) (λ there. inr (subst (λ (n : ℕ). IsSome (folder (journal_name path n))) (omega arith) there)) found.there;
   above = λ n from below. found.above n (omega (arith, from)) below;
 })
-
--- want of memory was answered where no fault was
-pub was_memory : {T : Type 0} (e : DirError) (r : Result T OpenError) → r ≡ Err (open_error e) → r ≢ Err opening.Fault → e ≡ dir.Memory
-was_memory dir.Memory r is not = refl
-was_memory dir.Fault r is not = absurd (not is)
-was_memory dir.NoSuchFile r is not = absurd (not is)
-was_memory dir.NameTaken r is not = absurd (not is)

@@ -10,7 +10,8 @@ use Rattle.disk_files.specs.declared.dir.FileNo.{FileNo}
 use Rattle.disk_files.proofs.Moments.{elsewhere, goes_on, started}
 use Rattle.buffer_state.proofs.Serials.{at_itself}
 use Rattle.journal_files.specs.Folders.{journal_name}
-use Rattle.journal_files.specs.Pieces.{AreOlder, ChangesBelow, IsAbove, IsGoneBut, IsLeftOf}
+use Rattle.file_pieces.specs.Adding.{IsLeftOf}
+use Rattle.journal_files.specs.Pieces.{AreOlder, ChangesBelow, IsAbove, IsGoneBut}
 use Rattle.journal_files.proofs.Names.{same_number, apart, numbers_apart}
 use Rattle.journal_files.proofs.Renewing.{is_some_name, removed_gone}
 use Rattle.journal_files.proofs.Searched.{at_same}
@@ -25,6 +26,7 @@ pub record Collects {D : Type 0} (honest : D → Type 0) (history : D → Histor
   pub is_honest : honest first → honest dir
   pub time : honest first → Elapses (history first) (history dir)
   pub same : honest first → SameDisk (now (history dir)) (now (history first))
+  pub stays_open : (other : FileNo) → IsSome (opened first other) → opened dir other ≡ opened first other
   pub older : AreOlder path number (opened dir) files
   pub all : honest first → (n : ℕ) → 1 ≤ n → n < number → IsTrue (contains nat_cmp rest n) ⊎ IsGoneBut path files (now (history first)) n
   pub quiet : faults dir ≡ faults first

@@ -8,7 +8,8 @@ use Rattle.buffer_state.specs.Steps.{settled, reopened}
 use Rattle.journal_files.specs.Tellings.{Telling, state_of, opening as opened_with, IsOfSome, OpensWithin}
 use Rattle.journal_files.specs.Views.{OpenJournal}
 use Rattle.journal_files.specs.Disks.{Keeps, Recovers, HasNoStray}
-use Rattle.journal_files.specs.Pieces.{ChangesBelow, IsLeftOf}
+use Rattle.file_pieces.specs.Adding.{IsLeftOf}
+use Rattle.journal_files.specs.Pieces.{ChangesBelow}
 use Rattle.journal_files.proofs.Beginning.{renewed}
 use Rattle.journal_files.proofs.Fresh.{keeps_alone}
 use Rattle.journal_files.proofs.Recovery.{recovers}

@@ -48,9 +48,6 @@ module _ (journal next : OpenJournal) (mid new : Disk) (path_is : next.path ≡ 
       let w = recovers next new (opening s) (still_keeps s begun removed) folder leaves in
       renewed journal.path t s folder leads m (subst (λ (p : List ℕ). OpensWithin p (opening s) folder) path_is w)
 
-  pub still_no_stray : (s : State) → Keeps next mid (opening s) → SameDisk new mid ⊎ Changes (journal_name journal.path journal.number) unlinked mid new → HasNoStray journal.path new
-  still_no_stray s begun removed = subst (λ (p : List ℕ). HasNoStray p new) path_is (kept_no_stray next new (opening s) (still_keeps s begun removed))
-
 some_same : {A : Type 0} {x y : A} → Some x ≡ Some y → x ≡ y
 some_same e = cc e
 

@@ -11,6 +11,7 @@ use Rattle.disk_files.specs.Disk.{Folder, SameDisk, reads}
 use Rattle.disk_files.specs.Moments.{History, Elapses, now}
 use Rattle.buffer_state.specs.State.{State, empty}
 use Rattle.chunk_journal.specs.Meaning.{EndsUnsealed, IsDamaged}
+use Rattle.chunk_journal.specs.Places.{Spots}
 use Rattle.journal_files.specs.Folders.{journal_name, IsPassedOver, PassesAbove, IsHighest, Opens, IsDamagedFolder}
 use Rattle.journal_files.specs.Found.{IsFound, IsMeant, IsSo}
 
@@ -71,8 +72,8 @@ module _ (path : List ℕ) (folder : Folder) (k : ℕ) (old new : BTreeSet ℕ) 
   pub highest : (bytes : List ℕ) → folder (journal_name path k) ≡ Some bytes → IsHighest path folder k bytes
   highest bytes there = record { first = left.from_one k taken.member; last = below; there = there; above = above_it }
 
-  pub opens_it : (state : State) → IsMeant (folder (journal_name path k)) state → Opens path folder state
-  opens_it state m = inl (record { number = k; bytes = m.bytes; used = m.used; highest = highest m.bytes m.there; means = m.means })
+  pub opens_it : (state : State) (spots : Spots) → IsMeant (folder (journal_name path k)) state spots → Opens path folder state
+  opens_it state spots m = inl (record { number = k; bytes = m.bytes; used = m.used; highest = highest m.bytes m.there; means = m.means.replayed })
 
   pub damaged_it : IsSo (folder (journal_name path k)) IsDamaged → IsDamagedFolder path folder
   damaged_it d = record { number = k; bytes = d.bytes; highest = highest d.bytes d.there; damaged = d.so }

@@ -1,5 +1,5 @@
 -- A journal on a disk over one call: a record is told, or what was told is synced.
-use Rattle.std.proofs.Common.{◌≡◌, ℕ, ◌+◌, ◌-◌, ◌^◌, ◌<◌, ◌≤◌, min, Bool, true, false, cond, List, [], ◌∷◌, ◌++◌, length, take, Option, Some, None, option_map, Result, Ok, Err, OnOk, OnErr, refl, sym, ap, subst, ◌∙◌, append_assoc, arith}
+use Rattle.std.proofs.Common.{◌≡◌, ℕ, ◌+◌, ◌<◌, ◌≤◌, Bool, true, false, cond, List, [], ◌∷◌, ◌++◌, length, take, Option, Some, None, option_map, Result, Ok, Err, OnOk, OnErr, refl, sym, ap, subst, ◌∙◌, append_assoc, arith}
 use Rattle.std.specs.Str.{bytes_eq}
 use Rattle.std.specs.List.{AllByRecursion}
 use Rattle.std.proofs.lemmas.List.{length-append, take-append-le, take_all}
@@ -11,13 +11,18 @@ use Rattle.buffer_state.specs.Steps.{settled}
 use Rattle.chunk_journal.specs.Records.{Record, Seal, record_bytes, IsRecord}
 use Rattle.chunk_journal.specs.Journal.{journal_bytes}
 use Rattle.chunk_journal.specs.Meaning.{Allows, after_all}
+use Rattle.chunk_journal.specs.Places.{MovesPlaces}
+use Rattle.chunk_journal.specs.Laws.{PlacesFollow, LeadsInOrder}
 use Rattle.chunk_journal.proofs.Coming.{journal_push}
 use Rattle.chunk_journal.proofs.Standing.{each_more}
 use Rattle.journal_files.specs.Folders.{journal_name, Opens}
 use Rattle.journal_files.specs.Tellings.{Telling, records_of, sure_records, state_at_seal, state_of, IsTelling, begun, all_sure, OpensWithin}
-use Rattle.journal_files.specs.Views.{OpenJournal}
+use Rattle.journal_files.specs.declared.placing.Placing.{Placing}
+use Rattle.journal_files.specs.Placings.{MovesBy}
+use Rattle.journal_files.specs.Views.{OpenJournal, IsReady}
 use Rattle.journal_files.specs.Disks.{Keeps, Recovers}
 use Rattle.journal_files.proofs.Names.{numbers_apart}
+use Rattle.journal_files.proofs.Placed.{placed_begun, moves_so}
 use Rattle.journal_files.proofs.Recovery.{file_with, recovers}
 
 -- ---- one more record
@@ -53,38 +58,37 @@ more_steps path item t folder w = record {
   opens = subst (λ (z : List Record). Opens path folder (settled (after_all (state_at_seal t) z))) (sym (take-append-le w.steps t.steps (item ∷ []) w.begun)) w.opens;
 }
 
--- the length that a journal counts once so many bytes more are told
-abbrev pub counted_more : ℕ → ℕ → ℕ
-counted_more len more = min (len + more) (2 ^ 64 - 1)
-
 -- the journal once this record was told
-abbrev pub one_more : Record → OpenJournal → OpenJournal
-one_more item journal = record journal { len = counted_more journal.len (length (record_bytes item)) }
+pub record GoesOn (journal new : OpenJournal) (item : Record) : Type 0 where
+  pub path : new.path ≡ journal.path
+  pub number : new.number ≡ journal.number
+  pub len : new.len ≡ journal.len + length (record_bytes item)
+  pub places : MovesPlaces item new.len journal.places new.places
 
--- the record is told
-pub told : (journal new : OpenJournal) (disk after : Disk) (t : Telling) (item : Record) → new.path ≡ journal.path → new.number ≡ journal.number → new.len ≡ counted_more journal.len (length (record_bytes item))
-    → Keeps journal disk t → IsRecord item → Allows (state_of t) item
-    → Changes (journal_name journal.path journal.number) (grown (record_bytes item)) disk after → Keeps new after (begun item t)
-told journal new disk after t item same_path same_number len_is keeps one allowed changes =
-    let name = journal_name journal.path journal.number in
-    let file = file_with (journal_bytes (records_of t)) keeps.synced in
-    let at : after name ≡ Some (grown (record_bytes item) file) = here disk after name _ changes ∙ ap (option_map (grown (record_bytes item))) keeps.there in
-    let now_there : after name ≡ Some (file_with (journal_bytes (records_of (begun item t))) keeps.synced) = at ∙ ap (λ (w : List ℕ). Some (file_with w keeps.synced)) (sym (bytes_begun item t)) in
-    record {
-      telling = telling_begun item t keeps.telling one allowed;
-      first = omega (arith, same_number, keeps.first);
-      last = omega (arith, same_number, keeps.last);
-      synced = keeps.synced;
-      there = subst (λ (p : List ℕ). after (journal_name p new.number) ≡ Some (file_with (journal_bytes (records_of (begun item t))) keeps.synced)) (sym same_path)
-          (subst (λ (n : ℕ). after (journal_name journal.path n) ≡ Some (file_with (journal_bytes (records_of (begun item t))) keeps.synced)) (sym same_number) now_there);
-      holds = subst (λ (z : List Record). length (journal_bytes z) ≤ keeps.synced) (sym (sure_begun item t keeps.telling.few)) keeps.holds;
-      fits = omega (arith, keeps.fits, ap length (bytes_begun item t), length-append (journal_bytes (records_of t)) (record_bytes item));
-      counted = omega (arith, len_is, keeps.counted, ap length (bytes_begun item t), length-append (journal_bytes (records_of t)) (record_bytes item));
-      newest = λ n above below.
-          let over : journal.number < n = omega (arith, same_number, above) in
-          subst (λ (p : List ℕ). after (journal_name p n) ≡ None) (sym same_path)
-          (elsewhere disk after name (journal_name journal.path n) _ changes (numbers_apart journal.path journal.number n keeps.last below (λ e. omega (arith, e, over))) ∙ keeps.newest n over below);
-    }
+module _ (follow : PlacesFollow) (order : LeadsInOrder) (journal new : OpenJournal) (disk after : Disk) (t : Telling) (item : Record) (goes : GoesOn journal new item) (keeps : Keeps journal disk t) (one : IsRecord item) (allowed : Allows (state_of t) item) where
+  -- the record is told
+  pub told : Changes (journal_name journal.path journal.number) (grown (record_bytes item)) disk after → Keeps new after (begun item t)
+  told changes =
+      let name = journal_name journal.path journal.number in
+      let file = file_with (journal_bytes (records_of t)) keeps.synced in
+      let at : after name ≡ Some (grown (record_bytes item) file) = here disk after name _ changes ∙ ap (option_map (grown (record_bytes item))) keeps.there in
+      let now_there : after name ≡ Some (file_with (journal_bytes (records_of (begun item t))) keeps.synced) = at ∙ ap (λ (w : List ℕ). Some (file_with w keeps.synced)) (sym (bytes_begun item t)) in
+      record {
+        telling = telling_begun item t keeps.telling one allowed;
+        first = omega (arith, goes.number, keeps.first);
+        last = omega (arith, goes.number, keeps.last);
+        synced = keeps.synced;
+        there = subst (λ (p : List ℕ). after (journal_name p new.number) ≡ Some (file_with (journal_bytes (records_of (begun item t))) keeps.synced)) (sym goes.path)
+            (subst (λ (n : ℕ). after (journal_name journal.path n) ≡ Some (file_with (journal_bytes (records_of (begun item t))) keeps.synced)) (sym goes.number) now_there);
+        holds = subst (λ (z : List Record). length (journal_bytes z) ≤ keeps.synced) (sym (sure_begun item t keeps.telling.few)) keeps.holds;
+        fits = omega (arith, keeps.fits, ap length (bytes_begun item t), length-append (journal_bytes (records_of t)) (record_bytes item));
+        counted = omega (arith, goes.len, keeps.counted, ap length (bytes_begun item t), length-append (journal_bytes (records_of t)) (record_bytes item));
+        newest = λ n above below.
+            let over : journal.number < n = omega (arith, goes.number, above) in
+            subst (λ (p : List ℕ). after (journal_name p n) ≡ None) (sym goes.path)
+            (elsewhere disk after name (journal_name journal.path n) _ changes (numbers_apart journal.path journal.number n keeps.last below (λ e. omega (arith, e, over))) ∙ keeps.newest n over below);
+        placed = placed_begun follow order t item journal.places new.places new.len keeps.telling (bytes_begun item t) (omega (arith, goes.len, keeps.counted)) goes.places keeps.placed;
+      }
 
 torn_at : (disk after : Disk) (name other : List ℕ) (bytes : List ℕ) (n : ℕ) (f : File) (left : Option (List ℕ)) → disk name ≡ Some f → f.synced ≤ length f.written
     → Changes name (grown (take n bytes)) disk after → MayStay (after other) left → (b : Bool) → bytes_eq name other ≡ b
@@ -96,13 +100,14 @@ torn_at disk after name other bytes n f left there fits changes stays false e =
     subst (λ (o : Option File). MayStay o left) (changes other ∙ ap (λ (b : Bool). cond b (option_map (grown (take n bytes)) (disk name)) (disk other)) e) stays
 
 -- some of the record is told: what a stop leaves then, it may leave after the whole record too
-pub torn : (journal : OpenJournal) (disk after : Disk) (t : Telling) (item : Record) (n : ℕ) → Keeps journal disk t → IsRecord item → Allows (state_of t) item
+pub torn : (follow : PlacesFollow) (order : LeadsInOrder) (journal new : OpenJournal) (disk after : Disk) (t : Telling) (item : Record) (n : ℕ) → GoesOn journal new item → Keeps journal disk t → IsRecord item → Allows (state_of t) item
     → Changes (journal_name journal.path journal.number) (grown (take n (record_bytes item))) disk after → Recovers journal.path after (begun item t)
-torn journal disk after t item n keeps one allowed changes folder leaves =
+torn follow order journal new disk after t item n goes keeps one allowed changes folder leaves =
     let name = journal_name journal.path journal.number in
     let whole : Disk = with_file disk name (option_map (grown (record_bytes item)) (disk name)) in
-    recovers (one_more item journal) whole (begun item t) (told journal (one_more item journal) disk whole t item refl refl refl keeps one allowed (λ other. refl)) folder
-    (λ other. torn_at disk after name other (record_bytes item) n (file_with (journal_bytes (records_of t)) keeps.synced) (folder other) keeps.there keeps.fits changes (leaves other) (bytes_eq name other) refl)
+    subst (λ (p : List ℕ). OpensWithin p (begun item t) folder) goes.path
+    (recovers new whole (begun item t) (told follow order journal new disk whole t item goes keeps one allowed (λ other. refl)) folder
+    (λ other. torn_at disk after name other (record_bytes item) n (file_with (journal_bytes (records_of t)) keeps.synced) (folder other) keeps.there keeps.fits changes (leaves other) (bytes_eq name other) refl))
 
 -- ---- a sync
 
@@ -127,6 +132,7 @@ synced_all journal disk after t keeps changes =
       counted = keeps.counted;
       newest = λ n above below.
           elsewhere disk after name (journal_name journal.path n) _ changes (numbers_apart journal.path journal.number n keeps.last below (λ e. omega (arith, e, above))) ∙ keeps.newest n above below;
+      placed = keeps.placed;
     }
 
 -- the same disk
@@ -141,6 +147,7 @@ kept journal disk after t keeps same = record {
   fits = keeps.fits;
   counted = keeps.counted;
   newest = λ n above below. same (journal_name journal.path n) ∙ keeps.newest n above below;
+  placed = keeps.placed;
 }
 
 -- fewer steps are sure
@@ -171,16 +178,26 @@ one_call old new P time before after = goes_on old old new P (started old P befo
 
 -- ---- the record that is ready
 
-module _ (journal new : OpenJournal) (old mid : History) (t : Telling) (item : Record) (bytes : List ℕ) (ready : bytes ≡ record_bytes item) (keeps : Keeps journal (now old) t) (one : IsRecord item)
-    (allowed : Allows (state_of t) item) where
-  pub put_ok : new.path ≡ journal.path → new.number ≡ journal.number → new.len ≡ counted_more journal.len (length bytes) → Changes (journal_name journal.path journal.number) (grown bytes) (now old) (now mid) → Keeps new (now mid) (begun item t)
-  put_ok same_path same_number len_is changes =
-      told journal new (now old) (now mid) t item same_path same_number (len_is ∙ ap (λ (b : List ℕ). counted_more journal.len (length b)) ready) keeps one allowed
-      (subst (λ (b : List ℕ). Changes (journal_name journal.path journal.number) (grown b) (now old) (now mid)) ready changes)
+-- the record that was ready was told
+pub goes_on_so : (inside journal new : OpenJournal) (item : Record) → inside ≡ journal → new.path ≡ inside.path → new.number ≡ inside.number → new.len ≡ inside.len + length inside.ready → IsReady journal item
+    → MovesBy inside.placing new.len inside.places new.places → GoesOn journal new item
+goes_on_so inside journal new item is path number len ready moves = record {
+  path = path ∙ ap (λ (j : OpenJournal). j.path) is;
+  number = number ∙ ap (λ (j : OpenJournal). j.number) is;
+  len = len ∙ ap (λ (j : OpenJournal). j.len + length j.ready) is ∙ ap (λ (b : List ℕ). journal.len + length b) ready.bytes;
+  places = moves_so item new.len journal.places new.places
+      (subst (λ (p : Placing). MovesBy p new.len journal.places new.places) ready.placing (subst (λ (j : OpenJournal). MovesBy j.placing new.len j.places new.places) is moves));
+}
+
+module _ (follow : PlacesFollow) (order : LeadsInOrder) (journal new : OpenJournal) (old mid : History) (t : Telling) (item : Record) (bytes : List ℕ) (ready : bytes ≡ record_bytes item) (goes : GoesOn journal new item)
+    (keeps : Keeps journal (now old) t) (one : IsRecord item) (allowed : Allows (state_of t) item) where
+  pub put_ok : Changes (journal_name journal.path journal.number) (grown bytes) (now old) (now mid) → Keeps new (now mid) (begun item t)
+  put_ok changes =
+      told follow order journal new (now old) (now mid) t item goes keeps one allowed (subst (λ (b : List ℕ). Changes (journal_name journal.path journal.number) (grown b) (now old) (now mid)) ready changes)
 
   pub put_err : (n : ℕ) → Changes (journal_name journal.path journal.number) (grown (take n bytes)) (now old) (now mid) → Recovers journal.path (now mid) (begun item t)
   put_err n changes =
-      torn journal (now old) (now mid) t item n keeps one allowed
+      torn follow order journal new (now old) (now mid) t item n goes keeps one allowed
       (subst (λ (b : List ℕ). Changes (journal_name journal.path journal.number) (grown (take n b)) (now old) (now mid)) ready changes)
 
   pub put_moments : {T E : Type 0} (result : Result T E) → Elapses old mid
@@ -189,7 +206,4 @@ module _ (journal new : OpenJournal) (old mid : History) (t : Telling) (item : R
       → LeavesOnly old mid (OpensWithin journal.path (begun item t))
   put_moments result time ok err =
       one_call old mid (OpensWithin journal.path (begun item t)) time (λ folder leaves. more_steps journal.path item t folder (recovers journal (now old) t keeps folder leaves))
-      (either result ok err
-      (λ changes. recovers (one_more item journal) (now mid) (begun item t) (told journal (one_more item journal) (now old) (now mid) t item refl refl refl keeps one allowed
-      (subst (λ (b : List ℕ). Changes (journal_name journal.path journal.number) (grown b) (now old) (now mid)) ready changes)))
-      (λ some. put_err some.0 some.1))
+      (either result ok err (λ changes. subst (λ (p : List ℕ). Recovers p (now mid) (begun item t)) goes.path (recovers new (now mid) (begun item t) (put_ok changes))) (λ some. put_err some.0 some.1))

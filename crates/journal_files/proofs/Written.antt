@@ -4,7 +4,8 @@ use Rattle.std.proofs.lemmas.List.{take_all}
 use Rattle.disk_files.specs.Disk.{File, Disk, Folder, StopLeaves, SameDisk, Makes, Changes, fresh, grown, flushed, with_file}
 use Rattle.disk_files.specs.Moments.{History, now, Elapses, LeavesOnly}
 use Rattle.disk_files.proofs.Moments.{follows, goes_on}
-use Rattle.journal_files.specs.Pieces.{IsUnfinished, IsSealing, IsLeftOf, Partly, sealed}
+use Rattle.file_pieces.specs.Adding.{IsLeftOf, Partly}
+use Rattle.journal_files.specs.Pieces.{IsUnfinished, IsSealing, sealed}
 use Rattle.journal_files.proofs.Steps.{either, one_call}
 
 -- all of the bytes are some of them
@@ -16,19 +17,15 @@ partly_all name bytes before mid after changes same = record {
 
 -- ---- a new file
 
-not_begun : (name bytes : List ℕ) (old mid : Disk) → SameDisk mid old ⊎ Makes name old mid → IsUnfinished name bytes old mid
+pub not_begun : (name bytes : List ℕ) (old mid : Disk) → SameDisk mid old ⊎ Makes name old mid → IsUnfinished name bytes old mid
 not_begun name bytes old mid (inl same) = inl same
 not_begun name bytes old mid (inr made) = inr (record { len = 0; new = record { none = made.0; made = made.1 } })
 
-begun_so_far : (name bytes : List ℕ) (n : ℕ) (old mid new : Disk) → Makes name old mid → Changes name (grown (take n bytes)) mid new → IsUnfinished name bytes old new
+pub begun_so_far : (name bytes : List ℕ) (n : ℕ) (old mid new : Disk) → Makes name old mid → Changes name (grown (take n bytes)) mid new → IsUnfinished name bytes old new
 begun_so_far name bytes n old mid new made changes = inr (record { len = n; new = record { none = made.0; made = follows old mid new name (Some fresh) (grown (take n bytes)) made.1 changes } })
 
-begun_whole : (name bytes : List ℕ) (old mid new : Disk) → Makes name old mid → Changes name (grown bytes) mid new → IsUnfinished name bytes old new
-begun_whole name bytes old mid new made changes =
-    begun_so_far name bytes (length bytes) old mid new made (subst (λ (b : List ℕ). Changes name (grown b) mid new) (sym (take_all (length bytes) bytes (omega arith))) changes)
-
 -- the folder is one that a stop leaves now
-left_now : (IsSo : Disk → Type 0) (h : History) → IsSo (now h) → (folder : Folder) → StopLeaves (now h) folder → IsLeftOf IsSo folder
+pub left_now : (IsSo : Disk → Type 0) (h : History) → IsSo (now h) → (folder : Folder) → StopLeaves (now h) folder → IsLeftOf IsSo folder
 left_now IsSo h so folder stays = record { disk = now h; so = so; stays = stays }
 
 module _ (name bytes : List ℕ) (old mid : History) where
@@ -40,12 +37,6 @@ module _ (name bytes : List ℕ) (old mid : History) where
   make_first result time ok err =
       one_call old mid (IsLeftOf Q) time (left_now Q old (inl (λ other. refl)))
       (left_now Q mid (not_begun name bytes (now old) (now mid) (either result ok err (λ made. inr made) (λ some. some))))
-
-  pub make_second : {T E : Type 0} (new : History) (result : Result T E) → LeavesOnly old mid (IsLeftOf Q) → Elapses mid new → Makes name (now old) (now mid) → OnOk result (Changes name (grown bytes) (now mid) (now new))
-      → OnErr result ((n : ℕ) × Changes name (grown (take n bytes)) (now mid) (now new)) → LeavesOnly old new (IsLeftOf Q)
-  make_second new result so_far time made ok err =
-      goes_on old mid new (IsLeftOf Q) so_far time
-      (left_now Q new (either result ok err (λ changes. begun_whole name bytes (now old) (now mid) (now new) made changes) (λ some. begun_so_far name bytes some.0 (now old) (now mid) (now new) made some.1)))
 
 -- ---- more bytes, and their sync
 

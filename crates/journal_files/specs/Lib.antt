@@ -1,8 +1,11 @@
 pub mod Folders
 pub mod Tellings
 pub mod Disks
+pub mod Placings
 pub mod Views
 pub mod Faults
 pub mod Pieces
+pub mod Fronts
+pub mod Sources
 pub mod Found
 pub mod Laws

@@ -1,9 +1,10 @@
 -- What the pieces of opening and renewing do to a disk. (Words of private functions.)
-use Rattle.std.specs.Prelude.{ℕ, ◌≡◌, ◌≢◌, ◌⊎◌, ◌<◌, List, take, Option, None, Some, IsSome, option_map}
+use Rattle.std.specs.Prelude.{ℕ, ◌≡◌, ◌≢◌, ◌⊎◌, ◌<◌, List, take, Option, None, Some, IsSome}
 use Rattle.std.specs.Ordering.{nat_cmp}
 use Rattle.std.specs.BTreeMap.{BTreeMap, get}
-use Rattle.disk_files.specs.Disk.{Disk, File, Folder, StopLeaves, Changes, fresh, grown, flushed, with_file, SameDisk, reads}
+use Rattle.disk_files.specs.Disk.{Disk, File, Changes, fresh, grown, flushed, with_file, SameDisk, reads}
 use Rattle.disk_files.specs.declared.dir.FileNo.{FileNo}
+use Rattle.file_pieces.specs.Adding.{Partly}
 use Rattle.journal_files.specs.Folders.{journal_name}
 
 -- a new file of this name has these bytes, of which nothing is certainly on the disk
@@ -20,11 +21,6 @@ pub record HasSome (name bytes : List ℕ) (before after : Disk) : Type 0 where
 abbrev pub IsUnfinished : List ℕ → List ℕ → Disk → Disk → Type 0
 IsUnfinished name bytes before after = SameDisk after before ⊎ HasSome name bytes before after
 
--- what is left of an append
-pub record Partly (name bytes : List ℕ) (before after : Disk) : Type 0 where
-  pub len : ℕ
-  pub grew : SameDisk after (with_file before name (option_map (grown (take len bytes)) (before name)))
-
 -- these bytes were added, and synced with all before them
 abbrev pub sealed : List ℕ → File → File
 sealed bytes f = flushed (grown bytes f)
@@ -32,12 +28,6 @@ sealed bytes f = flushed (grown bytes f)
 -- nothing changed yet, or some of these bytes were added, or all of them and they are synced with all before them
 abbrev pub IsSealing : List ℕ → List ℕ → Disk → Disk → Type 0
 IsSealing name bytes before after = SameDisk after before ⊎ (Partly name bytes before after ⊎ Changes name (sealed bytes) before after)
-
--- a stop may leave this folder of a disk that is so
-pub record IsLeftOf (IsSo : Disk → Type 0) (folder : Folder) : Type 0 where
-  pub disk : Disk
-  pub so : IsSo disk
-  pub stays : StopLeaves disk folder
 
 -- the name of no generation below this one
 abbrev pub IsAbove : List ℕ → ℕ → List ℕ → Type 0

@@ -1,6 +1,6 @@
 //! An open generation of a buffer's journal.
 
-ghost use Rattle.std.specs.Prelude.{◌≡◌, ◌≢◌, ◌↔◌, ℕ, ◌+◌, ◌-◌, ◌*◌, ◌^◌, ◌<◌, ◌≤◌, List, [], length, min, None, OnOk, OnErr, Err, IsTrue};
+ghost use Rattle.std.specs.Prelude.{◌≡◌, ◌≢◌, ◌↔◌, ℕ, ◌+◌, ◌-◌, ◌*◌, ◌^◌, ◌<◌, ◌≤◌, List, [], length, None, IfOk, OnOk, OnErr, Err, IsTrue};
 ghost use Rattle.disk_files.specs.Disk.{SameDisk, reads};
 ghost use Rattle.disk_files.specs.Moments.{Elapses, LeavesOnly, now};
 ghost use Rattle.disk_files.specs.Faults.{HasCause};
@@ -8,18 +8,23 @@ ghost use Rattle.disk_files.specs.declared.dir.FileNo.{FileNo};
 ghost use Rattle.buffer_state.specs.Steps.{settled, reopened};
 ghost use Rattle.chunk_journal.specs.Records.{Record as Step, body_of, longest_body};
 ghost use Rattle.chunk_journal.specs.Meaning.{Allows};
+ghost use Rattle.chunk_journal.specs.Places.{SamePlaces, entries_at};
 ghost use Rattle.chunk_journal.specs.Spelled.{record_of, HasShortTag};
 ghost use Rattle.journal_files.specs.Tellings.{Telling, begun, all_sure, opening, state_of, OpensWithin};
 ghost use Rattle.journal_files.specs.Views.{IsOpenIn, IsReady, HasShortTags};
 ghost use Rattle.journal_files.specs.Folders.{journal_name};
 ghost use Rattle.journal_files.specs.Disks.{Keeps, Recovers, HasNoStray};
 ghost use Rattle.journal_files.specs.Faults.{HasReason};
+ghost use Rattle.journal_files.specs.declared.error.ReadError.{ReadError};
 ghost use Rattle.journal_files.specs.declared.error.RenewError.{RenewError};
+ghost use Rattle.journal_files.specs.declared.placing.Placing.TheVariants.{Stays};
 
-use crate::error::RenewError;
+use crate::error::{ReadError, RenewError};
 use crate::pieces::begin;
+use crate::placing::Placing;
+use crate::reading::read_extents;
 use buffer_state::Chunks;
-use chunk_journal::{Record, put_record};
+use chunk_journal::{Places, Record, leads_in_order, places_follow, put_record};
 use disk_files::{Dir, DirError, FileNo};
 use std::alloc::{AllocError, Allocator};
 use std::marker::Model;
@@ -30,18 +35,33 @@ pub struct Journal<A: Allocator> {
     pub(crate) path: Vec<u8, A>,
     pub(crate) number: u32,
     pub(crate) file: FileNo,
-    // how many bytes were told, up to the greatest number of its type
+    // how many bytes were told
     pub(crate) len: u64,
     // what is told next
     pub(crate) ready: Vec<u8, A>,
+    // where in the file the entries of live chunks lie, and what telling the next does to these places
+    pub(crate) places: Places<A>,
+    pub(crate) placing: Placing,
 }
 
 impl<A: Allocator> Model for Journal<A> {
+    ghost use Rattle.std.specs.Prelude.{◌+◌, ◌<◌, ◌^◌, vec_len};
+    ghost use Rattle.journal_files.specs.Placings.{CanPlace};
     ghost use Rattle.journal_files.specs.Views.{OpenJournal};
 
     ghost Value = { OpenJournal };
 
-    ghost view = { λ j. record { path = j.path.items; number = j.number; file = j.file; len = j.len; ready = j.ready.items } };
+    ghost view = { λ j. record {
+      path = j.path.items;
+      number = j.number;
+      file = j.file;
+      len = j.len;
+      ready = j.ready.items;
+      places = j.places;
+      placing = j.placing;
+    } };
+
+    ghost invariant = { λ j. (j.len + vec_len j.ready < 2 ^ 64) × CanPlace j.placing j.places };
 }
 
 impl<A: Allocator> Journal<A> {
@@ -50,64 +70,6 @@ impl<A: Allocator> Journal<A> {
         ensures { IsTrue result ↔ ((past < self.now.len) × (2 * live < self.now.len)) }
     {
         self.len > past && live < (u128::from(self.len) + 1) / 2
-    }
-
-    /// Spells a record, and makes room for it in the folder, so that `put` needs no memory.
-    /// Asks for a tag of at most 1,024 bytes and for at most 16,777,216 bytes behind the length.
-    ///
-    /// The error is want of memory; then nothing of the folder changed, and the journal tells what it told.
-    pub fn ready<D: Dir, B: Allocator>(
-        &mut self,
-        dir: &mut D,
-        item: &Record<'_, B>,
-    ) -> Result<(), AllocError>
-        requires open { IsOpenIn self.old (D.opened dir.old) }
-        requires tag { HasShortTag (record_of item.now) }
-        requires short { length (body_of (record_of item.now)) ≤ longest_body }
-        ensures ready { OnOk result (IsReady self.new (record_of item.now)) }
-        ensures room { OnOk result (length self.new.ready ≤ D.bytes_left dir.new self.new.file) }
-        ensures rest { self.new ≡ record self.old { ready = self.new.ready } }
-        ensures honest { D.is_honest dir.old → D.is_honest dir.new }
-        ensures time { D.is_honest dir.old → Elapses (D.history dir.old) (D.history dir.new) }
-        ensures same { D.is_honest dir.old → SameDisk (now (D.history dir.new)) (now (D.history dir.old)) }
-        ensures opened { (other : FileNo) → D.opened dir.new other ≡ D.opened dir.old other }
-        ensures cause { D.fault_count dir.new ≡ D.fault_count dir.old }
-    {
-        self.ready.clear();
-        put_record(&mut self.ready, item)?;
-        dir.reserve(self.file, self.ready.len())
-    }
-
-    /// Tells the record that is ready, and doesn't sync.
-    ///
-    /// The error is `Fault`. Then the step is begun, and a stop may leave it or not; the journal is not to be used again.
-    pub fn put<D: Dir>(&mut self, dir: &mut D) -> Result<(), DirError>
-        requires open { IsOpenIn self.old (D.opened dir.old) }
-        requires room { length self.old.ready ≤ D.bytes_left dir.old self.old.file }
-        ensures journal { self.new ≡ record self.old { len = min (self.old.len + length self.old.ready) (2 ^ 64 - 1); ready = [] } }
-        ensures honest { D.is_honest dir.old → D.is_honest dir.new }
-        ensures ok { D.is_honest dir.old → (t : Telling) (item : Step) → Keeps self.old (now (D.history dir.old)) t
-            → IsReady self.old item → Allows (state_of t) item
-            → OnOk result (Keeps self.new (now (D.history dir.new)) (begun item t)) }
-        ensures err { D.is_honest dir.old → (t : Telling) (item : Step) → Keeps self.old (now (D.history dir.old)) t
-            → IsReady self.old item → Allows (state_of t) item
-            → OnErr result (Recovers self.old.path (now (D.history dir.new)) (begun item t)) }
-        ensures stray { D.is_honest dir.old → (t : Telling) → Keeps self.old (now (D.history dir.old)) t → HasNoStray self.old.path (now (D.history dir.new)) }
-        // A stop at any moment of the call leaves a folder that opens so.
-        ensures moments { D.is_honest dir.old → (t : Telling) (item : Step) → Keeps self.old (now (D.history dir.old)) t
-            → IsReady self.old item → Allows (state_of t) item
-            → LeavesOnly (D.history dir.old) (D.history dir.new) (OpensWithin self.old.path (begun item t)) }
-        // Files of other names stay as they are.
-        ensures elsewhere { D.is_honest dir.old → (name : List ℕ) → name ≢ journal_name self.old.path self.old.number
-            → now (D.history dir.new) name ≡ now (D.history dir.old) name }
-        ensures opened { (other : FileNo) → D.opened dir.new other ≡ D.opened dir.old other }
-        ensures cause { HasCause (D.fault_count dir.old) (D.fault_count dir.new) result }
-        ensures only { OnErr result (result ≡ Err DirError.Fault) }
-    {
-        let told = dir.append(self.file, &self.ready);
-        self.len = self.len.saturating_add(self.ready.len() as u64);
-        self.ready.clear();
-        told
     }
 
     /// After its `Ok` each stop leaves all steps that were begun. The error is `Fault`, and changes nothing.
@@ -133,9 +95,112 @@ impl<A: Allocator> Journal<A> {
 }
 
 impl<A: Allocator + Copy> Journal<A> {
+    /// Spells a record, and makes room for it in the folder, so that `put` needs no memory.
+    /// Asks for a tag of at most 1,024 bytes and for at most 16,777,216 bytes behind the length.
+    ///
+    /// The error is want of memory, and comes too where the journal would have 2^64 bytes; then nothing of the folder changed,
+    /// and the journal tells what it told.
+    pub fn ready<D: Dir, B: Allocator>(
+        &mut self,
+        dir: &mut D,
+        item: &Record<'_, B>,
+    ) -> Result<(), AllocError>
+        requires open { IsOpenIn self.old (D.opened dir.old) }
+        requires tag { HasShortTag (record_of item.now) }
+        requires short { length (body_of (record_of item.now)) ≤ longest_body }
+        ensures ready { OnOk result (IsReady self.new (record_of item.now)) }
+        ensures room { OnOk result (length self.new.ready ≤ D.bytes_left dir.new self.new.file) }
+        ensures rest { self.new ≡ record self.old { ready = self.new.ready; places = self.new.places; placing = self.new.placing } }
+        ensures places { SamePlaces self.old.places self.new.places }
+        ensures keeps { D.is_honest dir.old → (t : Telling) → Keeps self.old (now (D.history dir.old)) t → Keeps self.new (now (D.history dir.new)) t }
+        ensures honest { D.is_honest dir.old → D.is_honest dir.new }
+        ensures time { D.is_honest dir.old → Elapses (D.history dir.old) (D.history dir.new) }
+        ensures same { D.is_honest dir.old → SameDisk (now (D.history dir.new)) (now (D.history dir.old)) }
+        ensures opened { (other : FileNo) → D.opened dir.new other ≡ D.opened dir.old other }
+        ensures cause { D.fault_count dir.new ≡ D.fault_count dir.old }
+    {
+        self.spell(item)?;
+        dir.reserve(self.file, self.ready.len())
+    }
+
+    // Spells a record, and makes room for its place.
+    fn spell<B: Allocator>(&mut self, item: &Record<'_, B>) -> Result<(), AllocError>
+        requires tag { HasShortTag (record_of item.now) }
+        requires short { length (body_of (record_of item.now)) ≤ longest_body }
+        ensures ready { OnOk result (IsReady self.new (record_of item.now)) }
+        ensures rest { self.new ≡ record self.old { ready = self.new.ready; places = self.new.places; placing = self.new.placing } }
+        ensures places { SamePlaces self.old.places self.new.places }
+    {
+        self.placing = Placing::Stays;
+        self.ready.clear();
+        put_record(&mut self.ready, item)?;
+        if self.len.checked_add(self.ready.len() as u64).is_none() {
+            self.ready.clear();
+            return Err(AllocError);
+        }
+        let placing = Placing::of(item);
+        placing.reserve(&mut self.places)?;
+        self.placing = placing;
+        Ok(())
+    }
+
+    /// Tells the record that is ready, and doesn't sync.
+    ///
+    /// The error is `Fault`. Then the step is begun, and a stop may leave it or not; the journal is not to be used again.
+    pub fn put<D: Dir>(&mut self, dir: &mut D) -> Result<(), DirError>
+        requires open { IsOpenIn self.old (D.opened dir.old) }
+        requires room { length self.old.ready ≤ D.bytes_left dir.old self.old.file }
+        ensures journal { self.new ≡ record self.old { len = self.old.len + length self.old.ready; ready = []; places = self.new.places; placing = Stays } }
+        ensures honest { D.is_honest dir.old → D.is_honest dir.new }
+        ensures ok { D.is_honest dir.old → (t : Telling) (item : Step) → Keeps self.old (now (D.history dir.old)) t
+            → IsReady self.old item → Allows (state_of t) item
+            → OnOk result (Keeps self.new (now (D.history dir.new)) (begun item t)) }
+        ensures err { D.is_honest dir.old → (t : Telling) (item : Step) → Keeps self.old (now (D.history dir.old)) t
+            → IsReady self.old item → Allows (state_of t) item
+            → OnErr result (Recovers self.old.path (now (D.history dir.new)) (begun item t)) }
+        ensures stray { D.is_honest dir.old → (t : Telling) → Keeps self.old (now (D.history dir.old)) t → HasNoStray self.old.path (now (D.history dir.new)) }
+        // A stop at any moment of the call leaves a folder that opens so.
+        ensures moments { D.is_honest dir.old → (t : Telling) (item : Step) → Keeps self.old (now (D.history dir.old)) t
+            → IsReady self.old item → Allows (state_of t) item
+            → LeavesOnly (D.history dir.old) (D.history dir.new) (OpensWithin self.old.path (begun item t)) }
+        // Files of other names stay as they are.
+        ensures elsewhere { D.is_honest dir.old → (name : List ℕ) → name ≢ journal_name self.old.path self.old.number
+            → now (D.history dir.new) name ≡ now (D.history dir.old) name }
+        ensures opened { (other : FileNo) → D.opened dir.new other ≡ D.opened dir.old other }
+        ensures cause { HasCause (D.fault_count dir.old) (D.fault_count dir.new) result }
+        ensures only { OnErr result (result ≡ Err DirError.Fault) }
+    {
+        places_follow();
+        leads_in_order();
+        let told = dir.append(self.file, &self.ready);
+        self.len += self.ready.len() as u64;
+        self.ready.clear();
+        self.placing.place(&mut self.places, self.len);
+        self.placing = Placing::Stays;
+        told
+    }
+
+    /// The entries of a live chunk, one after another, as the file has them; none where there is no such chunk. The disk stays as it is.
+    ///
+    /// `Short`: the file has fewer bytes than were told.
+    pub fn body<D: Dir>(&self, alloc: A, dir: &mut D, serial: u64) -> Result<Vec<u8, A>, ReadError>
+        requires open { IsOpenIn self.now (D.opened dir.old) }
+        ensures honest { D.is_honest dir.old → D.is_honest dir.new }
+        ensures time { D.is_honest dir.old → Elapses (D.history dir.old) (D.history dir.new) }
+        ensures same { D.is_honest dir.old → SameDisk (now (D.history dir.new)) (now (D.history dir.old)) }
+        ensures opened { (other : FileNo) → D.opened dir.new other ≡ D.opened dir.old other }
+        ensures bytes { D.is_honest dir.old → (t : Telling) → Keeps self.now (now (D.history dir.old)) t
+            → IfOk result (λ bytes. bytes.items ≡ entries_at (state_of t) serial) }
+        ensures whole { D.is_honest dir.old → (t : Telling) → Keeps self.now (now (D.history dir.old)) t → result ≢ Err ReadError.Short }
+        ensures cause { HasReason (D.fault_count dir.old) (D.fault_count dir.new) result ReadError.Fault }
+    {
+        read_extents(alloc, dir, self.file, self.places.at(serial))
+    }
+
     /// Goes on in the next generation, which begins with these chunks, claimed ones told as queued. Asks that no chunk's tag
     /// has more than 1,024 bytes. The older file is removed once the new one is synced.
     ///
+    /// The chunks' entries are copied from the older file. `Short`: that has fewer bytes than were told.
     /// `LastGeneration` comes first, and it and `Memory` change nothing. After `Fault` every stop leaves a folder
     /// that opens as before; the journal is not to be used again.
     pub fn renew<D: Dir>(&mut self, dir: &mut D, chunks: &Chunks<A>) -> Result<(), RenewError>
@@ -143,7 +208,10 @@ impl<A: Allocator + Copy> Journal<A> {
         requires tags { HasShortTags chunks.now }
         ensures honest { D.is_honest dir.old → D.is_honest dir.new }
         ensures ok { D.is_honest dir.old → (t : Telling) → Keeps self.old (now (D.history dir.old)) t
+            → settled (state_of t) ≡ reopened chunks.now
             → OnOk result (Keeps self.new (now (D.history dir.new)) (opening chunks.now)) }
+        ensures whole { D.is_honest dir.old → (t : Telling) → Keeps self.old (now (D.history dir.old)) t
+            → settled (state_of t) ≡ reopened chunks.now → result ≢ Err RenewError.Short }
         ensures state { OnOk result (settled (state_of (opening chunks.now)) ≡ reopened chunks.now) }
         ensures fault { D.is_honest dir.old → (t : Telling) → Keeps self.old (now (D.history dir.old)) t
             → settled (state_of t) ≡ reopened chunks.now
@@ -172,7 +240,16 @@ impl<A: Allocator + Copy> Journal<A> {
             return Err(RenewError::LastGeneration);
         }
         let alloc = *self.path.allocator();
-        let next = begin(alloc, dir, &self.path, self.number + 1, chunks)?;
+        let from = Some(self.file);
+        let next = begin(
+            alloc,
+            dir,
+            &self.path,
+            self.number + 1,
+            chunks,
+            from,
+            &self.places,
+        )?;
         dir.remove(self.file)?;
         *self = next;
         Ok(())

@@ -6,10 +6,13 @@ mod journal;
 mod laws;
 mod older;
 mod opening;
+mod outlining;
 mod pieces;
+mod placing;
+mod reading;
 mod spelling;
 
-pub use error::{OpenError, RenewError};
+pub use error::{OpenError, ReadError, RenewError};
 pub use journal::Journal;
 pub use laws::{has_no_stray, opens_one_way, recovers_all};
 pub use opening::Opened;

@@ -8,7 +8,8 @@ ghost use Rattle.disk_files.specs.Moments.{Elapses, LeavesOnly, now};
 ghost use Rattle.disk_files.specs.Faults.{HasCause};
 ghost use Rattle.disk_files.specs.declared.dir.FileNo.{FileNo};
 ghost use Rattle.journal_files.specs.Folders.{journal_name};
-ghost use Rattle.journal_files.specs.Pieces.{AreOlder, ChangesBelow, IsAbove, IsGoneBut, IsLeftOf};
+ghost use Rattle.file_pieces.specs.Adding.{IsLeftOf};
+ghost use Rattle.journal_files.specs.Pieces.{AreOlder, ChangesBelow, IsAbove, IsGoneBut};
 
 use crate::pieces::generations;
 use disk_files::{Dir, DirError, FileNo};
@@ -40,6 +41,8 @@ impl<'a, A: Allocator + Copy> Older<'a, A> {
         ensures files { IfOk result (λ older. AreOlder path.now number (D.opened dir.new) older.files) }
         ensures all { D.is_honest dir.old → IfOk result (λ older. (n : ℕ) → 1 ≤ n → n < number
             → IsGoneBut path.now older.files (now (D.history dir.old)) n) }
+        ensures others { (other : FileNo) → IsSome (D.opened dir.old other)
+            → D.opened dir.new other ≡ D.opened dir.old other }
         ensures cause { HasCause (D.fault_count dir.old) (D.fault_count dir.new) result }
     {
         let mut rest = numbers(alloc, dir, generations(path))?;
@@ -93,6 +96,7 @@ fn open_below<A: Allocator + Copy, D: Dir>(
     ensures files { OnOk result (AreOlder path.now number (D.opened dir.new) files.new) }
     ensures added { OnOk result (next < number → IsSome (get nat_cmp files.new next)) }
     ensures others { OnOk result ((n : ℕ) → IsSome (get nat_cmp files.old n) → IsSome (get nat_cmp files.new n)) }
+    ensures stays_open { (other : FileNo) → IsSome (D.opened dir.old other) → D.opened dir.new other ≡ D.opened dir.old other }
     ensures cause { HasCause (D.fault_count dir.old) (D.fault_count dir.new) result }
 {
     if next >= number {

@@ -1,6 +1,6 @@
 //! Opening a journal: what the folder means, and a new generation that says so.
 
-ghost use Rattle.std.specs.Prelude.{◌≡◌, ◌≢◌, ◌⊎◌, ℕ, ◌+◌, ◌-◌, ◌^◌, ◌<◌, ◌≤◌, List, Some, None, false, IsSome, IsTrue, OnErr, IfOk, IfSome, Err};
+ghost use Rattle.std.specs.Prelude.{◌≡◌, ◌≢◌, ◌⊎◌, ℕ, ◌+◌, ◌-◌, ◌^◌, ◌<◌, ◌≤◌, List, Some, None, false, Ok, IsSome, IsTrue, OnErr, IfOk, IfSome, Err};
 ghost use Rattle.std.specs.Ordering.{nat_cmp};
 ghost use Rattle.std.specs.BTreeSet.{contains};
 ghost use Rattle.disk_files.specs.Disk.{SameDisk, reads};
@@ -11,17 +11,19 @@ ghost use Rattle.journal_files.specs.Tellings.{Telling, OpensWithin, opening, st
 ghost use Rattle.journal_files.specs.Views.{IsOpenIn, HasShortTags};
 ghost use Rattle.journal_files.specs.Disks.{Keeps, Recovers, HasNoStray, HasNoneBelow};
 ghost use Rattle.journal_files.specs.Faults.{HasReason};
-ghost use Rattle.journal_files.specs.Found.{IsFound, IsRead};
+ghost use Rattle.chunk_journal.specs.Meaning.{EndsUnsealed, IsDamaged};
+ghost use Rattle.journal_files.specs.Found.{FindsSource, IsFound, IsMeant, IsSo};
 ghost use Rattle.journal_files.specs.declared.error.OpenError.{OpenError};
 
 use crate::error::OpenError;
 use crate::journal::Journal;
 use crate::older::Older;
+use crate::outlining::{feed_file, meaning};
 use crate::pieces::{begin, generations};
 use buffer_state::Chunks;
-use chunk_journal::{ReplayError, answers_one_way, replay};
-use disk_files::Dir;
-use numbered_files::{numbers, read_file};
+use chunk_journal::{Outlined, Places, answers_one_way};
+use disk_files::{Dir, FileNo};
+use numbered_files::numbers;
 use std::alloc::Allocator;
 use std::collections::BTreeSet;
 
@@ -79,7 +81,15 @@ impl<A: Allocator + Copy> Journal<A> {
         answers_one_way();
         let number = found.greatest + 1;
         let older = Older::open(alloc, dir, path, number)?;
-        let journal = begin(alloc, dir, path, number, &found.chunks)?;
+        let journal = begin(
+            alloc,
+            dir,
+            path,
+            number,
+            &found.chunks,
+            found.file,
+            &found.places,
+        )?;
         older.remove(dir)?;
         Ok(Opened {
             journal,
@@ -88,11 +98,21 @@ impl<A: Allocator + Copy> Journal<A> {
     }
 }
 
-// What a folder means, and the greatest number of its generations, 0 where there is none. No file is read where that is the last.
+// What a folder means, where the entries lie in the open file that says so, if there is one, and the greatest number of its generations,
+// 0 where there is none. No file is read where that is the last.
 #[derive(Drop)]
 pub struct Found<A: Allocator> {
     chunks: Chunks<A>,
+    places: Places<A>,
+    file: Option<FileNo>,
     greatest: u32,
+}
+
+// What a generation means, and where the entries lie in its open file.
+#[derive(Drop)]
+struct Meant<A: Allocator> {
+    outlined: Outlined<A>,
+    file: FileNo,
 }
 
 fn find<A: Allocator + Copy, D: Dir>(
@@ -107,6 +127,9 @@ fn find<A: Allocator + Copy, D: Dir>(
         → IfOk result (λ found. Opens path.now (reads (now (D.history dir.old))) found.chunks) }
     ensures greatest { D.is_honest dir.old
         → IfOk result (λ found. IsFound path.now (reads (now (D.history dir.old))) found.greatest) }
+    ensures source { D.is_honest dir.old
+        → IfOk result (λ found. FindsSource (D.opened dir.new) (now (D.history dir.old)) path.now found.greatest found.file found.places found.chunks) }
+    ensures open { IfOk result (λ found. IfSome found.file (λ file. IsSome (D.opened dir.new file))) }
     ensures tags { IfOk result (λ found. HasShortTags found.chunks) }
     ensures unclaimed { IfOk result (λ found. reopened found.chunks ≡ found.chunks) }
     ensures damaged { D.is_honest dir.old → (result ≡ Err OpenError.Damaged)
@@ -124,14 +147,37 @@ fn find<A: Allocator + Copy, D: Dir>(
         return Err(OpenError::LastGeneration);
     }
     while let Some(number) = rest.pop_last() {
-        if let Some(chunks) = read_generation(alloc, dir, path, number)? {
-            return Ok(Found { chunks, greatest });
+        if let Some(meant) = read_generation(alloc, dir, path, number)? {
+            return Ok(found_so(meant, greatest));
         }
     }
     Ok(Found {
         chunks: Chunks::new(alloc),
+        places: Places::new(alloc),
+        file: None,
         greatest,
     })
+}
+
+// What this generation means was found.
+fn found_so<A: Allocator>(meant: Meant<A>, greatest: u32) -> Found<A>
+    ensures chunks { result.chunks ≡ meant.outlined.chunks }
+    ensures places { result.places ≡ meant.outlined.places }
+    ensures file { result.file ≡ Some meant.file }
+    ensures greatest { result.greatest ≡ greatest }
+{
+    let Meant { outlined, file } = meant;
+    let Outlined {
+        chunks,
+        places,
+        used: _,
+    } = outlined;
+    Found {
+        chunks,
+        places,
+        file: Some(file),
+        greatest,
+    }
 }
 
 // The greatest of the numbers, 0 where there is none.
@@ -145,29 +191,31 @@ fn greatest_of<A: Allocator>(numbers: &BTreeSet<u32, A>) -> u32
     }
 }
 
-// What the generation of this number means, if it is there: none where it ends before a Seal.
+// What the generation of this number means: none where it ends before a Seal.
 fn read_generation<A: Allocator + Copy, D: Dir>(
     alloc: A,
     dir: &mut D,
     path: &[u8],
     number: u32,
-) -> Result<Option<Chunks<A>>, OpenError>
+) -> Result<Option<Meant<A>>, OpenError>
     ensures honest { D.is_honest dir.old → D.is_honest dir.new }
     ensures time { D.is_honest dir.old → Elapses (D.history dir.old) (D.history dir.new) }
     ensures same { D.is_honest dir.old → SameDisk (now (D.history dir.new)) (now (D.history dir.old)) }
-    ensures read { D.is_honest dir.old → IsRead (reads (now (D.history dir.old)) (journal_name path.now number)) result }
-    ensures tags { IfOk result (λ found. IfSome found HasShortTags) }
-    ensures unclaimed { IfOk result (λ found. IfSome found (λ chunks. reopened chunks ≡ chunks)) }
+    ensures meant { D.is_honest dir.old → IfOk result (λ found. IfSome found (λ meant.
+        IsMeant (reads (now (D.history dir.old)) (journal_name path.now number)) meant.outlined.chunks meant.outlined.places)) }
+    ensures unsealed { D.is_honest dir.old → result ≡ Ok None → IsSo (reads (now (D.history dir.old)) (journal_name path.now number)) EndsUnsealed }
+    ensures damaged { D.is_honest dir.old → result ≡ Err OpenError.Damaged → IsSo (reads (now (D.history dir.old)) (journal_name path.now number)) IsDamaged }
+    ensures open { IfOk result (λ found. IfSome found (λ meant. D.opened dir.new meant.file ≡ Some (journal_name path.now number))) }
+    ensures tags { IfOk result (λ found. IfSome found (λ meant. HasShortTags meant.outlined.chunks)) }
+    ensures unclaimed { IfOk result (λ found. IfSome found (λ meant. reopened meant.outlined.chunks ≡ meant.outlined.chunks)) }
     ensures not_last { result ≢ Err OpenError.LastGeneration }
     ensures cause { HasReason (D.fault_count dir.old) (D.fault_count dir.new) result OpenError.Fault }
 {
     let name = generations(path).name(alloc, number)?;
     let file = dir.open(&name)?;
-    let bytes = read_file(alloc, dir, file)?;
-    match replay(alloc, &bytes) {
-        Ok(replayed) => Ok(Some(replayed.chunks)),
-        Err(ReplayError::NotSealed) => Ok(None),
-        Err(ReplayError::BadRecord) => Err(OpenError::Damaged),
-        Err(ReplayError::Memory) => Err(OpenError::Memory),
+    let outline = feed_file(alloc, dir, file)?;
+    match meaning(outline)? {
+        Some(outlined) => Ok(Some(Meant { outlined, file })),
+        None => Ok(None),
     }
 }

@@ -1,7 +1,7 @@
 //! The pieces in which a generation comes to stand beside the older ones, each a few calls of the folder.
 
-ghost use Rattle.std.specs.Prelude.{◌≡◌, ◌≢◌, ℕ, ◌+◌, ◌-◌, ◌*◌, ◌^◌, ◌<◌, ◌≤◌, List, [], ◌++◌, length, take, Some, None, IsSome, OnOk, OnErr, IfOk, Err, IsErrOf};
-ghost use Rattle.disk_files.specs.Disk.{SameDisk, Changes};
+ghost use Rattle.std.specs.Prelude.{◌≡◌, ◌≢◌, ℕ, ◌+◌, ◌-◌, ◌*◌, ◌^◌, ◌<◌, ◌≤◌, List, [], ◌++◌, length, take, Some, None, IsSome, IfSome, OnOk, OnErr, IfOk, Err, IsErrOf};
+ghost use Rattle.disk_files.specs.Disk.{SameDisk, Changes, reads};
 ghost use Rattle.disk_files.specs.Moments.{LeavesOnly, now};
 ghost use Rattle.disk_files.specs.Faults.{HasCause};
 ghost use Rattle.disk_files.specs.declared.dir.FileNo.{FileNo};
@@ -11,14 +11,23 @@ ghost use Rattle.journal_files.specs.Folders.{journal_name};
 ghost use Rattle.journal_files.specs.Tellings.{Telling, IsOfSome, OpensWithin, opening, state_of};
 ghost use Rattle.journal_files.specs.Views.{IsOpenIn, HasShortTags};
 ghost use Rattle.journal_files.specs.Disks.{Keeps, Recovers, HasNoneFrom, HasNoStray};
-ghost use Rattle.journal_files.specs.Pieces.{HasNew, IsUnfinished, IsSealing, IsLeftOf, Partly, sealed};
+ghost use Rattle.file_pieces.specs.Adding.{IsLeftOf, Partly};
+ghost use Rattle.file_pieces.specs.Pieces.{total_room};
+ghost use Rattle.journal_files.specs.Sources.{CanGive, Fills, HasAnyNew, HasSource, IsAnyUnfinished};
+ghost use Rattle.journal_files.specs.Faults.{HasReason};
+ghost use Rattle.journal_files.specs.declared.error.BeginError.{BeginError};
+ghost use Rattle.journal_files.specs.Pieces.{HasNew, IsUnfinished, IsSealing, sealed};
 
+use crate::error::BeginError;
 use crate::journal::Journal;
-use crate::spelling::{spell_chunks, spell_seal};
+use crate::placing::Placing;
+use crate::spelling::{Told, tell_chunks};
 use buffer_state::Chunks;
+use chunk_journal::Places;
 use disk_files::{Dir, DirError, FileNo};
+use file_pieces::{Piece, PieceError, add_pieces, room_of};
 use numbered_files::Family;
-use std::alloc::Allocator;
+use std::alloc::{AllocError, Allocator};
 
 /// The files of a buffer's journal.
 pub(crate) fn generations(path: &[u8]) -> Family<'_>
@@ -30,29 +39,39 @@ pub(crate) fn generations(path: &[u8]) -> Family<'_>
     }
 }
 
-/// Writes a generation that begins with these chunks, and syncs it. All memory is asked for before the folder is changed.
+/// Writes a generation that begins with these chunks, and syncs it. Their entries are copied from the file that there is, where they lie
+/// at these places. All memory is asked for before the folder is changed.
 ///
-/// After an error what there is of the new file may be there; after `Memory` nothing changed.
+/// After an error what there is of the new file may be there; after `Memory` nothing changed. `Short`: the file has fewer bytes than that.
 pub(crate) fn begin<A: Allocator + Copy, D: Dir>(
     alloc: A,
     dir: &mut D,
     path: &[u8],
     number: u32,
     chunks: &Chunks<A>,
-) -> Result<Journal<A>, DirError>
+    from: Option<FileNo>,
+    places: &Places<A>,
+) -> Result<Journal<A>, BeginError>
     requires tags { HasShortTags chunks.now }
     requires first { 1 ≤ number }
+    requires source { IfSome from (λ file. IsSome (D.opened dir.old file)) }
     ensures honest { D.is_honest dir.old → D.is_honest dir.new }
     ensures ok { D.is_honest dir.old → HasNoneFrom path.now (now (D.history dir.old)) number
+        → HasSource (D.opened dir.old) (now (D.history dir.old)) (journal_name path.now number) from places.now chunks.now
         → IfOk result (λ journal. Keeps journal (now (D.history dir.new)) (opening chunks.now)) }
     // A stop at any moment of the call leaves a folder that opens so.
     ensures moments { D.is_honest dir.old → (t : Telling) → Recovers path.now (now (D.history dir.old)) t
         → HasNoneFrom path.now (now (D.history dir.old)) number → IsOfSome t (reopened chunks.now)
+        → HasSource (D.opened dir.old) (now (D.history dir.old)) (journal_name path.now number) from places.now chunks.now
         → LeavesOnly (D.history dir.old) (D.history dir.new) (OpensWithin path.now t) }
     ensures stray { D.is_honest dir.old → HasNoneFrom path.now (now (D.history dir.old)) number
         → HasNoStray path.now (now (D.history dir.old)) → HasNoStray path.now (now (D.history dir.new)) }
+    ensures whole { D.is_honest dir.old
+        → HasSource (D.opened dir.old) (now (D.history dir.old)) (journal_name path.now number) from places.now chunks.now
+        → IsErrOf result BeginError.Short → ⊥ }
+    ensures there { D.is_honest dir.old → OnOk result (IsSome (reads (now (D.history dir.new)) (journal_name path.now number))) }
     ensures state { OnOk result (settled (state_of (opening chunks.now)) ≡ reopened chunks.now) }
-    ensures memory { D.is_honest dir.old → IsErrOf result DirError.Memory
+    ensures memory { D.is_honest dir.old → IsErrOf result BeginError.Memory
         → SameDisk (now (D.history dir.new)) (now (D.history dir.old)) }
     ensures elsewhere { D.is_honest dir.old → (name : List ℕ) → name ≢ journal_name path.now number
         → now (D.history dir.new) name ≡ now (D.history dir.old) name }
@@ -61,44 +80,114 @@ pub(crate) fn begin<A: Allocator + Copy, D: Dir>(
     ensures open { IfOk result (λ journal. IsOpenIn journal (D.opened dir.new)) }
     ensures others { (other : FileNo) → IsSome (D.opened dir.old other)
         → D.opened dir.new other ≡ D.opened dir.old other }
-    ensures cause { HasCause (D.fault_count dir.old) (D.fault_count dir.new) result }
+    ensures cause { HasReason (D.fault_count dir.old) (D.fault_count dir.new) result BeginError.Fault }
 {
-    let told = spell_chunks(alloc, chunks)?;
-    let seal = spell_seal(alloc, chunks.next())?;
+    let told = tell_chunks(alloc, chunks, places)?;
     let kept = Vec::from_slice(alloc, path)?;
     let name = generations(path).name(alloc, number)?;
-    let file = make(dir, &name, &told, seal.len())?;
-    seal_with(dir, file, &seal)?;
+    let mut buffer = vec![in alloc; 0u8; copied_at_once(told.len)]?;
+    let len = whole_len(&told)?;
+    let file = make(dir, &name, from, &told.pieces, told.seal.len(), &mut buffer)?;
+    seal_with(dir, file, &told.seal)?;
     Ok(Journal {
         path: kept,
         number,
         file,
-        len: told.len() as u64 + seal.len() as u64,
+        len,
         ready: Vec::new(alloc),
+        places: told.places,
+        placing: Placing::Stays,
     })
 }
 
-// Makes a file with these bytes, and with room for so many more. A stop leaves some beginning of them, or no file.
-fn make<D: Dir>(dir: &mut D, name: &[u8], bytes: &[u8], more: usize) -> Result<FileNo, DirError>
-    requires fits { length bytes.now + more < 2 ^ 64 }
+/// How many bytes are read at once, at most.
+pub(crate) const PIECE: usize = 65_536;
+
+// How many bytes are copied at once, where there are so many to be told.
+fn copied_at_once(len: u64) -> usize
+    ensures some { 0 < result }
+    ensures most { result ≤ 65536 }
+{
+    (len.min(PIECE as u64) as usize).max(1)
+}
+
+// How many bytes these are with the Seal, if that is a number of 64 bits.
+fn whole_len<A: Allocator>(told: &Told<A>) -> Result<u64, AllocError>
+    ensures { IfOk result (λ len. len ≡ told.now.len + length told.now.seal.items) }
+{
+    match told.len.checked_add(told.seal.len() as u64) {
+        Some(len) => Ok(len),
+        None => Err(AllocError),
+    }
+}
+
+// Makes a file of these pieces, and with room for so many bytes more. A stop leaves some beginning of them, or no file.
+fn make<A: Allocator, D: Dir>(
+    dir: &mut D,
+    name: &[u8],
+    from: Option<FileNo>,
+    pieces: &[Piece<A>],
+    more: usize,
+    buffer: &mut [u8],
+) -> Result<FileNo, BeginError>
+    requires source { IfSome from (λ file. IsSome (D.opened dir.old file)) }
+    requires some { 0 < length buffer.old }
     ensures honest { D.is_honest dir.old → D.is_honest dir.new }
-    ensures ok { D.is_honest dir.old
-        → OnOk result (HasNew name.now bytes.now (now (D.history dir.old)) (now (D.history dir.new))) }
-    ensures err { D.is_honest dir.old
-        → OnErr result (IsUnfinished name.now bytes.now (now (D.history dir.old)) (now (D.history dir.new))) }
-    ensures moments { D.is_honest dir.old
-        → LeavesOnly (D.history dir.old) (D.history dir.new) (IsLeftOf (IsUnfinished name.now bytes.now (now (D.history dir.old)))) }
-    ensures memory { D.is_honest dir.old → IsErrOf result DirError.Memory
+    ensures ok { D.is_honest dir.old → (bytes : List ℕ) → CanGive (D.opened dir.old) (now (D.history dir.old)) name.now from pieces.now bytes
+        → OnOk result (HasNew name.now bytes (now (D.history dir.old)) (now (D.history dir.new))) }
+    ensures err { D.is_honest dir.old → (bytes : List ℕ) → CanGive (D.opened dir.old) (now (D.history dir.old)) name.now from pieces.now bytes
+        → OnErr result (IsUnfinished name.now bytes (now (D.history dir.old)) (now (D.history dir.new))) }
+    ensures moments { D.is_honest dir.old → (bytes : List ℕ) → CanGive (D.opened dir.old) (now (D.history dir.old)) name.now from pieces.now bytes
+        → LeavesOnly (D.history dir.old) (D.history dir.new) (IsLeftOf (IsUnfinished name.now bytes (now (D.history dir.old)))) }
+    ensures whole { D.is_honest dir.old → (bytes : List ℕ) → CanGive (D.opened dir.old) (now (D.history dir.old)) name.now from pieces.now bytes
+        → IsErrOf result BeginError.Short → ⊥ }
+    ensures any { D.is_honest dir.old → OnOk result (HasAnyNew name.now (now (D.history dir.old)) (now (D.history dir.new))) }
+    ensures some { D.is_honest dir.old → OnErr result (IsAnyUnfinished name.now (now (D.history dir.old)) (now (D.history dir.new))) }
+    ensures memory { D.is_honest dir.old → IsErrOf result BeginError.Memory
         → SameDisk (now (D.history dir.new)) (now (D.history dir.old)) }
     ensures opened { IfOk result (λ file. D.opened dir.new file ≡ Some name.now) }
     ensures others { (other : FileNo) → IsSome (D.opened dir.old other)
         → D.opened dir.new other ≡ D.opened dir.old other }
     ensures room { IfOk result (λ file. more ≤ D.bytes_left dir.new file) }
-    ensures cause { HasCause (D.fault_count dir.old) (D.fault_count dir.new) result }
+    ensures cause { HasReason (D.fault_count dir.old) (D.fault_count dir.new) result BeginError.Fault }
 {
-    let file = dir.create(name, bytes.len() + more)?;
-    dir.append(file, bytes)?;
+    let room = room_with(pieces, more)?;
+    let file = dir.create(name, room)?;
+    fill(dir, from, file, pieces, buffer)?;
     Ok(file)
+}
+
+// How much room the pieces need, and so many bytes more.
+fn room_with<A: Allocator>(pieces: &[Piece<A>], more: usize) -> Result<usize, AllocError>
+    ensures { IfOk result (λ room. room ≡ total_room pieces.now + more) }
+{
+    let Some(room) = room_of(pieces) else {
+        return Err(AllocError);
+    };
+    match room.checked_add(more) {
+        Some(all) => Ok(all),
+        None => Err(AllocError),
+    }
+}
+
+// Adds the pieces, if there is a file that they are copied from.
+fn fill<A: Allocator, D: Dir>(
+    dir: &mut D,
+    from: Option<FileNo>,
+    to: FileNo,
+    pieces: &[Piece<A>],
+    buffer: &mut [u8],
+) -> Result<(), PieceError>
+    requires source { IfSome from (λ file. IsSome (D.opened dir.old file)) }
+    requires open { IsSome (D.opened dir.old to) }
+    requires room { total_room pieces.now ≤ D.bytes_left dir.old to }
+    requires some { 0 < length buffer.old }
+    ensures { Fills D.is_honest D.history D.opened D.bytes_left D.fault_count from to pieces.now dir.old dir.new result }
+{
+    match from {
+        Some(file) => add_pieces(dir, file, to, pieces, buffer),
+        None => Ok(()),
+    }
 }
 
 // Adds these bytes, and syncs the file.

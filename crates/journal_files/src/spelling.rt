@@ -1,87 +1,233 @@
-//! The records that a generation begins with, spelled.
+//! What a generation begins with: pieces that tell its chunks, whose entries another file has, and where they lie then.
 
-ghost use Rattle.std.specs.Prelude.{◌≡◌, ◌≤◌, ◌++◌, length, OnOk, IfOk};
-ghost use Rattle.std.specs.List.{AllByRecursion, flat_map};
+ghost use Rattle.std.specs.Prelude.{◌≡◌, ◌+◌, ◌<◌, ◌≤◌, ◌^◌, ◌++◌, ℕ, List, length, OnOk, IfOk};
+ghost use Rattle.std.specs.Int.{w32, to_be_bytes};
+ghost use Rattle.std.specs.List.{AllByRecursion, concat, flat_map};
 ghost use Rattle.event_modes.specs.Message.{longest_tag};
 ghost use Rattle.buffer_state.specs.State.{size};
 ghost use Rattle.buffer_state.specs.Steps.{greatest_size};
-ghost use Rattle.chunk_journal.specs.Records.{Seal, Queue, record_bytes, IsRecord};
+ghost use Rattle.chunk_journal.specs.Records.{Seal, Append, Queue, record_bytes, IsRecord};
 ghost use Rattle.chunk_journal.specs.Journal.{journal_bytes};
 ghost use Rattle.chunk_journal.specs.Meaning.{telling, AreTold};
+ghost use Rattle.chunk_journal.specs.Places.{ArePlaced, AddsPlace, IsWithin, LieAt, bytes_at, extent_before, places_at};
+ghost use Rattle.file_pieces.specs.Pieces.{AreWithin, pieces_bytes};
+ghost use Rattle.journal_files.specs.Fronts.{front_within};
+ghost use Rattle.journal_files.specs.Tellings.{opening, records_of, state_of};
 ghost use Rattle.journal_files.specs.Views.{HasShortTags};
 
 use buffer_state::{Chunk, Chunks, Stage};
-use chunk_journal::{Record, put_record};
+use chunk_journal::{Extent, Places, Record, leads_in_order, places_follow, put_record};
+use file_pieces::Piece;
 use std::alloc::{AllocError, Allocator};
 
-/// The records that tell these chunks, by rising serial.
-pub(crate) fn spell_chunks<A: Allocator + Copy>(
+/// What a generation begins with: the pieces that tell its chunks, how many bytes these have, and where in them the chunks' entries lie;
+/// and the Seal.
+#[derive(Drop)]
+pub(crate) struct Told<A: Allocator> {
+    pub(crate) pieces: Vec<Piece<A>, A>,
+    pub(crate) len: u64,
+    pub(crate) places: Places<A>,
+    pub(crate) seal: Vec<u8, A>,
+}
+
+/// The records that tell these chunks, by rising serial, and the Seal behind them. The entries lie at these places of another file.
+pub(crate) fn tell_chunks<A: Allocator + Copy>(
     alloc: A,
     chunks: &Chunks<A>,
-) -> Result<Vec<u8, A>, AllocError>
+    from: &Places<A>,
+) -> Result<Told<A>, AllocError>
     requires { HasShortTags chunks.now }
-    ensures bytes { IfOk result (λ bytes. bytes.items ≡ journal_bytes (flat_map telling chunks.now.chunks)) }
+    ensures bytes { IfOk result (λ told. (seen : List ℕ) → length seen < 2 ^ 64 → ArePlaced seen from.now chunks.now
+        → pieces_bytes seen told.pieces.items ≡ journal_bytes (flat_map telling chunks.now.chunks)) }
+    ensures within { IfOk result (λ told. (seen : List ℕ) → length seen < 2 ^ 64 → ArePlaced seen from.now chunks.now
+        → AreWithin seen told.pieces.items) }
+    ensures len { IfOk result (λ told. told.len ≡ length (journal_bytes (flat_map telling chunks.now.chunks))) }
+    // The places hold good behind the Seal too.
+    ensures places { IfOk result (λ told. ArePlaced (journal_bytes (records_of (opening chunks.now))) told.places (state_of (opening chunks.now))) }
     ensures records { OnOk result (AllByRecursion IsRecord (flat_map telling chunks.now.chunks)) }
     ensures told { AreTold 0 chunks.now.chunks chunks.now.next }
+    ensures seal { IfOk result (λ told. told.seal.items ≡ record_bytes (Seal chunks.now.next)) }
+    ensures next { IsRecord (Seal chunks.now.next) }
 {
+    places_follow();
+    leads_in_order();
     let live = chunks.live();
-    let mut bytes = Vec::with_capacity(alloc, told_len(chunks))?;
+    let seal = spell_seal(alloc, chunks.next())?;
+    let mut pieces = Vec::new(alloc);
+    let mut len = 0;
+    let mut places = Places::new(alloc);
     for (serial, chunk) in live {
-        put_chunk(alloc, &mut bytes, *serial, chunk)?;
+        len = tell_chunk(alloc, &mut pieces, &mut places, len, *serial, chunk, from)?;
     }
-    Ok(bytes)
+    Ok(Told {
+        pieces,
+        len,
+        places,
+        seal,
+    })
 }
 
-// The records that tell a chunk have at most so many bytes beside its tag and its entries: an Append's and a Queue's.
-const RECORDS_LEN: usize = 32;
-
-// How many bytes the records that tell these chunks have at most, if memory holds so many.
-fn told_len<A: Allocator + Copy>(chunks: &Chunks<A>) -> usize {
-    let mut len = usize::try_from(chunks.total()).unwrap_or(0);
-    for (_, chunk) in chunks.live() {
-        len = len
-            .saturating_add(RECORDS_LEN)
-            .saturating_add(chunk.tag().len());
-    }
-    len
-}
-
-// Appends the records that tell a chunk.
-fn put_chunk<A: Allocator + Copy>(
+// Adds what tells a chunk behind so many bytes, and the place of its entries, and says how many bytes there are then.
+fn tell_chunk<A: Allocator + Copy>(
     alloc: A,
-    bytes: &mut Vec<u8, A>,
+    pieces: &mut Vec<Piece<A>, A>,
+    places: &mut Places<A>,
+    len: u64,
     serial: u64,
     chunk: &Chunk<A>,
-) -> Result<(), AllocError>
+    from: &Places<A>,
+) -> Result<u64, AllocError>
     requires tag { length chunk.now.chunk.tag ≤ longest_tag }
     requires small { size chunk.now.chunk.entries ≤ greatest_size }
-    ensures bytes { OnOk result (bytes.new.items ≡ bytes.old.items ++ journal_bytes (telling (serial, chunk.now.chunk))) }
+    ensures bytes { OnOk result ((seen : List ℕ) → LieAt seen (places_at from.now serial) (concat chunk.now.chunk.entries)
+        → pieces_bytes seen pieces.new.items ≡ pieces_bytes seen pieces.old.items ++ journal_bytes (telling (serial, chunk.now.chunk))) }
+    ensures within { OnOk result ((seen : List ℕ) → length seen < 2 ^ 64 → LieAt seen (places_at from.now serial) (concat chunk.now.chunk.entries)
+        → AreWithin seen pieces.old.items → AreWithin seen pieces.new.items) }
+    ensures len { IfOk result (λ end. end ≡ len + length (journal_bytes (telling (serial, chunk.now.chunk)))) }
+    ensures places { OnOk result (AddsPlace serial
+        (extent_before (len + length (record_bytes (Append serial chunk.now.chunk.tag chunk.now.chunk.entries))) (size chunk.now.chunk.entries))
+        places.old places.new) }
     ensures records { OnOk result (AllByRecursion IsRecord (telling (serial, chunk.now.chunk))) }
 {
-    let entries = chunk.copied(alloc)?;
-    put_record(
-        bytes,
-        &Record::Append {
-            serial,
-            tag: chunk.tag(),
-            entries: &entries,
-        },
-    )?;
+    let end = tell_entries(alloc, pieces, places, len, serial, chunk, from)?;
     match chunk.stage() {
-        Stage::Staged => Ok(()),
-        Stage::Queued | Stage::Claimed => put_queue(bytes, serial),
+        Stage::Staged => Ok(end),
+        Stage::Queued | Stage::Claimed => tell_queue(alloc, pieces, end, serial),
     }
 }
 
-fn put_queue<A: Allocator>(bytes: &mut Vec<u8, A>, serial: u64) -> Result<(), AllocError>
-    ensures ok { OnOk result (bytes.new.items ≡ bytes.old.items ++ record_bytes (Queue serial)) }
-    ensures record { IsRecord (Queue serial) }
+// Adds the Append of a chunk's entries, and their place.
+fn tell_entries<A: Allocator + Copy>(
+    alloc: A,
+    pieces: &mut Vec<Piece<A>, A>,
+    places: &mut Places<A>,
+    len: u64,
+    serial: u64,
+    chunk: &Chunk<A>,
+    from: &Places<A>,
+) -> Result<u64, AllocError>
+    requires tag { length chunk.now.chunk.tag ≤ longest_tag }
+    requires small { size chunk.now.chunk.entries ≤ greatest_size }
+    ensures bytes { OnOk result ((seen : List ℕ) → LieAt seen (places_at from.now serial) (concat chunk.now.chunk.entries)
+        → pieces_bytes seen pieces.new.items ≡ pieces_bytes seen pieces.old.items ++ record_bytes (Append serial chunk.now.chunk.tag chunk.now.chunk.entries)) }
+    ensures within { OnOk result ((seen : List ℕ) → length seen < 2 ^ 64 → LieAt seen (places_at from.now serial) (concat chunk.now.chunk.entries)
+        → AreWithin seen pieces.old.items → AreWithin seen pieces.new.items) }
+    ensures len { IfOk result (λ end. end ≡ len + length (record_bytes (Append serial chunk.now.chunk.tag chunk.now.chunk.entries))) }
+    ensures places { OnOk result (AddsPlace serial
+        (extent_before (len + length (record_bytes (Append serial chunk.now.chunk.tag chunk.now.chunk.entries))) (size chunk.now.chunk.entries))
+        places.old places.new) }
+    ensures record { IsRecord (Append serial chunk.now.chunk.tag chunk.now.chunk.entries) }
 {
-    put_record::<A, A>(bytes, &Record::Queue { serial })
+    chunk.stays_stored();
+    let front = spell_front(alloc, serial, chunk.tag(), chunk.count(), chunk.size())?;
+    let end = behind(len, front.len() + chunk.size())?;
+    put_bytes(pieces, front)?;
+    put_extents(pieces, from.at(serial))?;
+    places.append(serial, last_extent(end, chunk.size()))?;
+    Ok(end)
 }
 
-/// The Seal of this serial.
-pub(crate) fn spell_seal<A: Allocator>(alloc: A, next: u64) -> Result<Vec<u8, A>, AllocError>
+// Adds the Queue of a chunk.
+fn tell_queue<A: Allocator + Copy>(
+    alloc: A,
+    pieces: &mut Vec<Piece<A>, A>,
+    len: u64,
+    serial: u64,
+) -> Result<u64, AllocError>
+    ensures bytes { OnOk result ((seen : List ℕ) → pieces_bytes seen pieces.new.items ≡ pieces_bytes seen pieces.old.items ++ record_bytes (Queue serial)) }
+    ensures within { OnOk result ((seen : List ℕ) → AreWithin seen pieces.old.items → AreWithin seen pieces.new.items) }
+    ensures len { IfOk result (λ end. end ≡ len + length (record_bytes (Queue serial))) }
+    ensures record { IsRecord (Queue serial) }
+{
+    let mut bytes = Vec::new(alloc);
+    put_record::<A, A>(&mut bytes, &Record::Queue { serial })?;
+    let end = behind(len, bytes.len())?;
+    put_bytes(pieces, bytes)?;
+    Ok(end)
+}
+
+// The end of so many bytes behind so many others, if it is a number of 64 bits.
+fn behind(len: u64, more: usize) -> Result<u64, AllocError>
+    ensures { IfOk result (λ end. end ≡ len + more) }
+{
+    match len.checked_add(more as u64) {
+        Some(end) => Ok(end),
+        None => Err(AllocError),
+    }
+}
+
+// The place of the last so many bytes before this end.
+fn last_extent(end: u64, size: usize) -> Extent
+    ensures { result ≡ extent_before end size }
+{
+    Extent {
+        at: end.saturating_sub(size as u64),
+        length: size as u64,
+    }
+}
+
+// What an Append has before its entries, which are so many and have so many bytes.
+fn spell_front<A: Allocator>(
+    alloc: A,
+    serial: u64,
+    tag: &[u8],
+    count: usize,
+    size: usize,
+) -> Result<Vec<u8, A>, AllocError>
+    requires tag { length tag.now ≤ longest_tag }
+    requires small { size ≤ greatest_size }
+    requires count { count ≤ size }
+    ensures { IfOk result (λ front. front.items ≡ to_be_bytes w32 (15 + length tag.now + size) ++ front_within serial tag.now count) }
+{
+    let length = 15 + tag.len() + size;
+    let mut front = Vec::with_capacity(alloc, 19 + tag.len())?;
+    front.extend_from_slice(&(length as u32).to_be_bytes())?;
+    front.push(2)?;
+    front.extend_from_slice(&serial.to_be_bytes())?;
+    front.extend_from_slice(&(tag.len() as u16).to_be_bytes())?;
+    front.extend_from_slice(tag)?;
+    front.extend_from_slice(&(count as u32).to_be_bytes())?;
+    Ok(front)
+}
+
+// Adds bytes that are told.
+fn put_bytes<A: Allocator>(
+    pieces: &mut Vec<Piece<A>, A>,
+    bytes: Vec<u8, A>,
+) -> Result<(), AllocError>
+    ensures bytes { OnOk result ((seen : List ℕ) → pieces_bytes seen pieces.new.items ≡ pieces_bytes seen pieces.old.items ++ bytes.items) }
+    ensures within { OnOk result ((seen : List ℕ) → AreWithin seen pieces.old.items → AreWithin seen pieces.new.items) }
+{
+    pieces.push(Piece {
+        told: bytes,
+        at: 0,
+        length: 0,
+    })?;
+    Ok(())
+}
+
+// Adds what another file has at these places.
+fn put_extents<A: Allocator + Copy>(
+    pieces: &mut Vec<Piece<A>, A>,
+    extents: &[Extent],
+) -> Result<(), AllocError>
+    ensures bytes { OnOk result ((seen : List ℕ) → pieces_bytes seen pieces.new.items ≡ pieces_bytes seen pieces.old.items ++ bytes_at seen extents.now) }
+    ensures within { OnOk result ((seen : List ℕ) → length seen < 2 ^ 64 → AllByRecursion (IsWithin (length seen)) extents.now
+        → AreWithin seen pieces.old.items → AreWithin seen pieces.new.items) }
+{
+    let alloc = *pieces.allocator();
+    for extent in extents {
+        pieces.push(Piece {
+            told: Vec::new(alloc),
+            at: extent.at,
+            length: extent.length,
+        })?;
+    }
+    Ok(())
+}
+
+// The Seal of this serial.
+fn spell_seal<A: Allocator>(alloc: A, next: u64) -> Result<Vec<u8, A>, AllocError>
     ensures bytes { IfOk result (λ bytes. bytes.items ≡ record_bytes (Seal next)) }
     ensures record { IsRecord (Seal next) }
 {

@@ -181,7 +181,7 @@ impl<D: Dir + Drop, A: Allocator + Copy> Lane<D, A> {
 
     /// Writes the buffer's journal anew, where it has grown. What there is no memory for is done later.
     ///
-    /// The error is that of the device.
+    /// The error is that of the device, `Damaged` where the journal hasn't the bytes that were told, or `LastSerial` past the last generation.
     pub fn renew<R: Wait>(&self, rt: &R) -> Result<(), BufferFault> {
         match self.buffer.renew(rt) {
             Err(BufferFault::Memory) => Ok(()),

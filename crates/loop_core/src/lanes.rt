@@ -71,17 +71,18 @@ impl<D: Dir + Drop, A: Allocator + Copy> Lanes<D, A> {
         self.lanes.iter().any(|lane| lane.has_pendings())
     }
 
-    /// The fault of a device, if one failed.
+    /// The first fault of a device, or of a journal that lost bytes, if there was one.
     pub fn fault(&self) -> Option<BufferFault> {
         self.fault
     }
 
-    // Remembers the first fault that is the device's.
+    // Remembers the first fault that is the device's, or that bytes which it was told are gone.
     fn note(&mut self, fault: BufferFault) {
-        if fault == BufferFault::Fault || fault == BufferFault::Failed {
-            if self.fault.is_none() {
-                self.fault = Some(fault);
-            }
+        let is_lost = fault == BufferFault::Fault
+            || fault == BufferFault::Failed
+            || fault == BufferFault::Damaged;
+        if is_lost && self.fault.is_none() {
+            self.fault = Some(fault);
         }
     }
 

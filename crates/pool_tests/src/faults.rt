@@ -1,6 +1,6 @@
 // What becomes of a chunk whose delivery fails.
 use super::couriers::{Answer, Scripted, is_empty};
-use super::shelves::{HASTY, PATIENT, Shelf, by, by_sink, filled, queued, sink};
+use super::shelves::{HASTY, PATIENT, Shelf, by, by_sink, filled, filled_in, queued, sink};
 use ack_receipt::{Basis, Takes};
 use buffer_store::BufferFault;
 use disk_files::{Fuse, MemoryDir};
@@ -123,6 +123,29 @@ fn evidence_that_the_buffer_doesnt_take_is_a_failure(rt: HostRuntime) -> Result<
     assert_eq!(rt; sent, (Ok(failed), 1));
     let given_up = tried_once(rt.alloc(), &rt, by(Basis::Written), Answer::Expired)?;
     assert_eq!(rt; given_up, (Ok(failed), 1));
+    Ok(())
+}
+
+// What one worker does with two chunks whose buffer's device fails after so many calls, and a courier that delivers the first chunk alone.
+fn worked_after<R: Wait + Clock>(
+    alloc: Global,
+    rt: &R,
+    passes: u64,
+) -> Result<Worked, BufferFault> {
+    let fuse = Fuse::after(MemoryDir::new(alloc), passes);
+    let shelf = filled_in(alloc, fuse, 2, by(Basis::Written))?;
+    let stop = AtomicBool::new(false);
+    let unread = Answer::Fault(CarryFault::Device);
+    let courier = Scripted::new(Answer::Written, unread, 2, &stop);
+    let retries = Retries::new(alloc, PATIENT);
+    work(rt, &shelf, &courier, &OpenGate, &retries, &stop)
+}
+
+#[test]
+fn a_buffer_that_failed_ends_its_worker(rt: HostRuntime) -> Result<(), Fail> {
+    // Thirteen calls open the folder and queue two chunks; the next is that of the first purge.
+    let ended = worked_after(rt.alloc(), &rt, 13);
+    assert_eq!(rt; ended, Err(BufferFault::Failed));
     Ok(())
 }
 

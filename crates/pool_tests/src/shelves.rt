@@ -50,9 +50,18 @@ fn entries(alloc: Global) -> Result<Entries<Global>, AllocError> {
     Ok(entries)
 }
 
-// A buffer with so many queued chunks of one entry each, by serials from 0, whose chunks go so.
+// A buffer in memory with so many queued chunks of one entry each, by serials from 0, whose chunks go so.
 pub fn filled(alloc: Global, chunks: usize, takes: Takes<Global>) -> Result<Shelf, BufferFault> {
-    let dir = MemoryDir::new(alloc);
+    filled_in(alloc, MemoryDir::new(alloc), chunks, takes)
+}
+
+// The same in this folder.
+pub fn filled_in<D: Dir + Drop>(
+    alloc: Global,
+    dir: D,
+    chunks: usize,
+    takes: Takes<Global>,
+) -> Result<SharedBuffer<D, Global>, BufferFault> {
     let mut buffer = match Buffer::open(alloc, dir, b"buf", SETTINGS) {
         Ok(buffer) => buffer,
         Err((fault, _dir)) => return Err(fault),

@@ -1,27 +1,41 @@
-//! Files, by paths from the working folder. On standard error it is said which of them can't be read.
+//! Files, by paths from the working folder.
 use crate::opening::Open;
 use std::fs::File;
 use std::io;
-use std::io::Read;
+use std::io::{ErrorKind, Read};
 
 /// The working folder.
 #[derive(Clone, Copy)]
 pub struct Folder<'a> {
     rt: &'a HostRuntime,
+    // whether it is said on standard error which file can't be read
+    says: bool,
 }
 
 impl<'a> Folder<'a> {
     /// The folder that the program works in.
     pub fn new(rt: &'a HostRuntime) -> Folder<'a> {
-        Folder { rt }
+        Folder { rt, says: false }
+    }
+
+    /// The same; it says on standard error which file can't be read, and why.
+    pub fn saying(rt: &'a HostRuntime) -> Folder<'a> {
+        Folder { rt, says: true }
     }
 
     /// The text of the file at this path. Nothing is opened before it is read.
     pub fn text(&self, path: &'a str) -> FileText<'a> {
         FileText {
-            rt: self.rt,
+            folder: *self,
             path,
             file: None,
+        }
+    }
+
+    // Says what is wrong with the file at this path, if that is wanted.
+    fn say(&self, path: &str, fault: &io::Error) {
+        if self.says {
+            let _ = eprintln!(self.rt; "{path}: {fault}");
         }
     }
 }
@@ -34,12 +48,15 @@ impl<'a> Open for Folder<'a> {
     type Reader = NamedFile<'a>;
 
     fn open(&self, name: &str) -> io::Result<NamedFile<'a>> {
-        let rt = self.rt;
-        let path = String::from_str(rt.alloc(), name)?;
-        match File::open(rt, name) {
-            Ok(file) => Ok(NamedFile { rt, path, file }),
+        let path = String::from_str(self.rt.alloc(), name)?;
+        match File::open(self.rt, name) {
+            Ok(file) => Ok(NamedFile {
+                folder: *self,
+                path,
+                file,
+            }),
             Err(e) => {
-                say_fault(rt, name, &e);
+                self.say(name, &e);
                 Err(e)
             }
         }
@@ -49,7 +66,7 @@ impl<'a> Open for Folder<'a> {
 /// A file that is open, with the path by which it was opened.
 #[derive(Drop)]
 pub struct NamedFile<'a> {
-    rt: &'a HostRuntime,
+    folder: Folder<'a>,
     path: String,
     file: File,
 }
@@ -58,7 +75,7 @@ impl Read for NamedFile<'_> {
     fn read(&mut self, buf: &mut [u8]) -> io::Result<usize> {
         let got = self.file.read(buf);
         if let Err(e) = &got {
-            say_fault(self.rt, &self.path, e);
+            self.folder.say(&self.path, e);
         }
         got
     }
@@ -67,7 +84,7 @@ impl Read for NamedFile<'_> {
 /// The text of a file, which is opened when it is first read.
 #[derive(Drop)]
 pub struct FileText<'a> {
-    rt: &'a HostRuntime,
+    folder: Folder<'a>,
     path: &'a str,
     file: Option<NamedFile<'a>>,
 }
@@ -75,16 +92,11 @@ pub struct FileText<'a> {
 impl Read for FileText<'_> {
     fn read(&mut self, buf: &mut [u8]) -> io::Result<usize> {
         if self.file.is_none() {
-            self.file = Some(Folder::new(self.rt).open(self.path)?);
+            self.file = Some(self.folder.open(self.path)?);
         }
         match &mut self.file {
             Some(file) => file.read(buf),
-            None => Err(io::Error::from(io::ErrorKind::NotFound)),
+            None => Err(io::Error::from(ErrorKind::NotFound)),
         }
     }
-}
-
-// Says on standard error what is wrong with the file at this path.
-fn say_fault(rt: &HostRuntime, path: &str, fault: &io::Error) {
-    let _ = eprintln!(rt; "{path}: {fault}");
 }

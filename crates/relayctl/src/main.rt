@@ -38,7 +38,7 @@ fn usage(rt: &impl Eprint) -> Status {
 
 // Does what a word asks for.
 fn run(rt: &HostRuntime, word: Option<Word<'_>>) -> Status {
-    let folder = Folder::new(rt);
+    let folder = Folder::saying(rt);
     let out = &mut io::writer(rt);
     match word {
         Some(Word::Help) => put_last(out, HELP.as_bytes(), Status::Done),

@@ -2,16 +2,16 @@
 use crate::shelves::{ENTRY, LEAF, Shelf, WIDE, buffer_in, shelf_in, stored};
 use ack_receipt::{Basis, Claim, Evidence, Leaf, Numbers, PurgeFault, SharedBuffer, Takes};
 use buffer_store::BufferFault;
-use disk_files::{Dir, MemoryDir};
+use disk_files::{Dir, Fuse, MemoryDir};
 use event_modes::Entries;
 use sink_series::{Series, SeriesFault, Stored};
 use std::alloc::Global;
 use std::sync::Wait;
 use std::test::Fail;
 
-// A buffer with one queued chunk, whose chunks go by what is stored in the sink `all`.
-fn queued<R: Wait>(alloc: Global, rt: &R) -> Result<Shelf<MemoryDir<Global>>, BufferFault> {
-    let buffer = buffer_in(alloc, MemoryDir::new(alloc), WIDE)?;
+// A buffer in this folder with one queued chunk, whose chunks go by what is stored in the sink `all`.
+fn queued<R: Wait, D: Dir + Drop>(alloc: Global, rt: &R, dir: D) -> Result<Shelf<D>, BufferFault> {
+    let buffer = buffer_in(alloc, dir, WIDE)?;
     let takes = Takes {
         basis: Basis::Stored(Vec::from_slice(alloc, b"all")?),
         expires: false,
@@ -67,7 +67,7 @@ fn purged<R: Wait, D: Dir>(
 #[test]
 fn a_chunk_goes_by_its_own_entries(rt: HostRuntime) -> Result<(), Fail> {
     let alloc = rt.alloc();
-    let shelf = queued(alloc, &rt)?;
+    let shelf = queued(alloc, &rt, MemoryDir::new(alloc))?;
     let strangers: [(&[u8], &[u8], &[u8]); 3] = [
         (b"other", b"a", ENTRY),
         (b"all", b"b", ENTRY),
@@ -79,6 +79,21 @@ fn a_chunk_goes_by_its_own_entries(rt: HostRuntime) -> Result<(), Fail> {
     }
     let stored = stored_in(alloc, b"all", b"a", ENTRY)?;
     assert_eq!(rt; purged(&rt, &shelf, stored)?, None);
+    assert!(rt; !shelf.is_live(&rt, 0));
+    Ok(())
+}
+
+// A chunk whose entries can't be read stays, and goes when they can: the device fails the first call behind the opening, the
+// append and the queueing.
+#[test]
+fn a_chunk_that_cant_be_read_stays(rt: HostRuntime) -> Result<(), Fail> {
+    let alloc = rt.alloc();
+    let shelf = queued(alloc, &rt, Fuse::once(MemoryDir::new(alloc), 9))?;
+    let unread = Some(PurgeFault::Buffer(BufferFault::Fault));
+    for fault in [unread, None] {
+        let stored = stored_in(alloc, b"all", b"a", ENTRY)?;
+        assert_eq!(rt; purged(&rt, &shelf, stored)?, fault);
+    }
     assert!(rt; !shelf.is_live(&rt, 0));
     Ok(())
 }

@@ -42,11 +42,11 @@ impl<D: Dir, A: Allocator + Copy> Booked<D, A> {
     ///
     /// The first of `Failed`, `TooLarge`, `Full`, `LastSerial`, `Memory` and `Fault` that applies; `TooLarge` also for a tag of more than 1,024 bytes.
     /// But for `Fault` none changes the chunks or the book.
-    pub fn append<B: Allocator>(
+    pub fn append(
         &mut self,
         delivery: u64,
         tag: &[u8],
-        entries: &Entries<B>,
+        entries: &Entries<A>,
     ) -> Result<Noted, BufferFault>
         requires some { 0 < length entries.now }
         ensures place { IfOk result (λ noted. planned self.old.buffer.limits self.old.buffer.chunks tag.now entries.now ≡ Ok noted.serial) }
@@ -80,11 +80,11 @@ impl<D: Dir, A: Allocator + Copy> Booked<D, A> {
     }
 
     /// Appends entries for a delivery without a sync. What is appended waits for a receipt.
-    pub fn append_pending<B: Allocator>(
+    pub fn append_pending(
         &mut self,
         delivery: u64,
         tag: &[u8],
-        entries: &Entries<B>,
+        entries: &Entries<A>,
     ) -> Result<Waits, BufferFault>
         requires some { 0 < length entries.now }
         ensures place { IfOk result (λ waits. planned self.old.buffer.limits self.old.buffer.chunks tag.now entries.now ≡ Ok waits.serial) }

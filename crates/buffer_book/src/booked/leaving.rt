@@ -1,13 +1,15 @@
 //! How chunks leave a buffer.
 
-ghost use Rattle.std.specs.Prelude.{◌≡◌, ◌≢◌, ◌↔◌, ◌⊎◌, ◌++◌, ◌∷◌, [], ℕ, true, false, Some, None, Ok, Err, IfOk, IfErr, IfSome, IsSome, IsSomeAnd, OnOk, OnErr, IsTrue, option_map};
+ghost use Rattle.std.specs.Prelude.{◌≡◌, ◌≢◌, ◌↔◌, ◌⊎◌, ◌≤◌, ◌++◌, ◌∷◌, [], ℕ, true, false, length, Some, None, Ok, Err, IfOk, IfErr, IfSome, IsSome, IsSomeAnd, OnOk, OnErr, IsTrue, option_map};
 ghost use Rattle.buffer_state.specs.State.{IsAt, chunk_at};
 ghost use Rattle.buffer_state.specs.Steps.{claimed, first_of, queued_last};
 ghost use Rattle.buffer_state.specs.declared.chunk.Stage.TheVariants.{Claimed};
+ghost use Rattle.buffer_store.specs.Durability.{BeganWell};
 ghost use Rattle.buffer_store.specs.declared.fault.BufferFault.{BufferFault};
 ghost use Rattle.buffer_book.specs.declared.fault.PurgeFault.{PurgeFault};
 ghost use Rattle.buffer_book.specs.Claims.{IsCopied};
-ghost use Rattle.buffer_book.specs.Evidences.{IsRefused, IsWhole, Serves, stored_of, to_drop};
+ghost use Rattle.disk_files.specs.Faults.{Rises};
+ghost use Rattle.buffer_book.specs.Evidences.{CanCompare, IsFor, IsLike, IsRefused, IsStopped, IsUnread, IsWhole, Serves, ShowsLike, stored_of, to_drop};
 ghost use Rattle.buffer_book.specs.Books.{Removes, Steady, Unchanged};
 
 use super::Booked;
@@ -47,14 +49,24 @@ impl<D: Dir, A: Allocator + Copy> Booked<D, A> {
         Ok(Some(claim))
     }
 
-    /// The entries of a claimed chunk of this buffer, as the journal has them.
+    /// The entries of a claimed chunk of this buffer, read from the journal.
     ///
-    /// `Gone` where the claim is of another buffer, or its chunk isn't live; `Memory`; `Fault` where a read failed, which leaves the buffer as it was.
+    /// `Gone` where the claim is of another buffer; then the first of `Failed`, `Gone`, `Memory`, `Fault` and `Damaged` that applies: `Gone`
+    /// where its chunk isn't live, `Fault` where a read failed, `Damaged` where the journal hasn't the bytes that were told.
+    /// Each leaves the buffer as it was.
     pub fn body(&mut self, leaf: Leaf, claim: &Claim<A>) -> Result<Entries<A>, BufferFault>
-        ensures entries { IfOk result (λ entries. IsSomeAnd (chunk_at self.old.buffer.chunks claim.now.serial) (λ chunk. entries ≡ chunk.entries)) }
-        ensures gone { (result ≡ Err BufferFault.Gone) ↔ ((claim.now.leaf ≢ leaf) ⊎ (chunk_at self.old.buffer.chunks claim.now.serial ≡ None)) }
-        ensures only { OnErr result ((result ≡ Err BufferFault.Gone) ⊎ ((result ≡ Err BufferFault.Memory) ⊎ (result ≡ Err BufferFault.Fault))) }
+        ensures entries { BeganWell D.is_honest D.history self.old.buffer
+            → IfOk result (λ entries. IsSomeAnd (chunk_at self.old.buffer.chunks claim.now.serial) (λ chunk. entries ≡ chunk.entries)) }
+        // Over whatever folder there are as many as were appended.
+        ensures counted { IfOk result (λ entries. IsSomeAnd (chunk_at self.old.buffer.chunks claim.now.serial) (λ chunk. length entries ≡ length chunk.entries)) }
+        ensures failed { (result ≡ Err BufferFault.Failed) ↔ ((claim.now.leaf ≡ leaf) × (self.old.buffer.failed ≡ true)) }
+        ensures gone { (result ≡ Err BufferFault.Gone)
+            ↔ ((claim.now.leaf ≢ leaf) ⊎ ((self.old.buffer.failed ≡ false) × (chunk_at self.old.buffer.chunks claim.now.serial ≡ None))) }
+        ensures undamaged { BeganWell D.is_honest D.history self.old.buffer → result ≢ Err BufferFault.Damaged }
+        ensures only { OnErr result ((result ≡ Err BufferFault.Failed) ⊎ ((result ≡ Err BufferFault.Gone) ⊎ ((result ≡ Err BufferFault.Memory)
+            ⊎ ((result ≡ Err BufferFault.Fault) ⊎ (result ≡ Err BufferFault.Damaged))))) }
         ensures rest { self.new ≡ record self.old { buffer = record self.old.buffer { dir = self.new.buffer.dir } } }
+        ensures cause { result ≡ Err BufferFault.Fault → Rises (D.fault_count self.old.buffer.dir) (D.fault_count self.new.buffer.dir) }
     {
         if claim.leaf() != leaf {
             return Err(BufferFault::Gone);
@@ -82,7 +94,7 @@ impl<D: Dir, A: Allocator + Copy> Booked<D, A> {
     /// Lets the chunk of a claim go, on evidence that it may, and notes that it is removed. The journal isn't synced, so that a stop may bring the chunk back, queued.
     ///
     /// `Stranger` where the claim is of another buffer, or the evidence doesn't serve: it names another chunk, or is of a kind that isn't taken,
-    /// or is of another sink, tag or entries than the live chunk's; in its place `Memory` or `Fault` where the entries couldn't be read.
+    /// or is of another sink, tag or entries than the live chunk's; in its place `Failed`, `Memory`, `Fault` or `Damaged` where the entries couldn't be read.
     /// Then the first of `Failed`, `Gone`, `Memory` and `Fault` that applies; `Gone` where the chunk isn't claimed.
     /// Each refusal hands claim and evidence back, and changes neither the chunks nor the book.
     pub fn purge(
@@ -92,17 +104,30 @@ impl<D: Dir, A: Allocator + Copy> Booked<D, A> {
         claim: Claim<A>,
         evidence: Evidence<A>,
     ) -> Result<(), (PurgeFault, Claim<A>, Evidence<A>)>
-        ensures serves { OnOk result (Serves leaf takes.now self.old.buffer.chunks claim evidence) }
+        ensures meant { OnOk result (IsFor leaf takes.now claim evidence) }
+        ensures like { OnOk result (ShowsLike self.old.buffer.chunks claim.serial evidence) }
+        ensures serves { CanCompare D.is_honest D.history self.old.buffer evidence → OnOk result (Serves leaf takes.now self.old.buffer.chunks claim evidence) }
         ensures removes { OnOk result (Removes claim.serial self.old self.new) }
-        ensures stranger { IsRefused PurgeFault.Stranger result → Serves leaf takes.now self.old.buffer.chunks claim evidence → ⊥ }
-        ensures never { (Serves leaf takes.now self.old.buffer.chunks claim evidence → ⊥)
-            → IfErr result (λ e. (e.0 ≡ PurgeFault.Stranger) ⊎ (IsSome (stored_of evidence) × ((e.0 ≡ PurgeFault.Buffer BufferFault.Memory) ⊎ (e.0 ≡ PurgeFault.Buffer BufferFault.Fault)))) }
+        ensures stranger { CanCompare D.is_honest D.history self.old.buffer evidence
+            → IsRefused PurgeFault.Stranger result → Serves leaf takes.now self.old.buffer.chunks claim evidence → ⊥ }
+        ensures astray { (IsFor leaf takes.now claim evidence → ⊥) → IfErr result (λ e. e.0 ≡ PurgeFault.Stranger) }
+        ensures never { CanCompare D.is_honest D.history self.old.buffer evidence → (Serves leaf takes.now self.old.buffer.chunks claim evidence → ⊥)
+            → IfErr result (λ e. (e.0 ≡ PurgeFault.Stranger) ⊎ (IsSome (stored_of evidence)
+            × ((e.0 ≡ PurgeFault.Buffer BufferFault.Failed) ⊎ ((e.0 ≡ PurgeFault.Buffer BufferFault.Memory) ⊎ (e.0 ≡ PurgeFault.Buffer BufferFault.Fault))))) }
         ensures failed { IsRefused (PurgeFault.Buffer BufferFault.Failed) result → self.old.buffer.failed ≡ true }
+        ensures stopped { self.old.buffer.failed ≡ true → IsStopped result }
         ensures gone { IsRefused (PurgeFault.Buffer BufferFault.Gone) result → (self.old.buffer.failed ≡ false) × (IsAt Claimed self.old.buffer.chunks claim.serial → ⊥) }
-        ensures only { Serves leaf takes.now self.old.buffer.chunks claim evidence → self.old.buffer.failed ≡ false → IsAt Claimed self.old.buffer.chunks claim.serial
+        ensures undamaged { CanCompare D.is_honest D.history self.old.buffer evidence → IsRefused (PurgeFault.Buffer BufferFault.Damaged) result → ⊥ }
+        ensures only { CanCompare D.is_honest D.history self.old.buffer evidence
+            → Serves leaf takes.now self.old.buffer.chunks claim evidence → self.old.buffer.failed ≡ false → IsAt Claimed self.old.buffer.chunks claim.serial
             → IfErr result (λ e. (e.0 ≡ PurgeFault.Buffer BufferFault.Memory) ⊎ (e.0 ≡ PurgeFault.Buffer BufferFault.Fault)) }
         ensures back { IfErr result (λ e. (e.1 ≡ claim) × (e.2 ≡ evidence)) }
         ensures same { OnErr result (Unchanged self.old self.new) }
+        // Only a purge that may come to write can fail the buffer; entries that couldn't be read leave it as it was.
+        ensures flags { (IsRefused (PurgeFault.Buffer BufferFault.Fault) result → ⊥) → self.new.buffer.failed ≡ self.old.buffer.failed }
+        ensures spared { CanCompare D.is_honest D.history self.old.buffer evidence → (Serves leaf takes.now self.old.buffer.chunks claim evidence → ⊥)
+            → self.new.buffer.failed ≡ self.old.buffer.failed }
+        ensures cause { IsRefused (PurgeFault.Buffer BufferFault.Fault) result → Rises (D.fault_count self.old.buffer.dir) (D.fault_count self.new.buffer.dir) }
         ensures limits { self.new.buffer.limits ≡ self.old.buffer.limits }
     {
         match self.serves(leaf, takes, &claim, &evidence) {
@@ -154,9 +179,18 @@ impl<D: Dir, A: Allocator + Copy> Booked<D, A> {
         claim: &Claim<A>,
         evidence: &Evidence<A>,
     ) -> Result<bool, BufferFault>
-        ensures serves { IfOk result (λ serves. IsTrue serves ↔ Serves leaf takes.now self.old.buffer.chunks claim.now evidence.now) }
-        ensures read { OnErr result (IsSome (stored_of evidence.now) × ((result ≡ Err BufferFault.Memory) ⊎ (result ≡ Err BufferFault.Fault))) }
+        ensures meant { IfOk result (λ serves. IsTrue serves → IsFor leaf takes.now claim.now evidence.now) }
+        ensures like { IfOk result (λ serves. IsTrue serves → ShowsLike self.old.buffer.chunks claim.now.serial evidence.now) }
+        ensures serves { CanCompare D.is_honest D.history self.old.buffer evidence.now
+            → IfOk result (λ serves. IsTrue serves ↔ Serves leaf takes.now self.old.buffer.chunks claim.now evidence.now) }
+        ensures astray { (IsFor leaf takes.now claim.now evidence.now → ⊥) → result ≡ Ok false }
+        ensures read { OnErr result (IsSome (stored_of evidence.now) × IsUnread result) }
+        ensures failed { result ≡ Err BufferFault.Failed → self.old.buffer.failed ≡ true }
+        ensures stopped { self.old.buffer.failed ≡ true → OnErr result (result ≡ Err BufferFault.Failed) }
+        ensures undamaged { CanCompare D.is_honest D.history self.old.buffer evidence.now → result ≢ Err BufferFault.Damaged }
         ensures rest { self.new ≡ record self.old { buffer = record self.old.buffer { dir = self.new.buffer.dir } } }
+        ensures later { D.fault_count self.old.buffer.dir ≤ D.fault_count self.new.buffer.dir }
+        ensures cause { result ≡ Err BufferFault.Fault → Rises (D.fault_count self.old.buffer.dir) (D.fault_count self.new.buffer.dir) }
     {
         if !evidence.is_for(leaf, takes, claim) {
             return Ok(false);
@@ -169,9 +203,15 @@ impl<D: Dir, A: Allocator + Copy> Booked<D, A> {
 
     // Whether what is in a sink are the tag and the entries of the live chunk of this serial.
     fn is_stored(&mut self, serial: u64, stored: &Stored<A>) -> Result<bool, BufferFault>
-        ensures whole { IfOk result (λ whole. IsTrue whole ↔ IsWhole self.old.buffer.chunks serial stored.now) }
-        ensures read { OnErr result ((result ≡ Err BufferFault.Memory) ⊎ (result ≡ Err BufferFault.Fault)) }
+        ensures whole { BeganWell D.is_honest D.history self.old.buffer → IfOk result (λ whole. IsTrue whole ↔ IsWhole self.old.buffer.chunks serial stored.now) }
+        ensures like { IfOk result (λ whole. IsTrue whole → IsLike self.old.buffer.chunks serial stored.now) }
+        ensures read { OnErr result (IsUnread result) }
+        ensures failed { result ≡ Err BufferFault.Failed → self.old.buffer.failed ≡ true }
+        ensures stopped { self.old.buffer.failed ≡ true → OnErr result (result ≡ Err BufferFault.Failed) }
+        ensures undamaged { BeganWell D.is_honest D.history self.old.buffer → result ≢ Err BufferFault.Damaged }
         ensures rest { self.new ≡ record self.old { buffer = record self.old.buffer { dir = self.new.buffer.dir } } }
+        ensures later { D.fault_count self.old.buffer.dir ≤ D.fault_count self.new.buffer.dir }
+        ensures cause { result ≡ Err BufferFault.Fault → Rises (D.fault_count self.old.buffer.dir) (D.fault_count self.new.buffer.dir) }
     {
         let Some(facts) = self.buffer.chunks().facts(serial) else {
             return Ok(false);
@@ -191,6 +231,7 @@ impl<D: Dir, A: Allocator + Copy> Booked<D, A> {
             → OnErr result ((result ≡ Err BufferFault.Memory) ⊎ (result ≡ Err BufferFault.Fault)) }
         ensures same { OnErr result (Unchanged self.old self.new) }
         ensures steady { Steady self.old.buffer self.new.buffer result }
+        ensures cause { result ≡ Err BufferFault.Fault → Rises (D.fault_count self.old.buffer.dir) (D.fault_count self.new.buffer.dir) }
     {
         // No serial is that of two chunks.
         self.buffer.stays_in_order();

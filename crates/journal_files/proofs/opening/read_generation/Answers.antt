@@ -1,53 +1,80 @@
-use Rattle.std.proofs.Common.{ℕ, List, Err, ap, subst, sym, ◌∙◌}
+use Rattle.std.proofs.Common.{◌≡◌, ℕ, List, Ok, ap, subst, ◌∙◌}
 use Rattle.disk_files.specs.Disk.{reads}
 use Rattle.disk_files.specs.Moments.{now}
-use Rattle.chunk_journal.specs.Meaning.{IsReplayed, EndsUnsealed, IsDamaged}
-use Rattle.journal_files.proofs.Reading.{all_read}
+use Rattle.chunk_journal.specs.Meaning.{EndsUnsealed, IsDamaged}
+use Rattle.journal_files.specs.Found.{IsMeant, IsSo}
+use Rattle.journal_files.specs.declared.error.OpenError.TheVariants as opening
+use Rattle.journal_files.proofs.AllRead.{so_of, meant_of}
+use Rattle.journal_files.proofs.Gathered.{elapsed}
+use Rattle.journal_files.proofs.Heard.{answered}
 use Rattle.journal_files.proofs.Tags.{replayed_short, replayed_unclaimed}
 use Rattle.journal_files.proofs.opening.read_generation.Goals as goal
 
-pub returns-in-Ok-clause-read : goal.returns-in-Ok-clause-read
-returns-in-Ok-clause-read g c = λ honest.
+pub returns-in-Some-clause-meant : goal.returns-in-Some-clause-meant
+returns-in-Some-clause-meant g c = λ honest.
     let old = now (g.D.Dir.history c.args.dir.now) in
     let mid = now (g.D.Dir.history c.open.new.self) in
     let name = c.deref.ensures.value ∙ c.in_ok-name.ensures ∙ c.generations.ensures c.args.number in
-    let there = all_read old mid c.deref.result.now c.in_ok-bytes.bytes.items (c.in_ok-file.ensures.same honest) (c.in_ok-file.ensures.ok honest)
-    (λ bytes reads. c.in_ok-bytes.ensures.bytes (c.in_ok-file.ensures.honest honest) c.deref.result.now bytes c.in_ok-file.ensures.opened reads) in
-    record {
-      bytes = c.in_ok-bytes.bytes.items;
-      used = c.in-Ok.replayed.used;
-      there = ap (reads old) (sym name) ∙ there;
-      means = subst (λ (b : List ℕ). IsReplayed b c.in-Ok.replayed.chunks c.in-Ok.replayed.used) c.deref-2.ensures.value c.in-Ok.ensures.ok;
-    }
+    let there = c.in_ok-file.ensures.honest honest in
+    let outlined = c.in-Some.outlined in
+    subst (λ (n : List ℕ). IsMeant (reads old n) outlined.chunks outlined.places) name
+    (meant_of old mid c.deref.result.now (c.in_ok-file.ensures.same honest) (c.in_ok-file.ensures.ok honest) c.in_ok-outline.outline outlined.chunks outlined.places outlined.used
+    (λ bytes is. c.in_ok-outline.ensures.all there c.deref.result.now bytes c.in_ok-file.ensures.opened is)
+    (λ bytes is. c.in_ok-outline.ensures.small there c.deref.result.now bytes c.in_ok-file.ensures.opened is)
+    (λ seen after. rw c.in-Some.is at (c.in_ok-outlined.ensures.outlined seen after)))
 
-pub returns-in-Ok-clause-tags : goal.returns-in-Ok-clause-tags
-returns-in-Ok-clause-tags g c = replayed_short c.deref-2.result.now c.in-Ok.replayed.chunks c.in-Ok.replayed.used c.in-Ok.ensures.ok
+pub returns-in-Some-clause-time : goal.returns-in-Some-clause-time
+returns-in-Some-clause-time g c = λ honest.
+    let there = c.in_ok-file.ensures.honest honest in
+    elapsed (g.D.Dir.history c.args.dir.now) (g.D.Dir.history c.open.new.self) (g.D.Dir.history c.feed_file.new.dir) (c.in_ok-file.ensures.time honest) (c.in_ok-outline.ensures.time there) (c.in_ok-outline.ensures.same there)
 
-pub returns-in-Ok-clause-unclaimed : goal.returns-in-Ok-clause-unclaimed
-returns-in-Ok-clause-unclaimed g c = replayed_unclaimed c.deref-2.result.now c.in-Ok.replayed.chunks c.in-Ok.replayed.used c.in-Ok.ensures.ok
+pub returns-clause-time : goal.returns-clause-time
+returns-clause-time g c = λ honest.
+    let there = c.in_ok-file.ensures.honest honest in
+    elapsed (g.D.Dir.history c.args.dir.now) (g.D.Dir.history c.open.new.self) (g.D.Dir.history c.feed_file.new.dir) (c.in_ok-file.ensures.time honest) (c.in_ok-outline.ensures.time there) (c.in_ok-outline.ensures.same there)
 
-pub returns-in-Err-NotSealed-clause-read : goal.returns-in-Err-NotSealed-clause-read
-returns-in-Err-NotSealed-clause-read g c = λ honest.
+pub returns-in-Some-clause-tags : goal.returns-in-Some-clause-tags
+returns-in-Some-clause-tags g c =
+    let heard = c.in_ok-outline.ensures.heard in
+    let means = rw c.in-Some.is at (c.in_ok-outlined.ensures.outlined heard.seen heard.after) in
+    replayed_short heard.seen c.in-Some.outlined.chunks c.in-Some.outlined.used means.replayed
+
+pub returns-in-Some-clause-unclaimed : goal.returns-in-Some-clause-unclaimed
+returns-in-Some-clause-unclaimed g c =
+    let heard = c.in_ok-outline.ensures.heard in
+    let means = rw c.in-Some.is at (c.in_ok-outlined.ensures.outlined heard.seen heard.after) in
+    replayed_unclaimed heard.seen c.in-Some.outlined.chunks c.in-Some.outlined.used means.replayed
+
+pub returns-clause-unsealed : goal.returns-clause-unsealed
+returns-clause-unsealed g c = λ honest _.
     let old = now (g.D.Dir.history c.args.dir.now) in
     let mid = now (g.D.Dir.history c.open.new.self) in
     let name = c.deref.ensures.value ∙ c.in_ok-name.ensures ∙ c.generations.ensures c.args.number in
-    let there = all_read old mid c.deref.result.now c.in_ok-bytes.bytes.items (c.in_ok-file.ensures.same honest) (c.in_ok-file.ensures.ok honest)
-    (λ bytes reads. c.in_ok-bytes.ensures.bytes (c.in_ok-file.ensures.honest honest) c.deref.result.now bytes c.in_ok-file.ensures.opened reads) in
-    record {
-      bytes = c.in_ok-bytes.bytes.items;
-      there = ap (reads old) (sym name) ∙ there;
-      so = subst EndsUnsealed c.deref-2.ensures.value (c.replay.ensures.not_sealed (c.in-Err-NotSealed.is ∙ ap Err c.in-Err-NotSealed.field-0-is));
-    }
+    let there = c.in_ok-file.ensures.honest honest in
+    subst (λ (n : List ℕ). IsSo (reads old n) EndsUnsealed) name
+    (so_of old mid c.deref.result.now (c.in_ok-file.ensures.same honest) (c.in_ok-file.ensures.ok honest) EndsUnsealed
+    (λ bytes is. c.in_ok-outlined.ensures.unsealed bytes (c.in_ok-outline.ensures.all there c.deref.result.now bytes c.in_ok-file.ensures.opened is) (ap Ok c.in-None.is)))
 
-pub returns-in-Err-BadRecord-clause-read : goal.returns-in-Err-BadRecord-clause-read
-returns-in-Err-BadRecord-clause-read g c = λ honest.
+pub returns-in_err-outline-clause-damaged : goal.returns-in_err-outline-clause-damaged
+returns-in_err-outline-clause-damaged g c = λ honest damaged.
     let old = now (g.D.Dir.history c.args.dir.now) in
     let mid = now (g.D.Dir.history c.open.new.self) in
     let name = c.deref.ensures.value ∙ c.in_ok-name.ensures ∙ c.generations.ensures c.args.number in
-    let there = all_read old mid c.deref.result.now c.in_ok-bytes.bytes.items (c.in_ok-file.ensures.same honest) (c.in_ok-file.ensures.ok honest)
-    (λ bytes reads. c.in_ok-bytes.ensures.bytes (c.in_ok-file.ensures.honest honest) c.deref.result.now bytes c.in_ok-file.ensures.opened reads) in
-    record {
-      bytes = c.in_ok-bytes.bytes.items;
-      there = ap (reads old) (sym name) ∙ there;
-      so = subst IsDamaged c.deref-2.ensures.value (c.replay.ensures.bad_record (c.in-Err-BadRecord.is ∙ ap Err c.in-Err-BadRecord.field-0-is));
-    }
+    let there = c.in_ok-file.ensures.honest honest in
+    let answer = answered c.in_err-outline.field-0.0 c.from_residual-in_err-outline.result c.from_residual-in_err-outline.ensures.1 in
+    let e : c.in_err-outline.field-0.0 ≡ opening.Damaged = cc (answer, damaged) in
+    subst (λ (n : List ℕ). IsSo (reads old n) IsDamaged) name
+    (so_of old mid c.deref.result.now (c.in_ok-file.ensures.same honest) (c.in_ok-file.ensures.ok honest) IsDamaged
+    (λ bytes is. c.in_err-outline.ensures.damaged there c.deref.result.now bytes c.in_ok-file.ensures.opened is (cc e)))
+
+pub returns-in_err-outlined-clause-damaged : goal.returns-in_err-outlined-clause-damaged
+returns-in_err-outlined-clause-damaged g c = λ honest damaged.
+    let old = now (g.D.Dir.history c.args.dir.now) in
+    let mid = now (g.D.Dir.history c.open.new.self) in
+    let name = c.deref.ensures.value ∙ c.in_ok-name.ensures ∙ c.generations.ensures c.args.number in
+    let there = c.in_ok-file.ensures.honest honest in
+    let answer = answered c.in_err-outlined.field-0.0 c.from_residual-in_err-outlined.result c.from_residual-in_err-outlined.ensures.1 in
+    let e : c.in_err-outlined.field-0.0 ≡ opening.Damaged = cc (answer, damaged) in
+    subst (λ (n : List ℕ). IsSo (reads old n) IsDamaged) name
+    (so_of old mid c.deref.result.now (c.in_ok-file.ensures.same honest) (c.in_ok-file.ensures.ok honest) IsDamaged
+    (λ bytes is. c.in_err-outlined.ensures.damaged bytes (c.in_ok-outline.ensures.all there c.deref.result.now bytes c.in_ok-file.ensures.opened is) (cc e)))

@@ -19,15 +19,16 @@ returns-in-Ok g c =
       start = refl;
       honest = c.renew.ensures.honest;
       elsewhere = c.renew.ensures.elsewhere;
-      untouched = λ honest no. tt;
+      untouched = λ honest no torn. tt;
       cause = reason_ok (g.D.Dir.fault_count c.self.inside.dir) (g.D.Dir.fault_count c.renew.new.dir) (tt {0}) c.in-Ok.ensures.cause.passed;
       gone = c.in-Ok.ensures.gone;
       starts = c.in-Ok.ensures.state;
-      done = λ honest t keeps. c.in-Ok.ensures.ok honest t keeps;
-      refused = λ honest t keeps no. tt;
+      done = λ honest t keeps means. c.in-Ok.ensures.ok honest t keeps means;
+      refused = λ honest t keeps means no. tt;
       recovers = λ honest t keeps means q. absurd (cc q);
       stray = c.renew.ensures.stray;
       moments = c.renew.ensures.moments;
+      whole = λ honest t keeps means q. absurd (cc q);
     })
 
 pub returns-in-Err-Memory : goal.returns-in-Err-Memory
@@ -46,15 +47,16 @@ returns-in-Err-Memory g c =
       start = refl;
       honest = c.renew.ensures.honest;
       elsewhere = c.renew.ensures.elsewhere;
-      untouched = λ honest no. c.renew.ensures.memory_same honest is;
+      untouched = λ honest no torn. c.renew.ensures.memory_same honest is;
       cause = reason_none (g.D.Dir.fault_count c.self.inside.dir) (g.D.Dir.fault_count c.renew.new.dir) BufferFault.Memory (λ q. cc q) (c.renew.ensures.cause.others (λ q. cc (q, is)));
       gone = λ honest. tt;
       starts = tt;
-      done = λ honest t keeps. tt;
-      refused = λ honest t keeps no. c.renew.ensures.memory honest t keeps is;
+      done = λ honest t keeps means. tt;
+      refused = λ honest t keeps means no. c.renew.ensures.memory honest t keeps is;
       recovers = λ honest t keeps means q. absurd (cc q);
       stray = c.renew.ensures.stray;
       moments = c.renew.ensures.moments;
+      whole = λ honest t keeps means q. absurd (cc q);
     })
 
 pub returns-in-Err-Fault : goal.returns-in-Err-Fault
@@ -63,7 +65,7 @@ returns-in-Err-Fault g c =
     subst (λ (b : Logged g.row.D.Denot). Renews g.D.Dir.is_honest g.D.Dir.history g.D.Dir.fault_count b
     (record { dir = c.renew.new.dir; journal = c.renew.new.self; failed = true; staged = c.self.inside.staged; start = c.self.inside.start.value }) c.args.chunks.now (Err BufferFault.Fault)) c.self.view_is
     (record {
-      only = inr (inr refl);
+      only = inr (inr (inl refl));
       last = (λ q. absurd (cc q), λ le. absurd (let q = c.renew.ensures.last.1 le in cc (q, is)));
       flags = record { fails = λ _. refl; stays = λ no. absurd (no refl) };
       kept = refl;
@@ -73,13 +75,42 @@ returns-in-Err-Fault g c =
       start = refl;
       honest = c.renew.ensures.honest;
       elsewhere = c.renew.ensures.elsewhere;
-      untouched = λ honest no. absurd (no refl);
+      untouched = λ honest no torn. absurd (no refl);
       cause = reason_fault (g.D.Dir.fault_count c.self.inside.dir) (g.D.Dir.fault_count c.renew.new.dir) c.renew.ensures.cause.later (c.renew.ensures.cause.failed is);
       gone = λ honest. tt;
       starts = tt;
-      done = λ honest t keeps. tt;
-      refused = λ honest t keeps no. absurd (no refl);
+      done = λ honest t keeps means. tt;
+      refused = λ honest t keeps means no. absurd (no refl);
       recovers = λ honest t keeps means q. c.renew.ensures.fault honest t keeps means is;
       stray = c.renew.ensures.stray;
       moments = c.renew.ensures.moments;
+      whole = λ honest t keeps means q. absurd (cc q);
+    })
+
+pub returns-in-Err-Short : goal.returns-in-Err-Short
+returns-in-Err-Short g c =
+    let is = c.in-Err-Short.is ∙ ap Err c.in-Err-Short.field-0-is in
+    subst (λ (b : Logged g.row.D.Denot). Renews g.D.Dir.is_honest g.D.Dir.history g.D.Dir.fault_count b
+    (record { dir = c.renew.new.dir; journal = c.renew.new.self; failed = c.self.inside.failed; staged = c.self.inside.staged; start = c.self.inside.start.value }) c.args.chunks.now (Err BufferFault.Damaged)) c.self.view_is
+    (record {
+      only = inr (inr (inr refl));
+      last = (λ q. absurd (cc q), λ le. absurd (let q = c.renew.ensures.last.1 le in cc (q, is)));
+      flags = record { fails = λ q. absurd (cc q); stays = λ _. refl };
+      kept = refl;
+      staged = tt;
+      path = c.renew.ensures.path;
+      number = tt;
+      start = refl;
+      honest = c.renew.ensures.honest;
+      elsewhere = c.renew.ensures.elsewhere;
+      untouched = λ honest no torn. absurd (torn refl);
+      cause = reason_none (g.D.Dir.fault_count c.self.inside.dir) (g.D.Dir.fault_count c.renew.new.dir) BufferFault.Damaged (λ q. cc q) (c.renew.ensures.cause.others (λ q. cc (q, is)));
+      gone = λ honest. tt;
+      starts = tt;
+      done = λ honest t keeps means. tt;
+      refused = λ honest t keeps means no. absurd (c.renew.ensures.whole honest t keeps means is);
+      recovers = λ honest t keeps means q. absurd (cc q);
+      stray = c.renew.ensures.stray;
+      moments = c.renew.ensures.moments;
+      whole = λ honest t keeps means q. c.renew.ensures.whole honest t keeps means is;
     })

@@ -11,7 +11,7 @@ returns-in_err-ready g c =
     let old : Logged g.row.D.Denot = record { dir = c.self.inside.dir; journal = c.self.inside.journal; failed = c.self.inside.failed; staged = c.self.inside.staged; start = c.self.inside.start.value } in
     let mid : Logged g.row.D.Denot = record { dir = c.ready.new.dir; journal = c.ready.new.self; failed = c.self.inside.failed; staged = c.self.inside.staged; start = c.self.inside.start.value } in
     let ready : IsReadied g.D.Dir.is_honest g.D.Dir.history g.D.Dir.fault_count old mid =
-    record { failed = refl; staged = refl; start = refl; journal = c.ready.ensures.rest; honest = c.ready.ensures.honest; time = c.ready.ensures.time; same = c.ready.ensures.same; count = c.ready.ensures.cause } in
+    record { failed = refl; staged = refl; start = refl; path = ap (λ (j : OpenJournal). j.path) c.ready.ensures.rest; number = ap (λ (j : OpenJournal). j.number) c.ready.ensures.rest; keeps = c.ready.ensures.keeps; honest = c.ready.ensures.honest; time = c.ready.ensures.time; same = c.ready.ensures.same; count = c.ready.ensures.cause } in
     subst (λ (b : Logged g.row.D.Denot). Writes g.D.Dir.is_honest g.D.Dir.history g.D.Dir.fault_count b mid (record_of c.args.item.now) c.args.synced c.from_residual.result) c.self.view_is
     (writes_memory g.D.Dir.is_honest g.D.Dir.history g.D.Dir.fault_count old mid ready (record_of c.args.item.now) c.args.synced c.from_residual.result (search rules))
 
@@ -21,7 +21,7 @@ returns-then-is_err g c =
     let mid : Logged g.row.D.Denot = record { dir = c.ready.new.dir; journal = c.ready.new.self; failed = c.self.inside.failed; staged = c.self.inside.staged; start = c.self.inside.start.value } in
     let new : Logged g.row.D.Denot = record { dir = c.put.new.dir; journal = c.put.new.self; failed = true; staged = c.self.inside.staged; start = c.self.inside.start.value } in
     let ready : IsReadied g.D.Dir.is_honest g.D.Dir.history g.D.Dir.fault_count old mid =
-    record { failed = refl; staged = refl; start = refl; journal = c.ready.ensures.rest; honest = c.ready.ensures.honest; time = c.ready.ensures.time; same = c.ready.ensures.same; count = c.ready.ensures.cause } in
+    record { failed = refl; staged = refl; start = refl; path = ap (λ (j : OpenJournal). j.path) c.ready.ensures.rest; number = ap (λ (j : OpenJournal). j.number) c.ready.ensures.rest; keeps = c.ready.ensures.keeps; honest = c.ready.ensures.honest; time = c.ready.ensures.time; same = c.ready.ensures.same; count = c.ready.ensures.cause } in
     let puts : Puts g.D.Dir.is_honest g.D.Dir.history g.D.Dir.fault_count mid new (record_of c.args.item.now) c.put.result = record {
       ready = c.in_ok-ready.ensures.ready;
       path = ap (λ (j : OpenJournal). j.path) c.put.ensures.journal;
@@ -45,7 +45,7 @@ returns-then-synced g c =
     let mid : Logged g.row.D.Denot = record { dir = c.ready.new.dir; journal = c.ready.new.self; failed = c.self.inside.failed; staged = c.self.inside.staged; start = c.self.inside.start.value } in
     let new : Logged g.row.D.Denot = record { dir = c.put.new.dir; journal = c.put.new.self; failed = c.self.inside.failed; staged = c.self.inside.staged; start = c.self.inside.start.value } in
     let ready : IsReadied g.D.Dir.is_honest g.D.Dir.history g.D.Dir.fault_count old mid =
-    record { failed = refl; staged = refl; start = refl; journal = c.ready.ensures.rest; honest = c.ready.ensures.honest; time = c.ready.ensures.time; same = c.ready.ensures.same; count = c.ready.ensures.cause } in
+    record { failed = refl; staged = refl; start = refl; path = ap (λ (j : OpenJournal). j.path) c.ready.ensures.rest; number = ap (λ (j : OpenJournal). j.number) c.ready.ensures.rest; keeps = c.ready.ensures.keeps; honest = c.ready.ensures.honest; time = c.ready.ensures.time; same = c.ready.ensures.same; count = c.ready.ensures.cause } in
     let puts : Puts g.D.Dir.is_honest g.D.Dir.history g.D.Dir.fault_count mid new (record_of c.args.item.now) c.put.result = record {
       ready = c.in_ok-ready.ensures.ready;
       path = ap (λ (j : OpenJournal). j.path) c.put.ensures.journal;
@@ -70,7 +70,7 @@ returns g c =
     let mid : Logged g.row.D.Denot = record { dir = c.ready.new.dir; journal = c.ready.new.self; failed = c.self.inside.failed; staged = c.self.inside.staged; start = c.self.inside.start.value } in
     let new : Logged g.row.D.Denot = record { dir = c.put.new.dir; journal = c.put.new.self; failed = c.self.inside.failed; staged = c.is_staged_by-self-inside.result; start = c.self.inside.start.value } in
     let ready : IsReadied g.D.Dir.is_honest g.D.Dir.history g.D.Dir.fault_count old mid =
-    record { failed = refl; staged = refl; start = refl; journal = c.ready.ensures.rest; honest = c.ready.ensures.honest; time = c.ready.ensures.time; same = c.ready.ensures.same; count = c.ready.ensures.cause } in
+    record { failed = refl; staged = refl; start = refl; path = ap (λ (j : OpenJournal). j.path) c.ready.ensures.rest; number = ap (λ (j : OpenJournal). j.number) c.ready.ensures.rest; keeps = c.ready.ensures.keeps; honest = c.ready.ensures.honest; time = c.ready.ensures.time; same = c.ready.ensures.same; count = c.ready.ensures.cause } in
     let puts : Puts g.D.Dir.is_honest g.D.Dir.history g.D.Dir.fault_count mid new (record_of c.args.item.now) c.put.result = record {
       ready = c.in_ok-ready.ensures.ready;
       path = ap (λ (j : OpenJournal). j.path) c.put.ensures.journal;

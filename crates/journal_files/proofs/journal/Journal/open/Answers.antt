@@ -1,6 +1,8 @@
-use Rattle.std.proofs.Common.{◌≡◌, None, ℕ, ◌+◌, ◌<◌, ◌^◌, List, Err, refl, ap, arith, rules, subst, sym, ◌∙◌}
-use Rattle.disk_files.specs.declared.dir.DirError.{DirError}
-use Rattle.journal_files.specs.Faults.{open_error}
+use Rattle.std.proofs.Common.{◌≡◌, None, ℕ, ◌+◌, ◌<◌, ◌^◌, List, Err, refl, ap, arith, subst, sym, ◌∙◌}
+use Rattle.journal_files.specs.declared.error.BeginError.{BeginError}
+use Rattle.journal_files.specs.declared.error.OpenError.TheVariants as opening
+use Rattle.journal_files.specs.Faults.{HasReason, open_error, opening_error}
+use Rattle.journal_files.proofs.Heard.{answered, reason_dir}
 use Rattle.journal_files.proofs.Steps.{any_err}
 use Rattle.disk_files.specs.Disk.{SameDisk, reads}
 use Rattle.disk_files.specs.Moments.{LeavesOnly, now}
@@ -8,13 +10,16 @@ use Rattle.disk_files.proofs.Moments.{rests, joined}
 use Rattle.buffer_state.specs.Steps.{reopened}
 use Rattle.journal_files.specs.Folders.{journal_name}
 use Rattle.journal_files.specs.Tellings.{IsOfSome, OpensWithin}
-use Rattle.journal_files.specs.Pieces.{AreOlder, ChangesBelow, IsGoneBut, IsLeftOf}
+use Rattle.file_pieces.specs.Adding.{IsLeftOf}
+use Rattle.journal_files.specs.Pieces.{AreOlder, ChangesBelow, IsGoneBut}
 use Rattle.journal_files.proofs.Beginning.{of_folder}
-use Rattle.journal_files.proofs.Fresh.{is_next, was_memory, none_above, own_is_above, opened_alone}
+use Rattle.journal_files.proofs.Fresh.{is_next, none_above, own_is_above, opened_alone}
 use Rattle.journal_files.proofs.OlderFiles.{still_older}
 use Rattle.journal_files.proofs.OneWay.{one_way}
 use Rattle.journal_files.proofs.OpeningMoments.{recovers_same, quiet, keeps_still, no_stray_still, removed_so}
+use Rattle.journal_files.proofs.Sourced.{still_open, still_source}
 use Rattle.journal_files.proofs.Strays.{same_stray}
+use Rattle.journal_files.proofs.Unopened.{was_memory, was_short, not_last, reason_begun}
 use Rattle.journal_files.proofs.journal.Journal.open.Goals as goal
 
 pub returns-in_err-found-clause-moments : goal.returns-in_err-found-clause-moments
@@ -32,10 +37,13 @@ returns-in_err-journal-clause-moments g c = λ honest stray t before.
     let found_honest = c.in_ok-found.ensures.honest honest in
     let older_honest = c.in_ok-older.ensures.honest found_honest in
     let same : SameDisk (now (g.D.Dir.history c.open.new.dir)) (now (g.D.Dir.history c.args.dir.now)) = λ name. c.open.ensures.same found_honest name ∙ c.in_ok-found.ensures.same honest name in
+    let small : greatest + 1 < 2 ^ 32 = omega (arith, c.in_ok-found.ensures.below) in
+    let source = still_source (g.D.Dir.opened c.find.new.dir) (g.D.Dir.opened c.open.new.dir) c.in_ok-older.ensures.others (now (g.D.Dir.history c.args.dir.now)) (now (g.D.Dir.history c.open.new.dir)) c.args.path.now greatest c.in_ok-found.found.file c.in_ok-found.found.places c.in_ok-found.found.chunks
+    same small (c.in_ok-found.ensures.source honest) in
     let none = none_above c.args.path.now (now (g.D.Dir.history c.args.dir.now)) (now (g.D.Dir.history c.open.new.dir)) greatest (greatest + 1) refl (c.in_ok-found.ensures.greatest honest) stray same in
     let m : IsOfSome t (reopened c.in_ok-found.found.chunks) = of_folder c.args.path.now (reads (now (g.D.Dir.history c.args.dir.now))) t c.in_ok-found.found.chunks (one_way c.answers_one_way.ensures c.args.path.now (reads (now (g.D.Dir.history c.args.dir.now)))) (before (reads (now (g.D.Dir.history c.args.dir.now))) (g.met.D.Dir.reads_stay c.args.dir.now honest))
     (c.in_ok-found.ensures.state honest) c.in_ok-found.ensures.unclaimed in
-    joined (g.D.Dir.history c.args.dir.now) (g.D.Dir.history c.open.new.dir) (g.D.Dir.history c.begin.new.dir) (OpensWithin c.args.path.now t) (rests (g.D.Dir.history c.args.dir.now) (g.D.Dir.history c.find.new.dir) (g.D.Dir.history c.open.new.dir) (OpensWithin c.args.path.now t) (quiet c.args.path.now t (g.D.Dir.history c.args.dir.now) (g.D.Dir.history c.find.new.dir) before (c.find.ensures.time honest) (c.find.ensures.same honest)) (c.open.ensures.time found_honest) (c.open.ensures.same found_honest)) (c.begin.ensures.moments older_honest t (recovers_same c.args.path.now t (now (g.D.Dir.history c.args.dir.now)) (now (g.D.Dir.history c.open.new.dir)) same before) none m)
+    joined (g.D.Dir.history c.args.dir.now) (g.D.Dir.history c.open.new.dir) (g.D.Dir.history c.begin.new.dir) (OpensWithin c.args.path.now t) (rests (g.D.Dir.history c.args.dir.now) (g.D.Dir.history c.find.new.dir) (g.D.Dir.history c.open.new.dir) (OpensWithin c.args.path.now t) (quiet c.args.path.now t (g.D.Dir.history c.args.dir.now) (g.D.Dir.history c.find.new.dir) before (c.find.ensures.time honest) (c.find.ensures.same honest)) (c.open.ensures.time found_honest) (c.open.ensures.same found_honest)) (c.begin.ensures.moments older_honest t (recovers_same c.args.path.now t (now (g.D.Dir.history c.args.dir.now)) (now (g.D.Dir.history c.open.new.dir)) same before) none m source)
 
 pub returns-in_err-remove-clause-moments : goal.returns-in_err-remove-clause-moments
 returns-in_err-remove-clause-moments g c = λ honest stray t before.
@@ -43,15 +51,18 @@ returns-in_err-remove-clause-moments g c = λ honest stray t before.
     let found_honest = c.in_ok-found.ensures.honest honest in
     let older_honest = c.in_ok-older.ensures.honest found_honest in
     let same : SameDisk (now (g.D.Dir.history c.open.new.dir)) (now (g.D.Dir.history c.args.dir.now)) = λ name. c.open.ensures.same found_honest name ∙ c.in_ok-found.ensures.same honest name in
+    let small : greatest + 1 < 2 ^ 32 = omega (arith, c.in_ok-found.ensures.below) in
+    let source = still_source (g.D.Dir.opened c.find.new.dir) (g.D.Dir.opened c.open.new.dir) c.in_ok-older.ensures.others (now (g.D.Dir.history c.args.dir.now)) (now (g.D.Dir.history c.open.new.dir)) c.args.path.now greatest c.in_ok-found.found.file c.in_ok-found.found.places c.in_ok-found.found.chunks
+    same small (c.in_ok-found.ensures.source honest) in
     let none = none_above c.args.path.now (now (g.D.Dir.history c.args.dir.now)) (now (g.D.Dir.history c.open.new.dir)) greatest (greatest + 1) refl (c.in_ok-found.ensures.greatest honest) stray same in
     let m : IsOfSome t (reopened c.in_ok-found.found.chunks) = of_folder c.args.path.now (reads (now (g.D.Dir.history c.args.dir.now))) t c.in_ok-found.found.chunks (one_way c.answers_one_way.ensures c.args.path.now (reads (now (g.D.Dir.history c.args.dir.now)))) (before (reads (now (g.D.Dir.history c.args.dir.now))) (g.met.D.Dir.reads_stay c.args.dir.now honest))
     (c.in_ok-found.ensures.state honest) c.in_ok-found.ensures.unclaimed in
     let begun_honest = c.in_ok-journal.ensures.honest older_honest in
-    let keeps = c.in_ok-journal.ensures.ok older_honest none in
+    let keeps = c.in_ok-journal.ensures.ok older_honest none source in
     let removing : LeavesOnly (g.D.Dir.history c.begin.new.dir) (g.D.Dir.history c.remove.new.dir) (IsLeftOf (ChangesBelow c.args.path.now (greatest + 1) (now (g.D.Dir.history c.begin.new.dir)))) = subst (λ (p : List ℕ). LeavesOnly (g.D.Dir.history c.begin.new.dir) (g.D.Dir.history c.remove.new.dir) (IsLeftOf (ChangesBelow p (greatest + 1) (now (g.D.Dir.history c.begin.new.dir))))) c.in_ok-older.ensures.path
     (subst (λ (k : ℕ). LeavesOnly (g.D.Dir.history c.begin.new.dir) (g.D.Dir.history c.remove.new.dir) (IsLeftOf (ChangesBelow c.in_ok-older.older.path.now k (now (g.D.Dir.history c.begin.new.dir))))) c.in_ok-older.ensures.number (c.remove.ensures.moments begun_honest)) in
     removed_so c.args.path.now (greatest + 1) c.in_ok-journal.journal (now (g.D.Dir.history c.begin.new.dir)) c.in_ok-found.found.chunks c.in_ok-journal.ensures.path c.in_ok-journal.ensures.number keeps
-    t c.in_ok-journal.ensures.state m (g.D.Dir.history c.args.dir.now) (g.D.Dir.history c.begin.new.dir) (g.D.Dir.history c.remove.new.dir) refl (joined (g.D.Dir.history c.args.dir.now) (g.D.Dir.history c.open.new.dir) (g.D.Dir.history c.begin.new.dir) (OpensWithin c.args.path.now t) (rests (g.D.Dir.history c.args.dir.now) (g.D.Dir.history c.find.new.dir) (g.D.Dir.history c.open.new.dir) (OpensWithin c.args.path.now t) (quiet c.args.path.now t (g.D.Dir.history c.args.dir.now) (g.D.Dir.history c.find.new.dir) before (c.find.ensures.time honest) (c.find.ensures.same honest)) (c.open.ensures.time found_honest) (c.open.ensures.same found_honest)) (c.begin.ensures.moments older_honest t (recovers_same c.args.path.now t (now (g.D.Dir.history c.args.dir.now)) (now (g.D.Dir.history c.open.new.dir)) same before) none m)) removing
+    t c.in_ok-journal.ensures.state m (g.D.Dir.history c.args.dir.now) (g.D.Dir.history c.begin.new.dir) (g.D.Dir.history c.remove.new.dir) refl (joined (g.D.Dir.history c.args.dir.now) (g.D.Dir.history c.open.new.dir) (g.D.Dir.history c.begin.new.dir) (OpensWithin c.args.path.now t) (rests (g.D.Dir.history c.args.dir.now) (g.D.Dir.history c.find.new.dir) (g.D.Dir.history c.open.new.dir) (OpensWithin c.args.path.now t) (quiet c.args.path.now t (g.D.Dir.history c.args.dir.now) (g.D.Dir.history c.find.new.dir) before (c.find.ensures.time honest) (c.find.ensures.same honest)) (c.open.ensures.time found_honest) (c.open.ensures.same found_honest)) (c.begin.ensures.moments older_honest t (recovers_same c.args.path.now t (now (g.D.Dir.history c.args.dir.now)) (now (g.D.Dir.history c.open.new.dir)) same before) none m source)) removing
 
 pub returns-clause-moments : goal.returns-clause-moments
 returns-clause-moments g c = λ honest stray t before.
@@ -59,15 +70,18 @@ returns-clause-moments g c = λ honest stray t before.
     let found_honest = c.in_ok-found.ensures.honest honest in
     let older_honest = c.in_ok-older.ensures.honest found_honest in
     let same : SameDisk (now (g.D.Dir.history c.open.new.dir)) (now (g.D.Dir.history c.args.dir.now)) = λ name. c.open.ensures.same found_honest name ∙ c.in_ok-found.ensures.same honest name in
+    let small : greatest + 1 < 2 ^ 32 = omega (arith, c.in_ok-found.ensures.below) in
+    let source = still_source (g.D.Dir.opened c.find.new.dir) (g.D.Dir.opened c.open.new.dir) c.in_ok-older.ensures.others (now (g.D.Dir.history c.args.dir.now)) (now (g.D.Dir.history c.open.new.dir)) c.args.path.now greatest c.in_ok-found.found.file c.in_ok-found.found.places c.in_ok-found.found.chunks
+    same small (c.in_ok-found.ensures.source honest) in
     let none = none_above c.args.path.now (now (g.D.Dir.history c.args.dir.now)) (now (g.D.Dir.history c.open.new.dir)) greatest (greatest + 1) refl (c.in_ok-found.ensures.greatest honest) stray same in
     let m : IsOfSome t (reopened c.in_ok-found.found.chunks) = of_folder c.args.path.now (reads (now (g.D.Dir.history c.args.dir.now))) t c.in_ok-found.found.chunks (one_way c.answers_one_way.ensures c.args.path.now (reads (now (g.D.Dir.history c.args.dir.now)))) (before (reads (now (g.D.Dir.history c.args.dir.now))) (g.met.D.Dir.reads_stay c.args.dir.now honest))
     (c.in_ok-found.ensures.state honest) c.in_ok-found.ensures.unclaimed in
     let begun_honest = c.in_ok-journal.ensures.honest older_honest in
-    let keeps = c.in_ok-journal.ensures.ok older_honest none in
+    let keeps = c.in_ok-journal.ensures.ok older_honest none source in
     let removing : LeavesOnly (g.D.Dir.history c.begin.new.dir) (g.D.Dir.history c.remove.new.dir) (IsLeftOf (ChangesBelow c.args.path.now (greatest + 1) (now (g.D.Dir.history c.begin.new.dir)))) = subst (λ (p : List ℕ). LeavesOnly (g.D.Dir.history c.begin.new.dir) (g.D.Dir.history c.remove.new.dir) (IsLeftOf (ChangesBelow p (greatest + 1) (now (g.D.Dir.history c.begin.new.dir))))) c.in_ok-older.ensures.path
     (subst (λ (k : ℕ). LeavesOnly (g.D.Dir.history c.begin.new.dir) (g.D.Dir.history c.remove.new.dir) (IsLeftOf (ChangesBelow c.in_ok-older.older.path.now k (now (g.D.Dir.history c.begin.new.dir))))) c.in_ok-older.ensures.number (c.remove.ensures.moments begun_honest)) in
     removed_so c.args.path.now (greatest + 1) c.in_ok-journal.journal (now (g.D.Dir.history c.begin.new.dir)) c.in_ok-found.found.chunks c.in_ok-journal.ensures.path c.in_ok-journal.ensures.number keeps
-    t c.in_ok-journal.ensures.state m (g.D.Dir.history c.args.dir.now) (g.D.Dir.history c.begin.new.dir) (g.D.Dir.history c.remove.new.dir) refl (joined (g.D.Dir.history c.args.dir.now) (g.D.Dir.history c.open.new.dir) (g.D.Dir.history c.begin.new.dir) (OpensWithin c.args.path.now t) (rests (g.D.Dir.history c.args.dir.now) (g.D.Dir.history c.find.new.dir) (g.D.Dir.history c.open.new.dir) (OpensWithin c.args.path.now t) (quiet c.args.path.now t (g.D.Dir.history c.args.dir.now) (g.D.Dir.history c.find.new.dir) before (c.find.ensures.time honest) (c.find.ensures.same honest)) (c.open.ensures.time found_honest) (c.open.ensures.same found_honest)) (c.begin.ensures.moments older_honest t (recovers_same c.args.path.now t (now (g.D.Dir.history c.args.dir.now)) (now (g.D.Dir.history c.open.new.dir)) same before) none m)) removing
+    t c.in_ok-journal.ensures.state m (g.D.Dir.history c.args.dir.now) (g.D.Dir.history c.begin.new.dir) (g.D.Dir.history c.remove.new.dir) refl (joined (g.D.Dir.history c.args.dir.now) (g.D.Dir.history c.open.new.dir) (g.D.Dir.history c.begin.new.dir) (OpensWithin c.args.path.now t) (rests (g.D.Dir.history c.args.dir.now) (g.D.Dir.history c.find.new.dir) (g.D.Dir.history c.open.new.dir) (OpensWithin c.args.path.now t) (quiet c.args.path.now t (g.D.Dir.history c.args.dir.now) (g.D.Dir.history c.find.new.dir) before (c.find.ensures.time honest) (c.find.ensures.same honest)) (c.open.ensures.time found_honest) (c.open.ensures.same found_honest)) (c.begin.ensures.moments older_honest t (recovers_same c.args.path.now t (now (g.D.Dir.history c.args.dir.now)) (now (g.D.Dir.history c.open.new.dir)) same before) none m source)) removing
 
 pub returns-in_err-found-clause-stray : goal.returns-in_err-found-clause-stray
 returns-in_err-found-clause-stray g c = λ honest stray. same_stray c.args.path.now (now (g.D.Dir.history c.args.dir.now)) (now (g.D.Dir.history c.find.new.dir)) (c.find.ensures.same honest) stray
@@ -94,9 +108,12 @@ returns-in_err-remove-clause-stray g c = λ honest stray.
     let found_honest = c.in_ok-found.ensures.honest honest in
     let older_honest = c.in_ok-older.ensures.honest found_honest in
     let same : SameDisk (now (g.D.Dir.history c.open.new.dir)) (now (g.D.Dir.history c.args.dir.now)) = λ name. c.open.ensures.same found_honest name ∙ c.in_ok-found.ensures.same honest name in
+    let small : greatest + 1 < 2 ^ 32 = omega (arith, c.in_ok-found.ensures.below) in
+    let source = still_source (g.D.Dir.opened c.find.new.dir) (g.D.Dir.opened c.open.new.dir) c.in_ok-older.ensures.others (now (g.D.Dir.history c.args.dir.now)) (now (g.D.Dir.history c.open.new.dir)) c.args.path.now greatest c.in_ok-found.found.file c.in_ok-found.found.places c.in_ok-found.found.chunks
+    same small (c.in_ok-found.ensures.source honest) in
     let none = none_above c.args.path.now (now (g.D.Dir.history c.args.dir.now)) (now (g.D.Dir.history c.open.new.dir)) greatest (greatest + 1) refl (c.in_ok-found.ensures.greatest honest) stray same in
     let begun_honest = c.in_ok-journal.ensures.honest older_honest in
-    let keeps = c.in_ok-journal.ensures.ok older_honest none in
+    let keeps = c.in_ok-journal.ensures.ok older_honest none source in
     let below : ChangesBelow c.args.path.now (greatest + 1) (now (g.D.Dir.history c.begin.new.dir)) (now (g.D.Dir.history c.remove.new.dir)) = subst (λ (p : List ℕ). ChangesBelow p (greatest + 1) (now (g.D.Dir.history c.begin.new.dir)) (now (g.D.Dir.history c.remove.new.dir))) c.in_ok-older.ensures.path
     (subst (λ (k : ℕ). ChangesBelow c.in_ok-older.older.path.now k (now (g.D.Dir.history c.begin.new.dir)) (now (g.D.Dir.history c.remove.new.dir))) c.in_ok-older.ensures.number (c.remove.ensures.elsewhere begun_honest)) in
     no_stray_still c.args.path.now (greatest + 1) c.in_ok-journal.journal (now (g.D.Dir.history c.begin.new.dir)) c.in_ok-found.found.chunks c.in_ok-journal.ensures.path c.in_ok-journal.ensures.number keeps (now (g.D.Dir.history c.remove.new.dir)) below
@@ -107,9 +124,12 @@ returns-clause-stray g c = λ honest stray.
     let found_honest = c.in_ok-found.ensures.honest honest in
     let older_honest = c.in_ok-older.ensures.honest found_honest in
     let same : SameDisk (now (g.D.Dir.history c.open.new.dir)) (now (g.D.Dir.history c.args.dir.now)) = λ name. c.open.ensures.same found_honest name ∙ c.in_ok-found.ensures.same honest name in
+    let small : greatest + 1 < 2 ^ 32 = omega (arith, c.in_ok-found.ensures.below) in
+    let source = still_source (g.D.Dir.opened c.find.new.dir) (g.D.Dir.opened c.open.new.dir) c.in_ok-older.ensures.others (now (g.D.Dir.history c.args.dir.now)) (now (g.D.Dir.history c.open.new.dir)) c.args.path.now greatest c.in_ok-found.found.file c.in_ok-found.found.places c.in_ok-found.found.chunks
+    same small (c.in_ok-found.ensures.source honest) in
     let none = none_above c.args.path.now (now (g.D.Dir.history c.args.dir.now)) (now (g.D.Dir.history c.open.new.dir)) greatest (greatest + 1) refl (c.in_ok-found.ensures.greatest honest) stray same in
     let begun_honest = c.in_ok-journal.ensures.honest older_honest in
-    let keeps = c.in_ok-journal.ensures.ok older_honest none in
+    let keeps = c.in_ok-journal.ensures.ok older_honest none source in
     let below : ChangesBelow c.args.path.now (greatest + 1) (now (g.D.Dir.history c.begin.new.dir)) (now (g.D.Dir.history c.remove.new.dir)) = subst (λ (p : List ℕ). ChangesBelow p (greatest + 1) (now (g.D.Dir.history c.begin.new.dir)) (now (g.D.Dir.history c.remove.new.dir))) c.in_ok-older.ensures.path
     (subst (λ (k : ℕ). ChangesBelow c.in_ok-older.older.path.now k (now (g.D.Dir.history c.begin.new.dir)) (now (g.D.Dir.history c.remove.new.dir))) c.in_ok-older.ensures.number (c.remove.ensures.elsewhere begun_honest)) in
     no_stray_still c.args.path.now (greatest + 1) c.in_ok-journal.journal (now (g.D.Dir.history c.begin.new.dir)) c.in_ok-found.found.chunks c.in_ok-journal.ensures.path c.in_ok-journal.ensures.number keeps (now (g.D.Dir.history c.remove.new.dir)) below
@@ -120,9 +140,12 @@ returns-clause-keeps g c = λ honest stray.
     let found_honest = c.in_ok-found.ensures.honest honest in
     let older_honest = c.in_ok-older.ensures.honest found_honest in
     let same : SameDisk (now (g.D.Dir.history c.open.new.dir)) (now (g.D.Dir.history c.args.dir.now)) = λ name. c.open.ensures.same found_honest name ∙ c.in_ok-found.ensures.same honest name in
+    let small : greatest + 1 < 2 ^ 32 = omega (arith, c.in_ok-found.ensures.below) in
+    let source = still_source (g.D.Dir.opened c.find.new.dir) (g.D.Dir.opened c.open.new.dir) c.in_ok-older.ensures.others (now (g.D.Dir.history c.args.dir.now)) (now (g.D.Dir.history c.open.new.dir)) c.args.path.now greatest c.in_ok-found.found.file c.in_ok-found.found.places c.in_ok-found.found.chunks
+    same small (c.in_ok-found.ensures.source honest) in
     let none = none_above c.args.path.now (now (g.D.Dir.history c.args.dir.now)) (now (g.D.Dir.history c.open.new.dir)) greatest (greatest + 1) refl (c.in_ok-found.ensures.greatest honest) stray same in
     let begun_honest = c.in_ok-journal.ensures.honest older_honest in
-    let keeps = c.in_ok-journal.ensures.ok older_honest none in
+    let keeps = c.in_ok-journal.ensures.ok older_honest none source in
     let below : ChangesBelow c.args.path.now (greatest + 1) (now (g.D.Dir.history c.begin.new.dir)) (now (g.D.Dir.history c.remove.new.dir)) = subst (λ (p : List ℕ). ChangesBelow p (greatest + 1) (now (g.D.Dir.history c.begin.new.dir)) (now (g.D.Dir.history c.remove.new.dir))) c.in_ok-older.ensures.path
     (subst (λ (k : ℕ). ChangesBelow c.in_ok-older.older.path.now k (now (g.D.Dir.history c.begin.new.dir)) (now (g.D.Dir.history c.remove.new.dir))) c.in_ok-older.ensures.number (c.remove.ensures.elsewhere begun_honest)) in
     keeps_still c.args.path.now (greatest + 1) c.in_ok-journal.journal (now (g.D.Dir.history c.begin.new.dir)) c.in_ok-found.found.chunks c.in_ok-journal.ensures.path c.in_ok-journal.ensures.number keeps (now (g.D.Dir.history c.remove.new.dir)) below
@@ -198,10 +221,74 @@ returns-clause-next g c = λ honest.
 
 pub returns-in_err-journal-clause-unchanged : goal.returns-in_err-journal-clause-unchanged
 returns-in_err-journal-clause-unchanged g c = λ honest not_fault.
+    let greatest = c.in_ok-found.found.greatest in
     let e = c.in_err-journal.field-0.0 in
-    let result : c.from_residual-in_err-journal.result ≡ Err (open_error e) = search rules in
-    let memory : e ≡ DirError.Memory = was_memory e c.from_residual-in_err-journal.result result not_fault in
+    let answer = answered (opening_error e) c.from_residual-in_err-journal.result c.from_residual-in_err-journal.ensures.1 in
     let found_honest = c.in_ok-found.ensures.honest honest in
     let older_honest = c.in_ok-older.ensures.honest found_honest in
-    let same = c.begin.ensures.memory older_honest (c.in_err-journal.was ∙ ap Err memory) in
-    any_err c.from_residual-in_err-journal.result (λ name. same name ∙ c.open.ensures.same found_honest name ∙ c.find.ensures.same honest name)
+    let same : SameDisk (now (g.D.Dir.history c.open.new.dir)) (now (g.D.Dir.history c.args.dir.now)) = λ name. c.open.ensures.same found_honest name ∙ c.in_ok-found.ensures.same honest name in
+    let small : greatest + 1 < 2 ^ 32 = omega (arith, c.in_ok-found.ensures.below) in
+    let source = still_source (g.D.Dir.opened c.find.new.dir) (g.D.Dir.opened c.open.new.dir) c.in_ok-older.ensures.others (now (g.D.Dir.history c.args.dir.now)) (now (g.D.Dir.history c.open.new.dir)) c.args.path.now greatest c.in_ok-found.found.file c.in_ok-found.found.places c.in_ok-found.found.chunks
+    same small (c.in_ok-found.ensures.source honest) in
+    let whole = λ (short : e ≡ BeginError.Short). c.begin.ensures.whole older_honest source (c.in_err-journal.was ∙ ap Err short) in
+    let unbegun = c.begin.ensures.memory older_honest (c.in_err-journal.was ∙ ap Err (was_memory e c.from_residual-in_err-journal.result answer not_fault whole)) in
+    any_err c.from_residual-in_err-journal.result (λ name. unbegun name ∙ same name)
+
+pub returns-in_err-journal-clause-damaged : goal.returns-in_err-journal-clause-damaged
+returns-in_err-journal-clause-damaged g c = λ honest is.
+    let greatest = c.in_ok-found.found.greatest in
+    let e = c.in_err-journal.field-0.0 in
+    let answer = answered (opening_error e) c.from_residual-in_err-journal.result c.from_residual-in_err-journal.ensures.1 in
+    let found_honest = c.in_ok-found.ensures.honest honest in
+    let older_honest = c.in_ok-older.ensures.honest found_honest in
+    let same : SameDisk (now (g.D.Dir.history c.open.new.dir)) (now (g.D.Dir.history c.args.dir.now)) = λ name. c.open.ensures.same found_honest name ∙ c.in_ok-found.ensures.same honest name in
+    let small : greatest + 1 < 2 ^ 32 = omega (arith, c.in_ok-found.ensures.below) in
+    let source = still_source (g.D.Dir.opened c.find.new.dir) (g.D.Dir.opened c.open.new.dir) c.in_ok-older.ensures.others (now (g.D.Dir.history c.args.dir.now)) (now (g.D.Dir.history c.open.new.dir)) c.args.path.now greatest c.in_ok-found.found.file c.in_ok-found.found.places c.in_ok-found.found.chunks
+    same small (c.in_ok-found.ensures.source honest) in
+    let whole = λ (short : e ≡ BeginError.Short). c.begin.ensures.whole older_honest source (c.in_err-journal.was ∙ ap Err short) in
+    absurd (whole (was_short e c.from_residual-in_err-journal.result answer is))
+
+pub returns-in_err-journal-clause-unread : goal.returns-in_err-journal-clause-unread
+returns-in_err-journal-clause-unread g c = λ honest there is.
+    let greatest = c.in_ok-found.found.greatest in
+    let e = c.in_err-journal.field-0.0 in
+    let answer = answered (opening_error e) c.from_residual-in_err-journal.result c.from_residual-in_err-journal.ensures.1 in
+    let found_honest = c.in_ok-found.ensures.honest honest in
+    let older_honest = c.in_ok-older.ensures.honest found_honest in
+    let same : SameDisk (now (g.D.Dir.history c.open.new.dir)) (now (g.D.Dir.history c.args.dir.now)) = λ name. c.open.ensures.same found_honest name ∙ c.in_ok-found.ensures.same honest name in
+    let small : greatest + 1 < 2 ^ 32 = omega (arith, c.in_ok-found.ensures.below) in
+    let source = still_source (g.D.Dir.opened c.find.new.dir) (g.D.Dir.opened c.open.new.dir) c.in_ok-older.ensures.others (now (g.D.Dir.history c.args.dir.now)) (now (g.D.Dir.history c.open.new.dir)) c.args.path.now greatest c.in_ok-found.found.file c.in_ok-found.found.places c.in_ok-found.found.chunks
+    same small (c.in_ok-found.ensures.source honest) in
+    let whole = λ (short : e ≡ BeginError.Short). c.begin.ensures.whole older_honest source (c.in_err-journal.was ∙ ap Err short) in
+    whole (was_short e c.from_residual-in_err-journal.result answer is)
+
+pub returns-in_err-journal-clause-last : goal.returns-in_err-journal-clause-last
+returns-in_err-journal-clause-last g c = λ honest is.
+    let answer = answered (opening_error c.in_err-journal.field-0.0) c.from_residual-in_err-journal.result c.from_residual-in_err-journal.ensures.1 in
+    absurd (not_last c.in_err-journal.field-0.0 c.from_residual-in_err-journal.result answer is)
+
+pub returns-in_err-journal-clause-cause : goal.returns-in_err-journal-clause-cause
+returns-in_err-journal-clause-cause g c =
+    let answer = answered (opening_error c.in_err-journal.field-0.0) c.from_residual-in_err-journal.result c.from_residual-in_err-journal.ensures.1 in
+    reason_begun (g.D.Dir.fault_count c.args.dir.now) (g.D.Dir.fault_count c.open.new.dir) (g.D.Dir.fault_count c.begin.new.dir) c.in_err-journal.field-0.0 c.from_residual-in_err-journal.result
+    (c.in_ok-older.ensures.cause.passed ∙ c.in_ok-found.ensures.cause.passed) c.in_err-journal.ensures.cause answer
+
+pub begin-requires-clause-source : goal.begin-requires-clause-source
+begin-requires-clause-source g c = still_open (g.D.Dir.opened c.find.new.dir) (g.D.Dir.opened c.open.new.dir) c.in_ok-older.ensures.others c.in_ok-found.found.file c.in_ok-found.ensures.open
+
+pub returns-in_err-journal-clause-honest : goal.returns-in_err-journal-clause-honest
+returns-in_err-journal-clause-honest g c = λ honest. c.begin.ensures.honest (c.in_ok-older.ensures.honest (c.in_ok-found.ensures.honest honest))
+
+pub returns-in_err-remove-clause-honest : goal.returns-in_err-remove-clause-honest
+returns-in_err-remove-clause-honest g c = λ honest. c.remove.ensures.honest (c.in_ok-journal.ensures.honest (c.in_ok-older.ensures.honest (c.in_ok-found.ensures.honest honest)))
+
+pub returns-clause-honest : goal.returns-clause-honest
+returns-clause-honest g c = λ honest. c.in_ok-remove.ensures.honest (c.in_ok-journal.ensures.honest (c.in_ok-older.ensures.honest (c.in_ok-found.ensures.honest honest)))
+
+pub returns-in_err-remove-clause-cause : goal.returns-in_err-remove-clause-cause
+returns-in_err-remove-clause-cause g c =
+    let e = c.in_err-remove.field-0.0 in
+    let answer = answered (open_error e) c.from_residual-in_err-remove.result c.from_residual-in_err-remove.ensures.1 in
+    let so_far : g.D.Dir.fault_count c.begin.new.dir ≡ g.D.Dir.fault_count c.args.dir.now = c.in_ok-journal.ensures.cause.passed ∙ c.in_ok-older.ensures.cause.passed ∙ c.in_ok-found.ensures.cause.passed in
+    subst (λ (n : ℕ). HasReason n (g.D.Dir.fault_count c.remove.new.dir) c.from_residual-in_err-remove.result opening.Fault) so_far
+    (reason_dir (g.D.Dir.fault_count c.begin.new.dir) (g.D.Dir.fault_count c.remove.new.dir) e c.from_residual-in_err-remove.result c.in_err-remove.ensures.only c.in_err-remove.ensures.cause answer)

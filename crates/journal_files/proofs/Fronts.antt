@@ -1,0 +1,113 @@
+-- Pieces that tell a chunk: what each has, one behind another.
+use Rattle.std.proofs.Common.{◌≡◌, ℕ, ◌+◌, ◌<◌, ◌^◌, List, [], ◌∷◌, ◌++◌, length, take, drop, inl, inr, sym, ap, subst, ◌∙◌, append-nil, append_assoc, arith}
+use Rattle.std.specs.Prelude.{◌⊎◌, get_or, Result, Ok, Err, IfOk}
+use Rattle.std.specs.List.{AllByRecursion, concat}
+use Rattle.std.specs.Int.{w32, to_be_bytes}
+use Rattle.std.proofs.lemmas.List.{flat_map_more, length-append}
+use Rattle.buffer_state.specs.declared.chunk.Stage.{Stage}
+use Rattle.buffer_state.specs.declared.chunk.Stage.TheVariants.{Queued, Claimed}
+use Rattle.buffer_state.specs.State.{Chunk, size}
+use Rattle.chunk_journal.specs.Records.{Record, Append, Queue, record_bytes, IsRecord}
+use Rattle.chunk_journal.specs.Journal.{journal_bytes}
+use Rattle.chunk_journal.specs.Meaning.{telling, queueing}
+use Rattle.chunk_journal.specs.Places.{IsWithin, bytes_at, bytes_from}
+use Rattle.chunk_journal.specs.declared.places.Extent.{Extent}
+use Rattle.file_pieces.specs.Pieces.{AreWithin, HasPart, piece_bytes, pieces_bytes}
+use Rattle.file_pieces.specs.declared.piece.Piece.{Piece}
+use Rattle.file_pieces.proofs.Sums.{all_at, flat_next}
+use Rattle.chunk_journal.proofs.Frames.{append_length}
+use Rattle.journal_files.specs.Fronts.{front_within}
+use Rattle.journal_files.proofs.Placed.{record_split}
+
+all_push : {X : Type 0} (P : X → Type 0) (xs : List X) (x : X) → AllByRecursion P xs → P x → AllByRecursion P (xs ++ x ∷ [])
+all_push P [] x all is = (is, tt)
+all_push P (y ∷ xs) x all is = (all.0, all_push P xs x all.1 is)
+
+pieces_push : {A : Type 0} (seen : List ℕ) (pieces : List (Piece A)) (piece : Piece A) → pieces_bytes seen (pieces ++ piece ∷ []) ≡ pieces_bytes seen pieces ++ piece_bytes seen piece
+pieces_push seen pieces piece = sym (flat_map_more (piece_bytes seen) [] pieces piece)
+
+-- the pieces have at their end what another file has at the first so many places
+pub record Taken {A : Type 0} (extents : List Extent) (count : ℕ) (old new : List (Piece A)) : Type 0 where
+  pub bytes : (seen : List ℕ) → pieces_bytes seen new ≡ pieces_bytes seen old ++ bytes_at seen (take count extents)
+  pub within : (seen : List ℕ) → length seen < 2 ^ 64 → AllByRecursion (IsWithin (length seen)) extents → AreWithin seen old → AreWithin seen new
+
+pub taken_none : {A : Type 0} (extents : List Extent) (pieces : List (Piece A)) → Taken extents 0 pieces pieces
+taken_none extents pieces = record {
+  bytes = λ seen. sym (append-nil (pieces_bytes seen pieces));
+  within = λ seen small all is. is;
+}
+
+-- what a piece of one place has
+of_place : {A : Type 0} (seen : List ℕ) (piece : Piece A) (extent : Extent) → piece.told.items ≡ [] → piece.at ≡ extent.at → piece.length ≡ extent.length → piece_bytes seen piece ≡ bytes_from seen extent
+of_place seen piece extent none at_is length_is =
+    ap (λ l. l ++ take piece.length (drop piece.at seen)) none ∙ ap (λ n. take n (drop piece.at seen)) length_is ∙ ap (λ n. take extent.length (drop n seen)) at_is
+
+part_within : (seen : List ℕ) (extent : Extent) (at size : ℕ) → at ≡ extent.at → size ≡ extent.length → length seen < 2 ^ 64 → IsWithin (length seen) extent → HasPart seen at size
+part_within seen extent at size at_is size_is small within = (omega (arith, at_is, size_is, within), omega (arith, at_is, size_is, within, small))
+
+pub taken_more : {A : Type 0} (extents : List Extent) (i : ℕ) (extent : Extent) (piece : Piece A) (old mid new : List (Piece A)) → Taken extents i old mid → i < length extents → extent ≡ get_or extents i extent
+    → new ≡ mid ++ piece ∷ [] → piece.told.items ≡ [] → piece.at ≡ extent.at → piece.length ≡ extent.length → Taken extents (i + 1) old new
+taken_more extents i extent piece old mid new so_far less is pushed none at_is length_is = record {
+  bytes = λ seen. ap (pieces_bytes seen) pushed ∙ pieces_push seen mid piece ∙ ap (λ l. l ++ piece_bytes seen piece) (so_far.bytes seen)
+      ∙ ap (λ l. (pieces_bytes seen old ++ bytes_at seen (take i extents)) ++ l) (of_place seen piece extent none at_is length_is)
+      ∙ append_assoc (pieces_bytes seen old) (bytes_at seen (take i extents)) (bytes_from seen extent)
+      ∙ ap (λ l. pieces_bytes seen old ++ l) (flat_next (bytes_from seen) extents i extent less is);
+  within = λ seen small all before. subst (AreWithin seen) (sym pushed)
+      (all_push (λ p. HasPart seen p.at p.length) mid piece (so_far.within seen small all before)
+      (part_within seen extent piece.at piece.length at_is length_is small (subst (IsWithin (length seen)) (sym is) (all_at (IsWithin (length seen)) extents i extent all less))));
+}
+
+-- ---- an Append
+
+-- what it has before its entries, as it is spelled
+abbrev pub front_of : ℕ → List ℕ → ℕ → ℕ → List ℕ
+front_of serial tag count bytes = to_be_bytes w32 (15 + length tag + bytes) ++ front_within serial tag count
+
+append_whole : (serial : ℕ) (tag : List ℕ) (entries : List (List ℕ)) → front_of serial tag (length entries) (size entries) ++ concat entries ≡ record_bytes (Append serial tag entries)
+append_whole serial tag entries =
+    ap (λ n. (to_be_bytes w32 n ++ front_within serial tag (length entries)) ++ concat entries) (sym (append_length serial tag entries)) ∙ sym (record_split serial tag entries)
+
+front_is : (serial : ℕ) (tag found : List ℕ) (entries : List (List ℕ)) (count bytes : ℕ) → found ≡ tag → count ≡ length entries → bytes ≡ size entries → front_of serial found count bytes ≡ front_of serial tag (length entries) (size entries)
+front_is serial tag found entries count bytes tag_is count_is size_is =
+    ap (λ t. front_of serial t count bytes) tag_is ∙ ap (λ n. front_of serial tag n bytes) count_is ∙ ap (front_of serial tag (length entries)) size_is
+
+-- bytes with the front and then the entries at their end
+pub told_append : (old mid new front behind : List ℕ) (serial : ℕ) (tag found : List ℕ) (entries : List (List ℕ)) (count bytes : ℕ) → found ≡ tag → count ≡ length entries → bytes ≡ size entries
+    → front ≡ front_of serial found count bytes → mid ≡ old ++ front → new ≡ mid ++ behind → behind ≡ concat entries → new ≡ old ++ record_bytes (Append serial tag entries)
+told_append old mid new front behind serial tag found entries count bytes tag_is count_is size_is spelled first second all =
+    second ∙ ap (λ l. l ++ behind) first ∙ append_assoc old front behind ∙ ap (λ l. old ++ (front ++ l)) all
+    ∙ ap (λ l. old ++ (l ++ concat entries)) (spelled ∙ front_is serial tag found entries count bytes tag_is count_is size_is)
+    ∙ ap (λ l. old ++ l) (append_whole serial tag entries)
+
+-- ---- a chunk that isn't staged
+
+pub if_ok : {T E : Type 0} (P Q : T → Type 0) (result : Result T E) → IfOk result P → ((x : T) → P x → Q x) → IfOk result Q
+if_ok P Q (Ok x) is more = more x is
+if_ok P Q (Err e) is more = tt
+
+queued_so : (serial : ℕ) (found : Stage) → (found ≡ Queued) ⊎ (found ≡ Claimed) → queueing serial found ≡ Queue serial ∷ []
+queued_so serial found (inl is) = ap (queueing serial) is
+queued_so serial found (inr is) = ap (queueing serial) is
+
+pub queue_is : (serial : ℕ) (kept found : Stage) → found ≡ kept → (found ≡ Queued) ⊎ (found ≡ Claimed) → queueing serial kept ≡ Queue serial ∷ []
+queue_is serial kept found same waits = ap (queueing serial) (sym same) ∙ queued_so serial found waits
+
+two_bytes : (old mid new one two : List ℕ) → mid ≡ old ++ one → new ≡ mid ++ two → new ≡ old ++ (one ++ (two ++ []))
+two_bytes old mid new one two first second = second ∙ ap (λ l. l ++ two) first ∙ append_assoc old one two ∙ ap (λ l. old ++ (one ++ l)) (sym (append-nil two))
+
+two_lengths : (len mid end : ℕ) (one two : List ℕ) → mid ≡ len + length one → end ≡ mid + length two → end ≡ len + length (one ++ (two ++ []))
+two_lengths len mid end one two first second = omega (arith, first, second, length-append one (two ++ []), length-append {A = ℕ} two [])
+
+module _ (serial : ℕ) (chunk : Chunk) (queued : queueing serial chunk.stage ≡ Queue serial ∷ []) where
+  pub queued_bytes : (old mid new : List ℕ) → mid ≡ old ++ record_bytes (Append serial chunk.tag chunk.entries) → new ≡ mid ++ record_bytes (Queue serial) → new ≡ old ++ journal_bytes (telling (serial, chunk))
+  queued_bytes old mid new first second =
+      subst (λ (q : List Record). new ≡ old ++ journal_bytes (Append serial chunk.tag chunk.entries ∷ q)) (sym queued)
+      (two_bytes old mid new (record_bytes (Append serial chunk.tag chunk.entries)) (record_bytes (Queue serial)) first second)
+
+  pub queued_length : (len mid end : ℕ) → mid ≡ len + length (record_bytes (Append serial chunk.tag chunk.entries)) → end ≡ mid + length (record_bytes (Queue serial)) → end ≡ len + length (journal_bytes (telling (serial, chunk)))
+  queued_length len mid end first second =
+      subst (λ (q : List Record). end ≡ len + length (journal_bytes (Append serial chunk.tag chunk.entries ∷ q))) (sym queued)
+      (two_lengths len mid end (record_bytes (Append serial chunk.tag chunk.entries)) (record_bytes (Queue serial)) first second)
+
+  pub queued_records : IsRecord (Append serial chunk.tag chunk.entries) → IsRecord (Queue serial) → AllByRecursion IsRecord (telling (serial, chunk))
+  queued_records one two = (one, subst (AllByRecursion IsRecord) (sym queued) (two, tt))

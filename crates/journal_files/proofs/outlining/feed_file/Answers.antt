@@ -1,0 +1,74 @@
+use Rattle.std.proofs.Common.{rules, ℕ, ◌≡◌, ◌+◌, ◌≤◌, ◌<◌, ◌^◌, ◌++◌, length, drop, subst, arith}
+use Rattle.journal_files.specs.Faults.{open_error}
+use Rattle.journal_files.specs.declared.error.OpenError.TheVariants as opening
+use Rattle.journal_files.proofs.Gathered.{elapsed}
+use Rattle.journal_files.proofs.Heard.{Feeds, answered, reason_ok, reason_err, reason_dir, stays_some, damaged_there, same_on, feeds_on, all_fed, some_left}
+use Rattle.journal_files.proofs.outlining.feed_file.Goals as goal
+
+pub returns-in_err-len-clause-cause : goal.returns-in_err-len-clause-cause
+returns-in_err-len-clause-cause g c =
+    reason_dir (g.D.Dir.fault_count c.args.dir.now) (g.D.Dir.fault_count c.length.new.self) c.in_err-len.field-0.0 c.from_residual.result c.in_err-len.ensures.only c.in_err-len.ensures.cause
+    (answered (open_error c.in_err-len.field-0.0) c.from_residual.result c.from_residual.ensures.1)
+
+pub feed_part-requires-clause-open : goal.feed_part-requires-clause-open
+feed_part-requires-clause-open g c =
+    stays_some g.D.Dir.is_honest g.D.Dir.history g.D.Dir.opened g.D.Dir.fault_count c.args.file c.in_ok-len.len c.loop-done.done c.loop-done.outline c.args.dir.now c.loop-done.dir c.loop-done.invariant.2 c.requires
+
+pub returns-in_err-feed_part-clause-honest : goal.returns-in_err-feed_part-clause-honest
+returns-in_err-feed_part-clause-honest g c = λ h. c.feed_part.ensures.honest (c.loop-done.invariant.2.is_honest h)
+
+pub returns-in_err-feed_part-clause-time : goal.returns-in_err-feed_part-clause-time
+returns-in_err-feed_part-clause-time g c = λ h.
+    let so = c.loop-done.invariant.2 in
+    elapsed (g.D.Dir.history c.args.dir.now) (g.D.Dir.history c.loop-done.dir) (g.D.Dir.history c.feed_part.new.dir) (so.time h) (c.feed_part.ensures.time (so.is_honest h)) (c.feed_part.ensures.same (so.is_honest h))
+
+pub returns-in_err-feed_part-clause-same : goal.returns-in_err-feed_part-clause-same
+returns-in_err-feed_part-clause-same g c = λ h.
+    let so = c.loop-done.invariant.2 in
+    same_on g.D.Dir.is_honest g.D.Dir.history g.D.Dir.opened g.D.Dir.fault_count c.args.file c.in_ok-len.len c.loop-done.done c.loop-done.outline c.args.dir.now c.loop-done.dir so c.feed_part.new.dir h (c.feed_part.ensures.same (so.is_honest h))
+
+pub returns-in_err-feed_part-clause-damaged : goal.returns-in_err-feed_part-clause-damaged
+returns-in_err-feed_part-clause-damaged g c = λ h name bytes named there is.
+    let next = length c.split_at_mut-part.result.0.now in
+    let within : c.loop-done.done + next ≤ c.in_ok-len.len = omega (arith, c.split_at_mut-part.ensures.front_len, c.min-next.ensures, c.loop-done-test.true) in
+    let small : c.in_ok-len.len < 2 ^ 64 = search rules in
+    let answer = answered c.in_err-feed_part.field-0.0 c.from_residual-in_err-feed_part.result c.from_residual-in_err-feed_part.ensures.1 in
+    let e : c.in_err-feed_part.field-0.0 ≡ opening.Damaged = cc (answer, is) in
+    damaged_there g.D.Dir.is_honest g.D.Dir.history g.D.Dir.opened g.D.Dir.fault_count c.args.file c.in_ok-len.len c.loop-done.done c.loop-done.outline c.args.dir.now c.loop-done.dir c.loop-done.invariant.2 next within small
+    (λ still other seen all there_named there_reads has after. c.in_err-feed_part.ensures.damaged still other seen all there_named there_reads has after (cc e)) h name bytes named there
+
+pub returns-in_err-feed_part-clause-cause : goal.returns-in_err-feed_part-clause-cause
+returns-in_err-feed_part-clause-cause g c =
+    reason_err (g.D.Dir.fault_count c.args.dir.now) (g.D.Dir.fault_count c.loop-done.dir) (g.D.Dir.fault_count c.feed_part.new.dir) c.in_err-feed_part.field-0.0 opening.Fault c.from_residual-in_err-feed_part.result c.loop-done.invariant.2.quiet c.in_err-feed_part.ensures.cause
+    (answered c.in_err-feed_part.field-0.0 c.from_residual-in_err-feed_part.result c.from_residual-in_err-feed_part.ensures.1)
+
+pub loop-done-preserved : goal.loop-done-preserved
+loop-done-preserved g c =
+    let next = length c.split_at_mut-part.result.0.now in
+    let is : next ≡ c.min-next.result = omega (arith, c.split_at_mut-part.ensures.front_len, c.min-next.ensures) in
+    let within : c.loop-done.done + next ≤ c.in_ok-len.len = omega (arith, is, c.min-next.ensures, c.loop-done-test.true) in
+    let small : c.in_ok-len.len < 2 ^ 64 = search rules in
+    let some : 0 < c.in_ok-len.len = omega (arith, c.loop-done-test.true) in
+    let filled : 0 < length c.loop-done.buffer.items = c.loop-done.invariant.1 some in
+    let room : 0 < c.loop-done.buffer.len = search (rules, filled) in
+    let any : 0 < length c.feed_part.new.part = omega (arith, c.feed_part.ensures.len, is, c.min-next.ensures, c.loop-done-test.true, room, c.len.ensures) in
+    let so = c.in_ok-feed_part.ensures in (
+      omega (arith, within, is),
+      λ _. some_left c.loop-done.buffer.len c.feed_part.new.part c.split_at_mut-part.result.1.now (drop (length (c.feed_part.new.part ++ c.split_at_mut-part.result.1.now)) c.loop-done.buffer.items) room any,
+      subst (λ (n : ℕ). Feeds g.D.Dir.is_honest g.D.Dir.history g.D.Dir.opened g.D.Dir.fault_count c.args.file c.in_ok-len.len (c.loop-done.done + n) c.feed_part.new.outline c.args.dir.now c.feed_part.new.dir) is
+          (feeds_on g.D.Dir.is_honest g.D.Dir.history g.D.Dir.opened g.D.Dir.fault_count c.args.file c.in_ok-len.len c.loop-done.done c.loop-done.outline c.args.dir.now c.loop-done.dir c.loop-done.invariant.2 next c.feed_part.new.dir c.feed_part.new.outline within small
+          so.honest so.time so.same so.opened so.cause.passed so.heard so.fed so.all),
+    )
+
+pub returns-clause-all : goal.returns-clause-all
+returns-clause-all g c =
+    let whole : c.in_ok-len.len ≤ c.loop-done.done = omega (arith, c.loop-done-test.false) in
+    all_fed g.D.Dir.is_honest g.D.Dir.history g.D.Dir.opened g.D.Dir.fault_count c.args.file c.in_ok-len.len c.loop-done.done c.loop-done.outline c.args.dir.now c.loop-done.dir c.loop-done.invariant.2 whole
+
+pub returns-clause-small : goal.returns-clause-small
+returns-clause-small g c = λ h name bytes named there.
+    let small : c.in_ok-len.len < 2 ^ 64 = search rules in
+    omega (arith, small, c.loop-done.invariant.2.all h name bytes named there)
+
+pub returns-clause-cause : goal.returns-clause-cause
+returns-clause-cause g c = reason_ok (g.D.Dir.fault_count c.args.dir.now) (g.D.Dir.fault_count c.loop-done.dir) c.loop-done.outline opening.Fault c.loop-done.invariant.2.quiet
