@@ -79,7 +79,7 @@ fn plan_words(fault: PlanError) -> Option<(usize, Words)> {
 
 const BAD_LINE: Words = Words {
     meaning: "the line is of no form, or isn't UTF-8",
-    advice: "write it in one of the forms of docs/CHECKING.md, \"The plan\"",
+    advice: "write it as `relay NUMBER HOST FOLDER CONF`, `client NUMBER PORT PATTERN..`, `label NUMBER SCOPE PATTERN..`, `reach NUMBER SCOPE INDEX PATTERN..` or `duty any`, as docs/CHECKING.md has it, \"The plan\"",
 };
 
 const BAD_NUMBER: Words = Words {
@@ -94,7 +94,7 @@ const BAD_PATTERN: Words = Words {
 
 const NO_SUCH: Words = Words {
     meaning: "the relay, scope, match or source port isn't there",
-    advice: "a relay's line stands before those that name it",
+    advice: "a relay's line stands before those that name it; its configuration has a source with this port, or the scope and, counted from 0, the match; `.` is the main scope",
 };
 
 const BAD_CONF: Words = Words {
@@ -154,7 +154,7 @@ fn relay_words(kind: RelayFaultKind) -> Words {
         },
         RelayFaultKind::BadValue => Words {
             meaning: "a value of another form",
-            advice: "see docs/CONFIGURATION.md, \"Forms of values\"",
+            advice: "a size is as `8m`, a time as `5s`, a boolean `true` or `false`, a port at most 65535, a label as `@AUDIT`, a path a name without folders; docs/CONFIGURATION.md has each form, \"Forms of values\"",
         },
         RelayFaultKind::Missing => Words {
             meaning: "something required is missing",
@@ -162,7 +162,7 @@ fn relay_words(kind: RelayFaultKind) -> Words {
         },
         RelayFaultKind::OutOfProfile => Words {
             meaning: "Fluentd knows it, this project doesn't",
-            advice: "take it out, or do it in another program before or behind the relay",
+            advice: "take it out, or do it in another program before or behind the relay; for a path write a name without folders, for `block` `throw_exception`",
         },
         RelayFaultKind::NoSuchLabel => Words {
             meaning: "no such label",

@@ -3,7 +3,7 @@ use crate::keeping::{lacks, line_of, words_of};
 use crate::site::{Texts, match_at};
 use crate::story::put_note;
 use crate::ways::Ways;
-use crate::words::{advice, meaning};
+use crate::words::{advice, asks_for_lines, meaning};
 use loss_rules::{Place, Rule};
 use plan_lines::Plan;
 use relay_conf::Output;
@@ -29,6 +29,8 @@ impl<A: Allocator + Copy> Subject<'_, A> {
         let site = self.texts.site(self.plan, self.place);
         site.put(self.alloc, &mut lines, "It is broken in")?;
         self.put_advice(&mut lines)?;
+        self.put_details(&mut lines)?;
+        self.put_labelling(&mut lines)?;
         self.put_lacks(&mut lines)?;
         self.put_ways(&mut lines)?;
         Ok(lines)
@@ -46,6 +48,18 @@ impl<A: Allocator + Copy> Subject<'_, A> {
     fn put_advice(&self, out: &mut Vec<u8, A>) -> Result<(), AllocError> {
         let change = advice(self.rule);
         let note = format!(in self.alloc; "To mend it: {change}.")?;
+        put_note(out, note.as_bytes())
+    }
+
+    // Adds by which command lines are added that are missing.
+    fn put_labelling(&self, out: &mut Vec<u8, A>) -> Result<(), AllocError> {
+        if !asks_for_lines(self.rule) {
+            return Ok(());
+        }
+        let name = self.texts.plan_name;
+        let note = format!(in self.alloc;
+            "  `relayctl label {name}` prints the plan with the lines that it lacks."
+        )?;
         put_note(out, note.as_bytes())
     }
 

@@ -1,6 +1,7 @@
 //! What a broken rule means, where it is broken, what mends it, and steps that lose an event.
 #![tactic(auto)]
 
+mod details;
 mod explaining;
 mod faults;
 mod front;

@@ -44,9 +44,7 @@ pub fn advice(rule: Rule) -> &'static str {
         Rule::LabelsAreMatched => {
             "end the scope with a match that takes the rest, or narrow the label"
         }
-        Rule::ReachesCover => {
-            "add a `reach` line for the earlier match that takes some of these tags"
-        }
+        Rule::ReachesCover => { "add a `reach` line for each match that takes some of these tags" }
         Rule::ReachedMatchesKeep => "make an output keep, under `duty every` each of them",
         Rule::RelabelsAreLabelled => "add a `label` line for the target",
         Rule::ForwardsAreLabelled => "add a `label` line for the receiving relay, prefixed",
@@ -65,5 +63,16 @@ pub(crate) fn loses_events(rule: Rule) -> bool {
         Rule::PathsAreDistinct => false,
         Rule::NoRelabelCycle => false,
         _ => true,
+    }
+}
+
+/// Whether a `label` or a `reach` line mends it where the rule is broken.
+pub(crate) fn asks_for_lines(rule: Rule) -> bool {
+    match rule {
+        Rule::ClientsAreLabelled => true,
+        Rule::ReachesCover => true,
+        Rule::RelabelsAreLabelled => true,
+        Rule::ForwardsAreLabelled => true,
+        _ => false,
     }
 }
