@@ -1,2 +1,4 @@
 pub mod Pieces
 pub mod Adding
+pub mod Reading
+pub mod Runs
