@@ -16,11 +16,13 @@ pub mod Renewing
 pub mod Filled
 pub mod Reopened
 pub mod Begun
+pub mod Onward
 pub mod Renewal
 pub mod Fresh
 pub mod Strays
 pub mod OpeningMoments
 pub mod Heard
 pub mod Sourced
+pub mod Afresh
 pub mod Told
 pub mod Unopened

@@ -22,6 +22,10 @@ recovers_same path t old new same before folder leaves = before folder (leaves_s
 pub quiet : (path : List ℕ) (t : Telling) (old new : History) → Recovers path (now old) t → Elapses old new → SameDisk (now new) (now old) → LeavesOnly old new (OpensWithin path t)
 quiet path t old new before time same = rests old old new (OpensWithin path t) (started old (OpensWithin path t) before) time same
 
+-- two such calls, one after another
+pub looked : (path : List ℕ) (t : Telling) (old mid new : History) → Recovers path (now old) t → Elapses old mid → SameDisk (now mid) (now old) → Elapses mid new → SameDisk (now new) (now mid) → LeavesOnly old new (OpensWithin path t)
+looked path t old mid new before mid_time mid_same new_time new_same = rests old mid new (OpensWithin path t) (quiet path t old mid before mid_time mid_same) new_time new_same
+
 -- the older generations are removed
 module _ (path : List ℕ) (number : ℕ) (journal : OpenJournal) (mid : Disk) (s : State) (path_is : journal.path ≡ path) (number_is : journal.number ≡ number) (keeps : Keeps journal mid (opened_with s)) where
   pub keeps_still : (new : Disk) → ChangesBelow path number mid new → Keeps journal new (opened_with s)

@@ -4,20 +4,18 @@ use Rattle.journal_files.specs.declared.error.OpenError.TheVariants as opening
 use Rattle.journal_files.specs.Faults.{HasReason, open_error, opening_error}
 use Rattle.journal_files.proofs.Heard.{answered, reason_dir}
 use Rattle.journal_files.proofs.Steps.{any_err}
-use Rattle.disk_files.specs.Disk.{SameDisk, reads}
+use Rattle.disk_files.specs.Disk.{reads}
 use Rattle.disk_files.specs.Moments.{LeavesOnly, now}
-use Rattle.disk_files.proofs.Moments.{rests, joined}
-use Rattle.buffer_state.specs.Steps.{reopened}
 use Rattle.journal_files.specs.Folders.{journal_name}
-use Rattle.journal_files.specs.Tellings.{IsOfSome, OpensWithin}
 use Rattle.file_pieces.specs.Adding.{IsLeftOf}
 use Rattle.journal_files.specs.Pieces.{AreOlder, ChangesBelow, IsGoneBut}
 use Rattle.journal_files.proofs.Beginning.{of_folder}
-use Rattle.journal_files.proofs.Fresh.{is_next, none_above, own_is_above, opened_alone}
+use Rattle.journal_files.proofs.Afresh.{afresh, beginning, none, said_of, stray_still}
+use Rattle.journal_files.proofs.Fresh.{is_next, own_is_above, opened_alone}
 use Rattle.journal_files.proofs.OlderFiles.{still_older}
 use Rattle.journal_files.proofs.OneWay.{one_way}
-use Rattle.journal_files.proofs.OpeningMoments.{recovers_same, quiet, keeps_still, no_stray_still, removed_so}
-use Rattle.journal_files.proofs.Sourced.{still_open, still_source}
+use Rattle.journal_files.proofs.OpeningMoments.{quiet, looked, keeps_still, no_stray_still, removed_so}
+use Rattle.journal_files.proofs.Sourced.{still_open}
 use Rattle.journal_files.proofs.Strays.{same_stray}
 use Rattle.journal_files.proofs.Unopened.{was_memory, was_short, not_last, reason_begun}
 use Rattle.journal_files.proofs.journal.Journal.open.Goals as goal
@@ -27,128 +25,97 @@ returns-in_err-found-clause-moments g c = λ honest stray t before. quiet c.args
 
 pub returns-in_err-older-clause-moments : goal.returns-in_err-older-clause-moments
 returns-in_err-older-clause-moments g c = λ honest stray t before.
-    let greatest = c.in_ok-found.found.greatest in
     let found_honest = c.in_ok-found.ensures.honest honest in
-    rests (g.D.Dir.history c.args.dir.now) (g.D.Dir.history c.find.new.dir) (g.D.Dir.history c.open.new.dir) (OpensWithin c.args.path.now t) (quiet c.args.path.now t (g.D.Dir.history c.args.dir.now) (g.D.Dir.history c.find.new.dir) before (c.find.ensures.time honest) (c.find.ensures.same honest)) (c.open.ensures.time found_honest) (c.open.ensures.same found_honest)
+    looked c.args.path.now t (g.D.Dir.history c.args.dir.now) (g.D.Dir.history c.find.new.dir) (g.D.Dir.history c.open.new.dir) before (c.find.ensures.time honest) (c.find.ensures.same honest) (c.open.ensures.time found_honest) (c.open.ensures.same found_honest)
 
 pub returns-in_err-journal-clause-moments : goal.returns-in_err-journal-clause-moments
 returns-in_err-journal-clause-moments g c = λ honest stray t before.
-    let greatest = c.in_ok-found.found.greatest in
-    let found_honest = c.in_ok-found.ensures.honest honest in
-    let older_honest = c.in_ok-older.ensures.honest found_honest in
-    let same : SameDisk (now (g.D.Dir.history c.open.new.dir)) (now (g.D.Dir.history c.args.dir.now)) = λ name. c.open.ensures.same found_honest name ∙ c.in_ok-found.ensures.same honest name in
-    let small : greatest + 1 < 2 ^ 32 = omega (arith, c.in_ok-found.ensures.below) in
-    let source = still_source (g.D.Dir.opened c.find.new.dir) (g.D.Dir.opened c.open.new.dir) c.in_ok-older.ensures.others (now (g.D.Dir.history c.args.dir.now)) (now (g.D.Dir.history c.open.new.dir)) c.args.path.now greatest c.in_ok-found.found.file c.in_ok-found.found.places c.in_ok-found.found.chunks
-    same small (c.in_ok-found.ensures.source honest) in
-    let none = none_above c.args.path.now (now (g.D.Dir.history c.args.dir.now)) (now (g.D.Dir.history c.open.new.dir)) greatest (greatest + 1) refl (c.in_ok-found.ensures.greatest honest) stray same in
-    let m : IsOfSome t (reopened c.in_ok-found.found.chunks) = of_folder c.args.path.now (reads (now (g.D.Dir.history c.args.dir.now))) t c.in_ok-found.found.chunks (one_way c.answers_one_way.ensures c.args.path.now (reads (now (g.D.Dir.history c.args.dir.now)))) (before (reads (now (g.D.Dir.history c.args.dir.now))) (g.met.D.Dir.reads_stay c.args.dir.now honest))
+    let older_honest = c.in_ok-older.ensures.honest (c.in_ok-found.ensures.honest honest) in
+    let on = afresh (g.D.Dir.opened c.find.new.dir) (g.D.Dir.opened c.open.new.dir) c.in_ok-older.ensures.others (now (g.D.Dir.history c.args.dir.now)) (now (g.D.Dir.history c.find.new.dir)) (now (g.D.Dir.history c.open.new.dir)) c.args.path.now
+    c.in_ok-found.found.greatest c.in_ok-found.found.file c.in_ok-found.found.places c.in_ok-found.found.chunks (c.in_ok-found.ensures.same honest) (c.in_ok-older.ensures.same (c.in_ok-found.ensures.honest honest)) c.in_ok-found.ensures.below (c.in_ok-found.ensures.greatest honest)
+    (c.in_ok-found.ensures.source honest) in
+    let m = of_folder c.args.path.now (reads (now (g.D.Dir.history c.args.dir.now))) t c.in_ok-found.found.chunks (one_way c.answers_one_way.ensures c.args.path.now (reads (now (g.D.Dir.history c.args.dir.now)))) (before (reads (now (g.D.Dir.history c.args.dir.now))) (g.met.D.Dir.reads_stay c.args.dir.now honest))
     (c.in_ok-found.ensures.state honest) c.in_ok-found.ensures.unclaimed in
-    joined (g.D.Dir.history c.args.dir.now) (g.D.Dir.history c.open.new.dir) (g.D.Dir.history c.begin.new.dir) (OpensWithin c.args.path.now t) (rests (g.D.Dir.history c.args.dir.now) (g.D.Dir.history c.find.new.dir) (g.D.Dir.history c.open.new.dir) (OpensWithin c.args.path.now t) (quiet c.args.path.now t (g.D.Dir.history c.args.dir.now) (g.D.Dir.history c.find.new.dir) before (c.find.ensures.time honest) (c.find.ensures.same honest)) (c.open.ensures.time found_honest) (c.open.ensures.same found_honest)) (c.begin.ensures.moments older_honest t (recovers_same c.args.path.now t (now (g.D.Dir.history c.args.dir.now)) (now (g.D.Dir.history c.open.new.dir)) same before) none m source)
+    beginning c.args.path.now t (g.D.Dir.history c.args.dir.now) (g.D.Dir.history c.find.new.dir) (g.D.Dir.history c.open.new.dir) (g.D.Dir.history c.begin.new.dir) before (c.find.ensures.time honest) (c.find.ensures.same honest) (c.open.ensures.time (c.in_ok-found.ensures.honest honest)) (c.open.ensures.same (c.in_ok-found.ensures.honest honest))
+    (λ then. c.begin.ensures.moments older_honest t then (none on stray) m on.source)
 
 pub returns-in_err-remove-clause-moments : goal.returns-in_err-remove-clause-moments
 returns-in_err-remove-clause-moments g c = λ honest stray t before.
-    let greatest = c.in_ok-found.found.greatest in
-    let found_honest = c.in_ok-found.ensures.honest honest in
-    let older_honest = c.in_ok-older.ensures.honest found_honest in
-    let same : SameDisk (now (g.D.Dir.history c.open.new.dir)) (now (g.D.Dir.history c.args.dir.now)) = λ name. c.open.ensures.same found_honest name ∙ c.in_ok-found.ensures.same honest name in
-    let small : greatest + 1 < 2 ^ 32 = omega (arith, c.in_ok-found.ensures.below) in
-    let source = still_source (g.D.Dir.opened c.find.new.dir) (g.D.Dir.opened c.open.new.dir) c.in_ok-older.ensures.others (now (g.D.Dir.history c.args.dir.now)) (now (g.D.Dir.history c.open.new.dir)) c.args.path.now greatest c.in_ok-found.found.file c.in_ok-found.found.places c.in_ok-found.found.chunks
-    same small (c.in_ok-found.ensures.source honest) in
-    let none = none_above c.args.path.now (now (g.D.Dir.history c.args.dir.now)) (now (g.D.Dir.history c.open.new.dir)) greatest (greatest + 1) refl (c.in_ok-found.ensures.greatest honest) stray same in
-    let m : IsOfSome t (reopened c.in_ok-found.found.chunks) = of_folder c.args.path.now (reads (now (g.D.Dir.history c.args.dir.now))) t c.in_ok-found.found.chunks (one_way c.answers_one_way.ensures c.args.path.now (reads (now (g.D.Dir.history c.args.dir.now)))) (before (reads (now (g.D.Dir.history c.args.dir.now))) (g.met.D.Dir.reads_stay c.args.dir.now honest))
+    let older_honest = c.in_ok-older.ensures.honest (c.in_ok-found.ensures.honest honest) in
+    let on = afresh (g.D.Dir.opened c.find.new.dir) (g.D.Dir.opened c.open.new.dir) c.in_ok-older.ensures.others (now (g.D.Dir.history c.args.dir.now)) (now (g.D.Dir.history c.find.new.dir)) (now (g.D.Dir.history c.open.new.dir)) c.args.path.now
+    c.in_ok-found.found.greatest c.in_ok-found.found.file c.in_ok-found.found.places c.in_ok-found.found.chunks (c.in_ok-found.ensures.same honest) (c.in_ok-older.ensures.same (c.in_ok-found.ensures.honest honest)) c.in_ok-found.ensures.below (c.in_ok-found.ensures.greatest honest)
+    (c.in_ok-found.ensures.source honest) in
+    let m = of_folder c.args.path.now (reads (now (g.D.Dir.history c.args.dir.now))) t c.in_ok-found.found.chunks (one_way c.answers_one_way.ensures c.args.path.now (reads (now (g.D.Dir.history c.args.dir.now)))) (before (reads (now (g.D.Dir.history c.args.dir.now))) (g.met.D.Dir.reads_stay c.args.dir.now honest))
     (c.in_ok-found.ensures.state honest) c.in_ok-found.ensures.unclaimed in
     let begun_honest = c.in_ok-journal.ensures.honest older_honest in
-    let keeps = c.in_ok-journal.ensures.ok older_honest none source in
-    let removing : LeavesOnly (g.D.Dir.history c.begin.new.dir) (g.D.Dir.history c.remove.new.dir) (IsLeftOf (ChangesBelow c.args.path.now (greatest + 1) (now (g.D.Dir.history c.begin.new.dir)))) = subst (λ (p : List ℕ). LeavesOnly (g.D.Dir.history c.begin.new.dir) (g.D.Dir.history c.remove.new.dir) (IsLeftOf (ChangesBelow p (greatest + 1) (now (g.D.Dir.history c.begin.new.dir))))) c.in_ok-older.ensures.path
-    (subst (λ (k : ℕ). LeavesOnly (g.D.Dir.history c.begin.new.dir) (g.D.Dir.history c.remove.new.dir) (IsLeftOf (ChangesBelow c.in_ok-older.older.path.now k (now (g.D.Dir.history c.begin.new.dir))))) c.in_ok-older.ensures.number (c.remove.ensures.moments begun_honest)) in
-    removed_so c.args.path.now (greatest + 1) c.in_ok-journal.journal (now (g.D.Dir.history c.begin.new.dir)) c.in_ok-found.found.chunks c.in_ok-journal.ensures.path c.in_ok-journal.ensures.number keeps
-    t c.in_ok-journal.ensures.state m (g.D.Dir.history c.args.dir.now) (g.D.Dir.history c.begin.new.dir) (g.D.Dir.history c.remove.new.dir) refl (joined (g.D.Dir.history c.args.dir.now) (g.D.Dir.history c.open.new.dir) (g.D.Dir.history c.begin.new.dir) (OpensWithin c.args.path.now t) (rests (g.D.Dir.history c.args.dir.now) (g.D.Dir.history c.find.new.dir) (g.D.Dir.history c.open.new.dir) (OpensWithin c.args.path.now t) (quiet c.args.path.now t (g.D.Dir.history c.args.dir.now) (g.D.Dir.history c.find.new.dir) before (c.find.ensures.time honest) (c.find.ensures.same honest)) (c.open.ensures.time found_honest) (c.open.ensures.same found_honest)) (c.begin.ensures.moments older_honest t (recovers_same c.args.path.now t (now (g.D.Dir.history c.args.dir.now)) (now (g.D.Dir.history c.open.new.dir)) same before) none m source)) removing
+    let keeps = c.in_ok-journal.ensures.ok older_honest (none on stray) on.source in
+    let removing = said_of (λ (p : List ℕ) (k : ℕ). LeavesOnly (g.D.Dir.history c.begin.new.dir) (g.D.Dir.history c.remove.new.dir) (IsLeftOf (ChangesBelow p k (now (g.D.Dir.history c.begin.new.dir))))) c.in_ok-older.ensures.path c.in_ok-older.ensures.number (c.remove.ensures.moments begun_honest) in
+    removed_so c.args.path.now (c.in_ok-found.found.greatest + 1) c.in_ok-journal.journal (now (g.D.Dir.history c.begin.new.dir)) c.in_ok-found.found.chunks c.in_ok-journal.ensures.path c.in_ok-journal.ensures.number keeps
+    t c.in_ok-journal.ensures.state m (g.D.Dir.history c.args.dir.now) (g.D.Dir.history c.begin.new.dir) (g.D.Dir.history c.remove.new.dir) refl (beginning c.args.path.now t (g.D.Dir.history c.args.dir.now) (g.D.Dir.history c.find.new.dir) (g.D.Dir.history c.open.new.dir) (g.D.Dir.history c.begin.new.dir) before (c.find.ensures.time honest) (c.find.ensures.same honest) (c.open.ensures.time (c.in_ok-found.ensures.honest honest)) (c.open.ensures.same (c.in_ok-found.ensures.honest honest))
+    (λ then. c.begin.ensures.moments older_honest t then (none on stray) m on.source)) removing
 
 pub returns-clause-moments : goal.returns-clause-moments
 returns-clause-moments g c = λ honest stray t before.
-    let greatest = c.in_ok-found.found.greatest in
-    let found_honest = c.in_ok-found.ensures.honest honest in
-    let older_honest = c.in_ok-older.ensures.honest found_honest in
-    let same : SameDisk (now (g.D.Dir.history c.open.new.dir)) (now (g.D.Dir.history c.args.dir.now)) = λ name. c.open.ensures.same found_honest name ∙ c.in_ok-found.ensures.same honest name in
-    let small : greatest + 1 < 2 ^ 32 = omega (arith, c.in_ok-found.ensures.below) in
-    let source = still_source (g.D.Dir.opened c.find.new.dir) (g.D.Dir.opened c.open.new.dir) c.in_ok-older.ensures.others (now (g.D.Dir.history c.args.dir.now)) (now (g.D.Dir.history c.open.new.dir)) c.args.path.now greatest c.in_ok-found.found.file c.in_ok-found.found.places c.in_ok-found.found.chunks
-    same small (c.in_ok-found.ensures.source honest) in
-    let none = none_above c.args.path.now (now (g.D.Dir.history c.args.dir.now)) (now (g.D.Dir.history c.open.new.dir)) greatest (greatest + 1) refl (c.in_ok-found.ensures.greatest honest) stray same in
-    let m : IsOfSome t (reopened c.in_ok-found.found.chunks) = of_folder c.args.path.now (reads (now (g.D.Dir.history c.args.dir.now))) t c.in_ok-found.found.chunks (one_way c.answers_one_way.ensures c.args.path.now (reads (now (g.D.Dir.history c.args.dir.now)))) (before (reads (now (g.D.Dir.history c.args.dir.now))) (g.met.D.Dir.reads_stay c.args.dir.now honest))
+    let older_honest = c.in_ok-older.ensures.honest (c.in_ok-found.ensures.honest honest) in
+    let on = afresh (g.D.Dir.opened c.find.new.dir) (g.D.Dir.opened c.open.new.dir) c.in_ok-older.ensures.others (now (g.D.Dir.history c.args.dir.now)) (now (g.D.Dir.history c.find.new.dir)) (now (g.D.Dir.history c.open.new.dir)) c.args.path.now
+    c.in_ok-found.found.greatest c.in_ok-found.found.file c.in_ok-found.found.places c.in_ok-found.found.chunks (c.in_ok-found.ensures.same honest) (c.in_ok-older.ensures.same (c.in_ok-found.ensures.honest honest)) c.in_ok-found.ensures.below (c.in_ok-found.ensures.greatest honest)
+    (c.in_ok-found.ensures.source honest) in
+    let m = of_folder c.args.path.now (reads (now (g.D.Dir.history c.args.dir.now))) t c.in_ok-found.found.chunks (one_way c.answers_one_way.ensures c.args.path.now (reads (now (g.D.Dir.history c.args.dir.now)))) (before (reads (now (g.D.Dir.history c.args.dir.now))) (g.met.D.Dir.reads_stay c.args.dir.now honest))
     (c.in_ok-found.ensures.state honest) c.in_ok-found.ensures.unclaimed in
     let begun_honest = c.in_ok-journal.ensures.honest older_honest in
-    let keeps = c.in_ok-journal.ensures.ok older_honest none source in
-    let removing : LeavesOnly (g.D.Dir.history c.begin.new.dir) (g.D.Dir.history c.remove.new.dir) (IsLeftOf (ChangesBelow c.args.path.now (greatest + 1) (now (g.D.Dir.history c.begin.new.dir)))) = subst (λ (p : List ℕ). LeavesOnly (g.D.Dir.history c.begin.new.dir) (g.D.Dir.history c.remove.new.dir) (IsLeftOf (ChangesBelow p (greatest + 1) (now (g.D.Dir.history c.begin.new.dir))))) c.in_ok-older.ensures.path
-    (subst (λ (k : ℕ). LeavesOnly (g.D.Dir.history c.begin.new.dir) (g.D.Dir.history c.remove.new.dir) (IsLeftOf (ChangesBelow c.in_ok-older.older.path.now k (now (g.D.Dir.history c.begin.new.dir))))) c.in_ok-older.ensures.number (c.remove.ensures.moments begun_honest)) in
-    removed_so c.args.path.now (greatest + 1) c.in_ok-journal.journal (now (g.D.Dir.history c.begin.new.dir)) c.in_ok-found.found.chunks c.in_ok-journal.ensures.path c.in_ok-journal.ensures.number keeps
-    t c.in_ok-journal.ensures.state m (g.D.Dir.history c.args.dir.now) (g.D.Dir.history c.begin.new.dir) (g.D.Dir.history c.remove.new.dir) refl (joined (g.D.Dir.history c.args.dir.now) (g.D.Dir.history c.open.new.dir) (g.D.Dir.history c.begin.new.dir) (OpensWithin c.args.path.now t) (rests (g.D.Dir.history c.args.dir.now) (g.D.Dir.history c.find.new.dir) (g.D.Dir.history c.open.new.dir) (OpensWithin c.args.path.now t) (quiet c.args.path.now t (g.D.Dir.history c.args.dir.now) (g.D.Dir.history c.find.new.dir) before (c.find.ensures.time honest) (c.find.ensures.same honest)) (c.open.ensures.time found_honest) (c.open.ensures.same found_honest)) (c.begin.ensures.moments older_honest t (recovers_same c.args.path.now t (now (g.D.Dir.history c.args.dir.now)) (now (g.D.Dir.history c.open.new.dir)) same before) none m source)) removing
+    let keeps = c.in_ok-journal.ensures.ok older_honest (none on stray) on.source in
+    let removing = said_of (λ (p : List ℕ) (k : ℕ). LeavesOnly (g.D.Dir.history c.begin.new.dir) (g.D.Dir.history c.remove.new.dir) (IsLeftOf (ChangesBelow p k (now (g.D.Dir.history c.begin.new.dir))))) c.in_ok-older.ensures.path c.in_ok-older.ensures.number (c.remove.ensures.moments begun_honest) in
+    removed_so c.args.path.now (c.in_ok-found.found.greatest + 1) c.in_ok-journal.journal (now (g.D.Dir.history c.begin.new.dir)) c.in_ok-found.found.chunks c.in_ok-journal.ensures.path c.in_ok-journal.ensures.number keeps
+    t c.in_ok-journal.ensures.state m (g.D.Dir.history c.args.dir.now) (g.D.Dir.history c.begin.new.dir) (g.D.Dir.history c.remove.new.dir) refl (beginning c.args.path.now t (g.D.Dir.history c.args.dir.now) (g.D.Dir.history c.find.new.dir) (g.D.Dir.history c.open.new.dir) (g.D.Dir.history c.begin.new.dir) before (c.find.ensures.time honest) (c.find.ensures.same honest) (c.open.ensures.time (c.in_ok-found.ensures.honest honest)) (c.open.ensures.same (c.in_ok-found.ensures.honest honest))
+    (λ then. c.begin.ensures.moments older_honest t then (none on stray) m on.source)) removing
 
 pub returns-in_err-found-clause-stray : goal.returns-in_err-found-clause-stray
 returns-in_err-found-clause-stray g c = λ honest stray. same_stray c.args.path.now (now (g.D.Dir.history c.args.dir.now)) (now (g.D.Dir.history c.find.new.dir)) (c.find.ensures.same honest) stray
 
 pub returns-in_err-older-clause-stray : goal.returns-in_err-older-clause-stray
 returns-in_err-older-clause-stray g c = λ honest stray.
-    let greatest = c.in_ok-found.found.greatest in
-    let found_honest = c.in_ok-found.ensures.honest honest in
-    let same : SameDisk (now (g.D.Dir.history c.open.new.dir)) (now (g.D.Dir.history c.args.dir.now)) = λ name. c.open.ensures.same found_honest name ∙ c.in_ok-found.ensures.same honest name in
-    same_stray c.args.path.now (now (g.D.Dir.history c.args.dir.now)) (now (g.D.Dir.history c.open.new.dir)) same stray
+    same_stray c.args.path.now (now (g.D.Dir.history c.args.dir.now)) (now (g.D.Dir.history c.open.new.dir)) (λ name. c.open.ensures.same (c.in_ok-found.ensures.honest honest) name ∙ c.in_ok-found.ensures.same honest name) stray
 
 pub returns-in_err-journal-clause-stray : goal.returns-in_err-journal-clause-stray
 returns-in_err-journal-clause-stray g c = λ honest stray.
-    let greatest = c.in_ok-found.found.greatest in
-    let found_honest = c.in_ok-found.ensures.honest honest in
-    let older_honest = c.in_ok-older.ensures.honest found_honest in
-    let same : SameDisk (now (g.D.Dir.history c.open.new.dir)) (now (g.D.Dir.history c.args.dir.now)) = λ name. c.open.ensures.same found_honest name ∙ c.in_ok-found.ensures.same honest name in
-    let none = none_above c.args.path.now (now (g.D.Dir.history c.args.dir.now)) (now (g.D.Dir.history c.open.new.dir)) greatest (greatest + 1) refl (c.in_ok-found.ensures.greatest honest) stray same in
-    c.begin.ensures.stray older_honest none (same_stray c.args.path.now (now (g.D.Dir.history c.args.dir.now)) (now (g.D.Dir.history c.open.new.dir)) same stray)
+    let older_honest = c.in_ok-older.ensures.honest (c.in_ok-found.ensures.honest honest) in
+    let on = afresh (g.D.Dir.opened c.find.new.dir) (g.D.Dir.opened c.open.new.dir) c.in_ok-older.ensures.others (now (g.D.Dir.history c.args.dir.now)) (now (g.D.Dir.history c.find.new.dir)) (now (g.D.Dir.history c.open.new.dir)) c.args.path.now
+    c.in_ok-found.found.greatest c.in_ok-found.found.file c.in_ok-found.found.places c.in_ok-found.found.chunks (c.in_ok-found.ensures.same honest) (c.in_ok-older.ensures.same (c.in_ok-found.ensures.honest honest)) c.in_ok-found.ensures.below (c.in_ok-found.ensures.greatest honest)
+    (c.in_ok-found.ensures.source honest) in
+    c.begin.ensures.stray older_honest (none on stray) (stray_still on stray)
 
 pub returns-in_err-remove-clause-stray : goal.returns-in_err-remove-clause-stray
 returns-in_err-remove-clause-stray g c = λ honest stray.
-    let greatest = c.in_ok-found.found.greatest in
-    let found_honest = c.in_ok-found.ensures.honest honest in
-    let older_honest = c.in_ok-older.ensures.honest found_honest in
-    let same : SameDisk (now (g.D.Dir.history c.open.new.dir)) (now (g.D.Dir.history c.args.dir.now)) = λ name. c.open.ensures.same found_honest name ∙ c.in_ok-found.ensures.same honest name in
-    let small : greatest + 1 < 2 ^ 32 = omega (arith, c.in_ok-found.ensures.below) in
-    let source = still_source (g.D.Dir.opened c.find.new.dir) (g.D.Dir.opened c.open.new.dir) c.in_ok-older.ensures.others (now (g.D.Dir.history c.args.dir.now)) (now (g.D.Dir.history c.open.new.dir)) c.args.path.now greatest c.in_ok-found.found.file c.in_ok-found.found.places c.in_ok-found.found.chunks
-    same small (c.in_ok-found.ensures.source honest) in
-    let none = none_above c.args.path.now (now (g.D.Dir.history c.args.dir.now)) (now (g.D.Dir.history c.open.new.dir)) greatest (greatest + 1) refl (c.in_ok-found.ensures.greatest honest) stray same in
+    let older_honest = c.in_ok-older.ensures.honest (c.in_ok-found.ensures.honest honest) in
+    let on = afresh (g.D.Dir.opened c.find.new.dir) (g.D.Dir.opened c.open.new.dir) c.in_ok-older.ensures.others (now (g.D.Dir.history c.args.dir.now)) (now (g.D.Dir.history c.find.new.dir)) (now (g.D.Dir.history c.open.new.dir)) c.args.path.now
+    c.in_ok-found.found.greatest c.in_ok-found.found.file c.in_ok-found.found.places c.in_ok-found.found.chunks (c.in_ok-found.ensures.same honest) (c.in_ok-older.ensures.same (c.in_ok-found.ensures.honest honest)) c.in_ok-found.ensures.below (c.in_ok-found.ensures.greatest honest)
+    (c.in_ok-found.ensures.source honest) in
     let begun_honest = c.in_ok-journal.ensures.honest older_honest in
-    let keeps = c.in_ok-journal.ensures.ok older_honest none source in
-    let below : ChangesBelow c.args.path.now (greatest + 1) (now (g.D.Dir.history c.begin.new.dir)) (now (g.D.Dir.history c.remove.new.dir)) = subst (λ (p : List ℕ). ChangesBelow p (greatest + 1) (now (g.D.Dir.history c.begin.new.dir)) (now (g.D.Dir.history c.remove.new.dir))) c.in_ok-older.ensures.path
-    (subst (λ (k : ℕ). ChangesBelow c.in_ok-older.older.path.now k (now (g.D.Dir.history c.begin.new.dir)) (now (g.D.Dir.history c.remove.new.dir))) c.in_ok-older.ensures.number (c.remove.ensures.elsewhere begun_honest)) in
-    no_stray_still c.args.path.now (greatest + 1) c.in_ok-journal.journal (now (g.D.Dir.history c.begin.new.dir)) c.in_ok-found.found.chunks c.in_ok-journal.ensures.path c.in_ok-journal.ensures.number keeps (now (g.D.Dir.history c.remove.new.dir)) below
+    let keeps = c.in_ok-journal.ensures.ok older_honest (none on stray) on.source in
+    let below = said_of (λ (p : List ℕ) (k : ℕ). ChangesBelow p k (now (g.D.Dir.history c.begin.new.dir)) (now (g.D.Dir.history c.remove.new.dir))) c.in_ok-older.ensures.path c.in_ok-older.ensures.number (c.remove.ensures.elsewhere begun_honest) in
+    no_stray_still c.args.path.now (c.in_ok-found.found.greatest + 1) c.in_ok-journal.journal (now (g.D.Dir.history c.begin.new.dir)) c.in_ok-found.found.chunks c.in_ok-journal.ensures.path c.in_ok-journal.ensures.number keeps (now (g.D.Dir.history c.remove.new.dir)) below
 
 pub returns-clause-stray : goal.returns-clause-stray
 returns-clause-stray g c = λ honest stray.
-    let greatest = c.in_ok-found.found.greatest in
-    let found_honest = c.in_ok-found.ensures.honest honest in
-    let older_honest = c.in_ok-older.ensures.honest found_honest in
-    let same : SameDisk (now (g.D.Dir.history c.open.new.dir)) (now (g.D.Dir.history c.args.dir.now)) = λ name. c.open.ensures.same found_honest name ∙ c.in_ok-found.ensures.same honest name in
-    let small : greatest + 1 < 2 ^ 32 = omega (arith, c.in_ok-found.ensures.below) in
-    let source = still_source (g.D.Dir.opened c.find.new.dir) (g.D.Dir.opened c.open.new.dir) c.in_ok-older.ensures.others (now (g.D.Dir.history c.args.dir.now)) (now (g.D.Dir.history c.open.new.dir)) c.args.path.now greatest c.in_ok-found.found.file c.in_ok-found.found.places c.in_ok-found.found.chunks
-    same small (c.in_ok-found.ensures.source honest) in
-    let none = none_above c.args.path.now (now (g.D.Dir.history c.args.dir.now)) (now (g.D.Dir.history c.open.new.dir)) greatest (greatest + 1) refl (c.in_ok-found.ensures.greatest honest) stray same in
+    let older_honest = c.in_ok-older.ensures.honest (c.in_ok-found.ensures.honest honest) in
+    let on = afresh (g.D.Dir.opened c.find.new.dir) (g.D.Dir.opened c.open.new.dir) c.in_ok-older.ensures.others (now (g.D.Dir.history c.args.dir.now)) (now (g.D.Dir.history c.find.new.dir)) (now (g.D.Dir.history c.open.new.dir)) c.args.path.now
+    c.in_ok-found.found.greatest c.in_ok-found.found.file c.in_ok-found.found.places c.in_ok-found.found.chunks (c.in_ok-found.ensures.same honest) (c.in_ok-older.ensures.same (c.in_ok-found.ensures.honest honest)) c.in_ok-found.ensures.below (c.in_ok-found.ensures.greatest honest)
+    (c.in_ok-found.ensures.source honest) in
     let begun_honest = c.in_ok-journal.ensures.honest older_honest in
-    let keeps = c.in_ok-journal.ensures.ok older_honest none source in
-    let below : ChangesBelow c.args.path.now (greatest + 1) (now (g.D.Dir.history c.begin.new.dir)) (now (g.D.Dir.history c.remove.new.dir)) = subst (λ (p : List ℕ). ChangesBelow p (greatest + 1) (now (g.D.Dir.history c.begin.new.dir)) (now (g.D.Dir.history c.remove.new.dir))) c.in_ok-older.ensures.path
-    (subst (λ (k : ℕ). ChangesBelow c.in_ok-older.older.path.now k (now (g.D.Dir.history c.begin.new.dir)) (now (g.D.Dir.history c.remove.new.dir))) c.in_ok-older.ensures.number (c.remove.ensures.elsewhere begun_honest)) in
-    no_stray_still c.args.path.now (greatest + 1) c.in_ok-journal.journal (now (g.D.Dir.history c.begin.new.dir)) c.in_ok-found.found.chunks c.in_ok-journal.ensures.path c.in_ok-journal.ensures.number keeps (now (g.D.Dir.history c.remove.new.dir)) below
+    let keeps = c.in_ok-journal.ensures.ok older_honest (none on stray) on.source in
+    let below = said_of (λ (p : List ℕ) (k : ℕ). ChangesBelow p k (now (g.D.Dir.history c.begin.new.dir)) (now (g.D.Dir.history c.remove.new.dir))) c.in_ok-older.ensures.path c.in_ok-older.ensures.number (c.remove.ensures.elsewhere begun_honest) in
+    no_stray_still c.args.path.now (c.in_ok-found.found.greatest + 1) c.in_ok-journal.journal (now (g.D.Dir.history c.begin.new.dir)) c.in_ok-found.found.chunks c.in_ok-journal.ensures.path c.in_ok-journal.ensures.number keeps (now (g.D.Dir.history c.remove.new.dir)) below
 
 pub returns-clause-keeps : goal.returns-clause-keeps
 returns-clause-keeps g c = λ honest stray.
-    let greatest = c.in_ok-found.found.greatest in
-    let found_honest = c.in_ok-found.ensures.honest honest in
-    let older_honest = c.in_ok-older.ensures.honest found_honest in
-    let same : SameDisk (now (g.D.Dir.history c.open.new.dir)) (now (g.D.Dir.history c.args.dir.now)) = λ name. c.open.ensures.same found_honest name ∙ c.in_ok-found.ensures.same honest name in
-    let small : greatest + 1 < 2 ^ 32 = omega (arith, c.in_ok-found.ensures.below) in
-    let source = still_source (g.D.Dir.opened c.find.new.dir) (g.D.Dir.opened c.open.new.dir) c.in_ok-older.ensures.others (now (g.D.Dir.history c.args.dir.now)) (now (g.D.Dir.history c.open.new.dir)) c.args.path.now greatest c.in_ok-found.found.file c.in_ok-found.found.places c.in_ok-found.found.chunks
-    same small (c.in_ok-found.ensures.source honest) in
-    let none = none_above c.args.path.now (now (g.D.Dir.history c.args.dir.now)) (now (g.D.Dir.history c.open.new.dir)) greatest (greatest + 1) refl (c.in_ok-found.ensures.greatest honest) stray same in
+    let older_honest = c.in_ok-older.ensures.honest (c.in_ok-found.ensures.honest honest) in
+    let on = afresh (g.D.Dir.opened c.find.new.dir) (g.D.Dir.opened c.open.new.dir) c.in_ok-older.ensures.others (now (g.D.Dir.history c.args.dir.now)) (now (g.D.Dir.history c.find.new.dir)) (now (g.D.Dir.history c.open.new.dir)) c.args.path.now
+    c.in_ok-found.found.greatest c.in_ok-found.found.file c.in_ok-found.found.places c.in_ok-found.found.chunks (c.in_ok-found.ensures.same honest) (c.in_ok-older.ensures.same (c.in_ok-found.ensures.honest honest)) c.in_ok-found.ensures.below (c.in_ok-found.ensures.greatest honest)
+    (c.in_ok-found.ensures.source honest) in
     let begun_honest = c.in_ok-journal.ensures.honest older_honest in
-    let keeps = c.in_ok-journal.ensures.ok older_honest none source in
-    let below : ChangesBelow c.args.path.now (greatest + 1) (now (g.D.Dir.history c.begin.new.dir)) (now (g.D.Dir.history c.remove.new.dir)) = subst (λ (p : List ℕ). ChangesBelow p (greatest + 1) (now (g.D.Dir.history c.begin.new.dir)) (now (g.D.Dir.history c.remove.new.dir))) c.in_ok-older.ensures.path
-    (subst (λ (k : ℕ). ChangesBelow c.in_ok-older.older.path.now k (now (g.D.Dir.history c.begin.new.dir)) (now (g.D.Dir.history c.remove.new.dir))) c.in_ok-older.ensures.number (c.remove.ensures.elsewhere begun_honest)) in
-    keeps_still c.args.path.now (greatest + 1) c.in_ok-journal.journal (now (g.D.Dir.history c.begin.new.dir)) c.in_ok-found.found.chunks c.in_ok-journal.ensures.path c.in_ok-journal.ensures.number keeps (now (g.D.Dir.history c.remove.new.dir)) below
+    let keeps = c.in_ok-journal.ensures.ok older_honest (none on stray) on.source in
+    let below = said_of (λ (p : List ℕ) (k : ℕ). ChangesBelow p k (now (g.D.Dir.history c.begin.new.dir)) (now (g.D.Dir.history c.remove.new.dir))) c.in_ok-older.ensures.path c.in_ok-older.ensures.number (c.remove.ensures.elsewhere begun_honest) in
+    keeps_still c.args.path.now (c.in_ok-found.found.greatest + 1) c.in_ok-journal.journal (now (g.D.Dir.history c.begin.new.dir)) c.in_ok-found.found.chunks c.in_ok-journal.ensures.path c.in_ok-journal.ensures.number keeps (now (g.D.Dir.history c.remove.new.dir)) below
 
 pub remove-requires : goal.remove-requires
 remove-requires g c =
@@ -171,35 +138,27 @@ returns-clause-open g c =
 
 pub returns-in_err-remove-clause-elsewhere : goal.returns-in_err-remove-clause-elsewhere
 returns-in_err-remove-clause-elsewhere g c = λ honest name differs.
-    let greatest = c.in_ok-found.found.greatest in
-    let found_honest = c.in_ok-found.ensures.honest honest in
-    let older_honest = c.in_ok-older.ensures.honest found_honest in
+    let older_honest = c.in_ok-older.ensures.honest (c.in_ok-found.ensures.honest honest) in
     let begun_honest = c.in_ok-journal.ensures.honest older_honest in
-    let small : greatest + 1 < 2 ^ 32 = omega (arith, c.in_ok-found.ensures.below) in
-    let below : ChangesBelow c.args.path.now (greatest + 1) (now (g.D.Dir.history c.begin.new.dir)) (now (g.D.Dir.history c.remove.new.dir)) = subst (λ (p : List ℕ). ChangesBelow p (greatest + 1) (now (g.D.Dir.history c.begin.new.dir)) (now (g.D.Dir.history c.remove.new.dir))) c.in_ok-older.ensures.path
-    (subst (λ (k : ℕ). ChangesBelow c.in_ok-older.older.path.now k (now (g.D.Dir.history c.begin.new.dir)) (now (g.D.Dir.history c.remove.new.dir))) c.in_ok-older.ensures.number (c.remove.ensures.elsewhere begun_honest)) in
+    let small : c.in_ok-found.found.greatest + 1 < 2 ^ 32 = omega (arith, c.in_ok-found.ensures.below) in
+    let below = said_of (λ (p : List ℕ) (k : ℕ). ChangesBelow p k (now (g.D.Dir.history c.begin.new.dir)) (now (g.D.Dir.history c.remove.new.dir))) c.in_ok-older.ensures.path c.in_ok-older.ensures.number (c.remove.ensures.elsewhere begun_honest) in
     below name (λ n lt. differs n (omega (arith, lt, small)))
-    ∙ c.in_ok-journal.ensures.elsewhere older_honest name (differs (greatest + 1) small) ∙ c.in_ok-older.ensures.same found_honest name ∙ c.in_ok-found.ensures.same honest name
+    ∙ c.in_ok-journal.ensures.elsewhere older_honest name (differs (c.in_ok-found.found.greatest + 1) small) ∙ c.in_ok-older.ensures.same (c.in_ok-found.ensures.honest honest) name ∙ c.in_ok-found.ensures.same honest name
 
 pub returns-clause-elsewhere : goal.returns-clause-elsewhere
 returns-clause-elsewhere g c = λ honest name differs.
-    let greatest = c.in_ok-found.found.greatest in
-    let found_honest = c.in_ok-found.ensures.honest honest in
-    let older_honest = c.in_ok-older.ensures.honest found_honest in
+    let older_honest = c.in_ok-older.ensures.honest (c.in_ok-found.ensures.honest honest) in
     let begun_honest = c.in_ok-journal.ensures.honest older_honest in
-    let small : greatest + 1 < 2 ^ 32 = omega (arith, c.in_ok-found.ensures.below) in
-    let below : ChangesBelow c.args.path.now (greatest + 1) (now (g.D.Dir.history c.begin.new.dir)) (now (g.D.Dir.history c.remove.new.dir)) = subst (λ (p : List ℕ). ChangesBelow p (greatest + 1) (now (g.D.Dir.history c.begin.new.dir)) (now (g.D.Dir.history c.remove.new.dir))) c.in_ok-older.ensures.path
-    (subst (λ (k : ℕ). ChangesBelow c.in_ok-older.older.path.now k (now (g.D.Dir.history c.begin.new.dir)) (now (g.D.Dir.history c.remove.new.dir))) c.in_ok-older.ensures.number (c.remove.ensures.elsewhere begun_honest)) in
+    let small : c.in_ok-found.found.greatest + 1 < 2 ^ 32 = omega (arith, c.in_ok-found.ensures.below) in
+    let below = said_of (λ (p : List ℕ) (k : ℕ). ChangesBelow p k (now (g.D.Dir.history c.begin.new.dir)) (now (g.D.Dir.history c.remove.new.dir))) c.in_ok-older.ensures.path c.in_ok-older.ensures.number (c.remove.ensures.elsewhere begun_honest) in
     below name (λ n lt. differs n (omega (arith, lt, small)))
-    ∙ c.in_ok-journal.ensures.elsewhere older_honest name (differs (greatest + 1) small) ∙ c.in_ok-older.ensures.same found_honest name ∙ c.in_ok-found.ensures.same honest name
+    ∙ c.in_ok-journal.ensures.elsewhere older_honest name (differs (c.in_ok-found.found.greatest + 1) small) ∙ c.in_ok-older.ensures.same (c.in_ok-found.ensures.honest honest) name ∙ c.in_ok-found.ensures.same honest name
 
 pub returns-in_err-journal-clause-elsewhere : goal.returns-in_err-journal-clause-elsewhere
 returns-in_err-journal-clause-elsewhere g c = λ honest name differs.
-    let greatest = c.in_ok-found.found.greatest in
-    let found_honest = c.in_ok-found.ensures.honest honest in
-    let older_honest = c.in_ok-older.ensures.honest found_honest in
-    let small : greatest + 1 < 2 ^ 32 = omega (arith, c.in_ok-found.ensures.below) in
-    c.begin.ensures.elsewhere older_honest name (differs (greatest + 1) small) ∙ c.in_ok-older.ensures.same found_honest name ∙ c.in_ok-found.ensures.same honest name
+    let older_honest = c.in_ok-older.ensures.honest (c.in_ok-found.ensures.honest honest) in
+    let small : c.in_ok-found.found.greatest + 1 < 2 ^ 32 = omega (arith, c.in_ok-found.ensures.below) in
+    c.begin.ensures.elsewhere older_honest name (differs (c.in_ok-found.found.greatest + 1) small) ∙ c.in_ok-older.ensures.same (c.in_ok-found.ensures.honest honest) name ∙ c.in_ok-found.ensures.same honest name
 
 pub returns-clause-alone : goal.returns-clause-alone
 returns-clause-alone g c = λ honest n from lt.
@@ -221,46 +180,35 @@ returns-clause-next g c = λ honest.
 
 pub returns-in_err-journal-clause-unchanged : goal.returns-in_err-journal-clause-unchanged
 returns-in_err-journal-clause-unchanged g c = λ honest not_fault.
-    let greatest = c.in_ok-found.found.greatest in
     let e = c.in_err-journal.field-0.0 in
     let answer = answered (opening_error e) c.from_residual-in_err-journal.result c.from_residual-in_err-journal.ensures.1 in
-    let found_honest = c.in_ok-found.ensures.honest honest in
-    let older_honest = c.in_ok-older.ensures.honest found_honest in
-    let same : SameDisk (now (g.D.Dir.history c.open.new.dir)) (now (g.D.Dir.history c.args.dir.now)) = λ name. c.open.ensures.same found_honest name ∙ c.in_ok-found.ensures.same honest name in
-    let small : greatest + 1 < 2 ^ 32 = omega (arith, c.in_ok-found.ensures.below) in
-    let source = still_source (g.D.Dir.opened c.find.new.dir) (g.D.Dir.opened c.open.new.dir) c.in_ok-older.ensures.others (now (g.D.Dir.history c.args.dir.now)) (now (g.D.Dir.history c.open.new.dir)) c.args.path.now greatest c.in_ok-found.found.file c.in_ok-found.found.places c.in_ok-found.found.chunks
-    same small (c.in_ok-found.ensures.source honest) in
-    let whole = λ (short : e ≡ BeginError.Short). c.begin.ensures.whole older_honest source (c.in_err-journal.was ∙ ap Err short) in
+    let older_honest = c.in_ok-older.ensures.honest (c.in_ok-found.ensures.honest honest) in
+    let on = afresh (g.D.Dir.opened c.find.new.dir) (g.D.Dir.opened c.open.new.dir) c.in_ok-older.ensures.others (now (g.D.Dir.history c.args.dir.now)) (now (g.D.Dir.history c.find.new.dir)) (now (g.D.Dir.history c.open.new.dir)) c.args.path.now
+    c.in_ok-found.found.greatest c.in_ok-found.found.file c.in_ok-found.found.places c.in_ok-found.found.chunks (c.in_ok-found.ensures.same honest) (c.in_ok-older.ensures.same (c.in_ok-found.ensures.honest honest)) c.in_ok-found.ensures.below (c.in_ok-found.ensures.greatest honest)
+    (c.in_ok-found.ensures.source honest) in
+    let whole = λ (short : e ≡ BeginError.Short). c.begin.ensures.whole older_honest on.source (c.in_err-journal.was ∙ ap Err short) in
     let unbegun = c.begin.ensures.memory older_honest (c.in_err-journal.was ∙ ap Err (was_memory e c.from_residual-in_err-journal.result answer not_fault whole)) in
-    any_err c.from_residual-in_err-journal.result (λ name. unbegun name ∙ same name)
+    any_err c.from_residual-in_err-journal.result (λ name. unbegun name ∙ on.same name)
 
 pub returns-in_err-journal-clause-damaged : goal.returns-in_err-journal-clause-damaged
 returns-in_err-journal-clause-damaged g c = λ honest is.
-    let greatest = c.in_ok-found.found.greatest in
     let e = c.in_err-journal.field-0.0 in
     let answer = answered (opening_error e) c.from_residual-in_err-journal.result c.from_residual-in_err-journal.ensures.1 in
-    let found_honest = c.in_ok-found.ensures.honest honest in
-    let older_honest = c.in_ok-older.ensures.honest found_honest in
-    let same : SameDisk (now (g.D.Dir.history c.open.new.dir)) (now (g.D.Dir.history c.args.dir.now)) = λ name. c.open.ensures.same found_honest name ∙ c.in_ok-found.ensures.same honest name in
-    let small : greatest + 1 < 2 ^ 32 = omega (arith, c.in_ok-found.ensures.below) in
-    let source = still_source (g.D.Dir.opened c.find.new.dir) (g.D.Dir.opened c.open.new.dir) c.in_ok-older.ensures.others (now (g.D.Dir.history c.args.dir.now)) (now (g.D.Dir.history c.open.new.dir)) c.args.path.now greatest c.in_ok-found.found.file c.in_ok-found.found.places c.in_ok-found.found.chunks
-    same small (c.in_ok-found.ensures.source honest) in
-    let whole = λ (short : e ≡ BeginError.Short). c.begin.ensures.whole older_honest source (c.in_err-journal.was ∙ ap Err short) in
-    absurd (whole (was_short e c.from_residual-in_err-journal.result answer is))
+    let older_honest = c.in_ok-older.ensures.honest (c.in_ok-found.ensures.honest honest) in
+    let on = afresh (g.D.Dir.opened c.find.new.dir) (g.D.Dir.opened c.open.new.dir) c.in_ok-older.ensures.others (now (g.D.Dir.history c.args.dir.now)) (now (g.D.Dir.history c.find.new.dir)) (now (g.D.Dir.history c.open.new.dir)) c.args.path.now
+    c.in_ok-found.found.greatest c.in_ok-found.found.file c.in_ok-found.found.places c.in_ok-found.found.chunks (c.in_ok-found.ensures.same honest) (c.in_ok-older.ensures.same (c.in_ok-found.ensures.honest honest)) c.in_ok-found.ensures.below (c.in_ok-found.ensures.greatest honest)
+    (c.in_ok-found.ensures.source honest) in
+    absurd (c.begin.ensures.whole older_honest on.source (c.in_err-journal.was ∙ ap Err (was_short e c.from_residual-in_err-journal.result answer is)))
 
 pub returns-in_err-journal-clause-unread : goal.returns-in_err-journal-clause-unread
 returns-in_err-journal-clause-unread g c = λ honest there is.
-    let greatest = c.in_ok-found.found.greatest in
     let e = c.in_err-journal.field-0.0 in
     let answer = answered (opening_error e) c.from_residual-in_err-journal.result c.from_residual-in_err-journal.ensures.1 in
-    let found_honest = c.in_ok-found.ensures.honest honest in
-    let older_honest = c.in_ok-older.ensures.honest found_honest in
-    let same : SameDisk (now (g.D.Dir.history c.open.new.dir)) (now (g.D.Dir.history c.args.dir.now)) = λ name. c.open.ensures.same found_honest name ∙ c.in_ok-found.ensures.same honest name in
-    let small : greatest + 1 < 2 ^ 32 = omega (arith, c.in_ok-found.ensures.below) in
-    let source = still_source (g.D.Dir.opened c.find.new.dir) (g.D.Dir.opened c.open.new.dir) c.in_ok-older.ensures.others (now (g.D.Dir.history c.args.dir.now)) (now (g.D.Dir.history c.open.new.dir)) c.args.path.now greatest c.in_ok-found.found.file c.in_ok-found.found.places c.in_ok-found.found.chunks
-    same small (c.in_ok-found.ensures.source honest) in
-    let whole = λ (short : e ≡ BeginError.Short). c.begin.ensures.whole older_honest source (c.in_err-journal.was ∙ ap Err short) in
-    whole (was_short e c.from_residual-in_err-journal.result answer is)
+    let older_honest = c.in_ok-older.ensures.honest (c.in_ok-found.ensures.honest honest) in
+    let on = afresh (g.D.Dir.opened c.find.new.dir) (g.D.Dir.opened c.open.new.dir) c.in_ok-older.ensures.others (now (g.D.Dir.history c.args.dir.now)) (now (g.D.Dir.history c.find.new.dir)) (now (g.D.Dir.history c.open.new.dir)) c.args.path.now
+    c.in_ok-found.found.greatest c.in_ok-found.found.file c.in_ok-found.found.places c.in_ok-found.found.chunks (c.in_ok-found.ensures.same honest) (c.in_ok-older.ensures.same (c.in_ok-found.ensures.honest honest)) c.in_ok-found.ensures.below (c.in_ok-found.ensures.greatest honest)
+    (c.in_ok-found.ensures.source honest) in
+    c.begin.ensures.whole older_honest on.source (c.in_err-journal.was ∙ ap Err (was_short e c.from_residual-in_err-journal.result answer is))
 
 pub returns-in_err-journal-clause-last : goal.returns-in_err-journal-clause-last
 returns-in_err-journal-clause-last g c = λ honest is.
