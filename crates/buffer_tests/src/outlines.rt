@@ -38,11 +38,16 @@ fn outlined(alloc: Global, journal: &[u8], length: usize) -> Result<Outlined<Glo
     }
 }
 
+// So many bytes from this one on.
+fn place(at: u64, length: u64) -> Result<Extent, AllocError> {
+    Extent::new(at, length).ok_or(AllocError)
+}
+
 fn is_the_chunk(outlined: &Outlined<Global>) -> bool {
-    let Some(chunk) = outlined.chunks.chunk(0) else {
+    let (Some(chunk), Some(place)) = (outlined.chunks.chunk(0), Extent::new(33, 3)) else {
         return false;
     };
-    outlined.places.at(0) == [Extent { at: 33, length: 3 }].as_slice()
+    outlined.places.at(0) == [place].as_slice()
         && chunk.count() == 1
         && chunk.size() == 3
         && chunk.tag() == b"a".as_slice()
@@ -74,7 +79,7 @@ fn no_seal_and_no_record(rt: HostRuntime) -> Result<(), ReplayError> {
 #[test]
 fn places_of_a_chunk_go_with_it(rt: HostRuntime) -> Result<(), ReplayError> {
     let alloc = rt.alloc();
-    let both = [Extent { at: 33, length: 3 }, Extent { at: 56, length: 3 }];
+    let both = [place(33, 3)?, place(56, 3)?];
     for length in 1..86usize {
         let (queued, _) = PURGED.split_at(72);
         let before = outlined(alloc, queued, length)?;
@@ -88,8 +93,10 @@ fn places_of_a_chunk_go_with_it(rt: HostRuntime) -> Result<(), ReplayError> {
 
 #[test]
 fn places_come_and_go(rt: HostRuntime) -> Result<(), AllocError> {
-    let first = Extent { at: 33, length: 3 };
-    let second = Extent { at: 56, length: 4 };
+    let first = place(33, 3)?;
+    let second = place(56, 4)?;
+    assert!(rt; second.at() == 56 && second.length() == 4);
+    assert!(rt; Extent::before(60, 4) == Some(second) && Extent::new(1 << 40, 4).is_none());
     let mut places = Places::new(rt.alloc());
     assert!(rt; places.at(7).is_empty());
     places.reserve(7)?;

@@ -8,6 +8,7 @@ pub mod Fields
 pub mod Reading
 pub mod Replaying
 pub mod Drafts
+pub mod Extents
 pub mod Places
 pub mod Outlines
 pub mod Feeding

@@ -84,8 +84,8 @@ impl<A: Allocator + Copy> Outline<A> {
 
     /// Takes the next piece of the journal. Asks that fewer than 2^64 bytes are fed in all.
     ///
-    /// `BadRecord` where what was fed before this piece is damaged, and then always; else only want of memory. Neither takes the piece,
-    /// so that it can be fed again.
+    /// `BadRecord` where what was fed before this piece is damaged, and then always; else only want of memory, which comes too where
+    /// entries begin 2^40 bytes (1 TB) or more behind the journal's beginning. Neither takes the piece, so that it can be fed again.
     pub fn feed(&mut self, piece: &[u8]) -> Result<(), ReplayError>
         requires few { self.old.fed + length piece.now < 2 ^ 64 }
         ensures ok { OnOk result ((seen : List ℕ) → IsAfter self.old seen → IsAfter self.new (seen ++ piece.now)) }
@@ -104,7 +104,7 @@ impl<A: Allocator + Copy> Outline<A> {
 
     /// What the journal means, if all of it was fed.
     ///
-    /// `BadRecord` where it is damaged, `NotSealed` where its whole records end before a Seal, and else only want of memory.
+    /// `BadRecord` where it is damaged, `NotSealed` where its whole records end before a Seal, and else only want of memory, as `feed`.
     /// Each hands the outline back.
     pub fn finish(self) -> Result<Outlined<A>, (ReplayError, Outline<A>)>
         ensures ok { (seen : List ℕ) → IsAfter self seen → IfOk result (λ outlined. IsOutlined seen outlined.chunks outlined.places outlined.used) }
@@ -233,7 +233,8 @@ impl<A: Allocator + Copy> Outline<A> {
     }
 }
 
-// Replays a record whose entries end there, unless it can't stand here. An `Err` changes nothing.
+// Replays a record whose entries end there, unless it can't stand here. The error is want of memory, also of a number for the place
+// of its entries, and changes nothing.
 fn take_record<A: Allocator + Copy>(
     draft: &mut Draft<A>,
     places: &mut Places<A>,
@@ -252,13 +253,14 @@ fn take_record<A: Allocator + Copy>(
             tag,
             entries,
         } => {
+            let Some(extent) = Extent::before(end, entries.as_bytes().len() as u64) else {
+                return Err(AllocError);
+            };
             places.reserve(serial)?;
             if !take_append(draft, serial, tag, &entries)? {
                 return Ok(false);
             }
-            let length = entries.as_bytes().len() as u64;
-            let at = end - length;
-            places.add(serial, Extent { at, length });
+            places.add(serial, extent);
             Ok(true)
         }
         Parsed::Queue { serial } => take_queue(draft, serial),

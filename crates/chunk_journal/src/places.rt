@@ -1,17 +1,76 @@
 //! Where the entries of live chunks lie in a journal.
 
-ghost use Rattle.std.specs.Prelude.{◌≡◌, ◌<◌, ◌++◌, [], ◌∷◌, None, OnOk, OnErr};
-ghost use Rattle.chunk_journal.specs.Places.{spot_at, places_at, HasRoom, SamePlaces, AddsPlace, DropsPlaces};
+ghost use Rattle.std.specs.Prelude.{◌≡◌, ◌↔◌, ◌-◌, ◌<◌, ◌++◌, [], ◌∷◌, None, IsSome, IfSome, OnOk, OnErr};
+ghost use Rattle.chunk_journal.specs.Extents.{places_end, lengths_end};
+ghost use Rattle.chunk_journal.specs.Places.{spot_at, places_at, extent_before, HasRoom, SamePlaces, AddsPlace, DropsPlaces};
 
 use std::alloc::{AllocError, Allocator};
 use std::collections::BTreeMap;
 use std::marker::Model;
 
-/// Where bytes lie in a journal: the first of them, and how many.
+// A place begins below this one.
+const PLACES_END: u64 = 1 << 40;
+// It has fewer bytes than this.
+const LENGTHS_END: u64 = 1 << 24;
+
+/// Where bytes lie in a journal: the first of them, and how many. They begin below 2^40, and are fewer than 2^24.
 #[derive(Clone, Copy, Debug, PartialEq, Eq)]
 pub struct Extent {
-    pub at: u64,
-    pub length: u64,
+    // `at * 2^24 + length`, since a buffer keeps one for each append to a live chunk
+    bits: u64,
+}
+
+impl Model for Extent {
+    ghost use Rattle.std.specs.Prelude.{◌+◌, ◌*◌, ◌/◌, ◌%◌, ◌^◌};
+    ghost use Rattle.std.proofs.lemmas.Nat.{shr_split};
+    ghost use Rattle.chunk_journal.specs.Extents.{Stretch};
+
+    ghost Value = { Stretch };
+
+    ghost view = { λ e. record { at = e.bits / 2 ^ 24; length = e.bits % 2 ^ 24 } };
+
+    ghost inverse = { λ s. record { bits = s.at * 2 ^ 24 + s.length } };
+
+    ghost inverse_ok = { λ e _ i. record { bits = shr_split e.bits 24 i } };
+}
+
+impl Extent {
+    /// So many bytes from this one on; none where they begin at 2^40 or behind it, or are 2^24 or more.
+    pub fn new(at: u64, length: u64) -> Option<Extent>
+        ensures some { IsSome result ↔ ((at < places_end) × (length < lengths_end)) }
+        ensures right { IfSome result (λ extent. extent ≡ record { at = at; length = length }) }
+    {
+        if at >= PLACES_END || length >= LENGTHS_END {
+            return None;
+        }
+        Some(Extent {
+            bits: at * LENGTHS_END + length,
+        })
+    }
+
+    /// The last so many bytes before this end, as `new`.
+    pub fn before(end: u64, length: u64) -> Option<Extent>
+        ensures some { IsSome result ↔ ((end - length < places_end) × (length < lengths_end)) }
+        ensures right { IfSome result (λ extent. extent ≡ extent_before end length) }
+    {
+        Extent::new(end.saturating_sub(length), length)
+    }
+
+    /// Where they begin.
+    pub fn at(self) -> u64
+        ensures value { result ≡ self.at }
+        ensures below { result < places_end }
+    {
+        self.bits / LENGTHS_END
+    }
+
+    /// How many they are.
+    pub fn length(self) -> u64
+        ensures value { result ≡ self.length }
+        ensures below { result < lengths_end }
+    {
+        self.bits % LENGTHS_END
+    }
 }
 
 // The places of one chunk's entries.
@@ -45,12 +104,17 @@ impl<A: Allocator> Extents<A> {
         self.items.as_slice()
     }
 
-    // Makes room for one more.
+    // Makes room for one more: where there is none, for an eighth more and not for twice as many, since these are most of what a buffer
+    // keeps in memory.
     fn reserve(&mut self) -> Result<(), AllocError>
         ensures same { self.new.extents ≡ self.old.extents }
         ensures ok { OnOk result (0 < self.new.room) }
     {
-        self.items.reserve(1)
+        let len = self.items.len();
+        if len < self.items.capacity() {
+            return Ok(());
+        }
+        self.items.reserve_exact(1 + len / 8)
     }
 
     // One more, behind the others.

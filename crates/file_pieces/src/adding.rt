@@ -118,7 +118,7 @@ fn copy_run<D: Dir>(
 {
     if run.places.len() == 1 {
         let place = run.places[0];
-        return copy(dir, from, to, place.at, place.length, buffer);
+        return copy(dir, from, to, place.at(), place.length(), buffer);
     }
     copy_span(dir, from, to, run, buffer)
 }

@@ -20,8 +20,8 @@ pub(crate) fn pack(part: &[u8], at: u64, places: &[Extent], done: usize, into: &
 {
     let mut end = done;
     for place in places {
-        let from = (place.at - at) as usize;
-        let count = place.length as usize;
+        let from = (place.at() - at) as usize;
+        let count = place.length() as usize;
         put_part(part, from, count, end, into);
         end += count;
     }

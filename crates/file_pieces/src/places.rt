@@ -96,10 +96,10 @@ fn read_place<D: Dir>(
     ensures reads { Reads D.is_honest D.history D.opened D.bytes_left D.fault_count file (λ seen. HasPart seen place.at place.length) (λ seen. ReadsOn done place.length (bytes_from seen place) into.old into.new) dir.old dir.new result }
     ensures len { length into.new ≡ length into.old }
 {
-    let count = place.length as usize;
+    let count = place.length() as usize;
     let (_, behind) = into.split_at_mut(done);
     let (part, _) = behind.split_at_mut(count);
-    match read_exact(dir, file, place.at, part) {
+    match read_exact(dir, file, place.at(), part) {
         Ok(()) => Ok(done + count),
         Err(fault) => Err(fault),
     }

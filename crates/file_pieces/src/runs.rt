@@ -22,8 +22,8 @@ pub(crate) fn run_of(places: &[Extent], most: usize) -> Run<'_>
     ensures first { result.places.now ≡ take (length result.places.now) places.now }
     ensures run { IsRun most result }
 {
-    let at = places[0].at;
-    let mut span = places[0].length;
+    let at = places[0].at();
+    let mut span = places[0].length();
     let mut count: usize = 1;
     while count < places.len() {
         let Some(longer) = span_with(at, span, places[count], most as u64) else {
@@ -47,12 +47,12 @@ fn span_with(at: u64, span: u64, place: Extent, most: u64) -> Option<u64>
     ensures small { IfSome result (λ longer. longer ≤ most) }
 {
     let end = at.checked_add(span)?;
-    let gap = place.at.checked_sub(end)?;
+    let gap = place.at().checked_sub(end)?;
     if GAP < gap {
         return None;
     }
     let near = span.checked_add(gap)?;
-    let longer = near.checked_add(place.length)?;
+    let longer = near.checked_add(place.length())?;
     if most < longer {
         return None;
     }
