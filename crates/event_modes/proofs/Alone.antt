@@ -1,4 +1,4 @@
--- Messages of one event, told by their first bytes.
+-- Messages of one event and entries, told by their first bytes.
 use Rattle.std.proofs.Common.{ℕ, suc, ◌≡◌, ◌+◌, ◌-◌, ◌⊎◌, ◌<◌, ◌≤◌, List, [], ◌∷◌, ◌++◌, length, get_or, take, drop, pos, refl, ap, sym, subst, ◌∙◌, arith, inl, inr, None}
 use Rattle.std.specs.List.{AllByRecursion, concat}
 use Rattle.std.proofs.lemmas.List.{append-nil, length-append, take-append-drop, length-take-le}
@@ -12,7 +12,7 @@ use Rattle.msgpack_bytes.specs.Format.{big_endian, items_in, shape_of}
 use Rattle.msgpack_bytes.specs.Item.{Sizes, IsScalarHeader, IsContainerHeader, IsScalar, Row, Item, longest, IsTextItem}
 use Rattle.msgpack_bytes.specs.Kinds.{IsText, Unsigned}
 use Rattle.msgpack_bytes.specs.Containers.{IsPart, IsArray}
-use Rattle.event_modes.specs.Entry.{IsEventTime, IsTime, IsRecord, stored_entry}
+use Rattle.event_modes.specs.Entry.{IsEventTime, IsTime, IsRecord}
 use Rattle.event_modes.specs.Message.{Single}
 use Rattle.event_modes.specs.Rows.{IsStored}
 use Rattle.event_modes.specs.Usual.{BeginsStr, BeginsMap, BeginsEvent, IsOneEvent}
@@ -78,8 +78,8 @@ first_of : (xs : List ℕ) (first : ℕ) → 0 < length xs → get_or xs 0 0 ≡
 first_of [] first h e = absurd (omega arith)
 first_of (x ∷ xs) first h e = ap (λ (b : ℕ). b ∷ xs) e
 
-pub begins_as : (item elements : List ℕ) → 0 < length item → get_or item 0 0 ≡ 0x93 → elements ≡ drop 1 item → item ≡ 0x93 ∷ elements
-begins_as item elements h e d = first_of item 0x93 h e ∙ ap (λ (z : List ℕ). 0x93 ∷ z) (sym d)
+pub begins_as : (item elements : List ℕ) (first : ℕ) → 0 < length item → get_or item 0 0 ≡ first → elements ≡ drop 1 item → item ≡ first ∷ elements
+begins_as item elements first h e d = first_of item first h e ∙ ap (λ (z : List ℕ). first ∷ z) (sym d)
 
 short_header : (n : ℕ) → n < 32 → IsScalarHeader kind.Str n ((0xa0 + n) ∷ [])
 short_header n h = subst (λ (s : Shape). Sizes s kind.Str n []) (sym (fixstr n h)) (refl, refl, refl)
@@ -139,6 +139,57 @@ seconds_found (x ∷ more) h e m = record {
   whole = ap (λ (b : ℕ). b ∷ more) e ∙ ap (λ (z : List ℕ). 0xce ∷ z) (cut_at more 4 (omega arith));
 }
 
+-- the two parts of an event
+record Event (event : List ℕ) : Type 0 where
+  time : List ℕ
+  fields : List ℕ
+  time_part : IsPart time
+  fields_part : IsPart fields
+  is_time : IsTime time
+  is_record : IsRecord fields
+  whole : event ≡ time ++ fields
+
+-- where the bytes are two parts, what they begin with is the one, and the other a record
+event_of : (event b c : List ℕ) → IsPart b → IsPart c → event ≡ b ++ (c ++ []) → BeginsEvent event → Event event
+event_of event b c p q w v =
+    let i : IsItem v.time = record { item = scalar_is_item v.time (time_scalar v.time v.is_time) } in
+    let e : v.time ++ v.first ∷ v.rest ≡ b ++ (c ++ []) = sym v.whole ∙ w in
+    let first = same_front v.time b (v.first ∷ v.rest) (c ++ []) i (part_item b p) e in
+    let second : v.first ∷ v.rest ≡ c = same_behind v.time b (v.first ∷ v.rest) (c ++ []) i (part_item b p) e ∙ append-nil c in
+    let fields = subst IsPart (sym second) q in
+    record {
+      time = v.time;
+      fields = v.first ∷ v.rest;
+      time_part = subst IsPart (sym first) p;
+      fields_part = fields;
+      is_time = v.is_time;
+      is_record = begins_record (v.first ∷ v.rest) (part_item (v.first ∷ v.rest) fields) (map_family v.first v.map);
+      whole = v.whole;
+    }
+
+event_stored : (event : List ℕ) → length event < longest → Event event → IsStored (0x92 ∷ event)
+event_stored event short v =
+    let n : length v.time + length v.fields < longest = omega (arith, ap length v.whole, length-append v.time v.fields) in
+    subst IsStored (ap (λ (z : List ℕ). 0x92 ∷ z) (sym v.whole)) (stored_is v.time v.fields v.time_part v.fields_part v.is_time v.is_record n)
+
+-- ---- entries
+
+two_header : IsContainerHeader container.Array 2 (0x92 ∷ [])
+unfolding shape_of
+two_header = (refl, refl, refl)
+
+pub entry_is_stored : (entry event : List ℕ) → IsTextItem entry → entry ≡ 0x92 ∷ event → BeginsEvent event → IsStored entry
+entry_is_stored entry event t e v = parts r.0 r.1 r.2 r.3
+  where
+    r : (items : List (List ℕ)) × (2 ≡ length items) × AllByRecursion IsPart items × (event ≡ concat items)
+    r = row_items 2 event (container_parts container.Array 2 (0x92 ∷ []) event (subst IsTextItem e t) two_header)
+
+    parts : (items : List (List ℕ)) → 2 ≡ length items → AllByRecursion IsPart items → event ≡ concat items → IsStored entry
+    parts [] n p w = absurd (omega arith)
+    parts (a ∷ []) n p w = absurd (omega arith)
+    parts (a ∷ b ∷ c ∷ xs) n p w = absurd (omega arith)
+    parts (a ∷ b ∷ []) n p w = subst IsStored (sym e) (event_stored event (omega (arith, t.short, ap length e)) (event_of event a b p.0 p.1.0 w v))
+
 -- ---- messages
 
 three_header : IsContainerHeader container.Array 3 (0x93 ∷ [])
@@ -160,32 +211,27 @@ one_event_is item tag event elements t e s v = parts r.0 r.1 r.2 r.3
     r : (items : List (List ℕ)) × (3 ≡ length items) × AllByRecursion IsPart items × (inner ≡ concat items)
     r = row_items 3 inner (container_parts container.Array 3 (0x93 ∷ []) inner (subst IsTextItem spelled t) three_header)
 
-    of : (time fields : List ℕ) → IsPart front → IsPart time → IsPart fields → IsTime time → BeginsAs 8 fields → event ≡ time ++ fields → IsOneEvent item tag event
-    of time fields p q o i b w =
-        let is_record = begins_record fields (part_item fields o) b in
-        let size = ap length spelled in
-        let short : length time + length fields < longest = omega (arith, t.short, length-append front event, ap length w, length-append time fields) in
-        let same : stored_entry time fields ≡ 0x92 ∷ event = ap (λ (z : List ℕ). 0x92 ∷ z) (sym w) in
-        record {
-          message = record {
-            item = t;
-            frame = record { tag = front; carrier = Single time fields; option = None };
-            framed = record {
-              elements = front ∷ time ∷ fields ∷ [];
-              array = record {
-                header = 0x93 ∷ [];
-                counted = three_header;
-                each = (p, (q, (o, tt)));
-                whole = spelled ∙ ap (λ (z : List ℕ). 0x93 ∷ (front ++ z)) (w ∙ ap (λ (z : List ℕ). time ++ z) (sym (append-nil fields)));
-              };
-              laid_out = (refl, no_array_time time i, no_text_time time i);
-            };
-            tag = (inl s.is_str, (let n = s.short in omega arith));
-            entries = (i, is_record, ap (λ (z : List ℕ). z ∷ []) (sym same));
-            ack = refl;
+    of : IsPart front → Event event → IsOneEvent item tag event
+    of p x = record {
+      message = record {
+        item = t;
+        frame = record { tag = front; carrier = Single x.time x.fields; option = None };
+        framed = record {
+          elements = front ∷ x.time ∷ x.fields ∷ [];
+          array = record {
+            header = 0x93 ∷ [];
+            counted = three_header;
+            each = (p, (x.time_part, (x.fields_part, tt)));
+            whole = spelled ∙ ap (λ (z : List ℕ). 0x93 ∷ (front ++ z)) (x.whole ∙ ap (λ (z : List ℕ). x.time ++ z) (sym (append-nil x.fields)));
           };
-          stored = subst IsStored same (stored_is time fields q o i is_record short);
-        }
+          laid_out = (refl, no_array_time x.time x.is_time, no_text_time x.time x.is_time);
+        };
+        tag = (inl s.is_str, (let n = s.short in omega arith));
+        entries = (x.is_time, x.is_record, ap (λ (z : List ℕ). (0x92 ∷ z) ∷ []) x.whole);
+        ack = refl;
+      };
+      stored = event_stored event (omega (arith, t.short, ap length spelled, length-append front event)) x;
+    }
 
     parts : (items : List (List ℕ)) → 3 ≡ length items → AllByRecursion IsPart items → inner ≡ concat items → IsOneEvent item tag event
     parts [] n p w = absurd (omega arith)
@@ -194,9 +240,6 @@ one_event_is item tag event elements t e s v = parts r.0 r.1 r.2 r.3
     parts (a ∷ b ∷ c ∷ d ∷ xs) n p w = absurd (omega arith)
     parts (a ∷ b ∷ c ∷ []) n p w =
         let i : IsItem front = record { item = scalar_is_item front (record { kind = kind.Str; content = tag; spelled = s.is_str }) } in
-        let j : IsItem v.time = record { item = scalar_is_item v.time (time_scalar v.time v.is_time) } in
         let first = same_front front a event (b ++ (c ++ [])) i (part_item a p.0) w in
         let behind = same_behind front a event (b ++ (c ++ [])) i (part_item a p.0) w in
-        let second = same_front v.time b (v.first ∷ v.rest) (c ++ []) j (part_item b p.1.0) (sym v.whole ∙ behind) in
-        let third : v.first ∷ v.rest ≡ c = same_behind v.time b (v.first ∷ v.rest) (c ++ []) j (part_item b p.1.0) (sym v.whole ∙ behind) ∙ append-nil c in
-        of v.time (v.first ∷ v.rest) (subst IsPart (sym first) p.0) (subst IsPart (sym second) p.1.0) (subst IsPart (sym third) p.1.1.0) v.is_time (map_family v.first v.map) v.whole
+        of (subst IsPart (sym first) p.0) (event_of event b c p.1.0 p.1.1.0 behind v)

@@ -1,7 +1,8 @@
-//! Messages of one event that are spelled as clients usually do, told by a few bytes.
+//! Messages of one event and entries that are spelled as clients usually do, told by a few bytes.
 
 ghost use Rattle.std.specs.Prelude.{◌≡◌, ◌++◌, ◌≤◌, length, drop, IfSome, IsTrue};
 ghost use Rattle.msgpack_bytes.specs.Item.{IsTextItem};
+ghost use Rattle.event_modes.specs.Rows.{IsStored};
 ghost use Rattle.event_modes.specs.Usual.{BeginsStr, BeginsMap, BeginsEvent, IsOneEvent};
 
 /// What a message of one event says that has no option.
@@ -28,6 +29,19 @@ pub fn usual_of(item: &[u8]) -> Option<Usual<'_>>
     } else {
         None
     }
+}
+
+/// Whether an entry is spelled as it is stored, and its time and record begin as clients usually spell them.
+/// Any other entry is for the walk over its elements.
+pub fn is_usual_entry(entry: &[u8]) -> bool
+    requires { IsTextItem entry.now }
+    ensures { IsTrue result → IsStored entry.now }
+{
+    if entry[0] != 0x92 {
+        return false;
+    }
+    let (_, event) = entry.split_at(1);
+    begins_event(event)
 }
 
 // The content of the str of at most 255 bytes that the bytes begin with, and what is behind it.
