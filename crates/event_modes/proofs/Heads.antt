@@ -64,7 +64,7 @@ has_head bytes t none =
 
 -- ---- the parts of a container
 
-no_scalar : (k : Kind) (c : Container) → family_of k ≡ family_in c → ⊥
+pub no_scalar : (k : Kind) (c : Container) → family_of k ≡ family_in c → ⊥
 no_scalar k c e = omega (arith, low k, high c)
   where
     low : (k : Kind) → family_of k < 7
@@ -83,7 +83,7 @@ no_scalar k c e = omega (arith, low k, high c)
     high container.Array = omega arith
     high container.Map = omega arith
 
-same_container : (c d : Container) → family_in c ≡ family_in d → c ≡ d
+pub same_container : (c d : Container) → family_in c ≡ family_in d → c ≡ d
 same_container container.Array container.Array e = refl
 same_container container.Array container.Map e = absurd (omega arith)
 same_container container.Map container.Array e = absurd (omega arith)
@@ -121,7 +121,7 @@ spells_all k item front back content t s e =
 -- ---- arrays
 
 -- parts in a row are a list of parts
-row_items : (n : ℕ) (inner : List ℕ) → Row (Item 63) n inner → (items : List (List ℕ)) × (n ≡ length items) × AllByRecursion IsPart items × (inner ≡ concat items)
+pub row_items : (n : ℕ) (inner : List ℕ) → Row (Item 63) n inner → (items : List (List ℕ)) × (n ≡ length items) × AllByRecursion IsPart items × (inner ≡ concat items)
 row_items zero inner p = ([], refl, tt, p)
 row_items (suc n) inner p =
     let r = row_items n p.1 p.3 in
@@ -142,7 +142,7 @@ no_array item other p none items a = let e = one_family item other 7 p (array_be
 -- ---- maps
 
 -- twice as many parts in a row are a list of pairs
-row_pairs : (n : ℕ) (inner : List ℕ) → Row (Item 63) (2 * n) inner → (pairs : List Pair) × (n ≡ length pairs) × AllByRecursion IsPair pairs × (inner ≡ flat_map pair_bytes pairs)
+pub row_pairs : (n : ℕ) (inner : List ℕ) → Row (Item 63) (2 * n) inner → (pairs : List Pair) × (n ≡ length pairs) × AllByRecursion IsPair pairs × (inner ≡ flat_map pair_bytes pairs)
 row_pairs zero inner p = ([], refl, tt, p)
 row_pairs (suc n) inner p =
     let two : 2 * suc n ≡ suc (suc (2 * n)) = omega arith in

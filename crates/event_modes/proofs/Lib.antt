@@ -16,4 +16,5 @@ pub mod Only
 pub mod Texts
 pub mod Written
 pub mod Again
+pub mod Alone
 pub mod Aheads

@@ -37,6 +37,12 @@ push_stored count bytes entry a s =
       last = r.1;
     }
 
+-- one entry alone
+pub one_stored : (bytes entry : List ℕ) → bytes ≡ entry → IsStored entry → AreStored 1 bytes × (items_of 1 bytes ≡ entry ∷ [])
+one_stored bytes entry e s =
+    let p = push_stored 0 [] entry (none_stored [] refl) s in
+    (subst (AreStored 1) (sym e) p.stored, ap (items_of 1) e ∙ p.last ∙ ap (λ (xs : List (List ℕ)). xs ++ entry ∷ []) (no_items []))
+
 pub no_longer : (xs : List (List ℕ)) → AllByRecursion IsStored xs → length xs ≤ length (concat xs)
 no_longer [] p = omega arith
 no_longer (x ∷ xs) p =

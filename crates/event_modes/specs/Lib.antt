@@ -6,6 +6,7 @@ pub mod Stream
 pub mod Laws
 pub mod Faults
 pub mod Rows
+pub mod Usual
 pub mod Reading
 pub mod Places
 pub mod Pairs

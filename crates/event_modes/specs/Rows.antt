@@ -1,5 +1,5 @@
 -- Items, and stored entries, one after another as one list of bytes.
-use Rattle.std.specs.Prelude.{ℕ, zero, suc, ◌≡◌, ◌-◌, List, [], ◌∷◌, length, take}
+use Rattle.std.specs.Prelude.{ℕ, zero, suc, ◌≡◌, ◌-◌, List, [], ◌∷◌, ◌++◌, length, take}
 use Rattle.std.specs.Result.{result_unwrap_or}
 use Rattle.std.specs.List.{AllByRecursion, concat}
 use Rattle.msgpack_bytes.specs.Item.{deepest, IsTextItem}
@@ -40,3 +40,9 @@ pub record AreEntries (entries : List (List ℕ)) (count : ℕ) (bytes : List �
 -- the bytes are so many stored entries
 abbrev pub SomeEntries : ℕ → List ℕ → Type 0
 SomeEntries count bytes = (entries : List (List ℕ)) × AreEntries entries count bytes
+
+-- the entries are those before, and behind them that of this item
+pub record IsAdded (item : List ℕ) (before entries : List (List ℕ)) : Type 0 where
+  pub stored : List ℕ
+  pub entry : IsEntry item stored
+  pub all : entries ≡ before ++ stored ∷ []

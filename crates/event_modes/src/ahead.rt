@@ -4,7 +4,7 @@ ghost use Rattle.std.specs.Prelude.{ℕ, List, ◌≡◌};
 ghost use Rattle.msgpack_bytes.specs.Answers.{IsScanned};
 ghost use Rattle.event_modes.specs.Ahead.{IsGiven};
 
-use msgpack_bytes::{Scan, Scanner, Taken, scan};
+use msgpack_bytes::{Scan, Scanner, Taken, item_end};
 
 /// A scan of unread bytes, of which more can come: it goes on where it stopped. An item that is whole at the first scan
 /// takes no scanner; the bytes of one that isn't are given to it then, so each byte is looked at twice at most.
@@ -43,9 +43,8 @@ impl Ahead {
         ensures given { IsGiven self.new unread.now }
     {
         if self.given == 0 {
-            let found = scan(unread, 0);
-            if !matches!(found, Scan::Need) {
-                return found;
+            if let Some(end) = item_end(unread) {
+                return Scan::End(end);
             }
         }
         self.go_on(unread)

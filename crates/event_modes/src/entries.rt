@@ -4,8 +4,8 @@ ghost use Rattle.std.specs.Prelude.{◌≡◌, ◌++◌, ◌⊎◌, ℕ, List, M
 ghost use Rattle.msgpack_bytes.specs.Item.{IsTextItem};
 ghost use Rattle.msgpack_bytes.specs.Containers.{IsArray};
 ghost use Rattle.event_modes.specs.Message.{Carrier, Single, Forward, Packed, Carries};
-ghost use Rattle.event_modes.specs.Faults.{CarriedFault, PackedEnd};
-ghost use Rattle.event_modes.specs.Rows.{IsStored, SomeEntries};
+ghost use Rattle.event_modes.specs.Faults.{CarriedFault, EntryFault, PackedEnd};
+ghost use Rattle.event_modes.specs.Rows.{IsAdded, IsStored, SomeEntries};
 ghost use Rattle.event_modes.specs.Places.{carrier_of, CanCarry, Finds};
 
 use crate::entry::{entry_of, event_of};
@@ -13,6 +13,7 @@ use crate::fault::{FeedError, ModeFault};
 use crate::item::array_of;
 use crate::message::Entries;
 use crate::places::Carried;
+use crate::usual::is_usual_entry;
 use msgpack_bytes::{Scan, scan};
 use std::alloc::Allocator;
 
@@ -47,8 +48,7 @@ fn forward<A: Allocator>(alloc: A, array: &[u8]) -> Result<Entries<A>, FeedError
         unreachable!();
     };
     while let Some(entry) = items.next() {
-        let event = entry_of(entry)?;
-        entries.push(event.time, event.fields)?;
+        add(&mut entries, entry)?;
     }
     Ok(entries)
 }
@@ -60,11 +60,24 @@ fn packed<A: Allocator>(alloc: A, content: &[u8]) -> Result<Entries<A>, FeedErro
     let mut rest = content;
     while !rest.is_empty() {
         let (entry, behind) = packed_entry(rest)?;
-        let event = entry_of(entry)?;
-        entries.push(event.time, event.fields)?;
+        add(&mut entries, entry)?;
         rest = behind;
     }
     Ok(entries)
+}
+
+// Adds the event of an entry, as it is stored.
+fn add<A: Allocator>(entries: &mut Entries<A>, entry: &[u8]) -> Result<(), FeedError>
+    requires { IsTextItem entry.now }
+    ensures { Finds (λ _. IsAdded entry.now entries.old entries.new) (λ fault. EntryFault fault entry.now) result }
+{
+    if is_usual_entry(entry) {
+        entries.push_stored(entry)?;
+        return Ok(());
+    }
+    let event = entry_of(entry)?;
+    entries.push(event.time, event.fields)?;
+    Ok(())
 }
 
 // The next of packed entries, and what is behind it. Nesting is counted anew for each.

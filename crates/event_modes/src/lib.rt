@@ -16,6 +16,7 @@ mod option;
 mod packed;
 mod places;
 mod reading;
+mod usual;
 
 pub use acks::{AckRead, put_ack, read_ack};
 pub use chunk_id::ChunkId;

@@ -88,6 +88,28 @@ impl<A: Allocator> Entries<A> {
         Ok(())
     }
 
+    /// One alone, whose time and record these are, one behind the other.
+    pub(crate) fn of_event(alloc: A, event: &[u8]) -> Result<Self, AllocError>
+        requires { IsStored (0x92 ∷ event.now) }
+        ensures { IfOk result (λ entries. entries ≡ (0x92 ∷ event.now) ∷ []) }
+    {
+        let mut bytes = Vec::with_capacity(alloc, 1 + event.len())?;
+        bytes.push_reserved(0x92);
+        bytes.extend_from_slice(event)?;
+        Ok(Entries { bytes, count: 1 })
+    }
+
+    /// One more, as it is stored. An `Err` leaves it out.
+    pub(crate) fn push_stored(&mut self, entry: &[u8]) -> Result<(), AllocError>
+        requires { IsStored entry.now }
+        ensures ok { OnOk result (self.new ≡ self.old ++ entry.now ∷ []) }
+        ensures err { OnErr result (self.new ≡ self.old) }
+    {
+        self.bytes.extend_from_slice(entry)?;
+        self.count += 1;
+        Ok(())
+    }
+
     /// One more, which an `Err` leaves out.
     pub(crate) fn push(&mut self, time: &[u8], fields: &[u8]) -> Result<(), AllocError>
         requires { IsStored (stored_entry time.now fields.now) }

@@ -1,11 +1,13 @@
 //! What bytes begin with.
 
-ghost use Rattle.std.specs.Prelude.{◌≡◌, ℕ, List, option_map, IfOk, MatchResult};
+ghost use Rattle.std.specs.Prelude.{◌≡◌, ◌∷◌, ℕ, List, option_map, IfOk, MatchResult};
 ghost use Rattle.msgpack_bytes.specs.Item.{IsTextItem};
 ghost use Rattle.msgpack_bytes.specs.Answers.{IsScanned};
 ghost use Rattle.msgpack_bytes.specs.Kinds.{IsNil};
 ghost use Rattle.event_modes.specs.Message.{IsTag, IsMessage};
 ghost use Rattle.event_modes.specs.Faults.{ItemFault};
+ghost use Rattle.event_modes.specs.Rows.{IsStored};
+ghost use Rattle.event_modes.specs.Usual.{one_event};
 ghost use Rattle.event_modes.specs.Ahead.{IsGiven};
 ghost use Rattle.event_modes.specs.Places.{Finds};
 ghost use Rattle.event_modes.specs.Pairs.{bytes_of};
@@ -15,9 +17,10 @@ use crate::ahead::Ahead;
 use crate::entries::entries_of;
 use crate::fault::{FeedError, ModeFault};
 use crate::item::is_nil;
-use crate::message::{Message, Read};
+use crate::message::{Entries, Message, Read};
 use crate::option::ack_of;
 use crate::places::places_of;
+use crate::usual::{Usual, usual_of};
 use msgpack_bytes::{Scan, scan, text_of};
 use std::alloc::{AllocError, Allocator};
 
@@ -79,6 +82,30 @@ fn read_item<A: Allocator + Copy>(alloc: A, item: &[u8]) -> Result<Read<A>, Allo
 }
 
 fn message_of<A: Allocator + Copy>(alloc: A, item: &[u8]) -> Result<Message<A>, FeedError>
+    requires item { IsTextItem item.now }
+    requires some { IsNil item.now → ⊥ }
+    ensures { Finds (λ found. IsMessage item.now (meaning found)) (ItemFault item.now) result }
+{
+    match usual_of(item) {
+        Some(usual) => Ok(copied(alloc, usual)?),
+        None => walked(alloc, item),
+    }
+}
+
+// The same message, with the bytes that it keeps.
+fn copied<A: Allocator + Copy>(alloc: A, usual: Usual<'_>) -> Result<Message<A>, AllocError>
+    requires { IsStored (0x92 ∷ usual.event.now) }
+    ensures { IfOk result (λ found. meaning found ≡ one_event usual.entry.tag.now usual.entry.event.now) }
+{
+    Ok(Message {
+        tag: Vec::from_slice(alloc, usual.tag)?,
+        entries: Entries::of_event(alloc, usual.event)?,
+        ack: None,
+    })
+}
+
+// The message, by a walk over its elements.
+fn walked<A: Allocator + Copy>(alloc: A, item: &[u8]) -> Result<Message<A>, FeedError>
     requires item { IsTextItem item.now }
     requires some { IsNil item.now → ⊥ }
     ensures { Finds (λ found. IsMessage item.now (meaning found)) (ItemFault item.now) result }

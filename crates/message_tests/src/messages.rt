@@ -16,12 +16,27 @@ struct Case {
     ack: &'static [u8],
 }
 
-const CASES: [Case; 9] = [
+const CASES: [Case; 11] = [
     // Message mode.
     Case {
         bytes: b"\x93\xa1\x61\x01\x81\xa1\x6b\xa1\x76",
         tag: b"a",
         entries: b"\x92\x01\x81\xa1\x6b\xa1\x76",
+        count: 1,
+        ack: b"",
+    },
+    // The same as clients usually spell it, with either time and either str.
+    Case {
+        bytes: b"\x93\xa1\x61\xd7\x00\x00\x00\x00\x01\x00\x00\x00\x02\x81\xa1\x6b\xa1\x76",
+        tag: b"a",
+        entries: b"\x92\xd7\x00\x00\x00\x00\x01\x00\x00\x00\x02\x81\xa1\x6b\xa1\x76",
+        count: 1,
+        ack: b"",
+    },
+    Case {
+        bytes: b"\x93\xd9\x03a.b\xce\x00\x00\x00\x01\xde\x00\x00",
+        tag: b"a.b",
+        entries: b"\x92\xce\x00\x00\x00\x01\xde\x00\x00",
         count: 1,
         ack: b"",
     },

@@ -2,16 +2,14 @@
 use Rattle.std.proofs.Common.{ℕ, ◌≡◌, ◌+◌, ◌-◌, ◌<◌, ◌≤◌, Bool, true, nat_le, List, ◌∷◌, length, drop, slice_index, slice_set, replicate, refl, ap, sym, subst, ◌∙◌, arith, length-set}
 use Rattle.std.proofs.lemmas.List.{set-set, set-get_or}
 use Rattle.msgpack_bytes.specs.declared.answers.Scan.TheVariants as scan
-use Rattle.msgpack_bytes.specs.declared.answers.MsgFault.TheVariants as fault
 use Rattle.msgpack_bytes.specs.declared.format.Step.TheVariants as step
 use Rattle.msgpack_bytes.specs.Item.{longest}
 use Rattle.msgpack_bytes.specs.Answers.{IsScanned}
 use Rattle.msgpack_bytes.specs.Pieces.{State}
 use Rattle.msgpack_bytes.specs.Steps.{step_of}
-use Rattle.msgpack_bytes.proofs.Opened.{missing_some}
 use Rattle.msgpack_bytes.proofs.Stack.{owed_below, finish_below, set_here}
-use Rattle.msgpack_bytes.proofs.StepFacts.{told, run_lacks}
-use Rattle.msgpack_bytes.proofs.States.{state_start, state_end, state_pop, state_whole, state_opens, state_wrong, state_deep, state_lacks, state_lacks_long, state_whole_long, state_opens_long}
+use Rattle.msgpack_bytes.proofs.StepFacts.{told}
+use Rattle.msgpack_bytes.proofs.States.{state_start, state_end, state_pop, state_whole, state_opens}
 
 -- ---- the sizes of steps
 
@@ -20,13 +18,6 @@ whole_some may_open rest size e = let w = told may_open rest (step.Whole size) e
 
 pub opens_some : (may_open : Bool) (rest : List ℕ) (items size : ℕ) → step.Opens items size ≡ step_of may_open rest → (0 < size) × (size ≤ length rest)
 opens_some may_open rest items size e = let w = told may_open rest (step.Opens items size) e in (w.0.some, w.0.there)
-
-pub lacks_some : (may_open : Bool) (rest : List ℕ) (size : ℕ) → step.Lacks size ≡ step_of may_open rest → 0 < size
-lacks_some may_open rest size e =
-    let l = told may_open rest (step.Lacks size) e in
-    let n = missing_some 1 l.n rest (run_lacks 0 l.n rest l.front) in
-    let size_is = l.all in
-    omega arith
 
 -- ---- the first item
 
@@ -39,29 +30,11 @@ Begun bytes at = State bytes at at first_missing 1 16777215
 pub begun : (bytes : List ℕ) (at : ℕ) → at ≤ length bytes → Begun bytes at
 begun bytes at h = state_start bytes at first_missing h refl refl
 
-module _ (bytes : List ℕ) (at : ℕ) (h : at ≤ length bytes) where
-  pub first_wrong : step.Wrong ≡ step_of true (drop at bytes) → IsScanned bytes at (scan.Bad fault.Reserved)
-  first_wrong e = state_wrong (begun bytes at h) (omega arith) (omega arith) e
-
-  pub first_deep : step.Deep ≡ step_of true (drop at bytes) → IsScanned bytes at (scan.Bad fault.TooDeep)
-  first_deep e = state_deep (begun bytes at h) (omega arith) (omega arith) e
-
-  pub first_lacks : (size : ℕ) → step.Lacks size ≡ step_of true (drop at bytes) → size ≤ longest → IsScanned bytes at scan.Need
-  first_lacks size e fits = state_lacks (begun bytes at h) (omega arith) (omega arith) size e (omega arith)
-
-  pub first_lacks_long : (size : ℕ) → step.Lacks size ≡ step_of true (drop at bytes) → longest < size → IsScanned bytes at (scan.Bad fault.TooLong)
-  first_lacks_long size e past = state_lacks_long (begun bytes at h) (omega arith) (omega arith) size e (omega arith)
-
-  pub first_whole : (size : ℕ) → step.Whole size ≡ step_of true (drop at bytes) → size ≤ longest → IsScanned bytes at (scan.End (at + size))
-  first_whole size e fits = state_end (state_pop (state_whole (begun bytes at h) (omega arith) (omega arith) size e (omega arith)) (omega arith) refl) refl
-
-  pub first_whole_long : (size : ℕ) → step.Whole size ≡ step_of true (drop at bytes) → longest < size → IsScanned bytes at (scan.Bad fault.TooLong)
-  first_whole_long size e past = state_whole_long (begun bytes at h) (omega arith) (omega arith) size e (omega arith)
-
-  pub first_opens_long : (items size : ℕ) → step.Opens items size ≡ step_of true (drop at bytes) → longest < size + items → IsScanned bytes at (scan.Bad fault.TooLong)
-  first_opens_long items size e past =
-      let some = opens_some true (drop at bytes) items size e in
-      state_opens_long (begun bytes at h) (omega arith) (omega arith) items size e (omega arith)
+pub first_whole : (bytes : List ℕ) (size : ℕ) → step.Whole size ≡ step_of true bytes → size ≤ longest → IsScanned bytes 0 (scan.End size)
+first_whole bytes size e fits =
+    let here : 0 + size ≡ size = omega arith in
+    subst (λ (n : ℕ). IsScanned bytes 0 (scan.End n)) here
+    (state_end (state_pop (state_whole (begun bytes 0 (omega arith)) (omega arith) (omega arith) size e (omega arith)) (omega arith) refl) refl)
 
 -- ---- the items of a container
 
@@ -128,24 +101,6 @@ module _ {bytes : List ℕ} {at i : ℕ} {missing : List ℕ} {left levels room 
 
   one_less : slice_set stack (levels - 1) (slice_index stack (levels - 1) - 1) ≡ slice_set missing (levels - 1) (left - 1)
   one_less = ap (λ (n : ℕ). slice_set stack (levels - 1) (n - 1)) here ∙ set-set missing (levels - 1) left (left - 1)
-
-  pub keeps_wrong : step.Wrong ≡ step_of (nat_le levels 64) (drop i bytes) → IsScanned bytes at (scan.Bad fault.Reserved)
-  keeps_wrong e = state_wrong k.state some some_here e
-
-  pub keeps_deep : step.Deep ≡ step_of (nat_le levels 64) (drop i bytes) → IsScanned bytes at (scan.Bad fault.TooDeep)
-  keeps_deep e = state_deep k.state some some_here e
-
-  pub keeps_lacks : (size : ℕ) → step.Lacks size ≡ step_of (nat_le levels 64) (drop i bytes) → size - 1 ≤ room → IsScanned bytes at scan.Need
-  keeps_lacks size e fits = state_lacks k.state some some_here size e fits
-
-  pub keeps_lacks_long : (size : ℕ) → step.Lacks size ≡ step_of (nat_le levels 64) (drop i bytes) → room < size - 1 → IsScanned bytes at (scan.Bad fault.TooLong)
-  keeps_lacks_long size e past = state_lacks_long k.state some some_here size e past
-
-  pub keeps_whole_long : (size : ℕ) → step.Whole size ≡ step_of (nat_le levels 64) (drop i bytes) → room < size - 1 → IsScanned bytes at (scan.Bad fault.TooLong)
-  keeps_whole_long size e past = state_whole_long k.state some some_here size e past
-
-  pub keeps_opens_long : (items size : ℕ) → step.Opens items size ≡ step_of (nat_le levels 64) (drop i bytes) → room < size - 1 + items → IsScanned bytes at (scan.Bad fault.TooLong)
-  keeps_opens_long items size e past = state_opens_long k.state some some_here items size e past
 
   pub keeps_whole : (size : ℕ) → step.Whole size ≡ step_of (nat_le levels 64) (drop i bytes) → size - 1 ≤ room → Keeps bytes at (i + size) missing (left - 1) levels (room - (size - 1))
   keeps_whole size e fits = record {

@@ -2,16 +2,17 @@
 use Rattle.std.proofs.Common.{ℕ, suc, ◌≡◌, ◌+◌, ◌-◌, ◌<◌, ◌≤◌, true, nat_le, List, [], ◌∷◌, ◌++◌, length, drop, slice_index, slice_set, replicate, refl, sym, subst, ◌∙◌, arith, length-append, length-drop}
 use Rattle.std.proofs.lemmas.List.{set-append_left, get_or_append_left}
 use Rattle.msgpack_bytes.specs.declared.answers.Scan.TheVariants as scan
-use Rattle.msgpack_bytes.specs.declared.answers.MsgFault.TheVariants as fault
 use Rattle.msgpack_bytes.specs.declared.format.Step.TheVariants as step
 use Rattle.msgpack_bytes.specs.Item.{longest}
 use Rattle.msgpack_bytes.specs.Answers.{IsScanned}
 use Rattle.msgpack_bytes.specs.Pieces.{owed}
-use Rattle.msgpack_bytes.specs.Steps.{step_of}
-use Rattle.msgpack_bytes.proofs.Slices.{at_most}
+use Rattle.msgpack_bytes.specs.declared.format.Told.TheVariants as told
+use Rattle.msgpack_bytes.specs.Steps.{step_of, told_of}
+use Rattle.msgpack_bytes.proofs.Slices.{at_most, at_most_true}
+use Rattle.msgpack_bytes.proofs.Alike.{told_whole, told_opens}
 use Rattle.msgpack_bytes.proofs.Stack.{set_here}
 use Rattle.msgpack_bytes.proofs.StepFacts.{told}
-use Rattle.msgpack_bytes.proofs.Innermost.{Keeps, whole_some, opens_some, keeps_first, keeps_end, keeps_last, keeps_pop, keeps_wrong, keeps_deep, keeps_lacks, keeps_lacks_long, keeps_whole, keeps_whole_long, keeps_opens, keeps_opens_long}
+use Rattle.msgpack_bytes.proofs.Innermost.{Keeps, whole_some, opens_some, keeps_first, keeps_end, keeps_last, keeps_pop, keeps_whole, keeps_opens}
 
 -- the counts, and one for a level with none inside it; each item that is missing takes one byte or more
 pub record Reaches (bytes : List ℕ) (i : ℕ) (missing : List ℕ) (left levels limit : ℕ) : Type 0 where
@@ -71,24 +72,6 @@ module _ {bytes : List ℕ} {i : ℕ} {missing : List ℕ} {left levels limit : 
       record { keeps = k; fits = omega arith; short = omega arith; some = some }
 
   module _ (top : 0 < left) where
-    pub reach_wrong : step.Wrong ≡ step_of (nat_le levels 64) (drop i bytes) → IsScanned bytes 0 (scan.Bad fault.Reserved)
-    reach_wrong e = keeps_wrong r.keeps r.some top e
-
-    pub reach_deep : step.Deep ≡ step_of (nat_le levels 64) (drop i bytes) → IsScanned bytes 0 (scan.Bad fault.TooDeep)
-    reach_deep e = keeps_deep r.keeps r.some top e
-
-    pub reach_lacks : (size : ℕ) → step.Lacks size ≡ step_of (nat_le levels 64) (drop i bytes) → i + size + (left - 1) ≤ limit → IsScanned bytes 0 scan.Need
-    reach_lacks size e fits = let all = r.fits in keeps_lacks r.keeps r.some top size e (omega arith)
-
-    pub reach_lacks_long : (size : ℕ) → step.Lacks size ≡ step_of (nat_le levels 64) (drop i bytes) → limit < i + size + (left - 1) → IsScanned bytes 0 (scan.Bad fault.TooLong)
-    reach_lacks_long size e past = let all = r.fits in keeps_lacks_long r.keeps r.some top size e (omega arith)
-
-    pub reach_whole_long : (size : ℕ) → step.Whole size ≡ step_of (nat_le levels 64) (drop i bytes) → limit < i + size + (left - 1) → IsScanned bytes 0 (scan.Bad fault.TooLong)
-    reach_whole_long size e past = let all = r.fits in keeps_whole_long r.keeps r.some top size e (omega arith)
-
-    pub reach_opens_long : (items size : ℕ) → step.Opens items size ≡ step_of (nat_le levels 64) (drop i bytes) → limit < i + size + (left - 1) + items → IsScanned bytes 0 (scan.Bad fault.TooLong)
-    reach_opens_long items size e past = let all = r.fits in keeps_opens_long r.keeps r.some top items size e (omega arith)
-
     pub reach_whole : (size : ℕ) → step.Whole size ≡ step_of (nat_le levels 64) (drop i bytes) → i + size + (left - 1) ≤ limit → Reaches bytes (i + size) missing (left - 1) levels limit
     reach_whole size e fits =
         let all = r.fits in
@@ -100,9 +83,6 @@ module _ {bytes : List ℕ} {i : ℕ} {missing : List ℕ} {left levels limit : 
           short = r.short;
           some = r.some;
         }
-
-    pub reach_single : step.Whole 1 ≡ step_of (nat_le levels 64) (drop i bytes) → Reaches bytes (i + 1) missing (left - 1) levels limit
-    reach_single e = let all = r.fits in reach_whole 1 e (omega arith)
 
     pub reach_opens : (items size : ℕ) → step.Opens items size ≡ step_of (nat_le levels 64) (drop i bytes) → i + size + (left - 1) + items ≤ limit
         → Reaches bytes (i + size) (slice_set missing (levels - 1) (left - 1)) items (levels + 1) (limit - (left - 1))
@@ -122,4 +102,67 @@ module _ {bytes : List ℕ} {i : ℕ} {missing : List ℕ} {left levels limit : 
           fits = omega arith;
           short = let short = r.short in omega arith;
           some = omega arith;
+        }
+
+-- ---- the same in what is there
+
+-- the level has to end so that each item that is missing outside it has room for one byte, among the bytes that are there too
+pub record Bounded (bytes : List ℕ) (i : ℕ) (missing : List ℕ) (left levels limit : ℕ) : Type 0 where
+  pub spare : ℕ
+  pub reaches : Reaches bytes i missing left levels (limit + spare)
+  pub fits : i + left ≤ limit
+  pub all : longest ≤ length bytes + spare
+
+pub bound_first : (bytes missing : List ℕ) (items size limit : ℕ) → missing ≡ replicate 64 0 → step.Opens items size ≡ step_of true bytes → size + items ≤ limit → limit ≤ longest → longest ≤ length bytes + (longest - limit)
+    → Bounded bytes size missing items 2 limit
+bound_first bytes missing items size limit none e fits most all =
+    let same : longest ≡ limit + (longest - limit) = omega arith in
+    record { spare = longest - limit; reaches = subst (Reaches bytes size missing items 2) same (reach_first bytes missing items size none e (omega arith)); fits = fits; all = all }
+
+module _ {bytes : List ℕ} {i : ℕ} {missing : List ℕ} {left levels limit : ℕ} (b : Bounded bytes i missing left levels limit) where
+  pub bound_within : limit ≤ length bytes
+  bound_within = let most = b.reaches.short in let all = b.all in omega arith
+
+  pub bound_end : left ≡ 0 → levels - 1 ≡ 0 → IsScanned bytes 0 (scan.End i)
+  bound_end none last = reach_end b.reaches none last
+
+  pub bound_pop : left ≡ 0 → (outer : ℕ) → outer ≡ slice_index missing (levels - 1 - 1) → 0 < levels - 1 → Bounded bytes i missing outer (levels - 1) (limit + outer)
+  bound_pop none outer e some =
+      let fits = b.fits in
+      let same : limit + b.spare + outer ≡ limit + outer + b.spare = omega arith in
+      record { spare = b.spare; reaches = subst (Reaches bytes i missing outer (levels - 1)) same (reach_pop b.reaches none outer e some); fits = omega arith; all = b.all }
+
+  module _ (top : 0 < left) where
+    pub bound_here : i < length bytes
+    bound_here = let fits = b.fits in let within = bound_within in omega arith
+
+    behind : length (drop i bytes) ≡ length bytes - i
+    behind = length-drop i bytes
+
+    bound_whole : (size : ℕ) → step.Whole size ≡ step_of (nat_le levels 64) (drop i bytes) → i + size + (left - 1) ≤ limit → Bounded bytes (i + size) missing (left - 1) levels limit
+    bound_whole size e fits = record { spare = b.spare; reaches = reach_whole b.reaches top size e (omega arith); fits = fits; all = b.all }
+
+    pub bound_single : step.Whole 1 ≡ step_of (nat_le levels 64) (drop i bytes) → Bounded bytes (i + 1) missing (left - 1) levels limit
+    bound_single e = let fits = b.fits in bound_whole 1 e (omega arith)
+
+    pub bound_scalar : (size : ℕ) → told.Scalar size ≡ told_of (drop i bytes) → i + size + (left - 1) ≤ limit → Bounded bytes (i + size) missing (left - 1) levels limit
+    bound_scalar size k fits =
+        let here = bound_here in
+        let within = bound_within in
+        let rest = behind in
+        bound_whole size (told_whole (nat_le levels 64) (drop i bytes) size (omega arith) k (omega arith)) fits
+
+    pub bound_container : (items width : ℕ) → told.Container items width ≡ told_of (drop i bytes) → levels ≤ 64 → i + (1 + width) + (left - 1) + items ≤ limit
+        → Bounded bytes (i + (1 + width)) (slice_set missing (levels - 1) (left - 1)) items (levels + 1) (limit - (left - 1))
+    bound_container items width k few fits =
+        let here = bound_here in
+        let within = bound_within in
+        let rest = behind in
+        let e = told_opens (nat_le levels 64) (drop i bytes) items width (at_most_true levels 64 few) (omega arith) k (omega arith) in
+        let same : limit + b.spare - (left - 1) ≡ limit - (left - 1) + b.spare = omega arith in
+        record {
+          spare = b.spare;
+          reaches = subst (Reaches bytes (i + (1 + width)) (slice_set missing (levels - 1) (left - 1)) items (levels + 1)) same (reach_opens b.reaches top items (1 + width) e (omega arith));
+          fits = omega arith;
+          all = b.all;
         }

@@ -81,6 +81,9 @@ slice_on bytes at i n h =
     let same : at + (i - at) ≡ i = omega arith in
     rw split (take-add (i - at) n (drop at bytes) ∙ ap (λ (xs : List ℕ). slice_range bytes at i ++ take n xs) (drop-drop (i - at) at bytes ∙ ap (λ (j : ℕ). drop j bytes) same))
 
+pub at_most_true : (a b : ℕ) → a ≤ b → nat_le a b ≡ true
+at_most_true a b h = grind (arith, common_steps)
+
 pub at_most : (a b : ℕ) → nat_le a b ≡ true → a ≤ b
 at_most a b h = grind (arith, common_steps)
 

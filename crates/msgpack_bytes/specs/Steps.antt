@@ -4,6 +4,8 @@ use Rattle.msgpack_bytes.specs.declared.format.Shape.{Shape}
 use Rattle.msgpack_bytes.specs.declared.format.Shape.TheVariants.{Fixed, Sized, Holds, Counted, Never}
 use Rattle.msgpack_bytes.specs.declared.format.Step.{Step}
 use Rattle.msgpack_bytes.specs.declared.format.Step.TheVariants as step
+use Rattle.msgpack_bytes.specs.declared.format.Told.{Told}
+use Rattle.msgpack_bytes.specs.declared.format.Told.TheVariants as told
 use Rattle.msgpack_bytes.specs.Format.{items_in, shape_of}
 use Rattle.msgpack_bytes.specs.Run.{number}
 
@@ -27,6 +29,31 @@ step_by may_open Never left rest = step.Wrong
 abbrev pub step_of : Bool → List ℕ → Step
 step_of may_open [] = step.Lacks 1
 step_of may_open (first ∷ rest) = step_by may_open (shape_of first) (length rest) rest
+
+-- what the bytes tell behind a first byte of this shape
+abbrev pub told_by : Shape → List ℕ → Told
+told_by (Fixed kind n) rest = told.Scalar (1 + n)
+told_by (Sized kind width extra) rest = told.Scalar (1 + width + (number width rest + extra))
+told_by (Holds container n) rest = told.Container (items_in container n) 0
+told_by (Counted container width) rest = told.Container (items_in container (number width rest)) width
+told_by Never rest = told.Nothing
+
+-- what an item's first bytes tell
+abbrev pub told_of : List ℕ → Told
+told_of [] = told.Nothing
+told_of (first ∷ rest) = told_by (shape_of first) rest
+
+-- the step behind a first byte that tells this, where `left` more are there
+abbrev pub step_told : Bool → Told → ℕ → Step
+step_told may_open (told.Scalar size) left = scalar_step size left
+step_told may_open (told.Container items width) left = if may_open then container_step width items left else step.Deep
+step_told may_open told.Nothing left = step.Wrong
+
+-- what keeps these numbers small
+abbrev pub IsSmallTold : Told → Type 0
+IsSmallTold (told.Scalar size) = size < 2 ^ 33
+IsSmallTold (told.Container items width) = (items < 2 ^ 33) × (width ≤ 4)
+IsSmallTold told.Nothing = Unit {0}
 
 -- a scalar with no content
 abbrev pub IsSingle : Shape → Type 0

@@ -64,6 +64,17 @@ pub struct Count {
     pub next: usize,
 }
 
+/// What the first bytes of an item tell, where those of its length or count that are missing count as 0.
+#[derive(Clone, Copy, Debug, Drop, PartialEq, Eq)]
+pub enum Told {
+    /// A scalar of so many bytes.
+    Scalar(usize),
+    /// A container of so many items, whose count has `width` bytes behind the first one.
+    Container { items: u64, width: usize },
+    /// No item.
+    Nothing,
+}
+
 /// The next step of a scan; `size` and what is bare are counts of bytes.
 #[derive(Clone, Copy, Debug, Drop, PartialEq, Eq)]
 pub enum Step {

@@ -24,5 +24,5 @@ pub use laws::{
 };
 pub use names::last_value;
 pub use scanner::Scanner;
-pub use whole::scan;
+pub use whole::{item_end, scan};
 pub use writer::{put_array, put_bin, put_bool, put_map, put_str, put_uint};

@@ -1,12 +1,12 @@
 // One step of a scan: what stands where an item begins.
-ghost use Rattle.std.specs.Prelude.{ℕ, List, ◌≡◌, ◌+◌, ◌*◌, ◌<◌, ◌≤◌, length, drop, Bool, IsTrue, nat_lt, if◌then◌else◌, ◌^◌};
+ghost use Rattle.std.specs.Prelude.{ℕ, List, ◌≡◌, ◌+◌, ◌<◌, ◌≤◌, length, drop, Bool, IsTrue};
 ghost use Rattle.msgpack_bytes.specs.Format.{items_in};
-ghost use Rattle.msgpack_bytes.specs.Reads.{IsFit};
-ghost use Rattle.msgpack_bytes.specs.Steps.{IsNext, IsSmall, BeginsSame, step_by, step_of};
+ghost use Rattle.msgpack_bytes.specs.Run.{number};
+ghost use Rattle.msgpack_bytes.specs.Steps.{IsNext, IsSmall, IsSmallTold, BeginsSame, step_of, step_told, told_of};
 
-use crate::format::{Container, Shape, Step};
-use crate::number::{byte, number_at};
-use crate::table::{is_single, shape};
+use crate::format::{Container, Step, Told};
+use crate::number::number_at;
+use crate::table::is_single;
 
 /// The step where the next item begins, of which `came` bytes stood in earlier pieces; the others are those of this
 /// piece from `at` on. `front` has the first five of all, with 0 for those that are missing, where some came before.
@@ -31,140 +31,121 @@ fn cut_step(front: &[u8; 5], len: usize, may_open: bool) -> Step
     ensures is { (all : List ℕ) → length all ≡ len → BeginsSame 5 front.now all → result ≡ step_of may_open all }
     ensures small { IsSmall result }
 {
-    step_behind(front, 1, len - 1, shape(front[0]), may_open)
+    step_from(tell(front, 0), len - 1, may_open)
 }
 
-/// The step at `at`; those of a log's usual items are told by the first byte alone, or by the second.
+/// The step at `at`.
 #[inline(always)]
-#[tactic(auto, unfolding(crate::specs::Format::shape_of))]
 pub fn step(bytes: &[u8], at: usize, may_open: bool) -> Step
     requires { at ≤ length bytes.now }
     ensures is { result ≡ step_of may_open (drop at bytes.now) }
     ensures small { IsSmall result }
 {
-    let Some(first) = bytes.get(at) else {
+    if at == bytes.len() {
         return Step::Lacks(1);
-    };
-    let left = bytes.len() - at - 1;
-    match *first {
-        0xa0..=0xbf => scalar(1 + usize::from(*first - 0xa0), left),
-        0x80..=0x8f => opening(2 * u64::from(*first - 0x80), may_open),
-        0x90..=0x9f => opening(u64::from(*first - 0x90), may_open),
-        0xcc | 0xd0 => scalar(2, left),
-        0xcd | 0xd1 | 0xd4 => scalar(3, left),
-        0xd5 => scalar(4, left),
-        0xca | 0xce | 0xd2 => scalar(5, left),
-        0xd6 => scalar(6, left),
-        0xcb | 0xcf | 0xd3 => scalar(9, left),
-        0xd7 => scalar(10, left),
-        0xd8 => scalar(18, left),
-        0xc4 | 0xd9 => scalar(2 + byte(bytes, at + 1) as usize, left),
-        // Made anew, so that the answers above stay out of memory.
-        _ => match any_step(bytes, at, may_open) {
-            Step::Whole(size) => Step::Whole(size),
-            Step::Opens { items, size } => Step::Opens { items, size },
-            Step::Lacks(size) => Step::Lacks(size),
-            Step::Deep => Step::Deep,
-            Step::Wrong => Step::Wrong,
+    }
+    step_from(tell(bytes, at), bytes.len() - at - 1, may_open)
+}
+
+// The step where an item's first bytes tell this, of which the first and `left` more are there.
+#[inline(always)]
+fn step_from(told: Told, left: usize, may_open: bool) -> Step
+    requires left { left < usize.MAX }
+    requires small { IsSmallTold told }
+    ensures is { result ≡ step_told may_open told left }
+    ensures small { IsSmall result }
+{
+    match told {
+        Told::Scalar(size) if left + 1 < size => Step::Lacks(size),
+        Told::Scalar(size) => Step::Whole(size),
+        Told::Container { .. } if !may_open => Step::Deep,
+        Told::Container { items, width } if left < width => Step::Lacks(1 + width + items as usize),
+        Told::Container { items, width } => Step::Opens {
+            items,
+            size: 1 + width,
         },
+        Told::Nothing => Step::Wrong,
     }
 }
 
-// The step at `at`, whatever item begins there.
-#[inline(never)]
-fn any_step(bytes: &[u8], at: usize, may_open: bool) -> Step
-    requires { at < length bytes.now }
-    ensures is { result ≡ step_of may_open (drop at bytes.now) }
-    ensures small { IsSmall result }
-{
-    let left = bytes.len() - at - 1;
-    step_behind(bytes, at + 1, left, shape(bytes[at]), may_open)
-}
-
-/// Whether a scalar of one byte stands at `at`; an empty str is left to `step`.
+/// Whether a scalar of one byte stands at `at`; an empty str is left to `tell`.
 #[inline(always)]
 pub fn single(bytes: &[u8], at: usize) -> bool
+    requires { at < length bytes.now }
     ensures { (may_open : Bool) → IsTrue result → Step.Whole 1 ≡ step_of may_open (drop at bytes.now) }
 {
-    match bytes.get(at) {
-        None => false,
-        Some(first) => is_single(*first),
-    }
+    is_single(bytes[at])
 }
 
-// The step behind a first byte of this shape, behind which `left` bytes are there; those that matter are at `start`.
+/// What the item at `at` tells, by the first byte alone or with the bytes of a length or a count behind it.
 #[inline(always)]
-fn step_behind(bytes: &[u8], start: usize, left: usize, shape: Shape, may_open: bool) -> Step
-    requires start { start ≤ length bytes.now }
-    requires left { left < usize.MAX }
-    requires fit { (first : ℕ) × IsFit first shape }
-    ensures is { result ≡ step_by may_open shape left (drop start bytes.now) }
-    ensures small { IsSmall result }
+#[tactic(auto, unfolding(crate::specs::Format::shape_of))]
+pub fn tell(bytes: &[u8], at: usize) -> Told
+    requires { at < length bytes.now }
+    ensures is { result ≡ told_of (drop at bytes.now) }
+    ensures small { IsSmallTold result }
 {
-    match shape {
-        Shape::Fixed { size, .. } => scalar(1 + size, left),
-        Shape::Sized { width, extra, .. } => {
-            scalar(
-                1 + width + (number_at(bytes, start, width) as usize + extra),
-                left,
-            )
-        }
-        Shape::Holds { .. } | Shape::Counted { .. } if !may_open => Step::Deep,
-        Shape::Holds { container, count } => Step::Opens {
-            items: items(container, count),
-            size: 1,
+    let first = bytes[at];
+    // First of all, since most items of a log are such.
+    if 0xa0 <= first && first <= 0xbf {
+        return Told::Scalar(1 + usize::from(first - 0xa0));
+    }
+    match first {
+        0x00..=0x7f | 0xe0..=0xff | 0xc0 | 0xc2 | 0xc3 => Told::Scalar(1),
+        0x80..=0x8f => Told::Container {
+            items: 2 * u64::from(first - 0x80),
+            width: 0,
         },
-        Shape::Counted { container, width } => {
-            let items = items(container, number_at(bytes, start, width));
-            if left < width {
-                Step::Lacks(1 + width + items as usize)
-            } else {
-                Step::Opens {
-                    items,
-                    size: 1 + width,
-                }
-            }
-        }
-        Shape::Never => Step::Wrong,
+        0x90..=0x9f => Told::Container {
+            items: u64::from(first - 0x90),
+            width: 0,
+        },
+        0xcc | 0xd0 => Told::Scalar(2),
+        0xcd | 0xd1 | 0xd4 => Told::Scalar(3),
+        0xd5 => Told::Scalar(4),
+        0xca | 0xce | 0xd2 => Told::Scalar(5),
+        0xd6 => Told::Scalar(6),
+        0xcb | 0xcf | 0xd3 => Told::Scalar(9),
+        0xd7 => Told::Scalar(10),
+        0xd8 => Told::Scalar(18),
+        0xc4 | 0xd9 => sized(bytes, at, 1, 0),
+        0xc5 | 0xda => sized(bytes, at, 2, 0),
+        0xc6 | 0xdb => sized(bytes, at, 4, 0),
+        0xc7 => sized(bytes, at, 1, 1),
+        0xc8 => sized(bytes, at, 2, 1),
+        0xc9 => sized(bytes, at, 4, 1),
+        0xdc => counted(bytes, at, Container::Array, 2),
+        0xdd => counted(bytes, at, Container::Array, 4),
+        0xde => counted(bytes, at, Container::Map, 2),
+        0xdf => counted(bytes, at, Container::Map, 4),
+        _ => Told::Nothing,
     }
 }
 
-// A scalar of `size` bytes, of which the first and `left` more are there.
+// A scalar whose length has `width` bytes behind the first one, and whose content has `extra` bytes more.
 #[inline(always)]
-fn scalar(size: usize, left: usize) -> Step
-    requires left { left < usize.MAX }
-    requires size { size < 2 ^ 33 }
-    ensures is { result ≡ if nat_lt (left + 1) size then Step.Lacks size else Step.Whole size }
-    ensures small { IsSmall result }
+fn sized(bytes: &[u8], at: usize, width: usize, extra: usize) -> Told
+    requires at { at < length bytes.now }
+    requires width { width ≤ 4 }
+    requires extra { extra ≤ 1 }
+    ensures is { result ≡ Told.Scalar (1 + width + (number width (drop (at + 1) bytes.now) + extra)) }
+    ensures small { IsSmallTold result }
 {
-    if left + 1 < size {
-        Step::Lacks(size)
-    } else {
-        Step::Whole(size)
-    }
+    Told::Scalar(1 + width + (number_at(bytes, at + 1, width) as usize + extra))
 }
 
-// A container of so many items, whose count is in its first byte.
+// A container whose count has `width` bytes behind the first one.
 #[inline(always)]
-fn opening(items: u64, may_open: bool) -> Step
-    requires { items < 2 ^ 33 }
-    ensures is { result ≡ if may_open then Step.Opens items 1 else Step.Deep }
-    ensures small { IsSmall result }
+fn counted(bytes: &[u8], at: usize, container: Container, width: usize) -> Told
+    requires at { at < length bytes.now }
+    requires width { width ≤ 4 }
+    ensures is { result ≡ Told.Container (items_in container (number width (drop (at + 1) bytes.now))) width }
+    ensures small { IsSmallTold result }
 {
-    if may_open {
-        Step::Opens { items, size: 1 }
-    } else {
-        Step::Deep
-    }
-}
-
-// How many items so many entries are.
-#[inline(always)]
-fn items(container: Container, count: u32) -> u64
-    ensures { result ≡ items_in container count }
-{
-    match container {
-        Container::Array => u64::from(count),
-        Container::Map => 2 * u64::from(count),
-    }
+    let count = u64::from(number_at(bytes, at + 1, width));
+    let items = match container {
+        Container::Array => count,
+        Container::Map => 2 * count,
+    };
+    Told::Container { items, width }
 }

@@ -1,14 +1,15 @@
 // Where an item ends whose bytes are all at hand.
-ghost use Rattle.std.specs.Prelude.{ℕ, Bool, true, ◌≡◌, ◌+◌, ◌≤◌, length};
+ghost use Rattle.std.specs.Prelude.{true, ◌≡◌, ◌+◌, ◌≤◌, length, IfSome};
 ghost use Rattle.msgpack_bytes.specs.declared.answers.Scan.{Scan};
+ghost use Rattle.msgpack_bytes.specs.declared.format.Step.{Step};
 ghost use Rattle.msgpack_bytes.specs.Item.{longest};
 ghost use Rattle.msgpack_bytes.specs.Answers.{IsScanned};
 ghost use Rattle.msgpack_bytes.specs.Steps.{step_of};
 
-use crate::answers::{MsgFault, Scan};
-use crate::format::Step;
-use crate::scanner::{DEEPEST, LONGEST};
-use crate::steps::{single, step};
+use crate::answers::{Scan, Taken};
+use crate::format::Told;
+use crate::scanner::{DEEPEST, LONGEST, Scanner};
+use crate::steps::{single, tell};
 
 /// Where the item at `at` ends, if one stands there, or can once more bytes are there.
 ///
@@ -19,28 +20,63 @@ pub fn scan(bytes: &[u8], at: usize) -> Scan
     ensures right { IsScanned bytes.now at result }
     ensures only { (other : Scan) → IsScanned bytes.now at other → other ≡ result }
 {
-    match step(bytes, at, true) {
-        Step::Wrong => Scan::Bad(MsgFault::Reserved),
-        Step::Deep => Scan::Bad(MsgFault::TooDeep),
-        Step::Lacks(size) if size <= LONGEST => Scan::Need,
-        Step::Whole(size) if size <= LONGEST => Scan::End(at + size),
-        Step::Opens { items, size } if size + items as usize <= LONGEST => {
-            match scan_items(bytes.split_at(at).1, size, items as u32) {
-                Scan::End(end) => Scan::End(at + end),
-                Scan::Need => Scan::Need,
-                Scan::Bad(fault) => Scan::Bad(fault),
-            }
-        }
-        _ => Scan::Bad(MsgFault::TooLong),
+    let (_, rest) = bytes.split_at(at);
+    match scan_front(rest) {
+        Scan::End(end) => Scan::End(at + end),
+        Scan::Need => Scan::Need,
+        Scan::Bad(fault) => Scan::Bad(fault),
     }
 }
 
-// Where the container ends that the bytes begin with, whose header has `size` bytes, and which has so many items.
+// Where the item ends that the bytes begin with. What has no end here has been looked at in vain, and is for the scanner.
+#[inline(always)]
+fn scan_front(bytes: &[u8]) -> Scan
+    ensures { IsScanned bytes.now 0 result }
+{
+    match item_end(bytes) {
+        Some(end) => Scan::End(end),
+        None => scan_anew(bytes),
+    }
+}
+
+// The same by a scanner of pieces, with all bytes as the only piece.
 #[inline(never)]
-fn scan_items(bytes: &[u8], size: usize, items: u32) -> Scan
+fn scan_anew(bytes: &[u8]) -> Scan
+    ensures { IsScanned bytes.now 0 result }
+{
+    let mut scanner = Scanner::new();
+    match scanner.take(bytes) {
+        Taken::End(end) => Scan::End(end),
+        Taken::Need => Scan::Need,
+        Taken::Bad(fault) => Scan::Bad(fault),
+    }
+}
+
+/// The index behind the item that the bytes begin with, which is whole where one is given; of other bytes `scan` says more.
+#[inline(always)]
+pub fn item_end(bytes: &[u8]) -> Option<usize>
+    ensures { IfSome result (λ end. IsScanned bytes.now 0 (Scan.End end)) }
+{
+    if bytes.is_empty() {
+        return None;
+    }
+    let limit = bytes.len().min(LONGEST);
+    match tell(bytes, 0) {
+        Told::Scalar(size) if size <= limit => Some(size),
+        Told::Container { items, width } if 1 + width + items as usize <= limit => {
+            items_end(bytes, 1 + width, items as u32)
+        }
+        _ => None,
+    }
+}
+
+// The end of the container that the bytes begin with, whose header has `size` bytes, and which has so many items, if it is whole.
+#[inline(never)]
+fn items_end(bytes: &[u8], size: usize, items: u32) -> Option<usize>
     requires opens { Step.Opens items size ≡ step_of true bytes.now }
     requires short { size + items ≤ longest }
-    ensures { IsScanned bytes.now 0 result }
+    requires there { size + items ≤ length bytes.now }
+    ensures { IfSome result (λ end. IsScanned bytes.now 0 (Scan.End end)) }
 {
     // How many items each level still lacks outside the innermost, of which there are at most so many; a fixed stack,
     // so that no input asks for memory.
@@ -48,14 +84,15 @@ fn scan_items(bytes: &[u8], size: usize, items: u32) -> Scan
     let mut levels = 2;
     // What the innermost level still lacks.
     let mut left = items;
-    // Where the innermost level has to end, so that each item that is missing outside it has room for one byte.
-    let mut limit = LONGEST;
+    // Where the innermost level has to end, so that each item that is missing outside it has room for one byte, both
+    // in what is there and in the longest item.
+    let mut limit = bytes.len().min(LONGEST);
     let mut i = size;
     loop {
         if left == 0 {
             levels -= 1;
             if levels == 0 {
-                return Scan::End(i);
+                return Some(i);
             }
             left = missing[levels - 1];
             limit += left as usize;
@@ -64,22 +101,20 @@ fn scan_items(bytes: &[u8], size: usize, items: u32) -> Scan
             if single(bytes, i) {
                 i += 1;
             } else {
-                match step(bytes, i, levels <= DEEPEST) {
-                    Step::Wrong => return Scan::Bad(MsgFault::Reserved),
-                    Step::Deep => return Scan::Bad(MsgFault::TooDeep),
-                    Step::Lacks(size) if i + size + left as usize <= limit => return Scan::Need,
-                    Step::Whole(size) if i + size + left as usize <= limit => {
+                match tell(bytes, i) {
+                    Told::Scalar(size) if i + size + left as usize <= limit => {
                         i += size;
                     }
-                    Step::Opens { items, size }
-                        if i + size + left as usize + items as usize <= limit => {
+                    Told::Container { items, width }
+                        if levels <= DEEPEST
+                            && i + 1 + width + left as usize + items as usize <= limit => {
                         missing[levels - 1] = left;
                         levels += 1;
                         limit -= left as usize;
                         left = items as u32;
-                        i += size;
+                        i += 1 + width;
                     }
-                    _ => return Scan::Bad(MsgFault::TooLong),
+                    _ => return None,
                 }
             }
         }

@@ -6,7 +6,7 @@ use Rattle.msgpack_bytes.specs.Item.{IsTextItem}
 use Rattle.event_modes.specs.Pairs.{bytes_of}
 use Rattle.event_modes.specs.Places.{frame_of}
 use Rattle.event_modes.proofs.Framed.{whole_frame}
-use Rattle.event_modes.proofs.reading.message_of.Goals as goal
+use Rattle.event_modes.proofs.reading.walked.Goals as goal
 
 pub tag_of-requires : goal.tag_of-requires
 tag_of-requires g c = (whole_frame c.args.item.now (frame_of c.in-Some.places) c.requires.item c.in-Some.ensures).tag
