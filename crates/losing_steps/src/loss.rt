@@ -1,5 +1,5 @@
 //! Whether steps lose an event that was acknowledged to a client.
-ghost use Rattle.std.specs.Prelude.{◌≡◌, ◌≢◌, ◌↔◌, false, IfOk, IsTrue};
+ghost use Rattle.std.specs.Prelude.{◌≡◌, ◌≢◌, ◌↔◌, false, IfOk, IfSome, IsTrue};
 ghost use Rattle.custody_steps.specs.WorldOf.{net_of, world_of};
 ghost use Rattle.losing_steps.specs.Losses.{HasLost, IsLosingText, Loses};
 
@@ -7,6 +7,23 @@ use custody_core::{Step, StepFault, StepsError, World, is_kept_as, run};
 use loss_rules::Duty;
 use relay_net::Net;
 use std::alloc::{AllocError, Allocator};
+
+/// The text, if `text_loses_event` says that it loses an event: whoever says so of what this gives says it of the very text that was tried. The
+/// only error is want of memory.
+pub fn if_losing_text<A: Allocator + Copy>(
+    alloc: A,
+    net: &Net<A>,
+    duty: Duty,
+    text: Vec<u8, A>,
+) -> Result<Option<Vec<u8, A>>, AllocError>
+    ensures { IfOk result (λ found. IfSome found (λ tried. (tried ≡ text) × IsLosingText duty net.now tried.items)) }
+{
+    if text_loses_event(alloc, net, duty, &text)? {
+        Ok(Some(text))
+    } else {
+        Ok(None)
+    }
+}
 
 /// Whether the network takes each of the steps of the text, and then an event that was acknowledged to a client isn't kept as is asked:
 /// then `replay` takes them, and lists the event as lost. The only error is want of memory.
@@ -22,6 +39,22 @@ pub fn text_loses_event<A: Allocator + Copy>(
         Ok(steps) => loses_event(alloc, net, duty, &steps),
         Err(StepsError::BadLine(_)) => Ok(false),
         Err(StepsError::Memory) => Err(AllocError),
+    }
+}
+
+/// The steps, if they lose an event, as `loses_event` says. The only error is want of memory.
+pub fn if_losing<A: Allocator + Copy>(
+    alloc: A,
+    net: &Net<A>,
+    duty: Duty,
+    steps: Vec<Step<A>, A>,
+) -> Result<Option<Vec<Step<A>, A>>, AllocError>
+    ensures { IfOk result (λ found. IfSome found (λ tried. (tried ≡ steps) × Loses duty net.now tried.items)) }
+{
+    if loses_event(alloc, net, duty, &steps)? {
+        Ok(Some(steps))
+    } else {
+        Ok(None)
     }
 }
 

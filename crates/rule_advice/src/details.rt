@@ -69,20 +69,32 @@ impl<A: Allocator + Copy> Subject<'_, A> {
             return Ok(());
         }
         if other.node.number == here.node.number {
-            let number = here.node.number;
-            let note = format!(in self.alloc;
-                "  The relay in line {before} has the number {number} too."
-            )?;
-            put_note(out, note.as_bytes())?;
+            self.put_number(out, before, here.node.number)?;
         }
         let folder = here.line.folder.as_str();
         if other.line.folder.as_str() == folder {
-            let note = format!(in self.alloc;
-                "  The relay in line {before} has the folder {folder} too."
-            )?;
-            put_note(out, note.as_bytes())?;
+            self.put_too(out, "relay", before, "folder", folder)?;
         }
         Ok(())
+    }
+
+    // Adds that the relay in this line has this number too.
+    fn put_number(&self, out: &mut Vec<u8, A>, line: usize, number: u32) -> Result<(), AllocError> {
+        let text = format!(in self.alloc; "{number}")?;
+        self.put_too(out, "relay", line, "number", text.as_str())
+    }
+
+    // Adds what the one in this line has too.
+    fn put_too(
+        &self,
+        out: &mut Vec<u8, A>,
+        one: &str,
+        line: usize,
+        kind: &str,
+        text: &str,
+    ) -> Result<(), AllocError> {
+        let note = format!(in self.alloc; "  The {one} in line {line} has the {kind} {text} too.")?;
+        put_note(out, note.as_bytes())
     }
 
     // Adds the address of the source in this line of the configuration of the relay with this number.
@@ -94,14 +106,10 @@ impl<A: Allocator + Copy> Subject<'_, A> {
         let Some(node) = net.relays().get(place) else {
             return Ok(());
         };
-        let host = node.host.as_str();
         for source in &node.relay.sources {
             if source.line == line {
-                let port = source.port;
-                let note = format!(in self.alloc;
-                    "  Another source has the address {host}:{port} too."
-                )?;
-                put_note(out, note.as_bytes())?;
+                let front = "Another source has the address";
+                self.put_host(out, front, node.host.as_str(), source.port, " too")?;
             }
         }
         Ok(())
@@ -114,15 +122,24 @@ impl<A: Allocator + Copy> Subject<'_, A> {
         };
         for output in &found.rule.outputs {
             if let Some(server) = server_in(output, line) {
-                let host = server.host.as_str();
-                let port = server.port;
-                let note = format!(in self.alloc;
-                    "  No source of the plan has the address {host}:{port}."
-                )?;
-                put_note(out, note.as_bytes())?;
+                let front = "No source of the plan has the address";
+                self.put_host(out, front, server.host.as_str(), server.port, "")?;
             }
         }
         Ok(())
+    }
+
+    // Adds these words around an address.
+    fn put_host(
+        &self,
+        out: &mut Vec<u8, A>,
+        front: &str,
+        host: &str,
+        port: u16,
+        end: &str,
+    ) -> Result<(), AllocError> {
+        let note = format!(in self.alloc; "  {front} {host}:{port}{end}.")?;
+        put_note(out, note.as_bytes())
     }
 
     // Adds which outputs before this line of the configuration have a path of the output there.
@@ -138,19 +155,20 @@ impl<A: Allocator + Copy> Subject<'_, A> {
             let Some(other) = net.output(place, number) else {
                 return Ok(());
             };
-            if line_of(other) < line {
-                self.put_path(out, other, buffer_path(here), buffer_path(other))?;
-                self.put_path(out, other, sink_path(here), sink_path(other))?;
+            let before = line_of(other);
+            if before < line {
+                self.put_path(out, before, buffer_path(here), buffer_path(other))?;
+                self.put_path(out, before, sink_path(here), sink_path(other))?;
             }
         }
         Ok(())
     }
 
-    // Adds that the other output has this path too, if both have one and it does.
+    // Adds that the output in this line has this path too, if both have one and it does.
     fn put_path(
         &self,
         out: &mut Vec<u8, A>,
-        other: &Output<A>,
+        line: usize,
         path: Option<&str>,
         its: Option<&str>,
     ) -> Result<(), AllocError> {
@@ -158,25 +176,21 @@ impl<A: Allocator + Copy> Subject<'_, A> {
             return Ok(());
         };
         match its {
-            Some(its) => self.put_same(out, other, path, its),
+            Some(its) => self.put_same(out, line, path, its),
             None => Ok(()),
         }
     }
 
-    // Adds that the other output has this path too, if that is its path.
+    // Adds that the output in this line has this path too, if that is its path.
     fn put_same(
         &self,
         out: &mut Vec<u8, A>,
-        other: &Output<A>,
+        line: usize,
         path: &str,
         its: &str,
     ) -> Result<(), AllocError> {
         if path == its {
-            let line = line_of(other);
-            let note = format!(in self.alloc;
-                "  The output in line {line} has the path {path} too."
-            )?;
-            put_note(out, note.as_bytes())?;
+            self.put_too(out, "output", line, "path", path)?;
         }
         Ok(())
     }
@@ -187,16 +201,20 @@ impl<A: Allocator + Copy> Subject<'_, A> {
             if label.line == line
                 && let Some(found) = self.uncovered(label)
             {
-                let at = found.line;
-                let index = found.index;
-                let name = self.texts.conf_name(label.place);
-                let note = format!(in self.alloc;
-                    "  The first that lacks one is the match in line {at} of {name}, with the index {index}."
-                )?;
-                return put_note(out, note.as_bytes());
+                return self.put_found(out, found, self.texts.conf_name(label.place));
             }
         }
         Ok(())
+    }
+
+    // Adds that it is this match, of the configuration with this name.
+    fn put_found(&self, out: &mut Vec<u8, A>, found: Found, name: &str) -> Result<(), AllocError> {
+        let line = found.line;
+        let index = found.index;
+        let note = format!(in self.alloc;
+            "  The first that lacks one is the match in line {line} of {name}, with the index {index}."
+        )?;
+        put_note(out, note.as_bytes())
     }
 
     // The first match that may take tags of the label and has no reach that covers them.

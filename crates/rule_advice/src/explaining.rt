@@ -7,8 +7,9 @@ use crate::near::near_patterns;
 use crate::site::Texts;
 use crate::story::{Story, put_note};
 use crate::words::loses_events;
-use losing_steps::{find, text_loses_event};
+use losing_steps::if_losing_text;
 use loss_rules::{Place, Rule};
+use loss_search::find;
 use plan_lines::Plan;
 use std::alloc::{AllocError, Allocator};
 use step_lines::Step;
@@ -79,13 +80,13 @@ fn with_steps<A: Allocator + Copy>(
         steps,
     };
     story.put(&mut lines)?;
-    if !text_loses_event(alloc, plan.net(), plan.duty(), &lines)? {
-        return without_steps(front);
+    match if_losing_text(alloc, plan.net(), plan.duty(), lines)? {
+        Some(lines) => Ok(Explained {
+            lines,
+            has_loss: true,
+        }),
+        None => without_steps(front),
     }
-    Ok(Explained {
-        lines,
-        has_loss: true,
-    })
 }
 
 // What is said where no steps were found.

@@ -1,6 +1,6 @@
 //! What is said of a plan that can't be read.
 use crate::site::{Site, Texts};
-use crate::story::put_note;
+use crate::story::put_headed;
 use conf_text::{ConfFault, FaultKind};
 use plan_lines::PlanError;
 use relay_conf::{RelayFault, RelayFaultKind};
@@ -40,13 +40,9 @@ fn put_fault<A: Allocator + Copy>(
     words: Words,
     site: &Site<'_>,
 ) -> Result<(), AllocError> {
-    let meaning = words.meaning;
-    let note = format!(in alloc; "The fault: {meaning}.")?;
-    put_note(out, note.as_bytes())?;
+    put_headed(alloc, out, "The fault", words.meaning)?;
     site.put(alloc, out, "It stands in")?;
-    let advice = words.advice;
-    let note = format!(in alloc; "To mend it: {advice}.")?;
-    put_note(out, note.as_bytes())
+    put_headed(alloc, out, "To mend it", words.advice)
 }
 
 // How many relays the plan has in front of this line: the place of the relay in this line.

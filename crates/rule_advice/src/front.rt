@@ -1,7 +1,7 @@
 //! What is said of a broken rule in front of the steps.
 use crate::keeping::{lacks, line_of, words_of};
 use crate::site::{Texts, match_at};
-use crate::story::put_note;
+use crate::story::{put_headed, put_note};
 use crate::ways::Ways;
 use crate::words::{advice, asks_for_lines, meaning};
 use loss_rules::{Place, Rule};
@@ -28,7 +28,7 @@ impl<A: Allocator + Copy> Subject<'_, A> {
         self.put_rule(&mut lines)?;
         let site = self.texts.site(self.plan, self.place);
         site.put(self.alloc, &mut lines, "It is broken in")?;
-        self.put_advice(&mut lines)?;
+        put_headed(self.alloc, &mut lines, "To mend it", advice(self.rule))?;
         self.put_details(&mut lines)?;
         self.put_labelling(&mut lines)?;
         self.put_lacks(&mut lines)?;
@@ -41,13 +41,6 @@ impl<A: Allocator + Copy> Subject<'_, A> {
         let rule = self.rule;
         let asked = meaning(rule);
         let note = format!(in self.alloc; "{rule}: {asked}.")?;
-        put_note(out, note.as_bytes())
-    }
-
-    // Adds what to change.
-    fn put_advice(&self, out: &mut Vec<u8, A>) -> Result<(), AllocError> {
-        let change = advice(self.rule);
-        let note = format!(in self.alloc; "To mend it: {change}.")?;
         put_note(out, note.as_bytes())
     }
 
@@ -81,11 +74,15 @@ impl<A: Allocator + Copy> Subject<'_, A> {
     fn put_lacks_of(&self, out: &mut Vec<u8, A>, output: &Output<A>) -> Result<(), AllocError> {
         let line = line_of(output);
         for found in &lacks(self.alloc, output)? {
-            let lack = words_of(*found);
-            let note = format!(in self.alloc; "  The output in line {line} lacks {lack}.")?;
-            put_note(out, note.as_bytes())?;
+            self.put_lack(out, line, words_of(*found))?;
         }
         Ok(())
+    }
+
+    // Adds that the output in this line lacks this.
+    fn put_lack(&self, out: &mut Vec<u8, A>, line: usize, lack: &str) -> Result<(), AllocError> {
+        let note = format!(in self.alloc; "  The output in line {line} lacks {lack}.")?;
+        put_note(out, note.as_bytes())
     }
 
     // Adds the lines of the plan by which tags come to the place.

@@ -1,7 +1,7 @@
 //! Steps as lines of a text, with what some of them mean in front.
 use crate::keeping::line_of;
 use crate::site::Texts;
-use losing_steps::put_step;
+use loss_search::put_step;
 use plan_lines::Plan;
 use relay_conf::Output;
 use relay_net::server;
@@ -21,110 +21,143 @@ impl<A: Allocator + Copy> Story<'_, A> {
     /// Adds a line for each step, and lines that begin with `#`.
     pub fn put(&self, out: &mut Vec<u8, A>) -> Result<(), AllocError> {
         for (at, step) in self.steps.iter().enumerate() {
-            if let Some(note) = self.note(at, step)? {
-                put_note(out, note.as_bytes())?;
-            }
+            self.put_meaning(out, at, step)?;
             put_step(self.alloc, out, step)?;
         }
         Ok(())
     }
 
-    // What the step at this place means, where a reader may wonder.
-    fn note(&self, at: usize, step: &Step<A>) -> Result<Option<String<A>>, AllocError> {
+    // Adds what the step at this place means, where a reader may wonder.
+    fn put_meaning(
+        &self,
+        out: &mut Vec<u8, A>,
+        at: usize,
+        step: &Step<A>,
+    ) -> Result<(), AllocError> {
         match step {
-            Step::Send { client, .. } => self.note_of_send(*client as usize),
-            Step::Ack { .. } => self.note_of_ack(at),
-            Step::Foreign { .. } => self.note_of_foreign(),
-            Step::Forward { chunk, server } => self.note_of_forward(chunk, *server as usize),
-            Step::Done { chunk } => self.note_of_done(chunk),
-            Step::Discard { chunk } => self.note_of_discard(chunk),
-            Step::Oldest { relay, buffer } => self.note_of_oldest(*relay, *buffer),
-            Step::Restart { relay } => self.note_of_restart(*relay),
-            _ => Ok(None),
+            Step::Send { client, .. } => self.put_send(out, *client as usize),
+            Step::Ack { .. } => self.put_ack(out, at),
+            Step::Foreign { .. } => put_foreign(out),
+            Step::Forward { chunk, server } => self.put_forward(out, chunk, *server as usize),
+            Step::Done { chunk } => self.put_done(out, chunk),
+            Step::Discard { chunk } => self.put_discard(out, chunk),
+            Step::Oldest { relay, buffer } => self.put_oldest(out, *relay, *buffer),
+            Step::Restart { relay } => self.put_restart(out, *relay),
+            _ => Ok(()),
         }
     }
 
-    fn note_of_send(&self, client: usize) -> Result<Option<String<A>>, AllocError> {
-        let Some(line) = self.plan.client_lines().get(client) else {
-            return Ok(None);
-        };
-        let name = self.texts.plan_name;
-        Ok(Some(format!(in self.alloc; "The client in line {line} of {name} sends an event.")?))
+    fn put_send(&self, out: &mut Vec<u8, A>, client: usize) -> Result<(), AllocError> {
+        match self.plan.client_lines().get(client) {
+            Some(line) => {
+                let name = self.texts.plan_name;
+                self.put_of_line(out, "The client", *line, name, " sends an event.")
+            }
+            None => Ok(()),
+        }
     }
 
     // A delivery that was appended to nothing is acknowledged right behind its beginning.
-    fn note_of_ack(&self, at: usize) -> Result<Option<String<A>>, AllocError> {
+    fn put_ack(&self, out: &mut Vec<u8, A>, at: usize) -> Result<(), AllocError> {
         match self.steps.get(at.saturating_sub(1)) {
-            Some(Step::Begin { .. }) => Ok(Some(String::from_str(
-                self.alloc,
-                "No output takes the event, and it is acknowledged: nobody has it.",
-            )?)),
-            _ => Ok(None),
+            Some(Step::Begin { .. }) => put_note(
+                out,
+                b"No output takes the event, and it is acknowledged: nobody has it.",
+            ),
+            _ => Ok(()),
         }
     }
 
-    fn note_of_foreign(&self) -> Result<Option<String<A>>, AllocError> {
-        Ok(Some(String::from_str(
-            self.alloc,
-            "No relay of the plan has this address: whoever is there acknowledges the event.",
-        )?))
-    }
-
-    fn note_of_forward(
+    fn put_forward(
         &self,
+        out: &mut Vec<u8, A>,
         chunk: &ChunkName,
         number: usize,
-    ) -> Result<Option<String<A>>, AllocError> {
+    ) -> Result<(), AllocError> {
         let Some(output) = self.output(chunk.relay, chunk.buffer) else {
-            return Ok(None);
+            return Ok(());
         };
-        let Some(receiver) = server(output, number) else {
-            return Ok(None);
-        };
-        let line = receiver.line;
-        let name = self.conf_name(chunk.relay);
-        Ok(Some(format!(in self.alloc;
-            "The chunk is sent to the server in line {line} of {name}."
-        )?))
+        match server(output, number) {
+            Some(receiver) => {
+                let name = self.conf_name(chunk.relay);
+                self.put_of_line(
+                    out,
+                    "The chunk is sent to the server",
+                    receiver.line,
+                    name,
+                    ".",
+                )
+            }
+            None => Ok(()),
+        }
     }
 
-    fn note_of_done(&self, chunk: &ChunkName) -> Result<Option<String<A>>, AllocError> {
-        let Some(output) = self.output(chunk.relay, chunk.buffer) else {
-            return Ok(None);
-        };
-        let line = line_of(output);
-        let name = self.conf_name(chunk.relay);
-        Ok(Some(format!(in self.alloc;
-            "It doesn't arrive. The output in line {line} of {name} asks for no acknowledgement, and lets the chunk go."
-        )?))
+    fn put_done(&self, out: &mut Vec<u8, A>, chunk: &ChunkName) -> Result<(), AllocError> {
+        self.put_of_output(
+            out,
+            "It doesn't arrive. The output",
+            chunk.relay,
+            chunk.buffer,
+            " asks for no acknowledgement, and lets the chunk go.",
+        )
     }
 
-    fn note_of_discard(&self, chunk: &ChunkName) -> Result<Option<String<A>>, AllocError> {
-        let Some(output) = self.output(chunk.relay, chunk.buffer) else {
-            return Ok(None);
-        };
-        let line = line_of(output);
-        let name = self.conf_name(chunk.relay);
-        Ok(Some(format!(in self.alloc;
-            "The output in line {line} of {name} doesn't retry for ever: the chunk is let go undelivered."
-        )?))
+    fn put_discard(&self, out: &mut Vec<u8, A>, chunk: &ChunkName) -> Result<(), AllocError> {
+        self.put_of_output(
+            out,
+            "The output",
+            chunk.relay,
+            chunk.buffer,
+            " doesn't retry for ever: the chunk is let go undelivered.",
+        )
     }
 
-    fn note_of_oldest(&self, relay: u64, buffer: u64) -> Result<Option<String<A>>, AllocError> {
-        let Some(output) = self.output(relay, buffer) else {
-            return Ok(None);
-        };
-        let line = line_of(output);
-        let name = self.conf_name(relay);
-        Ok(Some(format!(in self.alloc;
-            "The buffer of the output in line {line} of {name} is full: its oldest chunk makes room."
-        )?))
+    fn put_oldest(&self, out: &mut Vec<u8, A>, relay: u64, buffer: u64) -> Result<(), AllocError> {
+        self.put_of_output(
+            out,
+            "The buffer of the output",
+            relay,
+            buffer,
+            " is full: its oldest chunk makes room.",
+        )
     }
 
-    fn note_of_restart(&self, relay: u64) -> Result<Option<String<A>>, AllocError> {
-        Ok(Some(format!(in self.alloc;
+    fn put_restart(&self, out: &mut Vec<u8, A>, relay: u64) -> Result<(), AllocError> {
+        let note = format!(in self.alloc;
             "Relay {relay} stops and starts again: what its buffers in memory held is gone."
-        )?))
+        )?;
+        put_note(out, note.as_bytes())
+    }
+
+    // Adds these words around the line of the output with this buffer of the relay with this number, if there is one.
+    fn put_of_output(
+        &self,
+        out: &mut Vec<u8, A>,
+        front: &str,
+        relay: u64,
+        buffer: u64,
+        end: &str,
+    ) -> Result<(), AllocError> {
+        match self.output(relay, buffer) {
+            Some(output) => {
+                let name = self.conf_name(relay);
+                self.put_of_line(out, front, line_of(output), name, end)
+            }
+            None => Ok(()),
+        }
+    }
+
+    // Adds these words around a line of the text with this name.
+    fn put_of_line(
+        &self,
+        out: &mut Vec<u8, A>,
+        front: &str,
+        line: usize,
+        name: &str,
+        end: &str,
+    ) -> Result<(), AllocError> {
+        let note = format!(in self.alloc; "{front} in line {line} of {name}{end}")?;
+        put_note(out, note.as_bytes())
     }
 
     // The output with this buffer of the relay with this number.
@@ -141,6 +174,24 @@ impl<A: Allocator + Copy> Story<'_, A> {
             None => "",
         }
     }
+}
+
+fn put_foreign<A: Allocator>(out: &mut Vec<u8, A>) -> Result<(), AllocError> {
+    put_note(
+        out,
+        b"No relay of the plan has this address: whoever is there acknowledges the event.",
+    )
+}
+
+/// Adds a line that says nothing to the machine: a heading and what is said under it.
+pub(crate) fn put_headed<A: Allocator + Copy>(
+    alloc: A,
+    out: &mut Vec<u8, A>,
+    heading: &str,
+    text: &str,
+) -> Result<(), AllocError> {
+    let note = format!(in alloc; "{heading}: {text}.")?;
+    put_note(out, note.as_bytes())
 }
 
 /// Adds a line that says nothing to the machine.

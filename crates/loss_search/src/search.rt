@@ -2,9 +2,9 @@
 ghost use Rattle.std.specs.Prelude.{IfOk, IfSome};
 ghost use Rattle.losing_steps.specs.Losses.{Loses};
 
-use crate::loss::loses_event;
 use crate::tags::{ANY_PART, Tags};
 use crate::walk::{Halt, walk_event};
+use losing_steps::if_losing;
 use loss_rules::Duty;
 use relay_net::Net;
 use std::alloc::{AllocError, Allocator};
@@ -167,13 +167,7 @@ impl<A: Allocator + Copy> Search<'_, A> {
         ensures { IfOk result (λ tried. IfSome tried.0 (λ steps. Loses self.now.duty self.now.net.now steps.items)) }
     {
         match walk_event(self.alloc, self.net, self.duty, choices, client, tag) {
-            Ok(steps) => {
-                if loses_event(self.alloc, self.net, self.duty, &steps)? {
-                    Ok((Some(steps), 0))
-                } else {
-                    Ok((None, 0))
-                }
-            }
+            Ok(steps) => Ok((if_losing(self.alloc, self.net, self.duty, steps)?, 0)),
             Err(Halt::Open(ways)) => Ok((None, ways)),
             Err(Halt::Kept) => Ok((None, 0)),
             Err(Halt::Memory) => Err(AllocError),

@@ -1,0 +1,13 @@
+//! The search for steps by which a network loses an event that it acknowledged to a client.
+#![tactic(auto)]
+
+mod common;
+mod draft;
+mod printed;
+mod search;
+mod tags;
+mod walk;
+mod weakness;
+
+pub use printed::put_step;
+pub use search::find;
