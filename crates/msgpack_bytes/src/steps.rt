@@ -86,7 +86,7 @@ pub fn tell(bytes: &[u8], at: usize) -> Told
     ensures small { IsSmallTold result }
 {
     let first = bytes[at];
-    // First of all, since most items of a log are such.
+    // A short str, first of all, since most items of a log are such.
     if 0xa0 <= first && first <= 0xbf {
         return Told::Scalar(1 + usize::from(first - 0xa0));
     }
@@ -118,6 +118,7 @@ pub fn tell(bytes: &[u8], at: usize) -> Told
         0xdd => counted(bytes, at, Container::Array, 4),
         0xde => counted(bytes, at, Container::Map, 2),
         0xdf => counted(bytes, at, Container::Map, 4),
+        // c1, since each str was told above.
         _ => Told::Nothing,
     }
 }
