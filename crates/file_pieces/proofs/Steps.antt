@@ -1,6 +1,7 @@
 -- Bytes that are added by one call after another.
 use Rattle.std.proofs.Common.{◌≡◌, ℕ, ◌+◌, ◌≤◌, Bool, true, false, cond, List, [], ◌++◌, length, take, Option, Some, None, option_map, Result, Ok, Err, OnOk, OnErr, refl, sym, ap, subst, ◌∙◌, append-nil, append_assoc, ⊎_elim, arith}
-use Rattle.std.specs.Prelude.{◌≢◌, ◌-◌, ◌<◌, IsErrOf, IsSome, min, drop, get_or}
+use Rattle.std.specs.Prelude.{◌≢◌, ◌-◌, ◌<◌, IsErrOf, IsSome, min, drop, get_or, sum_by}
+use Rattle.std.specs.List.{flat_map}
 use Rattle.std.specs.Str.{bytes_eq}
 use Rattle.disk_files.specs.Disk.{File, Disk, Folder, SameDisk, Changes, grown, with_file, read_of}
 use Rattle.disk_files.specs.Moments.{History, now, Elapses, LeavesOnly}
@@ -11,12 +12,11 @@ use Rattle.disk_files.specs.declared.dir.DirError.TheVariants as dir
 use Rattle.disk_files.proofs.Moments.{elsewhere, follows, goes_on, started, joined, weaker}
 use Rattle.disk_files.proofs.Table.{same_name}
 use Rattle.std.proofs.lemmas.List.{take_all}
-use Rattle.file_pieces.specs.Adding.{Partly, IsLeftOf, Copies, HasPieceCause, Grows, Adds, HasAny}
+use Rattle.file_pieces.specs.Adding.{Partly, IsLeftOf, Copies, HasPieceCause, Adds, HasAny}
 use Rattle.file_pieces.specs.declared.error.PieceError.{PieceError}
 use Rattle.file_pieces.specs.declared.error.PieceError.TheVariants.{Fault, Short}
-use Rattle.file_pieces.specs.Pieces.{part_of, HasPart, piece_bytes, pieces_bytes, piece_room, total_room, AreWithin}
-use Rattle.file_pieces.specs.declared.piece.Piece.{Piece}
-use Rattle.file_pieces.proofs.Sums.{take_past, take_within, part_joined, all_at, sum_next, flat_next, flat_parted}
+use Rattle.file_pieces.specs.Pieces.{part_of, HasPart}
+use Rattle.file_pieces.proofs.Sums.{take_past, take_within, part_joined, sum_next, flat_next, flat_parted}
 use Rattle.std.proofs.lemmas.List.Sums.{sum_by-take-le, sum_by_more_le}
 
 -- what a refusal of the folder is answered as
@@ -24,7 +24,7 @@ abbrev pub answer_of : Result (Unit {0}) DirError → Result (Unit {0}) PieceErr
 answer_of (Ok done) = Ok tt
 answer_of (Err refused) = Err Fault
 
-on_ok : {T E X Y : Type 0} (r : Result T E) → OnOk r X → (X → Y) → OnOk r Y
+pub on_ok : {T E X Y : Type 0} (r : Result T E) → OnOk r X → (X → Y) → OnOk r Y
 on_ok (Ok x) is f = f is
 on_ok (Err e) is f = tt
 
@@ -118,6 +118,11 @@ cause_append a b (Err dir.Fault) c only = record { later = c.later; passed = tt;
 cause_append a b (Err dir.NoSuchFile) c only = absurd (cc only)
 cause_append a b (Err dir.NameTaken) c only = absurd (cc only)
 
+pub cause_then : {T U : Type 0} (a b c : ℕ) (x : T) (r : Result U PieceError) → HasPieceCause a b (Ok x) → HasPieceCause b c r → HasPieceCause a c r
+cause_then {T} a b c x r first second =
+    let same : b ≡ a = first.passed in
+    subst (λ (n : ℕ). HasPieceCause n c r) same second
+
 module _ {D : Type 0} (is_honest : D → Type 0) (history : D → History) (opened : D → FileNo → Option (List ℕ)) (bytes_left : D → FileNo → ℕ) (fault_count : D → ℕ) (from to : FileNo) where
   copies_on : {T : Type 0} (x : T) (s : ℕ) (W : List ℕ → Type 0) (B : List ℕ → List ℕ) (old mid : D) (source name seen : List ℕ)
       → Adds is_honest history opened bytes_left fault_count from to s W B old mid (Ok x) → is_honest old → Copies (opened old) (now (history old)) from to source name seen
@@ -128,11 +133,6 @@ module _ {D : Type 0} (is_honest : D → Type 0) (history : D → History) (open
     apart = c.apart;
     there = ap read_of (first.elsewhere h name source c.name_is c.apart) ∙ c.there;
   }
-
-  cause_then : {T U : Type 0} (a b c : ℕ) (x : T) (r : Result U PieceError) → HasPieceCause a b (Ok x) → HasPieceCause b c r → HasPieceCause a c r
-  cause_then {T} a b c x r first second =
-      let same : b ≡ a = first.passed in
-      subst (λ (n : ℕ). HasPieceCause n c r) same second
 
   -- bytes, and behind them more
   pub adds_then : {T U : Type 0} (x : T) (r : Result U PieceError) (s t : ℕ) (W : List ℕ → Type 0) (B C : List ℕ → List ℕ) (old mid new : D)
@@ -288,33 +288,42 @@ module _ {D : Type 0} (is_honest : D → Type 0) (history : D → History) (open
       → Adds is_honest history opened bytes_left fault_count from to (length bytes) V (λ _. bytes) old new r
   told_as r V told bytes old new same adds = adds_as r (length told) (length bytes) HasAny V (λ _. told) (λ _. bytes) old new adds (omega (arith, ap length same)) (λ h source name seen c has. (tt, same))
 
-  module _ {A : Type 0} (pieces : List (Piece A)) where
-    -- the first so many pieces were added
+  -- Things are added in their order, each of which has so much room and such bytes. What is asked of the source for all of them is W.
+  module _ {X : Type 0} (items : List X) (room : X → ℕ) (bytes : List ℕ → X → List ℕ) (W : List ℕ → Type 0) where
+    -- the first so many were added
     abbrev pub Added : {T : Type 0} → D → D → ℕ → Result T PieceError → Type 0
-    Added first dir i r = Adds is_honest history opened bytes_left fault_count from to (total_room (take i pieces)) (λ seen. AreWithin seen pieces) (λ seen. pieces_bytes seen (take i pieces)) first dir r
+    Added first dir i r = Adds is_honest history opened bytes_left fault_count from to (sum_by room (take i items)) W (λ seen. flat_map (bytes seen) (take i items)) first dir r
 
     pub added_start : (dir : D) → Added dir dir 0 (Ok (tt {0}))
-    added_start dir = adds_start (λ seen. AreWithin seen pieces) dir
+    added_start dir = adds_start W dir
 
     -- and then the next
-    pub added_on : {T U : Type 0} (x : T) (r : Result U PieceError) (i : ℕ) (piece : Piece A) (first mid new : D) → i < length pieces → piece ≡ get_or pieces i piece → Added first mid i (Ok x)
-        → Adds is_honest history opened bytes_left fault_count from to (piece_room piece) (λ seen. HasPart seen piece.at piece.length) (λ seen. piece_bytes seen piece) mid new r → Added first new (i + 1) r
-    added_on x r i piece first mid new within is so_far more =
-        let wider = adds_as r (piece_room piece) (piece_room piece) (λ seen. HasPart seen piece.at piece.length) (λ seen. AreWithin seen pieces) (λ seen. piece_bytes seen piece) (λ seen. piece_bytes seen piece) mid new more (omega arith)
-        (λ h source name seen c all. (subst (λ (p : Piece A). HasPart seen p.at p.length) (sym is) (all_at (λ (p : Piece A). HasPart seen p.at p.length) pieces i piece all within), refl)) in
-        let both = adds_then x r (total_room (take i pieces)) (piece_room piece) (λ seen. AreWithin seen pieces) (λ seen. pieces_bytes seen (take i pieces)) (λ seen. piece_bytes seen piece) first mid new so_far wider in
-        adds_as r (total_room (take i pieces) + piece_room piece) (total_room (take (i + 1) pieces)) (λ seen. AreWithin seen pieces) (λ seen. AreWithin seen pieces) (λ seen. pieces_bytes seen (take i pieces) ++ piece_bytes seen piece)
-        (λ seen. pieces_bytes seen (take (i + 1) pieces)) first new both (omega (arith, sum_next piece_room pieces i piece within is)) (λ h source name seen c all. (all, flat_next (piece_bytes seen) pieces i piece within is))
+    pub added_on : {T U : Type 0} (x : T) (r : Result U PieceError) (i : ℕ) (item : X) (first mid new : D) (V : List ℕ → Type 0) → i < length items → item ≡ get_or items i item → ((seen : List ℕ) → W seen → V seen) → Added first mid i (Ok x)
+        → Adds is_honest history opened bytes_left fault_count from to (room item) V (λ seen. bytes seen item) mid new r → Added first new (i + 1) r
+    added_on x r i item first mid new V within is each so_far more =
+        let wider = adds_as r (room item) (room item) V W (λ seen. bytes seen item) (λ seen. bytes seen item) mid new more (omega arith) (λ h source name seen c all. (each seen all, refl)) in
+        let both = adds_then x r (sum_by room (take i items)) (room item) W (λ seen. flat_map (bytes seen) (take i items)) (λ seen. bytes seen item) first mid new so_far wider in
+        adds_as r (sum_by room (take i items) + room item) (sum_by room (take (i + 1) items)) W W (λ seen. flat_map (bytes seen) (take i items) ++ bytes seen item)
+        (λ seen. flat_map (bytes seen) (take (i + 1) items)) first new both (omega (arith, sum_next room items i item within is)) (λ h source name seen c all. (all, flat_next (bytes seen) items i item within is))
 
     -- an error in between leaves a beginning
     pub added_less : {T : Type 0} (e : PieceError) (i : ℕ) (first new : D) → Added {T = T} first new i (Err e)
-        → Adds {T = T} is_honest history opened bytes_left fault_count from to (total_room pieces) (λ seen. AreWithin seen pieces) (λ seen. pieces_bytes seen pieces) first new (Err e)
+        → Adds {T = T} is_honest history opened bytes_left fault_count from to (sum_by room items) W (λ seen. flat_map (bytes seen) items) first new (Err e)
     added_less e i first new so_far =
-        let less = adds_less e (total_room (take i pieces)) (total_room pieces) (sum_by-take-le piece_room pieces i) (λ seen. AreWithin seen pieces) (λ seen. pieces_bytes seen (take i pieces)) (λ seen. pieces_bytes seen (drop i pieces)) first new so_far in
-        adds_as (Err e) (total_room pieces) (total_room pieces) (λ seen. AreWithin seen pieces) (λ seen. AreWithin seen pieces) (λ seen. pieces_bytes seen (take i pieces) ++ pieces_bytes seen (drop i pieces)) (λ seen. pieces_bytes seen pieces) first new
-        less (omega arith) (λ h source name seen c all. (all, flat_parted (piece_bytes seen) pieces i))
+        let less = adds_less e (sum_by room (take i items)) (sum_by room items) (sum_by-take-le room items i) W (λ seen. flat_map (bytes seen) (take i items)) (λ seen. flat_map (bytes seen) (drop i items)) first new so_far in
+        adds_as (Err e) (sum_by room items) (sum_by room items) W W (λ seen. flat_map (bytes seen) (take i items) ++ flat_map (bytes seen) (drop i items)) (λ seen. flat_map (bytes seen) items) first new
+        less (omega arith) (λ h source name seen c all. (all, flat_parted (bytes seen) items i))
+
+    -- all were added
+    pub added_all : {T : Type 0} (r : Result T PieceError) (i : ℕ) (first new : D) → length items ≤ i → Added first new i r
+        → Adds is_honest history opened bytes_left fault_count from to (sum_by room items) W (λ seen. flat_map (bytes seen) items) first new r
+    added_all {T} r i first new past so_far = subst (λ (xs : List X). Adds {T = T} is_honest history opened bytes_left fault_count from to (sum_by room xs) W (λ seen. flat_map (bytes seen) xs) first new r) (take_all i items past) so_far
 
     -- there is room for the next
-    pub room_next : {T : Type 0} (r : Result T PieceError) (i : ℕ) (piece : Piece A) (first mid : D) → i < length pieces → piece ≡ get_or pieces i piece → total_room pieces ≤ bytes_left first to → Added first mid i r → piece_room piece ≤ bytes_left mid to
-    room_next r i piece first mid within is fits so_far =
-        omega (arith, fits, so_far.room, ap piece_room is, sum_by_more_le piece_room pieces i piece within)
+    pub room_next : {T : Type 0} (r : Result T PieceError) (i : ℕ) (item : X) (first mid : D) → i < length items → item ≡ get_or items i item → sum_by room items ≤ bytes_left first to → Added first mid i r → room item ≤ bytes_left mid to
+    room_next r i item first mid within is fits so_far =
+        omega (arith, fits, so_far.room, ap room is, sum_by_more_le room items i item within)
+
+    -- each file is open as it was
+    pub open_yet : {T : Type 0} (r : Result T PieceError) (i : ℕ) (first mid : D) (other : FileNo) → Added first mid i r → IsSome (opened first other) → IsSome (opened mid other)
+    open_yet r i first mid other so_far = still_open r (sum_by room (take i items)) W (λ seen. flat_map (bytes seen) (take i items)) first mid other so_far

@@ -1,7 +1,11 @@
 -- Parts of lists, one behind another.
+use Rattle.chunk_journal.specs.Places.{IsWithin}
+use Rattle.chunk_journal.specs.declared.places.Extent.{Extent}
+use Rattle.file_pieces.specs.Pieces.{CanTake, HasPart}
 use Rattle.std.proofs.Common.{ℕ, suc, zero, ◌≡◌, ◌+◌, ◌<◌, min, List, [], ◌∷◌, ◌++◌, length, take, drop, refl, sym, ap, ◌∙◌, ⊎_elim, append-nil, drop-drop, arith}
 use Rattle.std.specs.Prelude.{get_or, sum_by}
 use Rattle.std.specs.List.{AllByRecursion, flat_map}
+use Rattle.std.proofs.Math.Seq.{take-append-add, take-append_seam}
 use Rattle.std.proofs.lemmas.Grind.{flat_map-append}
 use Rattle.std.proofs.lemmas.List.{take-append-drop}
 use Rattle.std.proofs.lemmas.List.Sums.{sum_by_push}
@@ -38,6 +42,12 @@ pub read_whole : (old new part : List ℕ) (n : ℕ) → n ≡ length old → ne
 read_whole old new part n all is =
     is ∙ ap (λ k. take k part ++ drop k old) all ∙ ap (λ l. take (length old) part ++ l) (drop_all (length old) old (omega arith)) ∙ append-nil (take (length old) part)
 
+-- what was written behind the first so many
+pub written_behind : (done count : ℕ) (old front part rest bytes : List ℕ) → front ≡ take done old → length front ≡ done → length part ≡ count → part ≡ bytes → take (done + count) (front ++ (part ++ rest)) ≡ take done old ++ bytes
+written_behind done count old front part rest bytes is len many same =
+    ap (λ n. take n (front ++ (part ++ rest))) (let e : done + count ≡ length front + length part = omega (arith, len, many) in e)
+    ∙ take-append-add front (part ++ rest) (length part) ∙ ap (λ l. front ++ l) (take-append_seam part rest ∙ same) ∙ ap (λ l. l ++ bytes) is
+
 -- the first so many, and the next
 pub next_of : {X : Type 0} (xs : List X) (i : ℕ) (x : X) → i < length xs → x ≡ get_or xs i x → take (i + 1) xs ≡ take i xs ++ x ∷ []
 next_of xs i x within is = take_more xs i x within ∙ ap (λ y. take i xs ++ y ∷ []) (sym is)
@@ -54,6 +64,10 @@ pub all_at : {X : Type 0} (P : X → Type 0) (xs : List X) (i : ℕ) (d : X) →
 all_at P [] i d all within = absurd (omega (arith, within))
 all_at P (x ∷ xs) zero d all within = all.0
 all_at P (x ∷ xs) (suc i) d all within = all_at P xs i d all.1 (omega (arith, within))
+
+-- the file has what lies at one of the places, if it has what lies at all
+pub taken_at : (seen : List ℕ) (places : List Extent) (i : ℕ) (d : Extent) → CanTake seen places → i < length places → HasPart seen (get_or places i d).at (get_or places i d).length
+taken_at seen places i d can within = let is = all_at (IsWithin (length seen)) places i d can.1 within in (is, omega (arith, is, can.0))
 
 pub flat_next : {X : Type 0} (f : X → List ℕ) (xs : List X) (i : ℕ) (x : X) → i < length xs → x ≡ get_or xs i x → flat_map f (take i xs) ++ f x ≡ flat_map f (take (i + 1) xs)
 flat_next f xs i x within is =

@@ -3,22 +3,24 @@
 ghost use Rattle.std.specs.Prelude.{◌≡◌, ◌<◌, ◌≤◌, IsSome, length};
 ghost use Rattle.disk_files.specs.declared.dir.FileNo.{FileNo};
 ghost use Rattle.file_pieces.specs.Adding.{Adds, HasAny};
-ghost use Rattle.file_pieces.specs.Pieces.{part_of, HasPart, piece_bytes, pieces_bytes, piece_room, total_room, AreWithin};
+ghost use Rattle.chunk_journal.specs.Places.{bytes_at};
+ghost use Rattle.file_pieces.specs.Pieces.{AreWithin, CanTake, HasPart, part_of, piece_bytes, piece_room, pieces_bytes, places_room, total_room};
 
 use crate::error::PieceError;
 use crate::piece::Piece;
 use crate::reading::read_exact;
+use chunk_journal::Extent;
 use disk_files::{Dir, FileNo};
 use std::alloc::Allocator;
 
 /// Adds pieces to an open file that has room for them, what they take from another file by no more bytes at once than `buffer` has.
 ///
-/// `Fault`: the device failed. `Short`: the other file has fewer bytes than a piece takes from it. After an error a beginning of the pieces may be there.
+/// `Fault`: the device failed. `Short`: the other file ends before a place does. After an error a beginning of the pieces may be there.
 pub fn add_pieces<A: Allocator, D: Dir>(
     dir: &mut D,
     from: FileNo,
     to: FileNo,
-    pieces: &[Piece<A>],
+    pieces: &[Piece<'_, A>],
     buffer: &mut [u8],
 ) -> Result<(), PieceError>
     requires source { IsSome (D.opened dir.old from) }
@@ -40,18 +42,18 @@ fn add_piece<A: Allocator, D: Dir>(
     dir: &mut D,
     from: FileNo,
     to: FileNo,
-    piece: &Piece<A>,
+    piece: &Piece<'_, A>,
     buffer: &mut [u8],
 ) -> Result<(), PieceError>
     requires source { IsSome (D.opened dir.old from) }
     requires open { IsSome (D.opened dir.old to) }
     requires room { piece_room piece.now ≤ D.bytes_left dir.old to }
     requires some { 0 < length buffer.old }
-    ensures adds { Adds D.is_honest D.history D.opened D.bytes_left D.fault_count from to (piece_room piece.now) (λ seen. HasPart seen piece.now.at piece.now.length) (λ seen. piece_bytes seen piece.now) dir.old dir.new result }
+    ensures adds { Adds D.is_honest D.history D.opened D.bytes_left D.fault_count from to (piece_room piece.now) (λ seen. CanTake seen piece.now.places.now) (λ seen. piece_bytes seen piece.now) dir.old dir.new result }
     ensures len { length buffer.new ≡ length buffer.old }
 {
     match add_told(dir, to, &piece.told) {
-        Ok(()) => copy(dir, from, to, piece.at, piece.length, buffer),
+        Ok(()) => copy_places(dir, from, to, piece.places, buffer),
         Err(fault) => Err(fault),
     }
 }
@@ -66,6 +68,29 @@ fn add_told<D: Dir>(dir: &mut D, to: FileNo, bytes: &[u8]) -> Result<(), PieceEr
         Ok(()) => Ok(()),
         Err(_) => Err(PieceError::Fault),
     }
+}
+
+// Adds the bytes at these places of the source, one behind another.
+fn copy_places<D: Dir>(
+    dir: &mut D,
+    from: FileNo,
+    to: FileNo,
+    places: &[Extent],
+    buffer: &mut [u8],
+) -> Result<(), PieceError>
+    requires source { IsSome (D.opened dir.old from) }
+    requires open { IsSome (D.opened dir.old to) }
+    requires room { places_room places.now ≤ D.bytes_left dir.old to }
+    requires some { 0 < length buffer.old }
+    ensures adds { Adds D.is_honest D.history D.opened D.bytes_left D.fault_count from to (places_room places.now) (λ seen. CanTake seen places.now) (λ seen. bytes_at seen places.now) dir.old dir.new result }
+    ensures len { length buffer.new ≡ length buffer.old }
+{
+    for place in places {
+        if let Err(fault) = copy(dir, from, to, place.at, place.length, buffer) {
+            return Err(fault);
+        }
+    }
+    Ok(())
 }
 
 // Adds so many bytes of the source from a place on, no more at once than the buffer has.
