@@ -86,7 +86,7 @@ fn copy_places<D: Dir>(
     ensures len { length buffer.new ≡ length buffer.old }
 {
     for place in places {
-        if let Err(fault) = copy(dir, from, to, place.at, place.length, buffer) {
+        if let Err(fault) = copy(dir, from, to, place.at(), place.length(), buffer) {
             return Err(fault);
         }
     }

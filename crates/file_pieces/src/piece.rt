@@ -41,7 +41,7 @@ pub fn room_at(places: &[Extent]) -> Option<usize>
 {
     let mut room: usize = 0;
     for place in places {
-        room = room.checked_add(place.length as usize)?;
+        room = room.checked_add(place.length() as usize)?;
     }
     Some(room)
 }

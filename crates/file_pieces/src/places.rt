@@ -46,7 +46,7 @@ pub fn read_places<D: Dir>(
         if let Err(fault) = read_place(dir, file, *place, done, into) {
             return Err(fault);
         }
-        done += place.length as usize;
+        done += place.length() as usize;
     }
     Ok(())
 }
@@ -65,6 +65,6 @@ fn read_place<D: Dir>(
     ensures len { length into.new ≡ length into.old }
 {
     let (_, behind) = into.split_at_mut(done);
-    let (part, _) = behind.split_at_mut(place.length as usize);
-    read_exact(dir, file, place.at, part)
+    let (part, _) = behind.split_at_mut(place.length() as usize);
+    read_exact(dir, file, place.at(), part)
 }
