@@ -1,6 +1,6 @@
 -- Pieces that tell a chunk: what each has, one behind another.
-use Rattle.std.proofs.Common.{◌≡◌, ℕ, ◌+◌, ◌<◌, ◌^◌, List, [], ◌∷◌, ◌++◌, length, take, drop, inl, inr, sym, ap, subst, ◌∙◌, append-nil, append_assoc, arith}
-use Rattle.std.specs.Prelude.{◌⊎◌, get_or, Result, Ok, Err, IfOk}
+use Rattle.std.proofs.Common.{◌≡◌, ℕ, ◌+◌, List, [], ◌∷◌, ◌++◌, length, inl, inr, sym, ap, subst, ◌∙◌, append-nil, append_assoc, arith}
+use Rattle.std.specs.Prelude.{◌⊎◌, Result, Ok, Err, IfOk}
 use Rattle.std.specs.List.{AllByRecursion, concat}
 use Rattle.std.specs.Int.{w32, to_be_bytes}
 use Rattle.std.proofs.lemmas.List.{flat_map_more, length-append}
@@ -10,52 +10,24 @@ use Rattle.buffer_state.specs.State.{Chunk, size}
 use Rattle.chunk_journal.specs.Records.{Record, Append, Queue, record_bytes, IsRecord}
 use Rattle.chunk_journal.specs.Journal.{journal_bytes}
 use Rattle.chunk_journal.specs.Meaning.{telling, queueing}
-use Rattle.chunk_journal.specs.Places.{IsWithin, bytes_at, bytes_from}
-use Rattle.chunk_journal.specs.declared.places.Extent.{Extent}
-use Rattle.file_pieces.specs.Pieces.{AreWithin, HasPart, piece_bytes, pieces_bytes}
+use Rattle.file_pieces.specs.Pieces.{AreWithin, CanTake, piece_bytes, pieces_bytes}
 use Rattle.file_pieces.specs.declared.piece.Piece.{Piece}
-use Rattle.file_pieces.proofs.Sums.{all_at, flat_next}
 use Rattle.chunk_journal.proofs.Frames.{append_length}
 use Rattle.journal_files.specs.Fronts.{front_within}
 use Rattle.journal_files.proofs.Placed.{record_split}
 
-all_push : {X : Type 0} (P : X → Type 0) (xs : List X) (x : X) → AllByRecursion P xs → P x → AllByRecursion P (xs ++ x ∷ [])
-all_push P [] x all is = (is, tt)
-all_push P (y ∷ xs) x all is = (all.0, all_push P xs x all.1 is)
+-- ---- one more piece
 
-pieces_push : {A : Type 0} (seen : List ℕ) (pieces : List (Piece A)) (piece : Piece A) → pieces_bytes seen (pieces ++ piece ∷ []) ≡ pieces_bytes seen pieces ++ piece_bytes seen piece
-pieces_push seen pieces piece = sym (flat_map_more (piece_bytes seen) [] pieces piece)
+last_in : {X : Type 0} (P : X → Type 0) (items : List X) (x : X) → AllByRecursion P items → P x → AllByRecursion P (items ++ x ∷ [])
+last_in P [] x each is = (is, tt)
+last_in P (y ∷ items) x each is = (each.0, last_in P items x each.1 is)
 
--- the pieces have at their end what another file has at the first so many places
-pub record Taken {A : Type 0} (extents : List Extent) (count : ℕ) (old new : List (Piece A)) : Type 0 where
-  pub bytes : (seen : List ℕ) → pieces_bytes seen new ≡ pieces_bytes seen old ++ bytes_at seen (take count extents)
-  pub within : (seen : List ℕ) → length seen < 2 ^ 64 → AllByRecursion (IsWithin (length seen)) extents → AreWithin seen old → AreWithin seen new
+module _ {A : Type 0} (old new : List (Piece A)) (piece : Piece A) (pushed : new ≡ old ++ piece ∷ []) where
+  pub bytes_pushed : (seen : List ℕ) → pieces_bytes seen new ≡ pieces_bytes seen old ++ piece_bytes seen piece
+  bytes_pushed seen = ap (pieces_bytes seen) pushed ∙ sym (flat_map_more (piece_bytes seen) [] old piece)
 
-pub taken_none : {A : Type 0} (extents : List Extent) (pieces : List (Piece A)) → Taken extents 0 pieces pieces
-taken_none extents pieces = record {
-  bytes = λ seen. sym (append-nil (pieces_bytes seen pieces));
-  within = λ seen small all is. is;
-}
-
--- what a piece of one place has
-of_place : {A : Type 0} (seen : List ℕ) (piece : Piece A) (extent : Extent) → piece.told.items ≡ [] → piece.at ≡ extent.at → piece.length ≡ extent.length → piece_bytes seen piece ≡ bytes_from seen extent
-of_place seen piece extent none at_is length_is =
-    ap (λ l. l ++ take piece.length (drop piece.at seen)) none ∙ ap (λ n. take n (drop piece.at seen)) length_is ∙ ap (λ n. take extent.length (drop n seen)) at_is
-
-part_within : (seen : List ℕ) (extent : Extent) (at size : ℕ) → at ≡ extent.at → size ≡ extent.length → length seen < 2 ^ 64 → IsWithin (length seen) extent → HasPart seen at size
-part_within seen extent at size at_is size_is small within = (omega (arith, at_is, size_is, within), omega (arith, at_is, size_is, within, small))
-
-pub taken_more : {A : Type 0} (extents : List Extent) (i : ℕ) (extent : Extent) (piece : Piece A) (old mid new : List (Piece A)) → Taken extents i old mid → i < length extents → extent ≡ get_or extents i extent
-    → new ≡ mid ++ piece ∷ [] → piece.told.items ≡ [] → piece.at ≡ extent.at → piece.length ≡ extent.length → Taken extents (i + 1) old new
-taken_more extents i extent piece old mid new so_far less is pushed none at_is length_is = record {
-  bytes = λ seen. ap (pieces_bytes seen) pushed ∙ pieces_push seen mid piece ∙ ap (λ l. l ++ piece_bytes seen piece) (so_far.bytes seen)
-      ∙ ap (λ l. (pieces_bytes seen old ++ bytes_at seen (take i extents)) ++ l) (of_place seen piece extent none at_is length_is)
-      ∙ append_assoc (pieces_bytes seen old) (bytes_at seen (take i extents)) (bytes_from seen extent)
-      ∙ ap (λ l. pieces_bytes seen old ++ l) (flat_next (bytes_from seen) extents i extent less is);
-  within = λ seen small all before. subst (AreWithin seen) (sym pushed)
-      (all_push (λ p. HasPart seen p.at p.length) mid piece (so_far.within seen small all before)
-      (part_within seen extent piece.at piece.length at_is length_is small (subst (IsWithin (length seen)) (sym is) (all_at (IsWithin (length seen)) extents i extent all less))));
-}
+  pub within_pushed : (seen : List ℕ) → CanTake seen piece.places.now → AreWithin seen old → AreWithin seen new
+  within_pushed seen can each = subst (AreWithin seen) (sym pushed) (last_in (λ (p : Piece A). CanTake seen p.places.now) old piece each can)
 
 -- ---- an Append
 
@@ -72,10 +44,10 @@ front_is serial tag found entries count bytes tag_is count_is size_is =
     ap (λ t. front_of serial t count bytes) tag_is ∙ ap (λ n. front_of serial tag n bytes) count_is ∙ ap (front_of serial tag (length entries)) size_is
 
 -- bytes with the front and then the entries at their end
-pub told_append : (old mid new front behind : List ℕ) (serial : ℕ) (tag found : List ℕ) (entries : List (List ℕ)) (count bytes : ℕ) → found ≡ tag → count ≡ length entries → bytes ≡ size entries
-    → front ≡ front_of serial found count bytes → mid ≡ old ++ front → new ≡ mid ++ behind → behind ≡ concat entries → new ≡ old ++ record_bytes (Append serial tag entries)
-told_append old mid new front behind serial tag found entries count bytes tag_is count_is size_is spelled first second all =
-    second ∙ ap (λ l. l ++ behind) first ∙ append_assoc old front behind ∙ ap (λ l. old ++ (front ++ l)) all
+pub told_append : (old new front behind : List ℕ) (serial : ℕ) (tag found : List ℕ) (entries : List (List ℕ)) (count bytes : ℕ) → found ≡ tag → count ≡ length entries → bytes ≡ size entries
+    → front ≡ front_of serial found count bytes → new ≡ old ++ (front ++ behind) → behind ≡ concat entries → new ≡ old ++ record_bytes (Append serial tag entries)
+told_append old new front behind serial tag found entries count bytes tag_is count_is size_is spelled added all =
+    added ∙ ap (λ l. old ++ (front ++ l)) all
     ∙ ap (λ l. old ++ (l ++ concat entries)) (spelled ∙ front_is serial tag found entries count bytes tag_is count_is size_is)
     ∙ ap (λ l. old ++ l) (append_whole serial tag entries)
 

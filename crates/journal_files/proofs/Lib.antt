@@ -6,13 +6,11 @@ pub mod Steps
 pub mod OneWay
 pub mod Written
 pub mod Tags
-pub mod Pieced
 pub mod Fronts
 pub mod Spelled
 pub mod AllRead
 pub mod Beginning
 pub mod OlderFiles
-pub mod Gathered
 pub mod Searched
 pub mod Renewing
 pub mod Filled

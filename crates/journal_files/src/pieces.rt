@@ -112,7 +112,7 @@ fn copied_at_once(len: u64) -> usize
 }
 
 // How many bytes these are with the Seal, if that is a number of 64 bits.
-fn whole_len<A: Allocator>(told: &Told<A>) -> Result<u64, AllocError>
+fn whole_len<A: Allocator>(told: &Told<'_, A>) -> Result<u64, AllocError>
     ensures { IfOk result (λ len. len ≡ told.now.len + length told.now.seal.items) }
 {
     match told.len.checked_add(told.seal.len() as u64) {
@@ -126,7 +126,7 @@ fn make<A: Allocator, D: Dir>(
     dir: &mut D,
     name: &[u8],
     from: Option<FileNo>,
-    pieces: &[Piece<A>],
+    pieces: &[Piece<'_, A>],
     more: usize,
     buffer: &mut [u8],
 ) -> Result<FileNo, BeginError>
@@ -158,7 +158,7 @@ fn make<A: Allocator, D: Dir>(
 }
 
 // How much room the pieces need, and so many bytes more.
-fn room_with<A: Allocator>(pieces: &[Piece<A>], more: usize) -> Result<usize, AllocError>
+fn room_with<A: Allocator>(pieces: &[Piece<'_, A>], more: usize) -> Result<usize, AllocError>
     ensures { IfOk result (λ room. room ≡ total_room pieces.now + more) }
 {
     let Some(room) = room_of(pieces) else {
@@ -175,7 +175,7 @@ fn fill<A: Allocator, D: Dir>(
     dir: &mut D,
     from: Option<FileNo>,
     to: FileNo,
-    pieces: &[Piece<A>],
+    pieces: &[Piece<'_, A>],
     buffer: &mut [u8],
 ) -> Result<(), PieceError>
     requires source { IfSome from (λ file. IsSome (D.opened dir.old file)) }

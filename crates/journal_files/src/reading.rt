@@ -5,14 +5,15 @@ ghost use Rattle.std.specs.List.{AllByRecursion};
 ghost use Rattle.disk_files.specs.Disk.{SameDisk, reads};
 ghost use Rattle.disk_files.specs.Moments.{Elapses, now};
 ghost use Rattle.disk_files.specs.declared.dir.FileNo.{FileNo};
-ghost use Rattle.chunk_journal.specs.Places.{IsWithin, bytes_at, bytes_from};
+ghost use Rattle.chunk_journal.specs.Places.{IsWithin, bytes_at};
 ghost use Rattle.journal_files.specs.Faults.{HasReason};
 ghost use Rattle.journal_files.specs.declared.error.ReadError.{ReadError};
 
 use crate::error::ReadError;
+use crate::pieces::PIECE;
 use chunk_journal::Extent;
 use disk_files::{Dir, FileNo};
-use file_pieces::read_exact;
+use file_pieces::{read_places, room_at};
 use std::alloc::Allocator;
 
 /// The bytes at these places, joined. The disk stays as it is.
@@ -35,44 +36,18 @@ pub(crate) fn read_extents<A: Allocator + Copy, D: Dir>(
         → IsErrOf result ReadError.Short → ⊥ }
     ensures cause { HasReason (D.fault_count dir.old) (D.fault_count dir.new) result ReadError.Fault }
 {
-    let mut bytes = Vec::with_capacity(alloc, size_of(extents))?;
-    for extent in extents {
-        let piece = read_extent(alloc, dir, file, *extent)?;
-        bytes.extend_from_slice(&piece)?;
-    }
+    let Some(size) = room_at(extents) else {
+        return Err(ReadError::Memory);
+    };
+    let mut bytes = vec![in alloc; 0u8; size]?;
+    let mut window = vec![in alloc; 0u8; window_for(extents)]?;
+    read_places(dir, file, extents, &mut window, &mut bytes)?;
     Ok(bytes)
 }
 
-// How many bytes these are, if memory holds so many.
-fn size_of(extents: &[Extent]) -> usize {
-    let mut size: usize = 0;
-    for extent in extents {
-        size = size.saturating_add(extent.length as usize);
-    }
-    size
-}
-
-// The bytes at a place.
-fn read_extent<A: Allocator, D: Dir>(
-    alloc: A,
-    dir: &mut D,
-    file: FileNo,
-    extent: Extent,
-) -> Result<Vec<u8, A>, ReadError>
-    requires { IsSome (D.opened dir.old file) }
-    ensures honest { D.is_honest dir.old → D.is_honest dir.new }
-    ensures time { D.is_honest dir.old → Elapses (D.history dir.old) (D.history dir.new) }
-    ensures same { D.is_honest dir.old → SameDisk (now (D.history dir.new)) (now (D.history dir.old)) }
-    ensures opened { (other : FileNo) → D.opened dir.new other ≡ D.opened dir.old other }
-    ensures bytes { D.is_honest dir.old → (name seen : List ℕ) → D.opened dir.old file ≡ Some name
-        → reads (now (D.history dir.old)) name ≡ Some seen → length seen < 2 ^ 64 → IsWithin (length seen) extent
-        → IfOk result (λ bytes. bytes.items ≡ bytes_from seen extent) }
-    ensures whole { D.is_honest dir.old → (name seen : List ℕ) → D.opened dir.old file ≡ Some name
-        → reads (now (D.history dir.old)) name ≡ Some seen → length seen < 2 ^ 64 → IsWithin (length seen) extent
-        → IsErrOf result ReadError.Short → ⊥ }
-    ensures cause { HasReason (D.fault_count dir.old) (D.fault_count dir.new) result ReadError.Fault }
+// How many bytes are read at once. One place alone is read straight into what is answered.
+fn window_for(extents: &[Extent]) -> usize
+    ensures { 0 < result }
 {
-    let mut bytes = vec![in alloc; 0u8; extent.length as usize]?;
-    read_exact(dir, file, extent.at, &mut bytes)?;
-    Ok(bytes)
+    if extents.len() > 1 { PIECE } else { 1 }
 }

@@ -23,19 +23,22 @@ use std::alloc::{AllocError, Allocator};
 /// What a generation begins with: the pieces that tell its chunks, how many bytes these have, and where in them the chunks' entries lie;
 /// and the Seal.
 #[derive(Drop)]
-pub(crate) struct Told<A: Allocator> {
-    pub(crate) pieces: Vec<Piece<A>, A>,
+pub(crate) struct Told<'a, A: Allocator> {
+    pub(crate) pieces: Vec<Piece<'a, A>, A>,
     pub(crate) len: u64,
     pub(crate) places: Places<A>,
     pub(crate) seal: Vec<u8, A>,
 }
 
+// A chunk is told by so many pieces at most: its Append and its Queue.
+const MOST_PIECES: usize = 2;
+
 /// The records that tell these chunks, by rising serial, and the Seal behind them. The entries lie at these places of another file.
-pub(crate) fn tell_chunks<A: Allocator + Copy>(
+pub(crate) fn tell_chunks<'a, A: Allocator + Copy>(
     alloc: A,
     chunks: &Chunks<A>,
-    from: &Places<A>,
-) -> Result<Told<A>, AllocError>
+    from: &'a Places<A>,
+) -> Result<Told<'a, A>, AllocError>
     requires { HasShortTags chunks.now }
     ensures bytes { IfOk result (λ told. (seen : List ℕ) → length seen < 2 ^ 64 → ArePlaced seen from.now chunks.now
         → pieces_bytes seen told.pieces.items ≡ journal_bytes (flat_map telling chunks.now.chunks)) }
@@ -53,7 +56,7 @@ pub(crate) fn tell_chunks<A: Allocator + Copy>(
     leads_in_order();
     let live = chunks.live();
     let seal = spell_seal(alloc, chunks.next())?;
-    let mut pieces = Vec::new(alloc);
+    let mut pieces = Vec::with_capacity(alloc, live.len().saturating_mul(MOST_PIECES))?;
     let mut len = 0;
     let mut places = Places::new(alloc);
     for (serial, chunk) in live {
@@ -68,14 +71,14 @@ pub(crate) fn tell_chunks<A: Allocator + Copy>(
 }
 
 // Adds what tells a chunk behind so many bytes, and the place of its entries, and says how many bytes there are then.
-fn tell_chunk<A: Allocator + Copy>(
+fn tell_chunk<'a, A: Allocator + Copy>(
     alloc: A,
-    pieces: &mut Vec<Piece<A>, A>,
+    pieces: &mut Vec<Piece<'a, A>, A>,
     places: &mut Places<A>,
     len: u64,
     serial: u64,
     chunk: &Chunk<A>,
-    from: &Places<A>,
+    from: &'a Places<A>,
 ) -> Result<u64, AllocError>
     requires tag { length chunk.now.chunk.tag ≤ longest_tag }
     requires small { size chunk.now.chunk.entries ≤ greatest_size }
@@ -97,14 +100,14 @@ fn tell_chunk<A: Allocator + Copy>(
 }
 
 // Adds the Append of a chunk's entries, and their place.
-fn tell_entries<A: Allocator + Copy>(
+fn tell_entries<'a, A: Allocator + Copy>(
     alloc: A,
-    pieces: &mut Vec<Piece<A>, A>,
+    pieces: &mut Vec<Piece<'a, A>, A>,
     places: &mut Places<A>,
     len: u64,
     serial: u64,
     chunk: &Chunk<A>,
-    from: &Places<A>,
+    from: &'a Places<A>,
 ) -> Result<u64, AllocError>
     requires tag { length chunk.now.chunk.tag ≤ longest_tag }
     requires small { size chunk.now.chunk.entries ≤ greatest_size }
@@ -121,8 +124,7 @@ fn tell_entries<A: Allocator + Copy>(
     chunk.stays_stored();
     let front = spell_front(alloc, serial, chunk.tag(), chunk.count(), chunk.size())?;
     let end = behind(len, front.len() + chunk.size())?;
-    put_bytes(pieces, front)?;
-    put_extents(pieces, from.at(serial))?;
+    put_piece(pieces, front, from.at(serial))?;
     places.append(serial, last_extent(end, chunk.size()))?;
     Ok(end)
 }
@@ -130,19 +132,19 @@ fn tell_entries<A: Allocator + Copy>(
 // Adds the Queue of a chunk.
 fn tell_queue<A: Allocator + Copy>(
     alloc: A,
-    pieces: &mut Vec<Piece<A>, A>,
+    pieces: &mut Vec<Piece<'_, A>, A>,
     len: u64,
     serial: u64,
 ) -> Result<u64, AllocError>
     ensures bytes { OnOk result ((seen : List ℕ) → pieces_bytes seen pieces.new.items ≡ pieces_bytes seen pieces.old.items ++ record_bytes (Queue serial)) }
-    ensures within { OnOk result ((seen : List ℕ) → AreWithin seen pieces.old.items → AreWithin seen pieces.new.items) }
+    ensures within { OnOk result ((seen : List ℕ) → length seen < 2 ^ 64 → AreWithin seen pieces.old.items → AreWithin seen pieces.new.items) }
     ensures len { IfOk result (λ end. end ≡ len + length (record_bytes (Queue serial))) }
     ensures record { IsRecord (Queue serial) }
 {
     let mut bytes = Vec::new(alloc);
     put_record::<A, A>(&mut bytes, &Record::Queue { serial })?;
     let end = behind(len, bytes.len())?;
-    put_bytes(pieces, bytes)?;
+    put_piece(pieces, bytes, &[])?;
     Ok(end)
 }
 
@@ -190,39 +192,17 @@ fn spell_front<A: Allocator>(
     Ok(front)
 }
 
-// Adds bytes that are told.
-fn put_bytes<A: Allocator>(
-    pieces: &mut Vec<Piece<A>, A>,
-    bytes: Vec<u8, A>,
+// Adds bytes that are told, and behind them what another file has at these places.
+fn put_piece<'a, A: Allocator>(
+    pieces: &mut Vec<Piece<'a, A>, A>,
+    told: Vec<u8, A>,
+    places: &'a [Extent],
 ) -> Result<(), AllocError>
-    ensures bytes { OnOk result ((seen : List ℕ) → pieces_bytes seen pieces.new.items ≡ pieces_bytes seen pieces.old.items ++ bytes.items) }
-    ensures within { OnOk result ((seen : List ℕ) → AreWithin seen pieces.old.items → AreWithin seen pieces.new.items) }
-{
-    pieces.push(Piece {
-        told: bytes,
-        at: 0,
-        length: 0,
-    })?;
-    Ok(())
-}
-
-// Adds what another file has at these places.
-fn put_extents<A: Allocator + Copy>(
-    pieces: &mut Vec<Piece<A>, A>,
-    extents: &[Extent],
-) -> Result<(), AllocError>
-    ensures bytes { OnOk result ((seen : List ℕ) → pieces_bytes seen pieces.new.items ≡ pieces_bytes seen pieces.old.items ++ bytes_at seen extents.now) }
-    ensures within { OnOk result ((seen : List ℕ) → length seen < 2 ^ 64 → AllByRecursion (IsWithin (length seen)) extents.now
+    ensures bytes { OnOk result ((seen : List ℕ) → pieces_bytes seen pieces.new.items ≡ pieces_bytes seen pieces.old.items ++ (told.items ++ bytes_at seen places.now)) }
+    ensures within { OnOk result ((seen : List ℕ) → length seen < 2 ^ 64 → AllByRecursion (IsWithin (length seen)) places.now
         → AreWithin seen pieces.old.items → AreWithin seen pieces.new.items) }
 {
-    let alloc = *pieces.allocator();
-    for extent in extents {
-        pieces.push(Piece {
-            told: Vec::new(alloc),
-            at: extent.at,
-            length: extent.length,
-        })?;
-    }
+    pieces.push(Piece { told, places })?;
     Ok(())
 }
 

@@ -16,7 +16,7 @@ returns-in-Queued g c =
     let second = c.tell_queue.ensures in
     record {
       bytes = on_ok c.tell_queue.result second.bytes (λ is. λ seen are. queued_bytes serial chunk queued (pieces_bytes seen c.args.pieces.now.items) (pieces_bytes seen c.tell_entries.new.pieces.items) (pieces_bytes seen c.tell_queue.new.pieces.items) (first.bytes seen are) (is seen));
-      within = on_ok c.tell_queue.result second.within (λ is. λ seen small are before. is seen (first.within seen small are before));
+      within = on_ok c.tell_queue.result second.within (λ is. λ seen small are before. is seen small (first.within seen small are before));
       len = if_ok (λ end. end ≡ c.in_ok-end.end + length (record_bytes (Queue serial))) (λ end. end ≡ c.args.len + length (journal_bytes (telling (serial, chunk)))) c.tell_queue.result second.len
           (λ end is. queued_length serial chunk queued c.args.len c.in_ok-end.end end first.len is);
       places = on_ok c.tell_queue.result second.bytes (λ is. first.places);

@@ -14,7 +14,7 @@ loop-serial-init g c =
     let told = can_be_told c.live-live.result.now.entries s.chunks s.next live.chunks live.rising live.below live.small in
     let next = subst (λ (n : ℕ). IsRecord (Seal n)) c.next.ensures c.in_ok-seal.ensures.record in
     let gives : c.into_iter-serial-iterator.result ≡ c.live-live.result.now.entries = c.into_iter-serial-iterator.ensures.into_iter_gives.0 in
-    starts c.new-pieces.result.items 0 c.args.from.now c.new-places.result c.into_iter-serial-iterator.result s c.new-pieces.ensures.items refl c.new-places.ensures
+    starts c.in_ok-pieces.pieces.items 0 c.args.from.now c.new-places.result c.into_iter-serial-iterator.result s c.in_ok-pieces.ensures.items refl c.new-places.ensures
     (ap chunks_in gives ∙ live.chunks) told next.fields c.requires (subst (λ (z : Slots). All (λ slot. slot_size slot ≤ greatest_size) (values_of z)) (sym gives) live.small)
 
 pub tell_chunk-requires-clause-small : goal.tell_chunk-requires-clause-small
@@ -31,6 +31,11 @@ loop-serial-preserved g c =
 
 pub returns-in_err-seal-clause-told : goal.returns-in_err-seal-clause-told
 returns-in_err-seal-clause-told g c =
+    let live = c.live-live.ensures in
+    can_be_told c.live-live.result.now.entries c.args.chunks.now.chunks c.args.chunks.now.next live.chunks live.rising live.below live.small
+
+pub returns-in_err-pieces-clause-told : goal.returns-in_err-pieces-clause-told
+returns-in_err-pieces-clause-told g c =
     let live = c.live-live.ensures in
     can_be_told c.live-live.result.now.entries c.args.chunks.now.chunks c.args.chunks.now.next live.chunks live.rising live.below live.small
 

@@ -12,10 +12,10 @@ spell_front-requires-clause-count g c = omega (arith, c.count.ensures, c.size.en
 pub returns-clause-bytes : goal.returns-clause-bytes
 returns-clause-bytes g c = λ seen are.
     let chunk = c.args.chunk.now.chunk in
-    told_append (pieces_bytes seen c.args.pieces.now.items) (pieces_bytes seen c.put_bytes.new.pieces.items) (pieces_bytes seen c.put_extents.new.pieces.items) c.in_ok-front.front.items (bytes_at seen c.at.result.now)
+    told_append (pieces_bytes seen c.args.pieces.now.items) (pieces_bytes seen c.put_piece.new.pieces.items) c.in_ok-front.front.items (bytes_at seen c.at.result.now)
     c.args.serial chunk.tag c.tag.result.now chunk.entries c.count.result c.size.result c.tag.ensures c.count.ensures c.size.ensures c.in_ok-front.ensures
-    (c.in_ok-put_bytes.ensures.bytes seen) (c.in_ok-put_extents.ensures.bytes seen) (ap (bytes_at seen) c.at.ensures ∙ are.lie)
+    (c.in_ok-put_piece.ensures.bytes seen) (ap (bytes_at seen) c.at.ensures ∙ are.lie)
 
 pub returns-clause-within : goal.returns-clause-within
 returns-clause-within g c = λ seen small are before.
-    c.in_ok-put_extents.ensures.within seen small (subst (AllByRecursion (IsWithin (length seen))) (sym c.at.ensures) are.within) (c.in_ok-put_bytes.ensures.within seen before)
+    c.in_ok-put_piece.ensures.within seen small (subst (AllByRecursion (IsWithin (length seen))) (sym c.at.ensures) are.within) before
