@@ -30,7 +30,7 @@ pub enum BufferFault {
     /// The journal has something whole that is no record, or that can't stand there; or it hasn't the bytes that were told.
     #[error("B7")]
     Damaged,
-    /// There was no memory.
+    /// There was no memory, or the journal has come to 2^40 bytes (1 TB), past which it keeps no places.
     #[error("out of memory")]
     Memory,
 }

@@ -26,8 +26,9 @@ impl<D: Dir, A: Allocator + Copy> Buffer<D, A> {
     /// the entries or not, and none that were appended after them without them. Asks for at least one entry, and for a tag of
     /// at most 1,024 bytes.
     ///
-    /// The first of `Failed`, `TooLarge`, `Full`, `LastSerial`, `Memory` and `Fault` that applies. None changes the chunks; after `Fault`
-    /// the entries are there or not when the buffer is opened again.
+    /// The first of `Failed`, `TooLarge`, `Full`, `LastSerial`, `Memory` and `Fault` that applies; `Memory` too where the entries would begin
+    /// 2^40 bytes (1 TB) or more behind the journal's beginning. None changes the chunks; after `Fault` the entries are there or not when
+    /// the buffer is opened again.
     pub fn stage(&mut self, tag: &[u8], entries: &Entries<A>) -> Result<Appended, BufferFault>
         requires some { 0 < length entries.now }
         requires tag { length tag.now ≤ longest_tag }

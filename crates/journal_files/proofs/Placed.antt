@@ -49,7 +49,7 @@ ends_so seen (Purge serial) = tt
 
 -- ---- one more record
 
-pub moves_so : (item : Record) (end : ℕ) (old new : Spots) → MovesBy (placing_of item) end old new → MovesPlaces item end old new
+pub moves_so : (item : Record) (end : ℕ) (old new : Spots) → MovesBy (placing_of item end) old new → MovesPlaces item end old new
 moves_so (Seal next) end old new moves = moves
 moves_so (Append serial tag entries) end old new moves = moves
 moves_so (Queue serial) end old new moves = moves

@@ -18,7 +18,7 @@ use Rattle.chunk_journal.proofs.Standing.{each_more}
 use Rattle.journal_files.specs.Folders.{journal_name, Opens}
 use Rattle.journal_files.specs.Tellings.{Telling, records_of, sure_records, state_at_seal, state_of, IsTelling, begun, all_sure, OpensWithin}
 use Rattle.journal_files.specs.declared.placing.Placing.{Placing}
-use Rattle.journal_files.specs.Placings.{MovesBy}
+use Rattle.journal_files.specs.Placings.{placing_of, MovesBy}
 use Rattle.journal_files.specs.Views.{OpenJournal, IsReady}
 use Rattle.journal_files.specs.Disks.{Keeps, Recovers}
 use Rattle.journal_files.proofs.Names.{numbers_apart}
@@ -180,14 +180,16 @@ one_call old new P time before after = goes_on old old new P (started old P befo
 
 -- the record that was ready was told
 pub goes_on_so : (inside journal new : OpenJournal) (item : Record) → inside ≡ journal → new.path ≡ inside.path → new.number ≡ inside.number → new.len ≡ inside.len + length inside.ready → IsReady journal item
-    → MovesBy inside.placing new.len inside.places new.places → GoesOn journal new item
-goes_on_so inside journal new item is path number len ready moves = record {
-  path = path ∙ ap (λ (j : OpenJournal). j.path) is;
-  number = number ∙ ap (λ (j : OpenJournal). j.number) is;
-  len = len ∙ ap (λ (j : OpenJournal). j.len + length j.ready) is ∙ ap (λ (b : List ℕ). journal.len + length b) ready.bytes;
-  places = moves_so item new.len journal.places new.places
-      (subst (λ (p : Placing). MovesBy p new.len journal.places new.places) ready.placing (subst (λ (j : OpenJournal). MovesBy j.placing new.len j.places new.places) is moves));
-}
+    → MovesBy inside.placing inside.places new.places → GoesOn journal new item
+goes_on_so inside journal new item is path number len ready moves =
+    let end : new.len ≡ journal.len + length journal.ready = len ∙ ap (λ (j : OpenJournal). j.len + length j.ready) is in
+    record {
+      path = path ∙ ap (λ (j : OpenJournal). j.path) is;
+      number = number ∙ ap (λ (j : OpenJournal). j.number) is;
+      len = end ∙ ap (λ (b : List ℕ). journal.len + length b) ready.bytes;
+      places = moves_so item new.len journal.places new.places
+          (subst (λ (p : Placing). MovesBy p journal.places new.places) (ready.placing ∙ ap (placing_of item) (sym end)) (subst (λ (j : OpenJournal). MovesBy j.placing j.places new.places) is moves));
+    }
 
 module _ (follow : PlacesFollow) (order : LeadsInOrder) (journal new : OpenJournal) (old mid : History) (t : Telling) (item : Record) (bytes : List ℕ) (ready : bytes ≡ record_bytes item) (goes : GoesOn journal new item)
     (keeps : Keeps journal (now old) t) (one : IsRecord item) (allowed : Allows (state_of t) item) where

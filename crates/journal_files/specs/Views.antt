@@ -1,5 +1,5 @@
 -- What contracts see of an open journal.
-use Rattle.std.specs.Prelude.{ℕ, ◌≡◌, ◌≤◌, List, length, Option, Some}
+use Rattle.std.specs.Prelude.{ℕ, ◌≡◌, ◌+◌, ◌≤◌, List, length, Option, Some}
 use Rattle.std.specs.List.{AllByRecursion}
 use Rattle.disk_files.specs.declared.dir.FileNo.{FileNo}
 use Rattle.event_modes.specs.Message.{longest_tag}
@@ -32,4 +32,4 @@ HasShortTags state = AllByRecursion (λ (numbered : Numbered). length numbered.1
 pub record IsReady (journal : OpenJournal) (item : Record) : Type 0 where
   pub can : IsRecord item
   pub bytes : journal.ready ≡ record_bytes item
-  pub placing : journal.placing ≡ placing_of item
+  pub placing : journal.placing ≡ placing_of item (journal.len + length journal.ready)

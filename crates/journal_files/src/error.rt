@@ -8,7 +8,7 @@ use thiserror::Error;
 /// Why a journal isn't opened.
 #[derive(Clone, Copy, Debug, Drop, PartialEq, Eq, Error)]
 pub enum OpenError {
-    /// There was no memory.
+    /// There was no memory, or entries in the journal begin 2^40 bytes (1 TB) or more behind its beginning.
     #[error("out of memory")]
     Memory,
     /// The device failed.

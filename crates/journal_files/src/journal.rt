@@ -98,8 +98,8 @@ impl<A: Allocator + Copy> Journal<A> {
     /// Spells a record, and makes room for it in the folder, so that `put` needs no memory.
     /// Asks for a tag of at most 1,024 bytes and for at most 16,777,216 bytes behind the length.
     ///
-    /// The error is want of memory, and comes too where the journal would have 2^64 bytes; then nothing of the folder changed,
-    /// and the journal tells what it told.
+    /// The error is want of memory, and comes too where a record's entries would begin 2^40 bytes (1 TB) or more behind the journal's
+    /// beginning, or the journal would have 2^64 bytes; then nothing of the folder changed, and the journal tells what it told.
     pub fn ready<D: Dir, B: Allocator>(
         &mut self,
         dir: &mut D,
@@ -123,7 +123,7 @@ impl<A: Allocator + Copy> Journal<A> {
         dir.reserve(self.file, self.ready.len())
     }
 
-    // Spells a record, and makes room for its place.
+    // Spells a record, finds the place of its entries, and makes room for it.
     fn spell<B: Allocator>(&mut self, item: &Record<'_, B>) -> Result<(), AllocError>
         requires tag { HasShortTag (record_of item.now) }
         requires short { length (body_of (record_of item.now)) ≤ longest_body }
@@ -134,11 +134,11 @@ impl<A: Allocator + Copy> Journal<A> {
         self.placing = Placing::Stays;
         self.ready.clear();
         put_record(&mut self.ready, item)?;
-        if self.len.checked_add(self.ready.len() as u64).is_none() {
+        let Some(end) = self.len.checked_add(self.ready.len() as u64) else {
             self.ready.clear();
             return Err(AllocError);
-        }
-        let placing = Placing::of(item);
+        };
+        let placing = Placing::of(item, end)?;
         placing.reserve(&mut self.places)?;
         self.placing = placing;
         Ok(())
@@ -175,7 +175,7 @@ impl<A: Allocator + Copy> Journal<A> {
         let told = dir.append(self.file, &self.ready);
         self.len += self.ready.len() as u64;
         self.ready.clear();
-        self.placing.place(&mut self.places, self.len);
+        self.placing.place(&mut self.places);
         self.placing = Placing::Stays;
         told
     }

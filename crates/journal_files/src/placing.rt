@@ -1,7 +1,7 @@
 //! What the record that is told next does to the places of entries.
 
-ghost use Rattle.std.specs.Prelude.{◌≡◌, OnOk};
-ghost use Rattle.chunk_journal.specs.Places.{SamePlaces};
+ghost use Rattle.std.specs.Prelude.{◌≡◌, IfOk, OnOk};
+ghost use Rattle.chunk_journal.specs.Places.{SamePlaces, extent_before};
 ghost use Rattle.chunk_journal.specs.Spelled.{record_of};
 ghost use Rattle.journal_files.specs.Placings.{CanPlace, MovesBy, placing_of};
 
@@ -13,60 +13,67 @@ use std::alloc::{AllocError, Allocator};
 pub enum Placing {
     /// Nothing, as a Seal and a Queue.
     Stays,
-    /// The chunk of this serial gets one more place, of so many bytes: an Append.
-    Adds { serial: u64, size: u64 },
+    /// The chunk of this serial gets this place more: an Append.
+    Adds { serial: u64, extent: Extent },
     /// The chunk of this serial has none any more: a Purge.
     Drops { serial: u64 },
 }
 
 impl Placing {
-    /// What this record does.
-    pub(crate) fn of<B: Allocator>(item: &Record<'_, B>) -> Placing
-        ensures { result ≡ placing_of (record_of item.now) }
+    /// What this record does, where its bytes end there. The error is want of memory, of a number for the place too.
+    pub(crate) fn of<B: Allocator>(item: &Record<'_, B>, end: u64) -> Result<Placing, AllocError>
+        ensures { IfOk result (λ placing. placing ≡ placing_of (record_of item.now) end) }
     {
         match item {
             Record::Append {
                 serial,
                 entries,
                 ..
-            } => Placing::Adds {
-                serial: *serial,
-                size: entries.as_bytes().len() as u64,
-            },
-            Record::Purge { serial } => Placing::Drops { serial: *serial },
-            Record::Seal { .. } | Record::Queue { .. } => Placing::Stays,
+            } => {
+                let extent = last_extent(end, entries.as_bytes().len())?;
+                Ok(Placing::Adds {
+                    serial: *serial,
+                    extent,
+                })
+            }
+            Record::Purge { serial } => Ok(Placing::Drops { serial: *serial }),
+            Record::Seal { .. } | Record::Queue { .. } => Ok(Placing::Stays),
         }
     }
 
     /// Makes room for it. The error is want of memory.
     pub(crate) fn reserve<A: Allocator + Copy>(
-        self,
+        &self,
         places: &mut Places<A>,
     ) -> Result<(), AllocError>
         ensures same { SamePlaces places.old places.new }
-        ensures ok { OnOk result (CanPlace self places.new) }
+        ensures ok { OnOk result (CanPlace self.now places.new) }
     {
         match self {
-            Placing::Adds { serial, .. } => places.reserve(serial),
+            Placing::Adds { serial, .. } => places.reserve(*serial),
             Placing::Stays | Placing::Drops { .. } => Ok(()),
         }
     }
 
-    /// Does it, where the record's bytes end here.
-    pub(crate) fn place<A: Allocator + Copy>(self, places: &mut Places<A>, end: u64)
-        requires { CanPlace self places.old }
-        ensures { MovesBy self end places.old places.new }
+    /// Does it.
+    pub(crate) fn place<A: Allocator + Copy>(&self, places: &mut Places<A>)
+        requires { CanPlace self.now places.old }
+        ensures { MovesBy self.now places.old places.new }
     {
         match self {
             Placing::Stays => {}
-            Placing::Adds { serial, size } => places.add(
-                serial,
-                Extent {
-                    at: end.saturating_sub(size),
-                    length: size,
-                },
-            ),
-            Placing::Drops { serial } => places.remove(serial),
+            Placing::Adds { serial, extent } => places.add(*serial, *extent),
+            Placing::Drops { serial } => places.remove(*serial),
         }
+    }
+}
+
+/// The place of the last so many bytes before this end. Where there is no number for it, the error is want of memory.
+pub(crate) fn last_extent(end: u64, size: usize) -> Result<Extent, AllocError>
+    ensures { IfOk result (λ extent. extent ≡ extent_before end size) }
+{
+    match Extent::before(end, size as u64) {
+        Some(extent) => Ok(extent),
+        None => Err(AllocError),
     }
 }

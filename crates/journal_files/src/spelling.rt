@@ -15,6 +15,7 @@ ghost use Rattle.journal_files.specs.Fronts.{front_within};
 ghost use Rattle.journal_files.specs.Tellings.{opening, records_of, state_of};
 ghost use Rattle.journal_files.specs.Views.{HasShortTags};
 
+use crate::placing::last_extent;
 use buffer_state::{Chunk, Chunks, Stage};
 use chunk_journal::{Extent, Places, Record, leads_in_order, places_follow, put_record};
 use file_pieces::Piece;
@@ -124,8 +125,9 @@ fn tell_entries<'a, A: Allocator + Copy>(
     chunk.stays_stored();
     let front = spell_front(alloc, serial, chunk.tag(), chunk.count(), chunk.size())?;
     let end = behind(len, front.len() + chunk.size())?;
+    let extent = last_extent(end, chunk.size())?;
     put_piece(pieces, front, from.at(serial))?;
-    places.append(serial, last_extent(end, chunk.size()))?;
+    places.append(serial, extent)?;
     Ok(end)
 }
 
@@ -155,16 +157,6 @@ fn behind(len: u64, more: usize) -> Result<u64, AllocError>
     match len.checked_add(more as u64) {
         Some(end) => Ok(end),
         None => Err(AllocError),
-    }
-}
-
-// The place of the last so many bytes before this end.
-fn last_extent(end: u64, size: usize) -> Extent
-    ensures { result ≡ extent_before end size }
-{
-    Extent {
-        at: end.saturating_sub(size as u64),
-        length: size as u64,
     }
 }
 
