@@ -1,13 +1,15 @@
 -- Bytes that are read by one call after another.
-use Rattle.std.proofs.Common.{ℕ, List, Option, Result, Ok, refl, sym, ap, ◌∙◌, ⊎_elim, arith}
+use Rattle.std.proofs.Common.{◌≡◌, ℕ, ◌+◌, ◌≤◌, List, [], length, Option, Result, Ok, Err, refl, sym, ap, ◌∙◌, ⊎_elim, arith}
+use Rattle.std.specs.Prelude.{IsErrOf}
 use Rattle.std.proofs.lemmas.Bool.{cases_lt}
-use Rattle.disk_files.specs.Disk.{read_of}
+use Rattle.disk_files.specs.Disk.{SameDisk, read_of}
 use Rattle.disk_files.specs.Moments.{History, now, Elapses}
-use Rattle.disk_files.specs.Disk.{SameDisk}
 use Rattle.disk_files.specs.declared.dir.FileNo.{FileNo}
+use Rattle.file_pieces.specs.Adding.{Adds, HasAny, HasPieceCause}
 use Rattle.file_pieces.specs.Reading.{Reads}
 use Rattle.file_pieces.specs.declared.error.PieceError.{PieceError}
-use Rattle.file_pieces.proofs.Steps.{cause_then, on_ok}
+use Rattle.file_pieces.specs.declared.error.PieceError.TheVariants.{Fault, Short}
+use Rattle.file_pieces.proofs.Steps.{adds_as, adds_less, adds_none, adds_then, cause_then, on_ok}
 
 -- two calls, one after the other
 pub elapsed : (old mid new : History) → Elapses old mid → Elapses mid new → SameDisk (now new) (now mid) → Elapses old new
@@ -18,20 +20,20 @@ elapsed old mid new first second same = record {
       (λ before. second.past t before name ∙ first.since t after before name ∙ sym (same name)) (cases_lt mid.moment t);
 }
 
-module _ {D : Type 0} (is_honest : D → Type 0) (history : D → History) (opened : D → FileNo → Option (List ℕ)) (bytes_left : D → FileNo → ℕ) (fault_count : D → ℕ) (file : FileNo) where
-  -- nothing was read yet
-  pub reads_start : (W G : List ℕ → Type 0) (dir : D) → ((seen : List ℕ) → W seen → G seen) → Reads {T = Unit {0}} is_honest history opened bytes_left fault_count file W G dir dir (Ok tt)
-  reads_start W G dir given = record {
-    honest = λ h. h;
-    time = λ h. record { later = omega arith; past = λ t le name. refl; since = λ t after below name. absurd (omega (arith, after, below)) };
-    same = λ h name. refl;
-    stays_open = λ other. refl;
-    room = λ other. omega arith;
-    cause = record { later = omega arith; passed = refl; failed = λ no. absurd (cc no); short = λ no. refl };
-    ok = λ h name seen is found w. given seen w;
-    whole = λ h name seen is found w short. absurd (cc short);
-  }
+-- ---- the same answer, of another type
 
+pub as_short : {T U : Type 0} (e : PieceError) → IsErrOf {T = T} (Err e) Short → IsErrOf {T = U} (Err e) Short
+as_short Fault short = absurd (cc short)
+as_short Short short = refl
+
+pub cause_as : {T U : Type 0} (a b : ℕ) (e : PieceError) → HasPieceCause {T = T} a b (Err e) → HasPieceCause {T = U} a b (Err e)
+cause_as a b Fault c = record { later = c.later; passed = tt; failed = λ yes. c.failed refl; short = λ no. absurd (cc no) }
+cause_as a b Short c = record { later = c.later; passed = tt; failed = λ no. absurd (cc no); short = λ yes. c.short refl }
+
+pub cause_on : {T U : Type 0} (a b : ℕ) (x : T) (y : U) → HasPieceCause a b (Ok x) → HasPieceCause a b (Ok y)
+cause_on a b x y c = record { later = c.later; passed = c.passed; failed = λ no. absurd (cc no); short = λ no. absurd (cc no) }
+
+module _ {D : Type 0} (is_honest : D → Type 0) (history : D → History) (opened : D → FileNo → Option (List ℕ)) (bytes_left : D → FileNo → ℕ) (fault_count : D → ℕ) (file : FileNo) where
   -- one call, and then the next
   pub reads_then : {T U : Type 0} (x : T) (r : Result U PieceError) (W V G H K : List ℕ → Type 0) (old mid new : D) → Reads is_honest history opened bytes_left fault_count file W G old mid (Ok x)
       → Reads is_honest history opened bytes_left fault_count file V H mid new r → ((seen : List ℕ) → W seen → V seen) → ((seen : List ℕ) → W seen → G seen → H seen → K seen)
@@ -47,3 +49,49 @@ module _ {D : Type 0} (is_honest : D → Type 0) (history : D → History) (open
         (λ more. both seen w (first.ok h name seen is found w) more);
     whole = λ h name seen is found w short. second.whole (first.honest h) name seen (first.stays_open file ∙ is) (ap read_of (first.same h name) ∙ found) (each seen w) short;
   }
+
+  -- said in other words
+  pub reads_as : {T : Type 0} (r : Result T PieceError) (W V G H : List ℕ → Type 0) (old new : D) → Reads is_honest history opened bytes_left fault_count file V G old new r → ((seen : List ℕ) → W seen → V seen)
+      → ((seen : List ℕ) → W seen → G seen → H seen) → Reads is_honest history opened bytes_left fault_count file W H old new r
+  reads_as r W V G H old new reads each more = record {
+    honest = reads.honest;
+    time = reads.time;
+    same = reads.same;
+    stays_open = reads.stays_open;
+    room = reads.room;
+    cause = reads.cause;
+    ok = λ h name seen is found w. on_ok r (reads.ok h name seen is found (each seen w)) (more seen w);
+    whole = λ h name seen is found w short. reads.whole h name seen is found (each seen w) short;
+  }
+
+  -- done, whatever is answered
+  pub reads_done : {T U : Type 0} (x : T) (y : U) (W G : List ℕ → Type 0) (old new : D) → Reads is_honest history opened bytes_left fault_count file W G old new (Ok x) → Reads is_honest history opened bytes_left fault_count file W G old new (Ok y)
+  reads_done x y W G old new reads = record {
+    honest = reads.honest;
+    time = reads.time;
+    same = reads.same;
+    stays_open = reads.stays_open;
+    room = reads.room;
+    cause = cause_on (fault_count old) (fault_count new) x y reads.cause;
+    ok = reads.ok;
+    whole = λ h name seen is found w short. absurd (cc short);
+  }
+
+module _ {D : Type 0} (is_honest : D → Type 0) (history : D → History) (opened : D → FileNo → Option (List ℕ)) (bytes_left : D → FileNo → ℕ) (fault_count : D → ℕ) (from to : FileNo) where
+  -- bytes are read, and what they give is added
+  pub adds_read : {T U : Type 0} (x : T) (r : Result U PieceError) (size : ℕ) (W G : List ℕ → Type 0) (told : List ℕ) (B : List ℕ → List ℕ) (old mid new : D) → Reads is_honest history opened bytes_left fault_count from W G old mid (Ok x)
+      → Adds is_honest history opened bytes_left fault_count from to (length told) HasAny (λ _. told) mid new r → length told ≤ size → ((seen : List ℕ) → W seen → G seen → told ≡ B seen)
+      → Adds is_honest history opened bytes_left fault_count from to size W B old new r
+  adds_read x r size W G told B old mid new first second less same =
+      let none = adds_none is_honest history opened bytes_left fault_count from to (Ok x) HasAny old mid first.honest first.stays_open (first.room to) first.cause first.same first.time (λ h source name seen copies any short. absurd (cc short)) in
+      let both = adds_then is_honest history opened bytes_left fault_count from to x r 0 (length told) HasAny (λ _. []) (λ _. told) old mid new none second in
+      adds_as is_honest history opened bytes_left fault_count from to r (0 + length told) size HasAny W (λ _. told) B old new both (omega (arith, less))
+      (λ h source name seen copies has. (tt, same seen has (first.ok h source seen copies.source_is copies.there has)))
+
+  -- bytes aren't read, and nothing is added
+  pub adds_unread : {T U : Type 0} (e : PieceError) (size : ℕ) (W G : List ℕ → Type 0) (B : List ℕ → List ℕ) (old new : D) → Reads {T = T} is_honest history opened bytes_left fault_count from W G old new (Err e)
+      → Adds {T = U} is_honest history opened bytes_left fault_count from to size W B old new (Err e)
+  adds_unread e size W G B old new first =
+      adds_less is_honest history opened bytes_left fault_count from to e 0 size (omega arith) W (λ _. []) B old new
+      (adds_none is_honest history opened bytes_left fault_count from to (Err e) W old new first.honest first.stays_open (first.room to) (cause_as (fault_count old) (fault_count new) e first.cause) first.same first.time
+      (λ h source name seen copies has short. first.whole h source seen copies.source_is copies.there has (as_short e short)))

@@ -16,8 +16,8 @@ use Rattle.file_pieces.specs.Adding.{Partly, IsLeftOf, Copies, HasPieceCause, Ad
 use Rattle.file_pieces.specs.declared.error.PieceError.{PieceError}
 use Rattle.file_pieces.specs.declared.error.PieceError.TheVariants.{Fault, Short}
 use Rattle.file_pieces.specs.Pieces.{part_of, HasPart}
-use Rattle.file_pieces.proofs.Sums.{take_past, take_within, part_joined, sum_next, flat_next, flat_parted}
-use Rattle.std.proofs.lemmas.List.Sums.{sum_by-take-le, sum_by_more_le}
+use Rattle.file_pieces.proofs.Sums.{take_past, take_within, part_joined, sum_next, flat_next, flat_parted, flat_run}
+use Rattle.std.proofs.lemmas.List.Sums.{sum_by-append, sum_by-take-le, sum_by_more_le}
 
 -- what a refusal of the folder is answered as
 abbrev pub answer_of : Result (Unit {0}) DirError → Result (Unit {0}) PieceError
@@ -297,14 +297,26 @@ module _ {D : Type 0} (is_honest : D → Type 0) (history : D → History) (open
     pub added_start : (dir : D) → Added dir dir 0 (Ok (tt {0}))
     added_start dir = adds_start W dir
 
+    -- and then more, which are those up to a later one
+    added_by : {T U : Type 0} (x : T) (r : Result U PieceError) (i j more : ℕ) (first mid new : D) (V : List ℕ → Type 0) (B : List ℕ → List ℕ) → sum_by room (take i items) + more ≡ sum_by room (take j items) → ((seen : List ℕ) → W seen → V seen)
+        → ((seen : List ℕ) → flat_map (bytes seen) (take i items) ++ B seen ≡ flat_map (bytes seen) (take j items)) → Added first mid i (Ok x) → Adds is_honest history opened bytes_left fault_count from to more V B mid new r → Added first new j r
+    added_by x r i j more first mid new V B many each same so_far next =
+        let wider = adds_as r more more V W B B mid new next (omega arith) (λ h source name seen c all. (each seen all, refl)) in
+        let both = adds_then x r (sum_by room (take i items)) more W (λ seen. flat_map (bytes seen) (take i items)) B first mid new so_far wider in
+        adds_as r (sum_by room (take i items) + more) (sum_by room (take j items)) W W (λ seen. flat_map (bytes seen) (take i items) ++ B seen) (λ seen. flat_map (bytes seen) (take j items)) first new both (omega (arith, many))
+        (λ h source name seen c all. (all, same seen))
+
     -- and then the next
     pub added_on : {T U : Type 0} (x : T) (r : Result U PieceError) (i : ℕ) (item : X) (first mid new : D) (V : List ℕ → Type 0) → i < length items → item ≡ get_or items i item → ((seen : List ℕ) → W seen → V seen) → Added first mid i (Ok x)
         → Adds is_honest history opened bytes_left fault_count from to (room item) V (λ seen. bytes seen item) mid new r → Added first new (i + 1) r
     added_on x r i item first mid new V within is each so_far more =
-        let wider = adds_as r (room item) (room item) V W (λ seen. bytes seen item) (λ seen. bytes seen item) mid new more (omega arith) (λ h source name seen c all. (each seen all, refl)) in
-        let both = adds_then x r (sum_by room (take i items)) (room item) W (λ seen. flat_map (bytes seen) (take i items)) (λ seen. bytes seen item) first mid new so_far wider in
-        adds_as r (sum_by room (take i items) + room item) (sum_by room (take (i + 1) items)) W W (λ seen. flat_map (bytes seen) (take i items) ++ bytes seen item)
-        (λ seen. flat_map (bytes seen) (take (i + 1) items)) first new both (omega (arith, sum_next room items i item within is)) (λ h source name seen c all. (all, flat_next (bytes seen) items i item within is))
+        added_by x r i (i + 1) (room item) first mid new V (λ seen. bytes seen item) (sym (sum_next room items i item within is)) each (λ seen. flat_next (bytes seen) items i item within is) so_far more
+
+    -- and then some more
+    pub added_run : {T U : Type 0} (x : T) (r : Result U PieceError) (i j : ℕ) (run : List X) (first mid new : D) (V : List ℕ → Type 0) → take j items ≡ take i items ++ run → ((seen : List ℕ) → W seen → V seen) → Added first mid i (Ok x)
+        → Adds is_honest history opened bytes_left fault_count from to (sum_by room run) V (λ seen. flat_map (bytes seen) run) mid new r → Added first new j r
+    added_run x r i j run first mid new V is each so_far more =
+        added_by x r i j (sum_by room run) first mid new V (λ seen. flat_map (bytes seen) run) (sym (ap (sum_by room) is ∙ sum_by-append room (take i items) run)) each (λ seen. flat_run (bytes seen) (take i items) run (take j items) is) so_far more
 
     -- an error in between leaves a beginning
     pub added_less : {T : Type 0} (e : PieceError) (i : ℕ) (first new : D) → Added {T = T} first new i (Err e)
@@ -323,6 +335,11 @@ module _ {D : Type 0} (is_honest : D → Type 0) (history : D → History) (open
     pub room_next : {T : Type 0} (r : Result T PieceError) (i : ℕ) (item : X) (first mid : D) → i < length items → item ≡ get_or items i item → sum_by room items ≤ bytes_left first to → Added first mid i r → room item ≤ bytes_left mid to
     room_next r i item first mid within is fits so_far =
         omega (arith, fits, so_far.room, ap room is, sum_by_more_le room items i item within)
+
+    -- there is room for some more
+    pub room_run : {T : Type 0} (r : Result T PieceError) (i j : ℕ) (run : List X) (first mid : D) → take j items ≡ take i items ++ run → sum_by room items ≤ bytes_left first to → Added first mid i r → sum_by room run ≤ bytes_left mid to
+    room_run r i j run first mid is fits so_far =
+        omega (arith, fits, so_far.room, ap (sum_by room) is, sum_by-append room (take i items) run, sum_by-take-le room items j)
 
     -- each file is open as it was
     pub open_yet : {T : Type 0} (r : Result T PieceError) (i : ℕ) (first mid : D) (other : FileNo) → Added first mid i r → IsSome (opened first other) → IsSome (opened mid other)

@@ -1,7 +1,4 @@
 -- Parts of lists, one behind another.
-use Rattle.chunk_journal.specs.Places.{IsWithin}
-use Rattle.chunk_journal.specs.declared.places.Extent.{Extent}
-use Rattle.file_pieces.specs.Pieces.{CanTake, HasPart}
 use Rattle.std.proofs.Common.{ℕ, suc, zero, ◌≡◌, ◌+◌, ◌<◌, min, List, [], ◌∷◌, ◌++◌, length, take, drop, refl, sym, ap, ◌∙◌, ⊎_elim, append-nil, drop-drop, arith}
 use Rattle.std.specs.Prelude.{get_or, sum_by}
 use Rattle.std.specs.List.{AllByRecursion, flat_map}
@@ -11,6 +8,9 @@ use Rattle.std.proofs.lemmas.List.{take-append-drop}
 use Rattle.std.proofs.lemmas.List.Sums.{sum_by_push}
 use Rattle.std.proofs.lemmas.List.{take_all, take-append-le, drop_all, take_more}
 use Rattle.std.proofs.lemmas.Bool.{cases_lt}
+use Rattle.chunk_journal.specs.Places.{IsWithin}
+use Rattle.chunk_journal.specs.declared.places.Extent.{Extent}
+use Rattle.file_pieces.specs.Pieces.{CanTake, HasPart}
 
 -- a beginning that reaches past the first list
 pub take_past : (b c : List ℕ) (k : ℕ) → take (length b + k) (b ++ c) ≡ b ++ take k c
@@ -24,15 +24,12 @@ take_within b c k = ⊎_elim
     (λ within. ap (λ n. take n (b ++ c)) (let e : min k (length b) ≡ k = omega (arith, within) in e) ∙ take-append-le k b c within)
     (cases_lt (length b) k)
 
-abbrev nil : List ℕ
-nil = []
-
-none_taken : (n : ℕ) → take n nil ≡ nil
+none_taken : {X : Type 0} (n : ℕ) → take {A = X} n [] ≡ []
 none_taken zero = refl
 none_taken (suc n) = refl
 
 -- a part, and the part behind it
-pub parts_joined : (l : List ℕ) (m n : ℕ) → take m l ++ take n (drop m l) ≡ take (m + n) l
+pub parts_joined : {X : Type 0} (l : List X) (m n : ℕ) → take m l ++ take n (drop m l) ≡ take (m + n) l
 parts_joined l zero n = ap (λ k. take k l) (let e : n ≡ 0 + n = omega arith in e)
 parts_joined [] (suc m) n = none_taken n ∙ sym (none_taken (suc m + n))
 parts_joined (x ∷ l) (suc m) n = ap (λ r. x ∷ r) (parts_joined l m n) ∙ ap (λ k. take k (x ∷ l)) (let e : suc (m + n) ≡ suc m + n = omega arith in e)
@@ -58,6 +55,9 @@ sum_next f xs i x within is = ap (sum_by f) (next_of xs i x within is) ∙ sum_b
 -- a part of a part
 pub part_joined : (seen : List ℕ) (at m n : ℕ) → take m (drop at seen) ++ take n (drop (at + m) seen) ≡ take (m + n) (drop at seen)
 part_joined seen at m n = ap (λ l. take m (drop at seen) ++ take n l) (sym (drop-drop m at seen)) ∙ parts_joined (drop at seen) m n
+
+pub flat_run : {X : Type 0} (f : X → List ℕ) (front run all : List X) → all ≡ front ++ run → flat_map f front ++ flat_map f run ≡ flat_map f all
+flat_run f front run all is = sym (flat_map-append f front run) ∙ ap (flat_map f) (sym is)
 
 -- what holds of each holds of the one at a place
 pub all_at : {X : Type 0} (P : X → Type 0) (xs : List X) (i : ℕ) (d : X) → AllByRecursion P xs → i < length xs → P (get_or xs i d)

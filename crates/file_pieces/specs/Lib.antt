@@ -1,3 +1,4 @@
 pub mod Pieces
 pub mod Adding
 pub mod Reading
+pub mod Runs

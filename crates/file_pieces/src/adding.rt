@@ -1,14 +1,17 @@
 //! Bytes are added to a file, piece by piece. No memory is asked for.
 
-ghost use Rattle.std.specs.Prelude.{◌≡◌, ◌<◌, ◌≤◌, IsSome, length};
+ghost use Rattle.std.specs.Prelude.{◌≡◌, ◌/◌, ◌<◌, ◌≤◌, IsSome, length};
 ghost use Rattle.disk_files.specs.declared.dir.FileNo.{FileNo};
-ghost use Rattle.file_pieces.specs.Adding.{Adds, HasAny};
 ghost use Rattle.chunk_journal.specs.Places.{bytes_at};
+ghost use Rattle.file_pieces.specs.Adding.{Adds, HasAny};
 ghost use Rattle.file_pieces.specs.Pieces.{AreWithin, CanTake, HasPart, part_of, piece_bytes, piece_room, pieces_bytes, places_room, total_room};
+ghost use Rattle.file_pieces.specs.Runs.{IsRun, LieInSpan};
 
 use crate::error::PieceError;
 use crate::piece::Piece;
+use crate::places::read_span;
 use crate::reading::read_exact;
+use crate::runs::{Run, run_of};
 use chunk_journal::Extent;
 use disk_files::{Dir, FileNo};
 use std::alloc::Allocator;
@@ -85,12 +88,66 @@ fn copy_places<D: Dir>(
     ensures adds { Adds D.is_honest D.history D.opened D.bytes_left D.fault_count from to (places_room places.now) (λ seen. CanTake seen places.now) (λ seen. bytes_at seen places.now) dir.old dir.new result }
     ensures len { length buffer.new ≡ length buffer.old }
 {
-    for place in places {
-        if let Err(fault) = copy(dir, from, to, place.at, place.length, buffer) {
+    let mut count: usize = 0;
+    while count < places.len() {
+        let (_, rest) = places.split_at(count);
+        let run = run_of(rest, buffer.len() / 2);
+        if let Err(fault) = copy_run(dir, from, to, run, buffer) {
             return Err(fault);
         }
+        count += run.places.len();
     }
     Ok(())
+}
+
+// Adds the bytes at the places of a run.
+fn copy_run<D: Dir>(
+    dir: &mut D,
+    from: FileNo,
+    to: FileNo,
+    run: Run<'_>,
+    buffer: &mut [u8],
+) -> Result<(), PieceError>
+    requires source { IsSome (D.opened dir.old from) }
+    requires open { IsSome (D.opened dir.old to) }
+    requires room { places_room run.places.now ≤ D.bytes_left dir.old to }
+    requires some { 0 < length buffer.old }
+    requires run { IsRun (length buffer.old / 2) run }
+    ensures adds { Adds D.is_honest D.history D.opened D.bytes_left D.fault_count from to (places_room run.entry.places.now) (λ seen. CanTake seen run.entry.places.now) (λ seen. bytes_at seen run.entry.places.now) dir.old dir.new result }
+    ensures len { length buffer.new ≡ length buffer.old }
+{
+    if run.places.len() == 1 {
+        let place = run.places[0];
+        return copy(dir, from, to, place.at, place.length, buffer);
+    }
+    copy_span(dir, from, to, run, buffer)
+}
+
+// Adds the bytes at the places of a run. One half of the buffer takes the span, and the other what is added of it.
+fn copy_span<D: Dir>(
+    dir: &mut D,
+    from: FileNo,
+    to: FileNo,
+    run: Run<'_>,
+    buffer: &mut [u8],
+) -> Result<(), PieceError>
+    requires source { IsSome (D.opened dir.old from) }
+    requires open { IsSome (D.opened dir.old to) }
+    requires room { places_room run.places.now ≤ D.bytes_left dir.old to }
+    requires span { LieInSpan run.at run.span run.places.now }
+    requires small { run.span ≤ length buffer.old / 2 }
+    ensures adds { Adds D.is_honest D.history D.opened D.bytes_left D.fault_count from to (places_room run.entry.places.now) (λ seen. CanTake seen run.entry.places.now) (λ seen. bytes_at seen run.entry.places.now) dir.old dir.new result }
+    ensures len { length buffer.new ≡ length buffer.old }
+{
+    let half = buffer.len() / 2;
+    let (window, packed) = buffer.split_at_mut(half);
+    match read_span(dir, from, run, window, 0, packed) {
+        Ok(end) => {
+            let (bytes, _) = packed.split_at(end);
+            add_told(dir, to, bytes)
+        }
+        Err(fault) => Err(fault),
+    }
 }
 
 // Adds so many bytes of the source from a place on, no more at once than the buffer has.

@@ -3,9 +3,11 @@
 
 mod adding;
 mod error;
+mod packing;
 mod piece;
 mod places;
 mod reading;
+mod runs;
 
 pub use adding::add_pieces;
 pub use error::PieceError;

@@ -1,46 +1,43 @@
-use Rattle.std.proofs.Common.{◌+◌, Ok, Err, get_or, arith}
-use Rattle.std.proofs.lemmas.List.{get_or_default}
+use Rattle.std.proofs.Common.{◌+◌, Ok, Err, length, ap, arith}
+use Rattle.std.proofs.lemmas.List.{length-take}
 use Rattle.chunk_journal.specs.Places.{bytes_from}
-use Rattle.chunk_journal.specs.declared.places.Extent.{Extent}
-use Rattle.file_pieces.specs.Pieces.{CanTake, HasPart}
-use Rattle.file_pieces.proofs.Sums.{taken_at}
-use Rattle.file_pieces.proofs.Steps.{added_start, added_on, added_less, added_all, room_next, open_yet}
+use Rattle.file_pieces.specs.Pieces.{CanTake}
+use Rattle.file_pieces.proofs.Spans.{run_next, run_taken}
+use Rattle.file_pieces.proofs.Steps.{added_start, added_run, added_less, added_all, room_run, open_yet}
 use Rattle.file_pieces.proofs.adding.copy_places.Goals as goal
 
-abbrev none : Extent
-none = record { at = 0; length = 0 }
+pub loop-count-init : goal.loop-count-init
+loop-count-init g c = record { within = omega arith; so_far = added_start g.D.Dir.is_honest g.D.Dir.history g.D.Dir.opened g.D.Dir.bytes_left g.D.Dir.fault_count c.args.from c.args.to c.args.places.now (λ place. place.length) bytes_from (λ seen. CanTake seen c.args.places.now) c.args.dir.now }
 
-pub loop-place-init : goal.loop-place-init
-loop-place-init g c = added_start g.D.Dir.is_honest g.D.Dir.history g.D.Dir.opened g.D.Dir.bytes_left g.D.Dir.fault_count c.args.from c.args.to c.args.places.now (λ place. place.length) bytes_from (λ seen. CanTake seen c.args.places.now) c.args.dir.now
+pub copy_run-requires-clause-source : goal.copy_run-requires-clause-source
+copy_run-requires-clause-source g c =
+    open_yet g.D.Dir.is_honest g.D.Dir.history g.D.Dir.opened g.D.Dir.bytes_left g.D.Dir.fault_count c.args.from c.args.to c.args.places.now (λ place. place.length) bytes_from (λ seen. CanTake seen c.args.places.now) (Ok (tt {0})) c.loop-count.count c.args.dir.now c.loop-count.dir c.args.from c.loop-count.invariant.so_far c.requires.source
 
-pub copy-requires-clause-source : goal.copy-requires-clause-source
-copy-requires-clause-source g c =
-    open_yet g.D.Dir.is_honest g.D.Dir.history g.D.Dir.opened g.D.Dir.bytes_left g.D.Dir.fault_count c.args.from c.args.to c.args.places.now (λ place. place.length) bytes_from (λ seen. CanTake seen c.args.places.now) (Ok (tt {0})) c.loop-place.place-index c.args.dir.now c.loop-place.dir c.args.from c.loop-place.invariant c.requires.source
+pub copy_run-requires-clause-open : goal.copy_run-requires-clause-open
+copy_run-requires-clause-open g c =
+    open_yet g.D.Dir.is_honest g.D.Dir.history g.D.Dir.opened g.D.Dir.bytes_left g.D.Dir.fault_count c.args.from c.args.to c.args.places.now (λ place. place.length) bytes_from (λ seen. CanTake seen c.args.places.now) (Ok (tt {0})) c.loop-count.count c.args.dir.now c.loop-count.dir c.args.to c.loop-count.invariant.so_far c.requires.open
 
-pub copy-requires-clause-open : goal.copy-requires-clause-open
-copy-requires-clause-open g c =
-    open_yet g.D.Dir.is_honest g.D.Dir.history g.D.Dir.opened g.D.Dir.bytes_left g.D.Dir.fault_count c.args.from c.args.to c.args.places.now (λ place. place.length) bytes_from (λ seen. CanTake seen c.args.places.now) (Ok (tt {0})) c.loop-place.place-index c.args.dir.now c.loop-place.dir c.args.to c.loop-place.invariant c.requires.open
-
-pub copy-requires-clause-room : goal.copy-requires-clause-room
-copy-requires-clause-room g c =
-    let i = c.loop-place.place-index in
-    let place = get_or c.args.places.now i none in
-    room_next g.D.Dir.is_honest g.D.Dir.history g.D.Dir.opened g.D.Dir.bytes_left g.D.Dir.fault_count c.args.from c.args.to c.args.places.now (λ place. place.length) bytes_from (λ seen. CanTake seen c.args.places.now) (Ok (tt {0})) i place c.args.dir.now c.loop-place.dir c.loop-place-test.true (get_or_default c.args.places.now i none place c.loop-place-test.true) c.requires.room c.loop-place.invariant
+pub copy_run-requires-clause-room : goal.copy_run-requires-clause-room
+copy_run-requires-clause-room g c =
+    let run = c.run_of-run.result.places.now in
+    room_run g.D.Dir.is_honest g.D.Dir.history g.D.Dir.opened g.D.Dir.bytes_left g.D.Dir.fault_count c.args.from c.args.to c.args.places.now (λ place. place.length) bytes_from (λ seen. CanTake seen c.args.places.now) (Ok (tt {0})) c.loop-count.count (c.loop-count.count + length run) run c.args.dir.now c.loop-count.dir
+    (run_next c.args.places.now c.split_at.result.1.now c.run_of-run.result.places.now c.loop-count.count c.split_at.ensures.back c.run_of-run.ensures.first) c.requires.room c.loop-count.invariant.so_far
 
 pub returns-in-Err-clause-adds : goal.returns-in-Err-clause-adds
 returns-in-Err-clause-adds g c =
-    let i = c.loop-place.place-index in
-    let place = get_or c.args.places.now i none in
-    added_less g.D.Dir.is_honest g.D.Dir.history g.D.Dir.opened g.D.Dir.bytes_left g.D.Dir.fault_count c.args.from c.args.to c.args.places.now (λ place. place.length) bytes_from (λ seen. CanTake seen c.args.places.now) c.in-Err.fault (i + 1) c.args.dir.now c.copy.new.dir
-    (added_on g.D.Dir.is_honest g.D.Dir.history g.D.Dir.opened g.D.Dir.bytes_left g.D.Dir.fault_count c.args.from c.args.to c.args.places.now (λ place. place.length) bytes_from (λ seen. CanTake seen c.args.places.now) (tt {0}) (Err c.in-Err.fault) i place c.args.dir.now c.loop-place.dir c.copy.new.dir (λ seen. HasPart seen place.at place.length) c.loop-place-test.true (get_or_default c.args.places.now i none place c.loop-place-test.true)
-    (λ seen can. taken_at seen c.args.places.now i none can c.loop-place-test.true) c.loop-place.invariant c.in-Err.ensures.adds)
+    let run = c.run_of-run.result.places.now in
+    added_less g.D.Dir.is_honest g.D.Dir.history g.D.Dir.opened g.D.Dir.bytes_left g.D.Dir.fault_count c.args.from c.args.to c.args.places.now (λ place. place.length) bytes_from (λ seen. CanTake seen c.args.places.now) c.in-Err.fault (c.loop-count.count + length run) c.args.dir.now c.copy_run.new.dir
+    (added_run g.D.Dir.is_honest g.D.Dir.history g.D.Dir.opened g.D.Dir.bytes_left g.D.Dir.fault_count c.args.from c.args.to c.args.places.now (λ place. place.length) bytes_from (λ seen. CanTake seen c.args.places.now) (tt {0}) (Err c.in-Err.fault) c.loop-count.count (c.loop-count.count + length run) run c.args.dir.now c.loop-count.dir c.copy_run.new.dir (λ seen. CanTake seen run)
+    (run_next c.args.places.now c.split_at.result.1.now c.run_of-run.result.places.now c.loop-count.count c.split_at.ensures.back c.run_of-run.ensures.first) (λ seen can. run_taken seen c.args.places.now c.split_at.result.1.now c.run_of-run.result.places.now c.loop-count.count c.split_at.ensures.back c.run_of-run.ensures.first can) c.loop-count.invariant.so_far c.in-Err.ensures.adds)
 
-pub loop-place-preserved : goal.loop-place-preserved
-loop-place-preserved g c =
-    let i = c.loop-place.place-index in
-    let place = get_or c.args.places.now i none in
-    added_on g.D.Dir.is_honest g.D.Dir.history g.D.Dir.opened g.D.Dir.bytes_left g.D.Dir.fault_count c.args.from c.args.to c.args.places.now (λ place. place.length) bytes_from (λ seen. CanTake seen c.args.places.now) (tt {0}) (Ok (tt {0})) i place c.args.dir.now c.loop-place.dir c.copy.new.dir (λ seen. HasPart seen place.at place.length) c.loop-place-test.true (get_or_default c.args.places.now i none place c.loop-place-test.true)
-    (λ seen can. taken_at seen c.args.places.now i none can c.loop-place-test.true) c.loop-place.invariant c.in_default.ensures.adds
+pub loop-count-preserved : goal.loop-count-preserved
+loop-count-preserved g c =
+    let run = c.run_of-run.result.places.now in
+    record {
+      within = omega (arith, ap length c.run_of-run.ensures.first, length-take (length run) c.split_at.result.1.now, c.split_at.ensures.back_len);
+      so_far = added_run g.D.Dir.is_honest g.D.Dir.history g.D.Dir.opened g.D.Dir.bytes_left g.D.Dir.fault_count c.args.from c.args.to c.args.places.now (λ place. place.length) bytes_from (λ seen. CanTake seen c.args.places.now) (tt {0}) (Ok (tt {0})) c.loop-count.count (c.loop-count.count + length run) run c.args.dir.now c.loop-count.dir c.copy_run.new.dir (λ seen. CanTake seen run)
+          (run_next c.args.places.now c.split_at.result.1.now c.run_of-run.result.places.now c.loop-count.count c.split_at.ensures.back c.run_of-run.ensures.first) (λ seen can. run_taken seen c.args.places.now c.split_at.result.1.now c.run_of-run.result.places.now c.loop-count.count c.split_at.ensures.back c.run_of-run.ensures.first can) c.loop-count.invariant.so_far c.in_default.ensures.adds;
+    }
 
 pub returns-clause-adds : goal.returns-clause-adds
-returns-clause-adds g c = added_all g.D.Dir.is_honest g.D.Dir.history g.D.Dir.opened g.D.Dir.bytes_left g.D.Dir.fault_count c.args.from c.args.to c.args.places.now (λ place. place.length) bytes_from (λ seen. CanTake seen c.args.places.now) (Ok (tt {0})) c.loop-place.place-index c.args.dir.now c.loop-place.dir (omega (arith, c.loop-place-test.false)) c.loop-place.invariant
+returns-clause-adds g c = added_all g.D.Dir.is_honest g.D.Dir.history g.D.Dir.opened g.D.Dir.bytes_left g.D.Dir.fault_count c.args.from c.args.to c.args.places.now (λ place. place.length) bytes_from (λ seen. CanTake seen c.args.places.now) (Ok (tt {0})) c.loop-count.count c.args.dir.now c.loop-count.dir (omega (arith, c.loop-count-test.false)) c.loop-count.invariant.so_far

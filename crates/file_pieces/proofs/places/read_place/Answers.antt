@@ -1,12 +1,13 @@
 use Rattle.std.proofs.Common.{◌≡◌, length, subst, arith}
+use Rattle.chunk_journal.specs.Places.{bytes_from}
 use Rattle.file_pieces.specs.Pieces.{part_of}
 use Rattle.file_pieces.proofs.Sums.{written_behind}
-use Rattle.file_pieces.proofs.Steps.{on_ok}
+use Rattle.file_pieces.proofs.ReadOn.{cause_on}
 use Rattle.file_pieces.proofs.places.read_place.Goals as goal
 
-pub returns-clause-reads : goal.returns-clause-reads
-returns-clause-reads g c =
-    let e = c.read_exact.ensures in
+pub returns-in-Ok-clause-reads : goal.returns-in-Ok-clause-reads
+returns-in-Ok-clause-reads g c =
+    let e = c.in-Ok.ensures in
     let place = c.args.place in
     let part = c.split_at_mut-part in
     let front = c.split_at_mut-behind in
@@ -17,9 +18,8 @@ returns-clause-reads g c =
       same = e.same;
       stays_open = e.opened;
       room = e.room;
-      cause = e.cause;
-      ok = λ h name seen is found has. on_ok c.read_exact.result (e.bytes h name seen is found (omega (arith, has.0, count), omega (arith, has.1, count)))
-          (λ same. written_behind c.args.done place.length c.args.into.now front.result.0.now c.read_exact.new.into part.result.1.now (part_of seen place.at place.length) front.ensures.front front.ensures.front_len (omega (arith, e.len, count))
-          (subst (λ n. c.read_exact.new.into ≡ part_of seen place.at n) count same));
-      whole = λ h name seen is found has short. e.whole h name seen is found (omega (arith, has.0, count), omega (arith, has.1, count)) short;
+      cause = cause_on (g.D.Dir.fault_count c.args.dir.now) (g.D.Dir.fault_count c.read_exact.new.dir) c.in-Ok.field-0 _ e.cause;
+      ok = λ h name seen is found has. written_behind c.args.done place.length c.args.into.now front.result.0.now c.read_exact.new.into part.result.1.now (bytes_from seen place) front.ensures.front front.ensures.front_len
+          (omega (arith, e.len, count)) (subst (λ n. c.read_exact.new.into ≡ part_of seen place.at n) count (e.bytes h name seen is found (omega (arith, has.0, count), omega (arith, has.1, count))));
+      whole = λ h name seen is found has short. absurd (cc short);
     }

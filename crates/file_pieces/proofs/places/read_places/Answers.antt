@@ -1,26 +1,31 @@
-use Rattle.std.proofs.Common.{◌≡◌, ℕ, List, ◌+◌, ◌++◌, Ok, get_or, take, sym, ap, ◌∙◌}
-use Rattle.std.proofs.lemmas.List.{get_or_default}
+use Rattle.std.proofs.Common.{◌≡◌, ℕ, List, ◌+◌, ◌++◌, Ok, length, take, ap, ◌∙◌, arith}
+use Rattle.std.proofs.lemmas.List.{length-take}
+use Rattle.std.proofs.lemmas.List.Sums.{sum_by-append}
 use Rattle.chunk_journal.specs.Places.{bytes_at, bytes_from}
 use Rattle.chunk_journal.specs.declared.places.Extent.{Extent}
-use Rattle.file_pieces.specs.Pieces.{CanTake, HasPart}
+use Rattle.file_pieces.specs.Pieces.{CanTake, places_room}
 use Rattle.file_pieces.specs.Reading.{ReadsOn}
-use Rattle.file_pieces.proofs.Sums.{flat_next, sum_next, taken_at}
-use Rattle.file_pieces.proofs.ReadOn.{reads_then}
+use Rattle.file_pieces.proofs.Spans.{run_next, run_taken}
+use Rattle.file_pieces.proofs.Sums.{flat_run}
+use Rattle.file_pieces.proofs.ReadOn.{reads_done, reads_then}
 use Rattle.file_pieces.proofs.places.read_places.Goals as goal
 
-abbrev none : Extent
-none = record { at = 0; length = 0 }
-
-pub loop-place-preserved : goal.loop-place-preserved
-loop-place-preserved g c =
-    let i = c.loop-place.place-index in
+pub loop-count-preserved : goal.loop-count-preserved
+loop-count-preserved g c =
+    let i = c.loop-count.count in
+    let end = c.loop-count.end in
     let places = c.args.places.now in
-    let place = get_or places i none in
-    let is = get_or_default places i none place c.loop-place-test.true in
+    let run = c.run_of-run.result.places.now in
+    let old = c.loop-count.into in
+    let new = c.read_run.new.into in
+    let next : take (i + length run) places ≡ take i places ++ run = run_next places c.split_at.result.1.now run i c.split_at.ensures.back c.run_of-run.ensures.first in
+    let room : places_room (take (i + length run) places) ≡ places_room (take i places) + places_room run = ap places_room next ∙ sum_by-append (λ (p : Extent). p.length) (take i places) run in
     record {
-      reached = ap (λ n. n + place.length) c.loop-place.invariant.reached ∙ sym (sum_next (λ (p : Extent). p.length) places i place c.loop-place-test.true is);
-      so_far = reads_then g.D.Dir.is_honest g.D.Dir.history g.D.Dir.opened g.D.Dir.bytes_left g.D.Dir.fault_count c.args.file (tt {0}) (Ok (tt {0})) (λ seen. CanTake seen places) (λ seen. HasPart seen place.at place.length) (λ seen. take c.loop-place.done c.loop-place.into ≡ bytes_at seen (take i places))
-          (λ seen. ReadsOn c.loop-place.done place.length (bytes_from seen place) c.loop-place.into c.read_place.new.into) (λ seen. take (c.loop-place.done + place.length) c.read_place.new.into ≡ bytes_at seen (take (i + 1) places))
-          c.args.dir.now c.loop-place.dir c.read_place.new.dir c.loop-place.invariant.so_far c.in_default.ensures.reads (λ seen can. taken_at seen places i none can c.loop-place-test.true)
-          (λ seen can before more. more ∙ ap (λ (l : List ℕ). l ++ bytes_from seen place) before ∙ flat_next (bytes_from seen) places i place c.loop-place-test.true is);
+      within = omega (arith, ap length c.run_of-run.ensures.first, length-take (length run) c.split_at.result.1.now, c.split_at.ensures.back_len);
+      reached = omega (arith, c.in-Ok.ensures.end, c.loop-count.invariant.reached, room);
+      so_far = reads_then g.D.Dir.is_honest g.D.Dir.history g.D.Dir.opened g.D.Dir.bytes_left g.D.Dir.fault_count c.args.file (tt {0}) (Ok (tt {0})) (λ seen. CanTake seen places) (λ seen. CanTake seen run) (λ seen. take end old ≡ bytes_at seen (take i places)) (λ seen. ReadsOn end (places_room run) (bytes_at seen run) old new)
+          (λ seen. take c.in-Ok.behind new ≡ bytes_at seen (take (i + length run) places)) c.args.dir.now c.loop-count.dir c.read_run.new.dir c.loop-count.invariant.so_far
+          (reads_done g.D.Dir.is_honest g.D.Dir.history g.D.Dir.opened g.D.Dir.bytes_left g.D.Dir.fault_count c.args.file c.in-Ok.behind (tt {0}) (λ seen. CanTake seen run) (λ seen. ReadsOn end (places_room run) (bytes_at seen run) old new) c.loop-count.dir c.read_run.new.dir c.in-Ok.ensures.reads)
+          (λ seen can. run_taken seen places c.split_at.result.1.now run i c.split_at.ensures.back c.run_of-run.ensures.first can)
+          (λ seen can before more. ap (λ (n : ℕ). take n new) c.in-Ok.ensures.end ∙ more ∙ ap (λ (l : List ℕ). l ++ bytes_at seen run) before ∙ flat_run (bytes_from seen) (take i places) run (take (i + length run) places) next);
     }
