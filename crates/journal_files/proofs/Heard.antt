@@ -17,20 +17,12 @@ use Rattle.chunk_journal.specs.Meaning.{IsDamaged}
 use Rattle.chunk_journal.specs.Records.{Record, record_bytes, IsRecord}
 use Rattle.chunk_journal.proofs.Cuts.{cut_whole}
 use Rattle.file_pieces.specs.Pieces.{HasPart, part_of}
+use Rattle.file_pieces.proofs.ReadOn.{elapsed}
 use Rattle.file_pieces.proofs.Sums.{parts_joined}
 use Rattle.journal_files.specs.Faults.{HasReason, open_error}
 use Rattle.journal_files.specs.Found.{HasHeard}
 use Rattle.journal_files.specs.declared.error.OpenError.{OpenError}
 use Rattle.journal_files.specs.declared.error.OpenError.TheVariants as opening
-
--- two calls, one after the other
-pub elapsed : (old mid new : History) → Elapses old mid → Elapses mid new → SameDisk (now new) (now mid) → Elapses old new
-elapsed old mid new first second same = record {
-  later = omega (arith, first.later, second.later);
-  past = λ t le name. second.past t (omega (arith, le, first.later)) name ∙ first.past t le name;
-  since = λ t after below name. ⊎_elim (λ behind. second.since t behind below name)
-      (λ before. second.past t before name ∙ first.since t after before name ∙ sym (same name)) (cases_lt mid.moment t);
-}
 
 -- nothing of the disk changed, nothing was refused, and the first bytes of the file were fed
 pub record Feeds {D : Type 0} (honest : D → Type 0) (history : D → History) (opened : D → FileNo → Option (List ℕ)) (faults : D → ℕ) (file : FileNo) (len done : ℕ) (outline : Heard) (first dir : D) : Type 0 where

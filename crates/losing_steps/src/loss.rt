@@ -1,5 +1,5 @@
 //! Whether steps lose an event that was acknowledged to a client.
-ghost use Rattle.std.specs.Prelude.{◌≡◌, ◌≢◌, ◌↔◌, false, IfOk, IfSome, IsTrue};
+ghost use Rattle.std.specs.Prelude.{◌≡◌, ◌≢◌, ◌↔◌, false, IfOk, IfSome, IsSome, IsTrue};
 ghost use Rattle.custody_steps.specs.WorldOf.{net_of, world_of};
 ghost use Rattle.losing_steps.specs.Losses.{HasLost, IsLosingText, Loses};
 
@@ -42,14 +42,15 @@ pub fn text_loses_event<A: Allocator + Copy>(
     }
 }
 
-/// The steps, if they lose an event, as `loses_event` says. The only error is want of memory.
+/// The steps, where they lose an event, and only there, as `loses_event` says. The only error is want of memory.
 pub fn if_losing<A: Allocator + Copy>(
     alloc: A,
     net: &Net<A>,
     duty: Duty,
     steps: Vec<Step<A>, A>,
 ) -> Result<Option<Vec<Step<A>, A>>, AllocError>
-    ensures { IfOk result (λ found. IfSome found (λ tried. (tried ≡ steps) × Loses duty net.now tried.items)) }
+    ensures right { IfOk result (λ found. IfSome found (λ tried. (tried ≡ steps) × Loses duty net.now tried.items)) }
+    ensures only { IfOk result (λ found. Loses duty net.now steps.items → IsSome found) }
 {
     if loses_event(alloc, net, duty, &steps)? {
         Ok(Some(steps))

@@ -75,7 +75,7 @@ fn plan_words(fault: PlanError) -> Option<(usize, Words)> {
 
 const BAD_LINE: Words = Words {
     meaning: "the line is of no form, or isn't UTF-8",
-    advice: "write it as `relay NUMBER HOST FOLDER CONF`, `client NUMBER PORT PATTERN..`, `label NUMBER SCOPE PATTERN..`, `reach NUMBER SCOPE INDEX PATTERN..` or `duty any`, as docs/CHECKING.md has it, \"The plan\"",
+    advice: "write it as `relay NUMBER HOST FOLDER CONF`, `client NUMBER PORT PATTERN..`, `label NUMBER SCOPE PATTERN..`, `reach NUMBER SCOPE INDEX PATTERN..`, `duty any` or `duty every`, as docs/CHECKING.md has it, \"The plan\"",
 };
 
 const BAD_NUMBER: Words = Words {

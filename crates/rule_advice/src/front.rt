@@ -51,7 +51,7 @@ impl<A: Allocator + Copy> Subject<'_, A> {
         }
         let name = self.texts.plan_name;
         let note = format!(in self.alloc;
-            "  `relayctl label {name}` prints the plan with the lines that it lacks."
+            "  `relayctl label {name}` looks for lines that mend it, and prints the plan with them."
         )?;
         put_note(out, note.as_bytes())
     }

@@ -5,7 +5,8 @@ use Rattle.chunk_journal.specs.Meaning.{EndsUnsealed, IsDamaged}
 use Rattle.journal_files.specs.Found.{IsMeant, IsSo}
 use Rattle.journal_files.specs.declared.error.OpenError.TheVariants as opening
 use Rattle.journal_files.proofs.AllRead.{so_of, meant_of}
-use Rattle.journal_files.proofs.Heard.{answered, elapsed}
+use Rattle.file_pieces.proofs.ReadOn.{elapsed}
+use Rattle.journal_files.proofs.Heard.{answered}
 use Rattle.journal_files.proofs.Tags.{replayed_short, replayed_unclaimed}
 use Rattle.journal_files.proofs.opening.read_generation.Goals as goal
 

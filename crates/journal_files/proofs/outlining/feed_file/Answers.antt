@@ -1,7 +1,8 @@
 use Rattle.std.proofs.Common.{rules, ℕ, ◌≡◌, ◌+◌, ◌≤◌, ◌<◌, ◌^◌, ◌++◌, length, drop, subst, arith}
 use Rattle.journal_files.specs.Faults.{open_error}
 use Rattle.journal_files.specs.declared.error.OpenError.TheVariants as opening
-use Rattle.journal_files.proofs.Heard.{Feeds, answered, elapsed, reason_ok, reason_err, reason_dir, stays_some, damaged_there, same_on, feeds_on, all_fed, some_left}
+use Rattle.file_pieces.proofs.ReadOn.{elapsed}
+use Rattle.journal_files.proofs.Heard.{Feeds, answered, reason_ok, reason_err, reason_dir, stays_some, damaged_there, same_on, feeds_on, all_fed, some_left}
 use Rattle.journal_files.proofs.outlining.feed_file.Goals as goal
 
 pub returns-in_err-len-clause-cause : goal.returns-in_err-len-clause-cause
