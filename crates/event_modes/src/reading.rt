@@ -1,4 +1,4 @@
-//! What bytes begin with.
+//! The message or the heartbeat that bytes begin with, or why there is none.
 
 ghost use Rattle.std.specs.Prelude.{◌≡◌, ◌∷◌, ℕ, List, option_map, IfOk, MatchResult};
 ghost use Rattle.msgpack_bytes.specs.Item.{IsTextItem};

@@ -1,4 +1,5 @@
-// What the readers of this crate answer.
+//! What the readers of items answer, and why no item can begin with some bytes.
+
 use std::fmt;
 
 /// Why no item can begin with the bytes.

@@ -1,4 +1,4 @@
-// What a first byte can say.
+//! What a first byte can say of its item, and the steps of a scan.
 
 /// What a scalar is.
 #[derive(Clone, Copy, Debug, Drop, PartialEq, Eq)]

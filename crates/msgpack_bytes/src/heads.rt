@@ -1,4 +1,5 @@
-// What an item's header says.
+//! What an item's header says.
+
 ghost use Rattle.std.specs.Prelude.{ℕ, ◌≡◌, ◌+◌, ◌-◌, ◌<◌, ◌≤◌, length, drop, Option};
 ghost use Rattle.msgpack_bytes.specs.Answers.{IsHead};
 ghost use Rattle.msgpack_bytes.specs.Format.{shape_of};

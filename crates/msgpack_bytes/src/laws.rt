@@ -1,4 +1,5 @@
-// What holds of items, for the crates above; specs/Laws.antt and specs/Spelling.antt say it.
+//! What holds of items, for the crates above; specs/Laws.antt and specs/Spelling.antt say it.
+
 ghost use Rattle.msgpack_bytes.specs.Laws.{IsPrefixFree, HasOneFront, HasParts, HasTextParts, IsItemDeeper, IsOpenForZeros, IsLongOnly, IsItemRead, IsOpenRead, IsReservedRead, IsDeepRead};
 ghost use Rattle.msgpack_bytes.specs.Spelling.{IsUintSpelled, IsStrSpelled, IsBinSpelled, IsArraySpelled, IsMapSpelled, IsBoolSpelled};
 

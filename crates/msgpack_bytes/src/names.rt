@@ -1,4 +1,4 @@
-//! Values of a map.
+//! The value that a map has under a name.
 
 ghost use Rattle.std.specs.Prelude.{◌≡◌, ℕ, List, IfSome, IsSomeAnd};
 ghost use Rattle.msgpack_bytes.specs.Item.{IsTextItem};

@@ -1,4 +1,5 @@
-// Numbers in bytes, the highest byte first.
+//! Numbers in bytes, the highest byte first.
+
 ghost use Rattle.std.specs.Prelude.{◌≡◌, ◌+◌, ◌*◌, ◌^◌, ◌<◌, ◌≤◌, length, drop, slice_index};
 ghost use Rattle.msgpack_bytes.specs.Format.{big_endian};
 ghost use Rattle.msgpack_bytes.specs.Kinds.{twos_complement};

@@ -1,4 +1,5 @@
-// Where an item ends whose bytes come in pieces.
+//! Where an item ends whose bytes come in pieces.
+
 ghost use Rattle.std.specs.Prelude.{ℕ, List, [], ◌≡◌, ◌+◌, ◌++◌, ◌↔◌, ◌<◌, ◌≤◌, length};
 ghost use Rattle.msgpack_bytes.specs.declared.answers.Scan.{Scan};
 ghost use Rattle.msgpack_bytes.specs.declared.answers.Taken.{Taken};

@@ -1,4 +1,5 @@
-// One step of a scan: what stands where an item begins.
+//! One step of a scan: what stands where an item begins.
+
 ghost use Rattle.std.specs.Prelude.{ℕ, List, ◌≡◌, ◌+◌, ◌<◌, ◌≤◌, length, drop, Bool, IsTrue};
 ghost use Rattle.msgpack_bytes.specs.Format.{items_in};
 ghost use Rattle.msgpack_bytes.specs.Run.{number};

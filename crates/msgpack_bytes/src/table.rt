@@ -1,4 +1,5 @@
-// The table of first bytes (MessagePack specification, "Formats").
+//! The table of first bytes (MessagePack specification, "Formats").
+
 ghost use Rattle.std.specs.Prelude.{◌≡◌, IsTrue};
 ghost use Rattle.msgpack_bytes.specs.Format.{shape_of};
 ghost use Rattle.msgpack_bytes.specs.Reads.{IsFit};

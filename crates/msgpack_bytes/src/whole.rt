@@ -1,4 +1,5 @@
-// Where an item ends whose bytes are all at hand.
+//! Where an item ends whose bytes are all at hand.
+
 ghost use Rattle.std.specs.Prelude.{true, ◌≡◌, ◌+◌, ◌≤◌, length, IfSome};
 ghost use Rattle.msgpack_bytes.specs.declared.answers.Scan.{Scan};
 ghost use Rattle.msgpack_bytes.specs.declared.format.Step.{Step};

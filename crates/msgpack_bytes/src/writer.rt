@@ -1,4 +1,5 @@
-// Items and headers in their shortest spelling.
+//! Items and headers in their shortest spelling.
+
 ghost use Rattle.std.specs.Int.{bytes_high_first};
 ghost use Rattle.std.specs.Prelude.{◌≡◌, ◌+◌, ◌^◌, ◌<◌, ◌≤◌, ◌∷◌, ◌++◌, length, vec_len, vec_capacity, OnOk, OnErr};
 ghost use Rattle.msgpack_bytes.specs.Spelling.{uint_of, str_of, bin_of, array_header_of, map_header_of, bool_of};
