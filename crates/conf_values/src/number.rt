@@ -1,4 +1,4 @@
-//! Whole numbers.
+//! Whole numbers, and the ports among them.
 ghost use Rattle.std.specs.Prelude.{◌≡◌};
 ghost use Rattle.conf_values.specs.Numbers.{number_of, port_of};
 

@@ -1,4 +1,5 @@
-// How an output keeps what it has not yet delivered (Fluentd, "Config: Buffer Section").
+//! How an output keeps what it has not yet delivered (Fluentd, "Config: Buffer Section").
+
 use retry_waits::RetrySettings;
 use std::alloc::Allocator;
 

@@ -1,4 +1,4 @@
-// What a parameter that is not written means. All of these are this project's profile.
+//! What a parameter that is not written means. All of these are this project's profile.
 
 /// The port of a source and of a server.
 pub const DEFAULT_PORT: u16 = 24224;

@@ -1,4 +1,4 @@
-// A relay's configuration as values: what it listens on, and where its events go.
+//! A relay's configuration as values: what it listens on, and where its events go.
 #![tactic(auto)]
 
 mod buffer;

@@ -1,4 +1,5 @@
-// Where a match sends its events.
+//! Where a match sends its events.
+
 use crate::buffer::BufferSettings;
 use crate::relay::{ScopeNo, Security};
 use std::alloc::Allocator;

@@ -1,4 +1,5 @@
-// The patterns of a match, as a relay has them.
+//! The plain patterns of a match's argument.
+
 ghost use Rattle.std.specs.Prelude.{map, IfOk};
 ghost use Rattle.relay_faults.specs.Examined.{words_of};
 ghost use Rattle.relay_conf.specs.Relays.{AreOfWord, AreOfWords};

@@ -1,4 +1,5 @@
-// A configuration's elements, read into the relay that they describe.
+//! A configuration's elements, read into the relay that they describe.
+
 ghost use Rattle.std.specs.Prelude.{◌≡◌, ◌++◌, ⊤, map, filter, codes, IfOk, IfErr, MatchResult};
 ghost use Rattle.conf_text.specs.Views.{tree_of};
 ghost use Rattle.relay_faults.specs.Elements.{is_named};

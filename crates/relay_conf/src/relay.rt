@@ -1,4 +1,5 @@
-// A relay: its sources, and its scopes with their matches.
+//! A relay: its sources, and its scopes with their matches.
+
 use crate::output::Output;
 use std::alloc::Allocator;
 use tag_pattern::{Plain, Prefix};

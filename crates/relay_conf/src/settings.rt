@@ -1,4 +1,5 @@
-// The parts of a relay that stand by themselves: security, servers and buffers.
+//! The parts of a relay that stand by themselves: security, servers and buffers.
+
 ghost use Rattle.std.specs.Prelude.{◌≡◌, map, filter, IfOk, codes};
 ghost use Rattle.std.specs.Option.{option_map};
 ghost use Rattle.conf_text.specs.Views.{setting, tree_of};

@@ -1,4 +1,5 @@
-// The scopes that events go to, by their labels.
+//! The scopes that events go to, by their labels.
+
 ghost use Rattle.std.specs.Prelude.{◌≡◌, map};
 ghost use Rattle.std.specs.Option.{option_copied};
 ghost use Rattle.conf_text.specs.Views.{tree_of};

@@ -1,4 +1,5 @@
-// The values of parameters: those of their last lines, or the defaults.
+//! The values of parameters: those of their last lines, or the defaults.
+
 ghost use Rattle.std.specs.Prelude.{◌≡◌, map, IfOk, string_bytes, unwrap_or, option_and_then, is_some};
 ghost use Rattle.std.specs.Option.{option_map};
 ghost use Rattle.conf_text.specs.Views.{setting, tree_of};

@@ -1,4 +1,5 @@
-// What is wrong with a configuration as a whole.
+//! A whole configuration is examined: its sections first, and then its labels.
+
 ghost use Rattle.std.specs.Prelude.{◌≡◌, ⊤, map, IfOk, IfErr, MatchResult};
 ghost use Rattle.conf_text.specs.Views.{tree_of};
 ghost use Rattle.conf_text.specs.Trees.{trees};

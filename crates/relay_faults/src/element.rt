@@ -1,4 +1,5 @@
-// The parts of an element.
+//! The parts of an element.
+
 ghost use Rattle.std.specs.Prelude.{◌≡◌, map, Bool, ◌==◌, length};
 ghost use Rattle.std.specs.List.{list_any};
 ghost use Rattle.std.specs.Option.{option_copied};

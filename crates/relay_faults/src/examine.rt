@@ -1,4 +1,5 @@
-// What may be wrong with the sections of a configuration.
+//! The sections of a configuration are examined, each with all that is in it.
+
 ghost use Rattle.std.specs.Prelude.{◌≡◌, ◌&&◌, map, IfOk, codes};
 ghost use Rattle.std.specs.List.{list_any};
 ghost use Rattle.std.specs.Option.{option_copied};

@@ -1,4 +1,5 @@
-// Why a configuration is no relay's.
+//! Why a configuration is no relay's.
+
 use std::alloc::{AllocError, AllocFailed};
 use std::error::Error;
 use std::fmt;

@@ -1,4 +1,5 @@
-// What a parameter's value must be.
+//! What a parameter's value must be.
+
 ghost use Rattle.std.specs.Prelude.{◌≡◌};
 ghost use Rattle.relay_faults.specs.Values.{is_flush_mode, is_overflow, is_file_of, output_type_of, store_type_of, threads_of, is_retry_type, is_source_type, is_no_target, is_short};
 ghost use Rattle.relay_faults.specs.Forms.{value_fault, bad_unless, outside_unless, path_fault, target_fault, IsWordForm};

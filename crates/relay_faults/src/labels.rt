@@ -1,4 +1,5 @@
-// The labels of a configuration, and where they are named.
+//! The labels of a configuration, and where they are named.
+
 ghost use Rattle.std.specs.Prelude.{◌≡◌, ◌&&◌, not, map, take, codes};
 ghost use Rattle.conf_text.specs.Views.{setting, tree_of};
 ghost use Rattle.relay_faults.specs.Elements.{heading_of};

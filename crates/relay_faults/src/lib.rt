@@ -1,4 +1,4 @@
-// What may stand in a relay's configuration, and the first thing in one that may not.
+//! What may stand in a relay's configuration, and the first thing in one that may not.
 #![tactic(auto)]
 
 mod configuration;

@@ -1,4 +1,5 @@
-// The patterns in a match's argument.
+//! The patterns in a match's argument.
+
 ghost use Rattle.std.specs.Prelude.{◌≡◌, ◌∷◌, [], ◌++◌, map, IfOk, OnOk, length, ◌==◌};
 ghost use Rattle.std.specs.List.{list_any};
 ghost use Rattle.relay_faults.specs.Findings.{Examines, a_pattern};

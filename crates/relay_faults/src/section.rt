@@ -1,4 +1,5 @@
-// The sections of a configuration, and what may stand in each.
+//! The sections of a configuration, and what may stand in each.
+
 ghost use Rattle.std.specs.Prelude.{◌≡◌};
 ghost use Rattle.relay_faults.specs.Sections.{form_in, rows_of, section_rows, output_rows, type_form, form_of, setting_fault, form_fault, opening_in, top_opening, forward_opening, output_opening, only_opening, refusal};
 

@@ -1,4 +1,5 @@
-// Where an output takes an event.
+//! Where an output takes an event.
+
 use relay_conf::{BufferNo, ScopeNo};
 
 /// Where an output takes an event that it is handed.

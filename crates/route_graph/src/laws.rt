@@ -1,4 +1,5 @@
-// What holds of the definitions alone. These functions do nothing: each stands for its clause.
+//! What holds of the definitions alone. These functions do nothing: each stands for its clause.
+
 ghost use Rattle.route_graph.specs.Laws.{WalkReachesLeaves, WalkIsNoLoop, TakerIsUnique, WalkIsUnique};
 
 /// At most one match takes an event.

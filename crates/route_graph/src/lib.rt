@@ -1,4 +1,4 @@
-// Where the events of a relay go: which buffers an event reaches, or that its way is a loop.
+//! Where the events of a relay go: which buffers an event reaches, or that its way is a loop.
 #![tactic(auto)]
 
 mod hop;

@@ -1,4 +1,5 @@
-// The routes of a relay.
+//! The routes of a relay, and the search for an event's way along them.
+
 ghost use Rattle.std.specs.Prelude.{◌≡◌, IfOk, MatchOption};
 ghost use Rattle.std.specs.Option.{option_copied};
 ghost use Rattle.route_graph.specs.Listing.{IsWay, HasLeaves, HasEachOnce};

@@ -1,4 +1,5 @@
-// A relay's matches, as far as the ways of its events depend on them.
+//! A relay's matches, as far as the ways of its events depend on them.
+
 ghost use Rattle.std.specs.Prelude.{◌≡◌, ◌↔◌, IfOk, IsTrue, MatchOption, map, List};
 ghost use Rattle.std.specs.List.{filter_map};
 ghost use Rattle.std.specs.Option.{option_copied};

@@ -1,4 +1,5 @@
-// What is known while an event's way is looked for: a chain of open scopes, and the buffers found.
+//! What is known while an event's way is looked for: a chain of open scopes, and the buffers found.
+
 ghost use Rattle.std.specs.Prelude.{◌≡◌, [], ◌∷◌, ◌++◌, IfNone, IfOk, OnOk, map, replicate, reverse, slice_set};
 ghost use Rattle.std.specs.Option.{option_to_list};
 ghost use Rattle.route_graph.specs.Listing.{numbers_of};

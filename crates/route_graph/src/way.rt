@@ -1,4 +1,5 @@
-// The way of an event.
+//! The way of an event: the buffers that it reaches, or a loop.
+
 use relay_conf::BufferNo;
 use std::alloc::Allocator;
 

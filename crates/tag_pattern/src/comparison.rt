@@ -1,4 +1,5 @@
-// Which tags a plain pattern matches, and how two patterns compare.
+//! Which tags a plain pattern matches, and how two patterns compare.
+
 ghost use Rattle.std.specs.Prelude.{◌≡◌, ℕ, ◌↔◌, false, IsTrue, List};
 ghost use Rattle.std.specs.Option.{option_copied};
 ghost use Rattle.tag_pattern.specs.Patterns.{IsTagOf, Fits, Meets};

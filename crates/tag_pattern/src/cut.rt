@@ -1,4 +1,5 @@
-// Texts cut at their first mark.
+//! Texts cut at marks: what stands before the first, and the pieces between separators.
+
 ghost use Rattle.std.specs.Prelude.{◌≡◌, ◌+◌, ◌<◌, ◌==◌, [], ◌∷◌, length, IfSome, slice_index_or};
 ghost use Rattle.std.specs.List.{list_any, slice_split};
 ghost use Rattle.std.specs.Option.{option_copied};

@@ -1,4 +1,5 @@
-// One of the plain patterns for which a pattern's text stands.
+//! One of the plain patterns for which a pattern's text stands.
+
 ghost use Rattle.std.specs.Prelude.{◌≡◌, ◌<◌, ◌++◌, [], List, length, map, IfOk, OnOk, slice_index_or};
 ghost use Rattle.tag_pattern.specs.Grammar.{Slot, Spells, expansions, part_item};
 ghost use Rattle.tag_pattern.specs.Items.{item_of, items_of};

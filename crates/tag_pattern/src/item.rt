@@ -1,4 +1,4 @@
-// The items of which a plain pattern is made.
+//! The items of which a plain pattern is made.
 
 /// One item of a plain pattern. `Text` is how a literal is kept.
 #[derive(Clone, Copy, Debug, PartialEq, Eq)]

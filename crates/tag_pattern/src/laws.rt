@@ -1,4 +1,5 @@
-// What holds of the definitions alone. These functions do nothing: each stands for its clause.
+//! What holds of the definitions alone. These functions do nothing: each stands for its clause.
+
 ghost use Rattle.tag_pattern.specs.Grammar.{SlotsAreUnique};
 ghost use Rattle.tag_pattern.specs.Parts.{PartsAreUnique};
 ghost use Rattle.tag_pattern.specs.Patterns.{CommonTagMeets, FitsIsSubset};

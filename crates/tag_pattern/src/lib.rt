@@ -1,4 +1,4 @@
-// Tags and the match patterns of Fluentd's configuration.
+//! Tags and the match patterns of Fluentd's configuration.
 #![tactic(auto)]
 
 mod alternatives;

@@ -1,4 +1,5 @@
-// Patterns: texts that stand for plain patterns.
+//! Patterns: texts that stand for plain patterns.
+
 ghost use Rattle.std.specs.Prelude.{◌≡◌, ◌↔◌, List, length, IfOk, MatchResult};
 ghost use Rattle.tag_pattern.specs.Grammar.{Slot, Spells, HasPartialWildcard, AreTooMany, IsPattern, plain_patterns};
 

@@ -1,4 +1,5 @@
-// Plain patterns: patterns without groups.
+//! Plain patterns: patterns without groups.
+
 ghost use Rattle.std.specs.Prelude.{◌≡◌, ◌≤◌, length, vec_len};
 ghost use Rattle.tag_pattern.specs.Items.{items_of};
 

@@ -1,4 +1,5 @@
-// Prefixes: what a source puts in front of the tags that enter there.
+//! Prefixes: what a source puts in front of the tags that enter there.
+
 ghost use Rattle.std.specs.Prelude.{◌≡◌, ◌≤◌, ◌↔◌, false, length, IfOk};
 ghost use Rattle.std.specs.List.{list_all};
 ghost use Rattle.tag_pattern.specs.Prefixes as prefixes;

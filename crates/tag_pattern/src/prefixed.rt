@@ -1,4 +1,5 @@
-// Plain patterns with a prefix in front.
+//! Plain patterns with a prefix in front.
+
 ghost use Rattle.std.specs.Prelude.{◌≡◌, ◌++◌, ◌↔◌, ℕ, List, map, IfOk, OnOk, IsTrue};
 ghost use Rattle.tag_pattern.specs.Items.{item_of, items_of};
 ghost use Rattle.tag_pattern.specs.Parts.{parts_of};

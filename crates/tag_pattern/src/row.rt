@@ -1,4 +1,5 @@
-// Two plain patterns are compared row by row, from their ends, and so is a tag with a pattern.
+//! Two plain patterns are compared row by row, from their ends, and so is a tag with a pattern.
+
 ghost use Rattle.std.specs.Prelude.{◌≡◌, ◌≤◌, [], ◌∷◌, length};
 ghost use Rattle.tag_pattern.specs.Items.{item_of, items_of};
 ghost use Rattle.tag_pattern.specs.Parts.{parts_of};

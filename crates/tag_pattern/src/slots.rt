@@ -1,4 +1,5 @@
-// The slots of a pattern's text, one after the other.
+//! The slots of a pattern's text, one after the other.
+
 ghost use Rattle.std.specs.Prelude.{List, ℕ, MatchOption};
 ghost use Rattle.std.specs.Option.{option_copied};
 ghost use Rattle.tag_pattern.specs.Cuts.{BeginsWithSlot, HasSlotFirst, IsBody, IsGroup};

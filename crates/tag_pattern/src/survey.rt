@@ -1,4 +1,5 @@
-// What a pattern's text amounts to, before any plain pattern is made.
+//! What a pattern's text amounts to, before any plain pattern is made.
+
 ghost use Rattle.std.specs.Prelude.{◌≡◌, List, MatchOption};
 ghost use Rattle.tag_pattern.specs.Grammar.{Slot, Spells};
 ghost use Rattle.tag_pattern.specs.Survey.{Grows, IsWithin, Surveys};

@@ -1,4 +1,5 @@
-// Tags: what an event is routed by.
+//! Tags: what an event is routed by.
+
 ghost use Rattle.std.specs.Prelude.{◌≡◌, ◌<◌, ◌≤◌, ◌↔◌, length, IfOk};
 ghost use Rattle.tag_pattern.specs.Prefixes.{prefixed_tag};
 
