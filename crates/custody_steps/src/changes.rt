@@ -1,4 +1,5 @@
-// What a step does to the live chunk that it names.
+//! What a step changes: the live chunk that it names, the oldest of a buffer, and the answer to a message.
+
 ghost use Rattle.std.specs.Prelude.{◌≡◌, ◌↔◌, ◌≤◌, Some, None, IsSome, IsSomeAnd, IsTrue, IfSome, OnOk, OnErr, true, cond, length, take, slice_get};
 ghost use Rattle.std.specs.Option.{ForSome};
 

@@ -1,4 +1,5 @@
-// The steps on chunks.
+//! The steps on chunks, and restarts of relays.
+
 ghost use Rattle.std.specs.Prelude.{◌≡◌, ◌↔◌, Some, IsSome, IsSomeAnd, IsTrue, IfOk, IfErr};
 
 use crate::fault::StepFault;

@@ -1,4 +1,5 @@
-// Why a step is refused.
+//! Why a step is refused.
+
 use std::alloc::AllocError;
 use thiserror::Error;
 

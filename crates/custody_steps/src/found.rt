@@ -1,4 +1,5 @@
-// Chunks that steps name.
+//! The live chunk that a step names: where it is, and what may be asked of it.
+
 use custody_store::Look;
 
 /// A live chunk that a name was looked up for: the place of its relay, its buffer, its serial, and what may be asked of it.

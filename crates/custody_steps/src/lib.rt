@@ -1,4 +1,4 @@
-// A network of relays as a machine that takes one step after another.
+//! A network of relays as a machine that takes one step after another, each exactly where the definitions allow it.
 #![tactic(auto)]
 
 mod changes;

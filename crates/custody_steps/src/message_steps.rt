@@ -1,4 +1,5 @@
-// The steps on messages and their deliveries.
+//! The steps on messages and their deliveries; a chunk that is forwarded is one more message.
+
 ghost use Rattle.std.specs.Prelude.{◌≡◌, ◌↔◌, ◌<◌, ℕ, length, true, Contains, IsTrue, IsSomeAnd, IfSome, IfOk, OnOk, OnErr, slice_get};
 
 use crate::fault::StepFault;

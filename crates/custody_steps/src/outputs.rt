@@ -1,4 +1,5 @@
-// What outputs do with their chunks.
+//! What an output does with its chunks: whether it forwards, stores, gives up, or drops the oldest.
+
 ghost use Rattle.std.specs.Prelude.{◌↔◌, IsTrue};
 ghost use Rattle.custody_steps.specs.Steps.{Forwards, Stores, GivesUp, DropsOldest};
 

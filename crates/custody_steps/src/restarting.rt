@@ -1,4 +1,5 @@
-// Relays that stop and start again.
+//! The buffers of a relay that stops and starts again.
+
 ghost use Rattle.std.specs.Prelude.{◌≡◌, ℕ};
 ghost use Rattle.custody_store.specs.Places.{closed_at};
 ghost use Rattle.custody_steps.specs.Restarts.{AreRestarted};

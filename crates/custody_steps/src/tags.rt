@@ -1,4 +1,5 @@
-// Which tags the patterns of a match or of a client have.
+//! Whether the patterns of a client have a tag.
+
 ghost use Rattle.std.specs.Prelude.{◌↔◌, IsTrue};
 ghost use Rattle.route_graph.specs.Ways.{HaveTag};
 

@@ -1,4 +1,5 @@
-// A network at one time, and how a step changes it.
+//! A network at one time, and how a step changes it.
+
 ghost use Rattle.std.specs.Prelude.{◌≡◌, ◌≤◌, ◌↔◌, ℕ, length, None, IfSome, IfNone, IfOk, IfErr, IsTrue, OnOk, OnErr};
 ghost use Rattle.std.specs.List.{list_any};
 ghost use Rattle.custody_store.specs.Contents.{flag_at, stored_events};

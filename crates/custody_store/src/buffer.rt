@@ -1,4 +1,5 @@
-// A buffer with the sink of its output.
+//! A buffer with the sink of its output.
+
 ghost use Rattle.std.specs.Prelude.{◌≡◌, ◌<◌, ◌≤◌, ◌++◌, ◌==◌, [], ◌∷◌, ℕ, IsSome, OnOk, OnErr, IsSomeAnd, IfSome, IfNone, length, map, option_map, slice_get, slice_set, false, true, cond, Some, None, IfOk, take, IsTrue, ◌↔◌};
 ghost use Rattle.std.specs.Option.{ForSome, option_map_or};
 ghost use Rattle.step_lines.specs.Texts.{texts_of};

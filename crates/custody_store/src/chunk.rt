@@ -1,4 +1,5 @@
-// Chunks: events of one tag that wait to be delivered together.
+//! Chunks: events of one tag that wait to be delivered together.
+
 ghost use Rattle.std.specs.Prelude.{map, ◌≡◌, ◌≤◌, ℕ, length, option_map, None, Some, IfOk, IfSome, OnOk, OnErr, IsTrue, ◌↔◌, IsSomeAnd};
 ghost use Rattle.std.specs.Option.{ForSome, option_and_then};
 ghost use Rattle.step_lines.specs.Texts.{texts_of};

@@ -1,4 +1,5 @@
-// Entries and events, and copies of them.
+//! Entries and events: copies of them, and whether one is among others.
+
 ghost use Rattle.std.specs.Prelude.{◌≡◌, ◌↔◌, IfOk, IfSome, IsTrue, Contains};
 ghost use Rattle.step_lines.specs.Texts.{texts_of};
 ghost use Rattle.custody_store.specs.Buffers.{events_of};

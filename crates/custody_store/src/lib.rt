@@ -1,4 +1,5 @@
-// A buffer with the sink of its output, as a value: its chunks, and what restarts leave of them.
+//! What the relays of a network have, without any rule of its steps: buffers with their sinks, ids that were answered,
+//! and what restarts leave of them.
 #![tactic(auto)]
 
 mod buffer;

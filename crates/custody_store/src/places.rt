@@ -1,4 +1,5 @@
-// What the relays of a network have.
+//! What each relay of a network has, by its place and the numbers of its buffers.
+
 ghost use Rattle.std.specs.Prelude.{◌≡◌, ◌<◌, ◌≤◌, ◌++◌, ◌==◌, ◌&&◌, Some, None, [], ◌↔◌, ℕ, cond, IsSomeAnd, IsTrue, IfSome, IfNone, IfOk, OnOk, OnErr, take, length, option_map, true, false, Contains};
 ghost use Rattle.std.specs.Option.{ForSome, option_map_or};
 ghost use Rattle.step_lines.specs.Texts.{texts_of};

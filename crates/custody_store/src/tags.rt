@@ -1,4 +1,5 @@
-// The tags under which something is held.
+//! The tags under which something is held.
+
 ghost use Rattle.std.specs.Prelude.{◌≡◌, List, ℕ, OnOk};
 ghost use Rattle.step_lines.specs.Texts.{texts_of};
 ghost use Rattle.custody_store.specs.Contents.{buffer_of};

@@ -1,4 +1,5 @@
-// What is kept of an entry where it comes to.
+//! Whether an entry is kept where it comes to, as far as some messages are known to have passed it on to where it is kept.
+
 ghost use Rattle.std.specs.Prelude.{◌↔◌, ◌≢◌, [], All, IfOk, IsSomeAnd, IsTrue, slice_get};
 ghost use Rattle.kept_branches.specs.Branches.{buffers_of, IsFromBuffer, IsPassedOn};
 ghost use Rattle.kept_branches.specs.Searches.{EachSoFar, IsPassedAmong, IsSettled, KeepsSoFar};

@@ -1,4 +1,5 @@
-// Under which tag events come in.
+//! The tag that the events of a message bear where it comes in.
+
 ghost use Rattle.std.specs.Prelude.{◌≡◌, ◌<◌, Err, IfOk, length};
 ghost use Rattle.relay_net.specs.Network.{tag_at};
 

@@ -1,4 +1,4 @@
-// Whether an event is kept along each branch of its way through a network.
+//! Whether an event is kept along each branch of its way through a network.
 #![tactic(auto)]
 
 mod branch;

@@ -1,4 +1,5 @@
-// Whether each branch of an event's way keeps it.
+//! The search for the messages that passed an entry on to where it is kept: one more, until there is none.
+
 ghost use Rattle.std.specs.Prelude.{◌↔◌, ℕ, IfOk, IsTrue};
 ghost use Rattle.kept_branches.specs.Branches.{buffers_of, EachKeeps};
 ghost use Rattle.kept_branches.specs.Searches.{AreSettled, IsDone, IsNewOrDone, IsNext};

@@ -1,4 +1,5 @@
-// The checker's answer.
+//! The checker's answer to a plan: its rules are asked in their order, up to the first that is broken.
+
 ghost use Rattle.std.specs.Prelude.{◌≡◌, ◌+◌, IfOk, IfErr, IfSome, IfNone, OnOk};
 ghost use Rattle.loss_rules.specs.Breaks.{IsKept, IsBrokenAt, IsAnswer, rule_number};
 ghost use Rattle.loss_rules.specs.Rules.{AreRulesKept, EachOutputKeeps};

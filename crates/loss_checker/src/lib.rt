@@ -1,4 +1,5 @@
-// The loss checker: whether the network of a plan can lose an event that was acknowledged to a client.
+//! The loss checker: whether each rule holds of a plan, so that its network loses no event that was acknowledged,
+//! or else the first rule that is broken, and where.
 #![tactic(auto)]
 
 mod checking;

@@ -1,4 +1,5 @@
-// The rule on what relays are known by: numbers, folders and the addresses of sources are distinct.
+//! The rule on what relays are known by: numbers, folders and the addresses of sources are distinct.
+
 ghost use Rattle.std.specs.Prelude.{◌≡◌, ◌↔◌, ◌<◌, ◌≤◌, ℕ, IfNone, IfSome, IsTrue, Any, Some, length};
 ghost use Rattle.relay_conf.specs.declared.relay.Source.{Source};
 ghost use Rattle.loss_rules.specs.Breaks.{IsFirstTwice, BreaksAtSource};

@@ -1,4 +1,4 @@
-// What the checker answers.
+//! The rules by their names, where one is broken, and what the checker answers.
 
 /// The rules, in the order in which they are looked at.
 #[derive(Clone, Copy, Debug, PartialEq, Eq)]

@@ -1,4 +1,5 @@
-// The first relabel on a cycle.
+//! The rule on relabels of reached matches, and the first of them that is on a cycle.
+
 ghost use Rattle.std.specs.Prelude.{IfOk, IfNone, IfSome};
 ghost use Rattle.loss_rules.specs.Breaks.{IsInConf, BreaksAtOutput};
 ghost use Rattle.loss_rules.specs.Rules.{IsOnNoCycle, NoRelabelCycle};

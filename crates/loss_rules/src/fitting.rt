@@ -1,4 +1,5 @@
-// How patterns compare with what a plan says of tags.
+//! Whether patterns fit the labels and reaches of a plan.
+
 ghost use Rattle.std.specs.Prelude.{◌≡◌, ◌↔◌, None, IsTrue, Any, All};
 ghost use Rattle.std.specs.Option.{option_copied};
 ghost use Rattle.tag_pattern.specs.Patterns.{Fits};

@@ -1,4 +1,5 @@
-// The relabels of a relay's reached matches, as a graph of its scopes.
+//! The relabels of a relay's reached matches, as a graph of its scopes.
+
 ghost use Rattle.std.specs.Prelude.{◌≡◌, ◌<◌, ◌↔◌, ℕ, ◌++◌, length, Contains, IfOk, OnOk, IsTrue};
 ghost use Rattle.std.specs.List.{filter_map};
 ghost use Rattle.loss_rules.specs.Firsts.{IsLeast};

@@ -1,4 +1,5 @@
-// What a plan says beside its network.
+//! What a plan says beside its network: labels, reaches, the duty, and a line for each relay.
+
 use std::alloc::Allocator;
 use tag_pattern::Plain;
 

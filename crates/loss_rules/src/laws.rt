@@ -1,4 +1,5 @@
-// What holds of each plan, and what the rules give to each tag of a label.
+//! What holds of each plan, and what the rules give to each tag of a label.
+
 ghost use Rattle.loss_rules.specs.Laws.{HasOneAnswer};
 ghost use Rattle.loss_rules.specs.SafeWays.{LabelledLeavesKeep, LabelledTagsAreSafe};
 

@@ -1,4 +1,4 @@
-// The rules under which a network of relays loses no event that was acknowledged, and where each is broken first.
+//! The rules under which a network of relays loses no event that was acknowledged, and where each is broken first.
 #![tactic(auto)]
 
 mod addresses;

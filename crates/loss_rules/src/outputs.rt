@@ -1,4 +1,5 @@
-// The rules on a relay's own matches and outputs: reached matches keep, relabels are labelled, paths are distinct.
+//! The rules on a relay's own matches and outputs: reached matches keep, relabels are labelled.
+
 ghost use Rattle.std.specs.Prelude.{◌↔◌, ◌⊎◌, ℕ, IfNone, IfSome, IsTrue, All, Any};
 ghost use Rattle.relay_net.specs.Outputs.{Keeps};
 ghost use Rattle.loss_rules.specs.Breaks.{IsInConf, BreaksAtMatch, BreaksAtOutput};

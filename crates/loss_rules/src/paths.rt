@@ -1,4 +1,5 @@
-// The rule on paths: within a relay those of buffers are distinct, and those of sinks.
+//! The rule on paths: within a relay those of buffers are distinct, and those of sinks.
+
 ghost use Rattle.std.specs.Prelude.{◌≡◌, ◌↔◌, List, ℕ, IfNone, IfSome, IsTrue, Some};
 ghost use Rattle.std.specs.Option.{option_copied};
 ghost use Rattle.loss_rules.specs.Breaks.{IsInConf, BreaksAtOutput, IsFirstOfPath};

@@ -1,4 +1,5 @@
-// The rules on a plan's own lines: clients are labelled, labels are matched, reaches cover.
+//! The rules on a plan's own lines: clients are labelled, labels are matched, reaches cover.
+
 ghost use Rattle.std.specs.Prelude.{◌≡◌, ◌↔◌, IfNone, IfSome, IsTrue, All, Any, IsSomeAnd, length, slice_get};
 ghost use Rattle.loss_rules.specs.Breaks.{IsInPlan, BreaksAtClient, BreaksAtLabel};
 ghost use Rattle.loss_rules.specs.Matches.{AreCovered};

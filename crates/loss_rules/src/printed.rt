@@ -1,4 +1,5 @@
-// What the checker's answer is printed as.
+//! What the checker's answer is printed as.
+
 use crate::answer::{Answer, Place, Rule};
 use std::fmt;
 

@@ -1,4 +1,5 @@
-// A relabel.
+//! A relabel of a reached match: the scope that it leads to, and its line.
+
 ghost use Rattle.std.specs.Prelude.{◌≡◌};
 ghost use Rattle.loss_rules.specs.Graphs.{relabel_of};
 

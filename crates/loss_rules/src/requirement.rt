@@ -1,4 +1,5 @@
-// What a rule asks of the things in a configuration, and the search for the first line in which it is broken.
+//! What a rule asks of the things in a configuration, and the search for the first line in which it is broken.
+
 ghost use Rattle.std.specs.Prelude.{◌≡◌, ℕ, IfNone, IfSome, cond};
 ghost use Rattle.relay_conf.specs.declared.relay.MatchRule.{MatchRule};
 ghost use Rattle.loss_rules.specs.Breaks.{IsInConf};

@@ -1,4 +1,5 @@
-// The rules on servers: they are sources, and what is forwarded to them is labelled.
+//! The rules on servers: they are sources, and what is forwarded to them is labelled.
+
 ghost use Rattle.std.specs.Prelude.{IfNone, IfSome, IsSome};
 ghost use Rattle.relay_net.specs.Network.{entrance, address_of_server};
 ghost use Rattle.loss_rules.specs.Breaks.{IsInConf, BreaksAtServer};

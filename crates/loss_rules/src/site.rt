@@ -1,4 +1,5 @@
-// Where something stands in the configurations of a network.
+//! Where a match or one of its outputs stands in the configurations of a network.
+
 ghost use Rattle.std.specs.Prelude.{◌≡◌};
 ghost use Rattle.loss_rules.specs.Sites.{line_of as line_of_output, matches_at as matches_there, scope_count_of};
 

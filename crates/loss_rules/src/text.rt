@@ -1,4 +1,5 @@
-// Texts.
+//! Whether two texts are the same.
+
 ghost use Rattle.std.specs.Prelude.{◌≡◌, ◌↔◌, IsTrue};
 
 /// Whether the texts are the same, byte by byte.

@@ -1,4 +1,5 @@
-// A search for the scopes that relabels lead to.
+//! A search for the scopes that relabels lead to.
+
 ghost use Rattle.std.specs.Prelude.{◌≡◌, false, true, [], ◌∷◌, ◌++◌, IfOk, IfNone, IfSome, OnOk, map, replicate, slice_set};
 ghost use Rattle.loss_rules.specs.Visits.{mark_at};
 

@@ -1,4 +1,5 @@
-// The book of a network: messages, deliveries and acknowledged events.
+//! The book of a network: messages, deliveries and acknowledged events.
+
 ghost use Rattle.std.specs.Prelude.{◌≡◌, ◌↔◌, ◌<◌, ◌++◌, [], ◌∷◌, false, true, length, map, option_map, slice_get, OnOk, OnErr, IsTrue, IsSomeAnd, Contains};
 ghost use Rattle.std.specs.Option.{option_copied, option_map_or};
 ghost use Rattle.step_lines.specs.Texts.{texts_of};

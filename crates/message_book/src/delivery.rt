@@ -1,4 +1,5 @@
-// Deliveries of messages to the buffers of a relay.
+//! Deliveries of messages to the buffers of a relay.
+
 ghost use Rattle.std.specs.Prelude.{◌≡◌, ◌↔◌, ◌<◌, [], IfOk, OnOk, OnErr, IsTrue, Contains, true};
 ghost use Rattle.message_book.specs.Book.{appended_to_buffer, ended, with_room, less_room};
 

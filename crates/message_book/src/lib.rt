@@ -1,4 +1,4 @@
-// What was ever sent in a network, delivered and acknowledged, without any rule of its steps.
+//! What was ever sent in a network, delivered and acknowledged, without any rule of its steps.
 #![tactic(auto)]
 
 mod book;

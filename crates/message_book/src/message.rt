@@ -1,4 +1,5 @@
-// Messages that were sent.
+//! Messages that were sent, and the events of those that were acknowledged to clients.
+
 ghost use Rattle.std.specs.Prelude.{◌≡◌, IfOk, true, false};
 ghost use Rattle.step_lines.specs.Texts.{texts_of};
 ghost use Rattle.message_book.specs.Book.{acknowledged_message, events_told, told_events, told_to};

@@ -1,4 +1,4 @@
-// Who sends messages.
+//! Who sent a message: a client, or a relay from one of its chunks.
 
 /// Who sent a message.
 #[derive(Clone, Copy, Debug, PartialEq, Eq)]

@@ -1,4 +1,5 @@
-// A plan that is read line by line.
+//! What the lines of a plan say that were read so far, and what one more line adds.
+
 ghost use Rattle.std.specs.Prelude.{◌≡◌, ℕ, List, [], ◌∷◌, ◌<◌, map, length, position, slice_get, string_bytes, IfOk, IfErr, OnOk, Some, option_map};
 ghost use Rattle.std.specs.Str.{bytes_eq};
 ghost use Rattle.std.specs.Option.{option_and_then, option_copied};

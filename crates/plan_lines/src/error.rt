@@ -1,4 +1,5 @@
-// Why a plan wasn't read.
+//! Why a plan wasn't read.
+
 use conf_text::ConfFault;
 use relay_conf::RelayFault;
 use std::alloc::{AllocError, AllocFailed};

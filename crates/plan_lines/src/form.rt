@@ -1,4 +1,5 @@
-// The forms of a plan's lines.
+//! The forms of a plan's lines.
+
 ghost use Rattle.std.specs.Prelude.{◌≡◌, ◌∷◌, [], map};
 ghost use Rattle.plan_lines.specs.Forms.{is_folder_byte as is_byte, is_folder as is_name, is_comment as is_remark, relay_form as relay_line, client_form as client_line, label_form as label_line, reach_form as reach_line, duty_form as duty_line, named_form as named_line, form_of as form_by, relay_number as number_by};
 ghost use Rattle.plan_lines.specs.Views.{form_view};

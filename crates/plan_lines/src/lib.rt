@@ -1,4 +1,4 @@
-// The plan of a network of relays, read from its text and from the configurations that it names.
+//! The plan of a network of relays, read from its text and from the configurations that it names.
 #![tactic(auto)]
 
 mod draft;

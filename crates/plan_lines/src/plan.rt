@@ -1,4 +1,5 @@
-// Plans.
+//! A plan that was read: its network, its labels and reaches, and its duty.
+
 ghost use Rattle.std.specs.Prelude.{◌≡◌, true, length, IfOk, IfErr};
 ghost use Rattle.relay_net.specs.Network.{all_enter};
 ghost use Rattle.loss_rules.specs.Sites.{BuffersAreDistinct};

@@ -1,4 +1,5 @@
-// The relays of a plan that is read, looked up by their numbers.
+//! The relays of a plan that is read, looked up by their numbers.
+
 ghost use Rattle.std.specs.Prelude.{◌≡◌, [], ◌∷◌, ◌++◌, ℕ, ◌==◌, Some, None, cond, OnOk, OnErr};
 ghost use Rattle.std.specs.BTreeMap.{get};
 ghost use Rattle.std.specs.Option.{option_copied, option_or};

@@ -1,4 +1,5 @@
-// Where messages are sent to, and where they come in.
+//! Where messages are sent to, and where they come in.
+
 ghost use Rattle.std.specs.Prelude.{◌≡◌, IfOk};
 
 use std::alloc::{AllocError, Allocator};

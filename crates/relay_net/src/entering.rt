@@ -1,4 +1,5 @@
-// Where clients and messages come in.
+//! Where clients and messages come in.
+
 ghost use Rattle.std.specs.Prelude.{◌≡◌};
 ghost use Rattle.std.specs.Option.{option_copied};
 ghost use Rattle.relay_net.specs.Network.{all_enter, enters, node_of, source_of_port, source_at as first_source_at, host_from};

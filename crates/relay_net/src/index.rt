@@ -1,4 +1,5 @@
-// Where the outputs of a relay stand.
+//! Where the outputs of a relay stand, by the numbers of their buffers.
+
 ghost use Rattle.std.specs.Prelude.{◌≡◌, ℕ, Some, None, [], ◌∷◌, cond, IfOk, OnOk};
 ghost use Rattle.std.specs.Option.{option_copied, option_or};
 ghost use Rattle.relay_net.specs.Outputs.{number_of, is_numbered};

@@ -1,4 +1,4 @@
-// The fixed facts of a network: its relays and clients, where addresses lead, and where events go.
+//! The fixed facts of a network: its relays and clients, where addresses lead, and where events go.
 #![tactic(auto)]
 
 mod address;

@@ -1,4 +1,5 @@
-// What is looked up for each relay.
+//! What is made once for each relay of a network: its routes, and where its outputs stand.
+
 ghost use Rattle.std.specs.Prelude.{◌≡◌, IfOk};
 ghost use Rattle.std.specs.Option.{option_and_then, option_copied};
 

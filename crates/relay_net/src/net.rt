@@ -1,4 +1,5 @@
-// The fixed facts of a network.
+//! A network: its relays and its clients, and what is asked of them.
+
 ghost use Rattle.std.specs.Prelude.{◌≡◌, true, IfOk, IfErr, IfSome, IsSome, option_map, slice_get, ℕ};
 ghost use Rattle.std.specs.Option.{option_copied};
 ghost use Rattle.route_graph.specs.Listing.{IsWay, HasLeaves, HasEachOnce};

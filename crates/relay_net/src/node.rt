@@ -1,4 +1,5 @@
-// Relays of a network, and those who send to them.
+//! Relays of a network, and those who send to them.
+
 use relay_conf::Relay;
 use std::alloc::Allocator;
 use tag_pattern::Plain;

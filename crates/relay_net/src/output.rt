@@ -1,4 +1,5 @@
-// What an output's settings say.
+//! What an output's settings say.
+
 ghost use Rattle.std.specs.Prelude.{◌≡◌, ◌↔◌, IsTrue, slice_get};
 ghost use Rattle.std.specs.Option.{option_copied};
 ghost use Rattle.relay_net.specs.Outputs.{number_of, settings_of, servers_of, has_memory, KeepsChunks, is_memory as has_memory_kind, keeps_chunks as chunks_kept, Keeps};

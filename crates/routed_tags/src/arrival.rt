@@ -1,4 +1,5 @@
-// Where events come in under an end of a tag that is looked for.
+//! Where events come in under an end of a tag that is looked for.
+
 ghost use Rattle.std.specs.Prelude.{◌≡◌, ◌↔◌, ◌≤◌, ◌∷◌, Some, length, Any, Contains, IsTrue};
 ghost use Rattle.std.specs.Option.{option_copied};
 ghost use Rattle.tag_pattern.specs.Parts.{dot};

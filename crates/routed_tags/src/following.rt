@@ -1,4 +1,5 @@
-// Where an event goes on to from an arrival.
+//! Where an event goes on to from an arrival.
+
 ghost use Rattle.std.specs.Prelude.{◌≡◌, ◌≤◌, Some, length, drop, OnOk};
 ghost use Rattle.relay_net.specs.Network.{address_of_server};
 ghost use Rattle.relay_net.specs.Outputs.{servers_of};

@@ -1,4 +1,4 @@
-// The tags that an event may bear on its way through a network.
+//! The tags that an event may bear on its way through a network.
 #![tactic(auto)]
 
 mod arrival;

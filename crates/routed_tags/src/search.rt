@@ -1,4 +1,5 @@
-// Whether a tag is one that an event may bear on its way.
+//! Whether a tag is one that an event may bear on its way.
+
 ghost use Rattle.std.specs.Prelude.{◌↔◌, ◌≤◌, IfOk, IsTrue, length};
 ghost use Rattle.routed_tags.specs.Routed.{IsRoutedTag};
 

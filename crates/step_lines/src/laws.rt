@@ -1,4 +1,5 @@
-// That a line says one thing, and a text.
+//! That a line says one step at most, and that a text has one reading.
+
 ghost use Rattle.step_lines.specs.Laws.{SaysOneStep, SaysNoStepToo, HasOneReading, HasOneFault, IsFaultless};
 
 use std::alloc::Allocator;

@@ -1,4 +1,4 @@
-// Steps of a network of relays, and how they are read from a text.
+//! Steps of a network of relays, and how they are read from a text.
 #![tactic(auto)]
 
 mod laws;

@@ -1,4 +1,5 @@
-// Steps as lines of a text.
+//! Steps are read from the lines of a text.
+
 ghost use Rattle.std.specs.Prelude.{◌≡◌, [], ◌∷◌, ℕ, codes, map, not, length, List, ◌==◌, IfOk, IfErr, IfSome, IfNone, IsTrue, ◌↔◌};
 ghost use Rattle.std.specs.List.{AllZip, slice_split, filter};
 ghost use Rattle.step_lines.specs.Texts.{texts_of};

@@ -1,4 +1,5 @@
-// What may happen next in a network.
+//! The steps of a network, and the names of chunks in them.
+
 use std::alloc::Allocator;
 use tag_pattern::Tag;
 

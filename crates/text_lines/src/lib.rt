@@ -1,4 +1,4 @@
-// The lines of a text that need not be UTF-8.
+//! The lines of a text that need not be UTF-8.
 #![tactic(auto)]
 
 ghost use Rattle.std.specs.Prelude.{◌≡◌, ◌==◌, ◌<◌, map, length, IfOk, Some, slice_get};
