@@ -1,4 +1,4 @@
-//! Live chunks.
+//! A live chunk: its tag, its stage, and how many entries and bytes it has.
 
 ghost use Rattle.std.specs.Prelude.{◌≡◌, ◌+◌, ◌≤◌, length, IfOk};
 ghost use Rattle.std.specs.List.{AllByRecursion};

@@ -1,4 +1,4 @@
-//! A buffer is opened.
+//! A buffer is opened: its chunks are what the journal in the folder means.
 
 ghost use Rattle.std.specs.Prelude.{◌≡◌, ◌≢◌, ◌⊎◌, ◌-◌, ◌^◌, false, IsSome, IfOk, IfErr};
 ghost use Rattle.disk_files.specs.Disk.{SameDisk, reads};

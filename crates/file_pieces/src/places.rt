@@ -1,4 +1,4 @@
-//! Bytes at places of a file. No memory is asked for.
+//! Bytes at places of a file are read, one place behind another. No memory is asked for.
 
 ghost use Rattle.std.specs.Prelude.{◌≡◌, ◌+◌, ◌≤◌, List, ℕ, Some, IsSome, length, IfOk, OnOk, IsErrOf};
 ghost use Rattle.disk_files.specs.Disk.{SameDisk, reads};

@@ -1,4 +1,4 @@
-//! Bytes of a file.
+//! So many bytes of a file from one place on.
 
 ghost use Rattle.std.specs.Prelude.{◌≡◌, ◌≤◌, ◌-◌, List, ℕ, Some, IsSome, length, OnOk, IsErrOf};
 ghost use Rattle.disk_files.specs.Disk.{SameDisk, reads};
