@@ -1,4 +1,4 @@
-//! Whether stubs account for a pages.
+//! Whether stubs account for the open lines of a buffer's book.
 
 ghost use Rattle.std.specs.Prelude.{◌≡◌, ◌<◌, ◌↔◌, [], ◌∷◌, ◌++◌, ℕ, List, true, false, All, Any, IfOk, IsTrue, OnOk, IsErrOf, MatchBool};
 ghost use Rattle.std.specs.Ordering.{nat_cmp};

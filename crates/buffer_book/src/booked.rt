@@ -1,4 +1,4 @@
-//! A buffer with its book.
+//! A buffer with its book, and the calls that neither append nor let a chunk go.
 
 ghost use Rattle.std.specs.Prelude.{◌≡◌, ◌≢◌, ◌↔◌, ◌⊎◌, ◌<◌, ◌≤◌, ◌+◌, [], true, false, All, Ok, Err, OnOk, OnErr, IsErrOf};
 ghost use Rattle.book_audit.specs.Audits.{Accounts, AreInBook, AreOpenOnce, Closes, HasStranger, IsAgain, IsLeftOut, Settles, lines_named, lines_of};

@@ -1,4 +1,4 @@
-//! A claimed chunk.
+//! A claimed chunk, which ends by a purge or is given back.
 
 ghost use Rattle.std.specs.Prelude.{◌≡◌, IfOk};
 ghost use Rattle.buffer_book.specs.Claims.{id_of};

@@ -1,4 +1,4 @@
-//! The end that connects.
+//! The session of the end that connects, which sends one message.
 
 ghost use Rattle.std.specs.Prelude.{◌≡◌, ◌≤◌, ◌<◌, ◌^◌, ◌↔◌, ◌++◌, length, drop, option_map, Bool, Some, IsTrue, IfOk, OnOk, OnErr};
 ghost use Rattle.std.specs.List.{concat};

@@ -1,4 +1,4 @@
-//! The end that listens.
+//! The session of the end that listens.
 
 ghost use Rattle.std.specs.Prelude.{◌≡◌, ◌≤◌, ◌↔◌, ◌⊎◌, ◌++◌, ◌∷◌, [], length, drop, map, Some, IsSome, IfOk, IfErr, OnOk, OnErr, IsErrOf, All, Contains};
 ghost use Rattle.msgpack_bytes.specs.Item.{IsOpen};

@@ -1,4 +1,4 @@
-//! The buffers of a relay.
+//! The buffers of a relay, as its loop uses them.
 
 ghost use Rattle.std.specs.Prelude.{◌≡◌, ◌<◌, ◌≤◌, ◌+◌, ◌++◌, ◌∷◌, [], length, IfOk, IfSome};
 ghost use Rattle.loop_core.specs.Lanes.{later_at};
