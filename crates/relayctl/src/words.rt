@@ -1,4 +1,4 @@
-//! The words of the command line.
+//! What the words of the command line ask for.
 
 /// What the program is asked to do; a path is taken from the working folder.
 #[derive(Clone, Copy, Debug, PartialEq, Eq)]
