@@ -1,3 +1,5 @@
+//! Texts of configurations, and the elements that are read from them.
+
 use conf_text::{Element, read};
 use std::alloc::{AllocError, Allocator, Global};
 use std::fmt::Write;

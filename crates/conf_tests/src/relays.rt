@@ -1,3 +1,5 @@
+//! Relays that are read from configurations, looked at part by part.
+
 use relay_conf::{
     BufferKind, BufferSettings, FileSettings, ForwardSettings, MatchRule, Output, Relay, Source,
 };

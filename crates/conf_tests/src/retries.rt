@@ -1,3 +1,5 @@
+//! Waits up to their limits, and failures that are counted by chunk.
+
 use retry_waits::{Failures, RetrySettings, retry_after};
 use std::test::Fail;
 

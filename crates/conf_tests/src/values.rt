@@ -1,3 +1,5 @@
+//! Values of each form, and texts that are none.
+
 use conf_values::{boolean, has_slash, is_host_name, is_label_name, is_path, port, seconds, size};
 
 // Texts, and the size and the time of each.

@@ -1,4 +1,5 @@
-// What no clause says: vectors from outside, printed text, and that the calls succeed.
+//! MessagePack items: vectors from outside, printed text, and that the calls succeed, which no clause says.
+
 use msgpack_bytes::{
     Head, MsgFault, Scan, Scanner, Taken, head, put_array, put_bin, put_bool, put_map, put_str,
     put_uint, scan,

@@ -1,4 +1,5 @@
-// Couriers and gates that the tests need.
+//! Couriers and gates that the tests need.
+
 use ack_receipt::{Evidence, SharedBuffer};
 use auth_handshake::digest_hex;
 use disk_files::Dir;

@@ -1,4 +1,5 @@
-// What becomes of a chunk whose delivery fails.
+//! What becomes of a chunk whose delivery fails.
+
 use super::couriers::{Answer, Scripted, is_empty};
 use super::shelves::{HASTY, PATIENT, Shelf, by, by_sink, filled, filled_in, queued, sink};
 use ack_receipt::{Basis, Takes};

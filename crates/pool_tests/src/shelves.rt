@@ -1,4 +1,5 @@
-// Buffers with queued chunks, and what is left in them.
+//! Buffers with queued chunks, and what is left in them.
+
 use ack_receipt::{Basis, Leaf, SharedBuffer, Takes};
 use buffer_state::{Limits, Stage};
 use buffer_store::{Buffer, BufferFault, RENEWED_PAST_IN_MEMORY, Settings};

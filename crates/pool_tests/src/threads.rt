@@ -1,4 +1,5 @@
-// Several workers at one buffer.
+//! Several workers at one buffer, side by side.
+
 use super::couriers::{Answer, Meeting, NotFirst, Scripted, Third};
 use super::shelves::{PATIENT, Shelf, by, by_sink, filled, queued, sink};
 use ack_receipt::Basis;

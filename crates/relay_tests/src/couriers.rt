@@ -1,4 +1,5 @@
-// Couriers to servers that misbehave.
+//! Couriers to servers that misbehave.
+
 use crate::relays::{FORWARD, aim, relay_of};
 use ack_receipt::{Basis, Delivery, Evidence, Leaf, Numbers, SharedBuffer, Takes};
 use buffer_state::Limits;

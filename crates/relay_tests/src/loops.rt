@@ -1,4 +1,5 @@
-// A loop with clients on sockets, turned by hand.
+//! A loop with clients on sockets, turned by hand.
+
 use crate::relays::{LOOPING, SINK, SMALL, relay_of};
 use disk_files::MemoryDir;
 use mio_relay::{Ended, InLoop, LoopFault, MemoryFolders};

@@ -1,4 +1,5 @@
-// An edge and a hub, each with a flush thread.
+//! An edge and a hub, each with a flush thread.
+
 use crate::couriers::courier_to;
 use crate::loops::{ANSWER, ENTRY, MESSAGE, TAG, Turning, client, hears, open};
 use crate::relays::{FORWARD, SINK};

@@ -1,4 +1,5 @@
-// Relays of the tests.
+//! The relays that the tests run, and where their outputs send.
+
 use relay_conf::{Output, Relay};
 use std::alloc::Global;
 use std::test::Fail;

@@ -1,4 +1,5 @@
-// What no clause says: vectors from outside, printed text, and that the calls succeed.
+//! Handshakes: a digest from outside, items that are read or refused, and printed codes.
+
 use auth_handshake::{Client, HandshakeFault, HeloError, Ping, Server, digest_hex};
 use std::alloc::{AllocError, Global};
 

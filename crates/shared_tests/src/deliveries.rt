@@ -1,4 +1,5 @@
-// What becomes of receipts: deliveries take them, and stubs are what is left.
+//! What becomes of receipts: deliveries take them, and stubs are what is left.
+
 use crate::shelves::{
     LEAF, Refused, Shelf, WIDE, audited, begun, begun_of, message, put, shelf_in, stored,
 };

@@ -1,4 +1,5 @@
-// What waits for a receipt: one sync serves a list, and a stop leaves what was synced.
+//! What waits for a receipt: one sync serves a list, and a stop leaves what was synced.
+
 use crate::shelves::{LEAF, Shelf, WIDE, begun, buffer_in, shelf_in};
 use ack_receipt::{Delivery, Numbers, Pending, Receipt, RedeemFault};
 use buffer_store::BufferFault;

@@ -1,4 +1,5 @@
-// Shared buffers, and deliveries to them.
+//! Shared buffers for the tests, and deliveries to them.
+
 ghost use Rattle.std.specs.Prelude.{◌≡◌, IfOk};
 ghost use Rattle.event_modes.specs.Reading.{meaning};
 

@@ -1,3 +1,5 @@
+//! The codes by which a refused step is printed.
+
 use custody_steps::StepFault;
 use std::test::Fail;
 

@@ -1,4 +1,5 @@
-// Listings of texts that come slowly or without an end, and at a writer that fails.
+//! Listings of texts that come slowly or without an end, and at a writer that fails.
+
 use program_text::Status;
 use std::io;
 use std::io::{ErrorKind, Read, Write};

@@ -1,4 +1,5 @@
-// Steps that come without an end.
+//! Steps that come without an end.
+
 use plan_answers::run_replay;
 use program_text::{Open, Status};
 use std::io;
