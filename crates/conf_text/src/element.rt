@@ -1,4 +1,5 @@
 //! The elements of a configuration.
+
 use std::alloc::Allocator;
 
 /// A parameter: `name value`.

@@ -1,4 +1,5 @@
 //! Why a text is no configuration.
+
 use std::alloc::{AllocError, AllocFailed};
 use std::error::Error;
 use std::fmt;

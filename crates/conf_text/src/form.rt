@@ -1,4 +1,5 @@
 //! The form of one line.
+
 ghost use Rattle.std.specs.Prelude.{◌≡◌, ◌<◌, ◌||◌, ◌==◌, length, IfOk};
 ghost use Rattle.conf_text.specs.Text.{skip_blanks, without_comment};
 ghost use Rattle.conf_text.specs.Quoted.{quoted};

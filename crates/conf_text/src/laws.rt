@@ -1,4 +1,5 @@
 //! What holds of each text, whatever a reader does.
+
 ghost use Rattle.conf_text.specs.Laws.{HasOneReading, HasOneFault, IsFaultless, IsOneOrOther, SingleQuotesKeep, DoubleQuotesKeep, SettingsAreRead, OpeningsAreRead, EndsAreRead, ElementsAreRead};
 
 /// Each text is a configuration of one list of elements, or has one first fault, and never both.

@@ -1,4 +1,5 @@
 //! Values in quotes.
+
 ghost use Rattle.std.specs.Prelude.{◌≡◌, ◌<◌, ◌≤◌, length, slice_index, true, string_bytes, option_map, IfOk, IfSome};
 ghost use Rattle.std.specs.List.{position_or_len};
 ghost use Rattle.conf_text.specs.Quoted.{double_escape, single_escape, escape, embeds, is_special, with_front, quoted};

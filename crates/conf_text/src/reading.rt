@@ -1,4 +1,5 @@
 //! A configuration's text, line by line.
+
 ghost use Rattle.std.specs.Prelude.{◌≡◌, ◌+◌, ◌<◌, ◌^◌, List, map, length, count_by, ◌==◌, Ok, Err, IfOk, IfErr};
 ghost use Rattle.conf_text.specs.declared.fault.ConfFault.{ConfFault};
 ghost use Rattle.conf_text.specs.Trees.{Tree};

@@ -1,4 +1,5 @@
 //! Sections that are open, and their elements.
+
 ghost use Rattle.std.specs.Prelude.{◌≡◌, [], map, reverse, length, IfOk, Ok, string_bytes};
 ghost use Rattle.conf_text.specs.Views.{setting, tree_of};
 ghost use Rattle.conf_text.specs.Trees.{tree, trees};

@@ -1,4 +1,5 @@
 //! Blanks, names and comments in the text of one line.
+
 ghost use Rattle.std.specs.Prelude.{IsTrue, ◌≡◌, ◌-◌, ◌<◌, ◌&&◌, ◌==◌, length, slice_index, take, drop};
 ghost use Rattle.std.specs.List.{prefix_len, suffix_len, position_or_len, list_all};
 ghost use Rattle.conf_text.specs.Text.{is_blank, begins, ends_in, skip_blanks, drop_blanks, trimmed, first_word, after_word, without_comment, comment_at, is_name_byte, is_name, is_parameter_name};

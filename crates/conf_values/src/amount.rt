@@ -1,4 +1,5 @@
 //! Numbers with a unit's letter behind them.
+
 ghost use Rattle.std.specs.Prelude.{◌≡◌};
 ghost use Rattle.conf_values.specs.Amounts.{factor_of, amount_of, size_of, seconds_of};
 

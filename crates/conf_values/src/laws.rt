@@ -1,4 +1,5 @@
 //! What a size and a time stand for, in other words.
+
 ghost use Rattle.conf_values.specs.Laws.{HasAmount};
 ghost use Rattle.conf_values.specs.Amounts.{size_factor, time_factor};
 

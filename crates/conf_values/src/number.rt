@@ -1,4 +1,5 @@
 //! Whole numbers, and the ports among them.
+
 ghost use Rattle.std.specs.Prelude.{◌≡◌};
 ghost use Rattle.conf_values.specs.Numbers.{number_of, port_of};
 

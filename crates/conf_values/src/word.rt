@@ -1,4 +1,5 @@
 //! Booleans, and the forms of names.
+
 ghost use Rattle.std.specs.Prelude.{◌≡◌, ◌≤◌, ◌↔◌, IsTrue, length};
 ghost use Rattle.std.specs.List.{list_all};
 ghost use Rattle.conf_values.specs.Words.{boolean_of, begins, is_path_byte, is_path, has_slash, is_label_byte, is_bare_label, is_label_name};

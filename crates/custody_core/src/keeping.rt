@@ -1,4 +1,5 @@
 //! Whether an acknowledged event is kept as a plan asks.
+
 ghost use Rattle.std.specs.Prelude.{◌↔◌, slice_get, IfOk, IsSomeAnd, IsTrue};
 ghost use Rattle.custody_core.specs.Custody.{IsKeptAs};
 ghost use Rattle.custody_steps.specs.WorldOf.{world_of, net_of};

@@ -1,4 +1,5 @@
 //! Lists of steps, taken one after another, and the headline: what holds after each list.
+
 ghost use Rattle.std.specs.Prelude.{◌≡◌, List, IfOk, IfErr};
 ghost use Rattle.custody_core.specs.Custody.{EachBranchKeeps, NothingIsLost, NothingIsMadeUp};
 ghost use Rattle.custody_core.specs.Onward.{AreHeldOnward};

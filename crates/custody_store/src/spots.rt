@@ -1,4 +1,5 @@
 //! Where the entries lie that buffers and sinks hold.
+
 use std::alloc::{AllocError, Allocator};
 use std::collections::BTreeMap;
 

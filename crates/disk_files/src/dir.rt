@@ -1,4 +1,5 @@
 //! A folder as one value: the calls, and what each promises of the disk.
+
 ghost use Rattle.std.specs.Prelude.{◌≡◌, ◌≢◌, ◌⊎◌, ◌↔◌, ℕ, ◌+◌, ◌-◌, ◌≤◌, List, ◌++◌, length, take, drop, min, Bool, Option, Some, None, IsSome, IfOk, OnOk, OnErr, IsErrOf, Contains};
 ghost use Rattle.std.specs.List.{IsDistinct};
 ghost use Rattle.std.specs.Str.{bytes_eq};

@@ -1,4 +1,5 @@
 //! A folder of one of two kinds.
+
 use crate::{Dir, DirError, FileName, FileNo};
 use std::alloc::{AllocError, Allocator};
 

@@ -1,4 +1,5 @@
 //! A folder whose device fails at a chosen call.
+
 ghost use Rattle.std.specs.Prelude.{◌≡◌, ◌≢◌, ◌⊎◌, ◌↔◌, ℕ, ◌+◌, ◌-◌, ◌^◌, ◌≤◌, List, min, true, false, Some, None, OnOk, OnErr};
 ghost use Rattle.disk_files.specs.Fuse.{blows, next_of};
 ghost use Rattle.disk_files.specs.Faults.{Rises};

@@ -1,4 +1,5 @@
 //! What the definitions of a stop come to. These functions do nothing: each stands for a theorem.
+
 ghost use Rattle.disk_files.specs.Laws.{InsideCalls, SyncKeeps, StopSettles};
 
 /// A stop inside a call leaves nothing that a stop before it or after it couldn't leave.

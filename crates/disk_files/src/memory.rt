@@ -1,4 +1,5 @@
 //! A folder in memory, which can be stopped at any moment.
+
 ghost use Rattle.std.specs.Prelude.{◌≡◌, ◌==◌, ℕ, List, Some, None, cond, ◌+◌, ◌-◌, ◌≤◌, ◌++◌, [], ◌∷◌, length, take, drop, min, IfOk, vec_len};
 ghost use Rattle.disk_files.specs.Disk.{SameDisk, reads, StopLeaves, settled};
 ghost use Rattle.disk_files.specs.Moments.{now};

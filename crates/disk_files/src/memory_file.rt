@@ -1,4 +1,5 @@
 //! A file of a folder in memory.
+
 ghost use Rattle.std.specs.Prelude.{◌≡◌, ◌+◌, ◌≤◌, ◌<◌, false, not, List, ℕ, length, position, Some, None, IsSome, is_some, IfSome, IfNone, IfOk, OnOk, OnErr, slice_get, vec_len};
 ghost use Rattle.std.specs.Str.{bytes_eq};
 ghost use Rattle.disk_files.specs.Disk.{fresh, grown, flushed, unlinked, read_of, settled};

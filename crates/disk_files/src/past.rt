@@ -1,4 +1,5 @@
 //! What a folder in memory was, for the proofs alone.
+
 ghost use Rattle.std.specs.Prelude.{◌≡◌, [], ◌∷◌};
 
 use crate::memory_file::MemoryFile;

@@ -1,4 +1,5 @@
 //! A folder of the system.
+
 ghost use Rattle.std.specs.Prelude.{◌≡◌, ◌≢◌, ◌⊎◌, ℕ, Err, ◌≤◌, ◌<◌, Some, None, IsSome, IfSome, IfOk, OnErr, length, slice_get};
 ghost use Rattle.disk_files.specs.declared.dir.FileNo.{FileNo};
 ghost use Rattle.disk_files.specs.Faults.{HasCause, Rises};

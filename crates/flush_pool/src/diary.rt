@@ -1,4 +1,5 @@
 //! What a worker did, for the proofs alone.
+
 ghost use Rattle.std.specs.Prelude.{◌≡◌, [], ◌∷◌};
 ghost use Rattle.flush_pool.specs.Diaries.{act_of};
 

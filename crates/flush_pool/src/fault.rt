@@ -1,4 +1,5 @@
 //! Why a chunk wasn't carried.
+
 ghost use Rattle.std.specs.Prelude.{◌≡◌};
 
 use buffer_store::BufferFault;

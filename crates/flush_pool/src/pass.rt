@@ -1,4 +1,5 @@
 //! A worker's pass over the chunks that wait.
+
 ghost use Rattle.std.specs.Prelude.{◌≡◌, ◌↔◌, IsNone, IfSome};
 ghost use Rattle.flush_pool.specs.Passes.{begun, EndsAt, gone_on};
 

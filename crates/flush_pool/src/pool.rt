@@ -1,4 +1,5 @@
 //! Flush threads: a worker at a buffer until it is told to stop, and several at once.
+
 ghost use denote.Param.Send.{IsSync, IsSend, Frees};
 
 use crate::courier::Courier;

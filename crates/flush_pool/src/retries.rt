@@ -1,4 +1,5 @@
 //! The failures of a buffer's chunks, as its workers share them.
+
 ghost use Rattle.std.specs.Prelude.{◌≡◌, ◌↔◌, OnOk, OnErr, None, max, unwrap_or};
 ghost use Rattle.std.specs.FinMap as map;
 ghost use Rattle.retry_waits.specs.Failed.{noted};

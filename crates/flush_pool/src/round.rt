@@ -1,4 +1,5 @@
 //! A worker's rounds: each claims a chunk and settles it.
+
 ghost use Rattle.std.specs.Prelude.{◌≡◌};
 ghost use Rattle.flush_pool.specs.Rounds.{IsBack, IsLetGo, IsDelivered, IsSettled, IsWorked};
 

@@ -1,4 +1,5 @@
 //! Chunks that go to the files of a sink.
+
 ghost use Rattle.std.specs.Prelude.{IfOk};
 ghost use Rattle.flush_pool.specs.Carriages.{IsStoredFor};
 

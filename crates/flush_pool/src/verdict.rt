@@ -1,4 +1,5 @@
 //! What is to become of a claimed chunk.
+
 ghost use Rattle.std.specs.Prelude.{◌≡◌};
 ghost use Rattle.std.specs.FinMap as map;
 ghost use Rattle.flush_pool.specs.Verdicts.{IsVerdict};

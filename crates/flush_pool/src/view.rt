@@ -1,4 +1,5 @@
 //! What a courier is shown of a claimed chunk.
+
 ghost use Rattle.std.specs.Prelude.{◌≡◌};
 ghost use Rattle.buffer_book.specs.Claims.{id_of};
 

@@ -1,4 +1,5 @@
 //! How many chunks workers dealt with.
+
 ghost use Rattle.std.specs.Prelude.{◌≡◌};
 ghost use Rattle.flush_pool.specs.Counts.{none, counted, added};
 

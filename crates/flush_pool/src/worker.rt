@@ -1,4 +1,5 @@
 //! A worker at a shared buffer.
+
 ghost use Rattle.std.specs.Prelude.{◌≡◌, []};
 ghost use Rattle.flush_pool.specs.Acts.{at, did, Judged, Asked, Forgot, GaveBack};
 ghost use Rattle.flush_pool.specs.Answers.{IsClaimed, IsCarried, IsPurged, IsNoted};

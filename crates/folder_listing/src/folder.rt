@@ -1,4 +1,5 @@
 //! A relay's data folder, whose files are opened for reading alone. On standard error it is said what can't be read.
+
 use crate::kind::{DataFile, Kind};
 use program_text::{Folder, NamedFile, Open, ReadFault};
 use std::alloc::{AllocError, Allocator};

@@ -1,4 +1,5 @@
 //! What files a relay's data folder has.
+
 use std::alloc::Allocator;
 
 /// What a file is.

@@ -1,4 +1,5 @@
 //! The files of a relay's data folder, one after another.
+
 ghost use Rattle.std.specs.Prelude.{◌≡◌, map, IfOk};
 ghost use Rattle.folder_listing.specs.Files.{named_of, shown_status, AreShown, PrintsShown};
 

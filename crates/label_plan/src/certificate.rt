@@ -1,4 +1,5 @@
 //! What a plan with more lines has to be: the given plan with labels and reaches added, of which the rules on these hold.
+
 ghost use Rattle.std.specs.Prelude.{◌≡◌, ◌≤◌, IfOk, IsTrue, All, map, length, take};
 ghost use Rattle.label_plan.specs.Labelling.{IsClosed};
 ghost use Rattle.label_plan.specs.Lines.{IsLabelLine, OnlyAdds, are_label_words};

@@ -1,4 +1,5 @@
 //! The text of a plan with the lines that it lacks.
+
 ghost use Rattle.std.specs.Prelude.{◌≡◌, ◌↔◌, IfOk, IfErr, IfSome, IsTrue, length, option_map, ◌⊎◌};
 ghost use Rattle.plan_lines.specs.Faults.{IsRefusal};
 ghost use Rattle.plan_lines.specs.Forms.{confs_named};

@@ -1,4 +1,5 @@
 //! Why a relay's loop ends.
+
 ghost use Rattle.std.specs.Prelude.{◌≡◌};
 
 use buffer_store::BufferFault;

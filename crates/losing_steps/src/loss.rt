@@ -1,4 +1,5 @@
 //! Whether steps lose an acknowledged event. Of a text it is said only where it is so.
+
 ghost use Rattle.std.specs.Prelude.{◌≡◌, ◌≢◌, ◌↔◌, false, IfOk, IfSome, IsSome, IsTrue};
 ghost use Rattle.custody_steps.specs.WorldOf.{net_of, world_of};
 ghost use Rattle.losing_steps.specs.Losses.{HasLost, IsLosingText, Loses};

@@ -1,4 +1,5 @@
 //! Labels and reaches, whose patterns are looked up by the scope or the match that they are of.
+
 ghost use Rattle.std.specs.Prelude.{◌≡◌, ◌↔◌, ◌⊎◌, ℕ, List, map, Any, Contains, IfOk, OnOk};
 ghost use Rattle.tag_pattern.specs.Items.{Item};
 ghost use Rattle.loss_rules.specs.Labels.{IsLabelOf, IsReachOf};

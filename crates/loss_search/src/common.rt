@@ -1,4 +1,5 @@
 //! A tag that two patterns have in common.
+
 use crate::tags::{ANY_PART, put_part, read_tag};
 use std::alloc::{AllocError, Allocator};
 use tag_pattern::{PatternItem, Tag};

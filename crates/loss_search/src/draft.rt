@@ -1,4 +1,5 @@
 //! A list of steps that is being written, with the numbers that its messages, deliveries and chunks get.
+
 use relay_net::{Entrance, Net};
 use std::alloc::{AllocError, Allocator};
 use step_lines::{ChunkName, Step};

@@ -1,4 +1,5 @@
 //! Steps as lines of a text.
+
 use std::alloc::{AllocError, Allocator};
 use step_lines::{ChunkName, Step};
 

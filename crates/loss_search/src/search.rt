@@ -1,4 +1,5 @@
 //! The search for steps that lose an event.
+
 ghost use Rattle.std.specs.Prelude.{IfOk, IfSome};
 ghost use Rattle.losing_steps.specs.Losses.{Loses};
 

@@ -1,4 +1,5 @@
 //! Tags that an event of a network may have.
+
 use crate::common::common_tag;
 use std::alloc::{AllocError, Allocator};
 use tag_pattern::{PatternItem, Plain, Tag, TagError, matches};

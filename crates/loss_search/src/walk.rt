@@ -1,4 +1,5 @@
 //! One event's way through a network to where it is lost.
+
 use crate::draft::Draft;
 use crate::weakness::{Weakness, servers, weakness_of};
 use loss_rules::Duty;

@@ -1,4 +1,5 @@
 //! How an output may let go of what was acknowledged.
+
 use relay_conf::{Output, OverflowAction, Server};
 use relay_net::{is_in_memory, settings};
 use std::alloc::Allocator;

@@ -1,4 +1,5 @@
 //! Numbers as ten decimal digits.
+
 ghost use Rattle.std.specs.Prelude.{◌≡◌, ◌≢◌, ℕ, ◌+◌, ◌<◌, ◌^◌, Some, MatchOption};
 ghost use Rattle.numbered_files.specs.Names.{digit, ten_digits};
 

@@ -1,4 +1,5 @@
 //! The names of one family of files.
+
 ghost use Rattle.std.specs.Prelude.{◌≡◌, ◌≢◌, ℕ, ◌<◌, ◌^◌, List, ◌∷◌, ◌++◌, IfOk, MatchOption};
 ghost use Rattle.numbered_files.specs.Names.{file_name, ten_digits};
 

@@ -1,4 +1,5 @@
 //! What the names come to: no two numbers have one name.
+
 ghost use Rattle.numbered_files.specs.Names.{NamesDiffer};
 
 /// No two numbers of 32 bits have one name.

@@ -1,4 +1,5 @@
 //! A plan is read whole and the checker's line printed; behind an answer steps are taken, and their listing is printed.
+
 ghost use Rattle.std.specs.Prelude.{◌≡◌, length, map, string_bytes, IfOk, IfErr};
 ghost use Rattle.std.specs.List.{AllZip};
 ghost use Rattle.plan_lines.specs.Plans.{texts as texts_of};

@@ -1,4 +1,5 @@
 //! The listing of steps that are taken in a network.
+
 ghost use Rattle.std.specs.Prelude.{◌≡◌, ◌++◌, string_bytes, IfOk, IfSome, OnOk};
 ghost use Rattle.custody_steps.specs.WorldOf.{world_of, net_of};
 ghost use Rattle.custody_store.specs.Contents.{event_of};

@@ -1,4 +1,5 @@
 //! Bytes as hex digits.
+
 ghost use Rattle.std.specs.Prelude.{◌≡◌, ◌++◌, OnOk, OnErr};
 ghost use Rattle.hex.specs.Hex.{encode_lower};
 

@@ -1,4 +1,5 @@
 //! Files, by paths from the working folder.
+
 use crate::opening::Open;
 use std::fs::File;
 use std::io;

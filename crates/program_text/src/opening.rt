@@ -1,4 +1,5 @@
 //! Texts that are opened by their names.
+
 ghost use Rattle.std.specs.Prelude.{◌≡◌, IfOk};
 
 use std::io;

@@ -1,4 +1,5 @@
 //! Output that is written whole.
+
 ghost use Rattle.std.specs.Prelude.{◌≡◌, ◌<◌, ◌⊎◌, ℕ, List, [], length, OnOk, OnErr};
 ghost use Rattle.program_text.specs.Output.{TakesPart};
 ghost use Rattle.program_text.specs.declared.status.Status.TheVariants.{Usage};

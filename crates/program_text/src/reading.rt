@@ -1,4 +1,5 @@
 //! Texts that are read whole.
+
 ghost use Rattle.std.specs.Prelude.{◌<◌, length, IfOk};
 ghost use Rattle.program_text.specs.Texts.{IsTextOf};
 

@@ -1,4 +1,5 @@
 //! A relay's configuration, as a text that is read.
+
 ghost use Rattle.std.specs.Prelude.{IfOk, IfErr};
 ghost use Rattle.relay_conf.specs.Buffers.{HaveOwnBuffers};
 ghost use Rattle.plan_lines.specs.Plans.{IsRelayOfText};

@@ -1,4 +1,5 @@
 //! Why no relay is read, as a line that is printed.
+
 ghost use Rattle.std.specs.Prelude.{◌≡◌, IfOk, string_bytes};
 ghost use Rattle.relay_reading.specs.Stops.{stop_line as stop_line_of, PrintsConfStop};
 

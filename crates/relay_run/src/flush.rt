@@ -1,4 +1,5 @@
 //! The threads that deliver a relay's chunks.
+
 ghost use Rattle.std.specs.Prelude.{◌≡◌, IfOk};
 ghost use Rattle.relay_run.specs.Delivering.{sink_named, sink_of as sink_of_outlet, AreDeliveriesOf, IsDeliveryOf};
 

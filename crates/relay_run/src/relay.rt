@@ -1,4 +1,5 @@
 //! A relay is read, opened and run: its ports are printed once they are ready, and its fault in the end.
+
 ghost use Rattle.std.specs.Prelude.{◌≡◌, ◌≢◌, None, IfOk, IfSome, IfNone};
 ghost use Rattle.plan_lines.specs.Forms.{relay_number};
 ghost use Rattle.relay_run.specs.Starting.{ready_lines, fault_line as fault_line_of, PrintsReady, PrintsRelay, PrintsRun};

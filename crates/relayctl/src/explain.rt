@@ -1,4 +1,5 @@
 //! The word `explain`: the checker's answer to a plan, or the plan's fault, with what it means and what mends it.
+
 ghost use Rattle.std.specs.Prelude.{◌≡◌, IfOk};
 ghost use Rattle.loss_rules.specs.Breaks.{IsAnswer};
 ghost use Rattle.relayctl.specs.Explaining.{last_line as last_line_of, IsExplanation, PrintsExplanation, SaysAnswer, SaysFault};

@@ -1,4 +1,5 @@
 //! The word `label`: a plan with the labels and reaches that it lacks.
+
 ghost use Rattle.std.specs.Prelude.{IfOk, IfErr, IfSome};
 ghost use Rattle.plan_answers.specs.Networks.{IsStopOf};
 ghost use Rattle.relayctl.specs.Labels.{IsLabelledPlan, PrintsLabels};

@@ -1,4 +1,5 @@
 //! What the words of the command line ask for.
+
 ghost use Rattle.std.specs.Prelude.{map, string_bytes};
 ghost use Rattle.relaynet.specs.Words.{IsRead};
 

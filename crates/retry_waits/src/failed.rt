@@ -1,4 +1,5 @@
 //! The failures of one chunk.
+
 ghost use Rattle.std.specs.Prelude.{◌≡◌, ◌≤◌, ◌↔◌, IsTrue, Some};
 ghost use Rattle.retry_waits.specs.Failed.{noted, HasPassed, IsDue, IsOver};
 

@@ -1,4 +1,5 @@
 //! The failures of all chunks of a buffer.
+
 ghost use Rattle.std.specs.Prelude.{◌≡◌, ◌↔◌, IsTrue, OnOk, OnErr, None};
 ghost use Rattle.std.specs.FinMap as map;
 ghost use Rattle.retry_waits.specs.Failed.{noted, IsDue, IsOver};

@@ -1,4 +1,5 @@
 //! How long a chunk waits.
+
 ghost use Rattle.std.specs.Prelude.{◌≡◌, ◌≤◌};
 ghost use Rattle.retry_waits.specs.Waits.{wait_after};
 

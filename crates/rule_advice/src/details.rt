@@ -1,4 +1,5 @@
 //! What stands where a rule is broken: the address that isn't there, what stands twice, the match that has no reach.
+
 use crate::front::Subject;
 use crate::keeping::line_of;
 use crate::site::match_at;

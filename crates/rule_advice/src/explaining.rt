@@ -1,4 +1,5 @@
 //! What is said of a plan for which the checker answers no.
+
 ghost use Rattle.std.specs.Prelude.{◌≡◌, false, IfOk, IsTrue};
 ghost use Rattle.losing_steps.specs.Losses.{IsLosingText};
 

@@ -1,4 +1,5 @@
 //! What is said of a plan that can't be read.
+
 use crate::site::{Site, Texts};
 use crate::story::put_headed;
 use conf_text::{ConfFault, FaultKind};

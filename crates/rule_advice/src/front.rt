@@ -1,4 +1,5 @@
 //! What is said of a broken rule in front of the steps.
+
 use crate::keeping::{lacks, line_of, words_of};
 use crate::site::{Texts, match_at};
 use crate::story::{put_headed, put_note};

@@ -1,4 +1,5 @@
 //! What an output lacks that lets go of events.
+
 use relay_conf::{BufferKind, BufferSettings, Output, OverflowAction};
 use relay_net::settings;
 use std::alloc::{AllocError, Allocator};

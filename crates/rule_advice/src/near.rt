@@ -1,4 +1,5 @@
 //! The patterns that stand where a rule is broken.
+
 use crate::site::match_at;
 use loss_rules::Place;
 use plan_lines::Plan;

@@ -1,4 +1,5 @@
 //! Where a rule is broken: a line of the plan, or of a relay's configuration.
+
 use loss_rules::Place;
 use plan_lines::Plan;
 use relay_conf::{MatchRule, Scope};

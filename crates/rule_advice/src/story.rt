@@ -1,4 +1,5 @@
 //! Steps as lines of a text, with what some of them mean in front.
+
 use crate::keeping::line_of;
 use crate::site::Texts;
 use loss_search::put_step;

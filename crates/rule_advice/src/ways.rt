@@ -1,4 +1,5 @@
 //! The lines of a plan by which tags come to a place.
+
 use loss_rules::Reach;
 use plan_lines::Plan;
 use relay_conf::{Output, Server};

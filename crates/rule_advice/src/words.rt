@@ -1,4 +1,5 @@
 //! The rules in words, as docs/CHECKING.md has them.
+
 use loss_rules::Rule;
 
 /// What holds where the rule is kept.

@@ -1,4 +1,5 @@
 //! One book, and what its stubs leave out or name twice.
+
 use book_audit::{AuditError, Leaf, Line, OpenLines, Part, Stub, audit};
 use std::alloc::{AllocError, Global};
 use std::test::Fail;

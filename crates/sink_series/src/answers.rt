@@ -1,4 +1,5 @@
 //! What a sink answered, for the proofs alone.
+
 ghost use Rattle.std.specs.Prelude.{◌≡◌, [], ◌∷◌};
 
 use crate::stored::Stored;

@@ -1,4 +1,5 @@
 //! What was begun in a file, for the proofs alone.
+
 ghost use Rattle.std.specs.Prelude.{◌≡◌, [], ◌∷◌};
 ghost use Rattle.sink_series.specs.Events.{under};
 

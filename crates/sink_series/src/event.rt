@@ -1,4 +1,5 @@
 //! An event in a sink.
+
 ghost use Rattle.std.specs.Prelude.{◌≡◌};
 
 use std::alloc::Allocator;

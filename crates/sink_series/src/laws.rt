@@ -1,4 +1,5 @@
 //! What the definitions of a sink's content come to. These functions do nothing: each stands for a theorem.
+
 ghost use Rattle.sink_series.specs.Laws.{HoldsOne, SinkHoldsOne, CutsWhole, SafeBegins, SafeIsContent, AnswersStand, SafeOverStop, MadeAddsNothing, MadeKeepsSafe};
 
 /// Bytes have one content, and so has a sink in a folder.

@@ -1,4 +1,5 @@
 //! The events that the bytes of a sink's file hold.
+
 ghost use Rattle.std.specs.Prelude.{◌≡◌, ℕ, ◌≤◌, List, ◌∷◌, ◌++◌, length, IfOk, IsSomeAnd, MatchOption};
 ghost use Rattle.event_modes.specs.Message.{longest_tag};
 ghost use Rattle.sink_series.specs.Events.{Event, IsEvent, item_of, BeginsNone, Holds, Counts};

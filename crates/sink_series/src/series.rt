@@ -1,4 +1,5 @@
 //! The files of a sink, open for writing.
+
 ghost use Rattle.std.specs.Prelude.{◌≡◌, ◌≢◌, ◌⊎◌, ◌↔◌, ℕ, ◌≤◌, List, [], ◌∷◌, ◌++◌, length, true, false, IsSome, IfOk, IfErr, OnOk, OnErr, IsErrOf};
 ghost use Rattle.disk_files.specs.Disk.{kept_file, SameDisk, Makes, reads};
 ghost use Rattle.disk_files.specs.Moments.{Elapses, LeavesOnly, now};

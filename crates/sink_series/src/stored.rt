@@ -1,4 +1,5 @@
 //! The receipt for entries in a sink, and the write that it is made of.
+
 ghost use Rattle.std.specs.Prelude.{◌≡◌, ◌≤◌, length, IfOk, OnOk};
 ghost use Rattle.std.specs.List.{AllByRecursion};
 ghost use Rattle.event_modes.specs.Message.{longest_tag};

@@ -1,4 +1,5 @@
 //! Events as a sink's file holds them.
+
 ghost use Rattle.std.specs.Prelude.{◌≡◌, ◌<◌, ◌≤◌, ◌∷◌, ◌++◌, length, IfOk, OnOk};
 ghost use Rattle.std.specs.List.{AllByRecursion};
 ghost use Rattle.msgpack_bytes.specs.Spelling.{str_of};

@@ -1,4 +1,5 @@
 //! A hex text is read by pieces, and each message in it is listed as soon as it is whole.
+
 ghost use Rattle.std.specs.Prelude.{◌≡◌, ◌<◌, ◌++◌, ℕ, List, [], length, None, MatchResult};
 ghost use Rattle.event_modes.specs.Stream.{Arrival, Splits};
 ghost use Rattle.stream_listing.specs.Listing.{lines_of, PrintsListing};

@@ -1,4 +1,5 @@
 //! Hex text that comes in pieces.
+
 ghost use Rattle.std.specs.Prelude.{◌≡◌, ◌++◌, ◌∷◌, [], ℕ, List, IsTrue, ◌↔◌, IsErr, IfSome, IfNone, IfOk, IfErr, OnOk, OnErr};
 ghost use Rattle.std.specs.Bool.{OnFalse};
 ghost use Rattle.stream_listing.specs.HexText.{digits_of, SpellsUpTo, IsBroken, Breaks};

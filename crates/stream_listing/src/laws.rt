@@ -1,4 +1,5 @@
 //! What holds of every listing.
+
 ghost use Rattle.stream_listing.specs.Laws.{EndsWithFault, HasOneListing, StandsForGood};
 
 /// A hex text has one listing, and one status.

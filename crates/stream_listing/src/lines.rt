@@ -1,4 +1,5 @@
 //! The lines of a listing.
+
 ghost use Rattle.std.specs.Prelude.{◌≡◌, ◌++◌, ◌∷◌, [], ℕ, List, OnOk, OnErr, codes, Some};
 ghost use Rattle.hex.specs.Hex.{encode_lower};
 ghost use Rattle.event_modes.specs.Reading.{meaning};
