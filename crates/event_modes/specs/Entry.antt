@@ -18,9 +18,13 @@ IsTime bytes = ((seconds : ℤ) × IsInteger bytes seconds) ⊎ IsEventTime byte
 abbrev pub IsRecord : List ℕ → Type 0
 IsRecord bytes = (pairs : List Pair) × IsMap pairs bytes
 
--- an event as it is stored: the shortest header of an array of two, and the time's and the record's bytes as they came
+-- the byte that a stored entry begins with: the shortest header of an array of two
+abbrev pub entry_header : ℕ
+entry_header = 0x92
+
+-- an event as it is stored: the header, and the time's and the record's bytes as they came
 abbrev pub stored_entry : List ℕ → List ℕ → List ℕ
-stored_entry time fields = 0x92 ∷ time ++ fields
+stored_entry time fields = entry_header ∷ time ++ fields
 
 -- "Entry": an array of a time and a record, and how it is stored
 pub record IsEntry (bytes stored : List ℕ) : Type 0 where

@@ -1,7 +1,7 @@
 -- Messages of one event as clients usually spell them, for the proofs of this crate.
 use Rattle.std.specs.Prelude.{ℕ, ◌≡◌, ◌<◌, ◌≤◌, ◌⊎◌, List, [], ◌∷◌, ◌++◌, length, None}
 use Rattle.msgpack_bytes.specs.Kinds.{IsStr}
-use Rattle.event_modes.specs.Entry.{IsTime}
+use Rattle.event_modes.specs.Entry.{IsTime, entry_header}
 use Rattle.event_modes.specs.Rows.{IsStored}
 use Rattle.event_modes.specs.Message.{Parts, IsMessage}
 
@@ -25,11 +25,11 @@ pub record BeginsEvent (bytes : List ℕ) : Type 0 where
   pub map : BeginsMap first
   pub whole : bytes ≡ time ++ first ∷ rest
 
--- what a message with this tag and no option says of one event, which is stored as these bytes behind 92
+-- what a message with this tag and no option says of one event, which is stored as these bytes behind an entry's header
 abbrev pub one_event : List ℕ → List ℕ → Parts
-one_event tag event = record { tag = tag; entries = (0x92 ∷ event) ∷ []; ack = None }
+one_event tag event = record { tag = tag; entries = (entry_header ∷ event) ∷ []; ack = None }
 
 -- the item is such a message
 pub record IsOneEvent (item tag event : List ℕ) : Type 0 where
   pub message : IsMessage item (one_event tag event)
-  pub stored : IsStored (0x92 ∷ event)
+  pub stored : IsStored (entry_header ∷ event)

@@ -8,7 +8,7 @@ ghost use Rattle.event_modes.specs.Faults.{CarriedFault, EntryFault, PackedEnd};
 ghost use Rattle.event_modes.specs.Rows.{IsAdded, IsStored, SomeEntries};
 ghost use Rattle.event_modes.specs.Places.{carrier_of, CanCarry, Finds};
 
-use crate::entry::{entry_of, event_of};
+use crate::entry::{ENTRY_HEADER, entry_of, event_of};
 use crate::fault::{FeedError, ModeFault};
 use crate::item::array_of;
 use crate::message::Entries;
@@ -117,5 +117,5 @@ fn is_stored(entry: &[u8]) -> bool
     requires { IsTextItem entry.now }
     ensures { IsTrue result ↔ IsStored entry.now }
 {
-    entry[0] == 0x92 && entry_of(entry).is_ok()
+    entry[0] == ENTRY_HEADER && entry_of(entry).is_ok()
 }

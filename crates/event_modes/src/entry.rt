@@ -9,6 +9,9 @@ ghost use Rattle.event_modes.specs.Faults.{EventFault, EntryFault};
 use crate::fault::ModeFault;
 use crate::item::{array_of, is_record, is_time};
 
+/// The byte that a stored entry begins with: the header of an array of two.
+pub const ENTRY_HEADER: u8 = 0x92;
+
 /// A time and a record, as they are spelled.
 #[derive(Clone, Copy)]
 pub struct Event<'a> {

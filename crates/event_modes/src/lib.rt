@@ -20,6 +20,7 @@ mod usual;
 
 pub use acks::{AckRead, put_ack, read_ack};
 pub use chunk_id::ChunkId;
+pub use entry::ENTRY_HEADER;
 pub use fault::{FeedError, ModeFault};
 pub use feed::{Feed, Next};
 pub use items::Items;

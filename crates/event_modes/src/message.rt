@@ -2,10 +2,11 @@
 
 ghost use Rattle.std.specs.Prelude.{ℕ, List, Some, ◌≡◌, [], ◌∷◌, ◌++◌, length, IfOk, IfSome, OnOk, OnErr};
 ghost use Rattle.std.specs.List.{concat, AllByRecursion};
-ghost use Rattle.event_modes.specs.Entry.{stored_entry};
+ghost use Rattle.event_modes.specs.Entry.{entry_header, stored_entry};
 ghost use Rattle.event_modes.specs.Rows.{IsStored, AreEntries};
 
 use crate::entries::are_stored;
+use crate::entry::ENTRY_HEADER;
 use crate::fault::ModeFault;
 use crate::items::Items;
 use std::alloc::{AllocError, Allocator};
@@ -90,11 +91,11 @@ impl<A: Allocator> Entries<A> {
 
     /// One alone, whose time and record these are, one behind the other.
     pub(crate) fn of_event(alloc: A, event: &[u8]) -> Result<Self, AllocError>
-        requires { IsStored (0x92 ∷ event.now) }
-        ensures { IfOk result (λ entries. entries ≡ (0x92 ∷ event.now) ∷ []) }
+        requires { IsStored (entry_header ∷ event.now) }
+        ensures { IfOk result (λ entries. entries ≡ (entry_header ∷ event.now) ∷ []) }
     {
         let mut bytes = Vec::with_capacity(alloc, 1 + event.len())?;
-        bytes.push_reserved(0x92);
+        bytes.push_reserved(ENTRY_HEADER);
         bytes.extend_from_slice(event)?;
         Ok(Entries { bytes, count: 1 })
     }
@@ -117,7 +118,7 @@ impl<A: Allocator> Entries<A> {
         ensures err { OnErr result (self.new ≡ self.old) }
     {
         self.bytes.reserve(1 + time.len() + fields.len())?;
-        self.bytes.push_reserved(0x92);
+        self.bytes.push_reserved(ENTRY_HEADER);
         self.bytes.extend_from_slice(time)?;
         self.bytes.extend_from_slice(fields)?;
         self.count += 1;

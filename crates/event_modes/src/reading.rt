@@ -4,6 +4,7 @@ ghost use Rattle.std.specs.Prelude.{◌≡◌, ◌∷◌, ℕ, List, option_map,
 ghost use Rattle.msgpack_bytes.specs.Item.{IsTextItem};
 ghost use Rattle.msgpack_bytes.specs.Answers.{IsScanned};
 ghost use Rattle.msgpack_bytes.specs.Kinds.{IsNil};
+ghost use Rattle.event_modes.specs.Entry.{entry_header};
 ghost use Rattle.event_modes.specs.Message.{IsTag, IsMessage};
 ghost use Rattle.event_modes.specs.Faults.{ItemFault};
 ghost use Rattle.event_modes.specs.Rows.{IsStored};
@@ -94,7 +95,7 @@ fn message_of<A: Allocator + Copy>(alloc: A, item: &[u8]) -> Result<Message<A>, 
 
 // The same message, with the bytes that it keeps.
 fn copied<A: Allocator + Copy>(alloc: A, usual: Usual<'_>) -> Result<Message<A>, AllocError>
-    requires { IsStored (0x92 ∷ usual.event.now) }
+    requires { IsStored (entry_header ∷ usual.event.now) }
     ensures { IfOk result (λ found. meaning found ≡ one_event usual.entry.tag.now usual.entry.event.now) }
 {
     Ok(Message {

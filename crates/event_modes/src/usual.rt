@@ -5,6 +5,8 @@ ghost use Rattle.msgpack_bytes.specs.Item.{IsTextItem};
 ghost use Rattle.event_modes.specs.Rows.{IsStored};
 ghost use Rattle.event_modes.specs.Usual.{BeginsStr, BeginsMap, BeginsEvent, IsOneEvent};
 
+use crate::entry::ENTRY_HEADER;
+
 /// What a message of one event says that has no option.
 #[derive(Clone, Copy)]
 pub struct Usual<'a> {
@@ -37,7 +39,7 @@ pub fn is_usual_entry(entry: &[u8]) -> bool
     requires { IsTextItem entry.now }
     ensures { IsTrue result → IsStored entry.now }
 {
-    if entry[0] != 0x92 {
+    if entry[0] != ENTRY_HEADER {
         return false;
     }
     let (_, event) = entry.split_at(1);
