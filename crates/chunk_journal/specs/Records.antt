@@ -16,6 +16,19 @@ pub data Record : Type 0 where
 abbrev pub longest_body : ℕ
 longest_body = 16777216
 
+-- a record's kind is the first byte behind its length
+abbrev pub seal_kind : ℕ
+seal_kind = 1
+
+abbrev pub append_kind : ℕ
+append_kind = 2
+
+abbrev pub queue_kind : ℕ
+queue_kind = 3
+
+abbrev pub purge_kind : ℕ
+purge_kind = 4
+
 -- a kind and one number of eight bytes
 abbrev pub numbered : ℕ → ℕ → List ℕ
 numbered kind number = kind ∷ to_be_bytes w64 number
@@ -27,10 +40,10 @@ append_fields serial tag entries =
 
 -- what stands behind the length: the kind, and then the fields; each number has its highest byte first
 abbrev pub body_of : Record → List ℕ
-body_of (Seal next) = numbered 1 next
-body_of (Append serial tag entries) = 2 ∷ append_fields serial tag entries
-body_of (Queue serial) = numbered 3 serial
-body_of (Purge serial) = numbered 4 serial
+body_of (Seal next) = numbered seal_kind next
+body_of (Append serial tag entries) = append_kind ∷ append_fields serial tag entries
+body_of (Queue serial) = numbered queue_kind serial
+body_of (Purge serial) = numbered purge_kind serial
 
 -- a length of four bytes, and as many bytes
 abbrev pub framed : List ℕ → List ℕ

@@ -5,6 +5,7 @@ ghost use Rattle.chunk_journal.specs.Records.{Record, body_of, longest_body, Has
 ghost use Rattle.chunk_journal.specs.Reading.{IsFrame, IsNext, IsAppendOf, parsed_of};
 
 use crate::fields::{split_fields, u32_at, u64_at};
+use crate::record::{APPEND_KIND, PURGE_KIND, QUEUE_KIND, SEAL_KIND};
 use event_modes::Entries;
 use std::alloc::{AllocError, Allocator};
 
@@ -89,16 +90,16 @@ fn parse<A: Allocator>(alloc: A, body: &[u8]) -> Result<Option<Parsed<'_, A>>, A
     let [kind, fields @ ..] = body else {
         return Ok(None);
     };
-    if *kind == 2 {
+    if *kind == APPEND_KIND {
         return append(alloc, fields);
     }
     let Some((number, [])) = u64_at(fields) else {
         return Ok(None);
     };
     Ok(match *kind {
-        1 => Some(Parsed::Seal { next: number }),
-        3 => Some(Parsed::Queue { serial: number }),
-        4 => Some(Parsed::Purge { serial: number }),
+        SEAL_KIND => Some(Parsed::Seal { next: number }),
+        QUEUE_KIND => Some(Parsed::Queue { serial: number }),
+        PURGE_KIND => Some(Parsed::Purge { serial: number }),
         _ => None,
     })
 }

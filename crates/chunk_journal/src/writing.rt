@@ -5,7 +5,7 @@ ghost use Rattle.event_modes.specs.Message.{longest_tag};
 ghost use Rattle.chunk_journal.specs.Records.{Append, numbered, framed, body_of, record_bytes, longest_body, IsRecord};
 ghost use Rattle.chunk_journal.specs.Spelled.{record_of, HasShortTag};
 
-use crate::record::Record;
+use crate::record::{APPEND_KIND, PURGE_KIND, QUEUE_KIND, Record, SEAL_KIND};
 use event_modes::Entries;
 use std::alloc::{AllocError, Allocator};
 
@@ -28,14 +28,14 @@ pub fn put_record<A: Allocator, B: Allocator>(
     ensures means { IsRecord (record_of item.now) }
 {
     match item {
-        Record::Seal { next } => put_numbered(out, 1, *next),
+        Record::Seal { next } => put_numbered(out, SEAL_KIND, *next),
         Record::Append {
             serial,
             tag,
             entries,
         } => put_append(out, *serial, tag, entries),
-        Record::Queue { serial } => put_numbered(out, 3, *serial),
-        Record::Purge { serial } => put_numbered(out, 4, *serial),
+        Record::Queue { serial } => put_numbered(out, QUEUE_KIND, *serial),
+        Record::Purge { serial } => put_numbered(out, PURGE_KIND, *serial),
     }
 }
 
@@ -68,7 +68,7 @@ fn put_append<A: Allocator, B: Allocator>(
     let length = 15 + tag.len() + stored.len();
     out.reserve(4 + length)?;
     out.extend_from_slice(&(length as u32).to_be_bytes())?;
-    out.push_reserved(2);
+    out.push_reserved(APPEND_KIND);
     out.extend_from_slice(&serial.to_be_bytes())?;
     out.extend_from_slice(&(tag.len() as u16).to_be_bytes())?;
     out.extend_from_slice(tag)?;

@@ -7,9 +7,9 @@ use Rattle.chunk_journal.proofs.Appends.{kind_two_at, number_found}
 use Rattle.chunk_journal.proofs.reading.parse.Goals as goal
 use Rattle.chunk_journal.proofs.reading.parse.Goals.{in-1, in-3, in-4, in_default-kind}
 
-pub returns-then-kind-eq2-clause-only : goal.returns-then-kind-eq2-clause-only
-returns-then-kind-eq2-clause-only g c = λ item h e. c.append.ensures.only item
-    (subst (IsAppendOf item) (sym (take_rest c.args.body.now 1)) (kind_two_at item c.args.body.now c.in-len1-up.len_at_least c.if-kind-eq2.true h e))
+pub returns-then-kind-eq-APPEND_KIND-clause-only : goal.returns-then-kind-eq-APPEND_KIND-clause-only
+returns-then-kind-eq-APPEND_KIND-clause-only g c = λ item h e. c.append.ensures.only item
+    (subst (IsAppendOf item) (sym (take_rest c.args.body.now 1)) (kind_two_at item c.args.body.now c.in-len1-up.len_at_least c.if-kind-eq-APPEND_KIND.true h e))
 
 pub returns-clause-found : goal.returns-clause-found
 returns-clause-found g c =
