@@ -8,6 +8,7 @@ use msgpack_bytes::prefix_free;
 pub fn begins_one_way()
     ensures { BeginsOneWay }
 {
+    // Called for its law alone.
     prefix_free();
 }
 
@@ -15,6 +16,7 @@ pub fn begins_one_way()
 pub fn reads_one_way()
     ensures { ReadsOneWay }
 {
+    // Called for its law alone.
     prefix_free();
 }
 
@@ -35,6 +37,7 @@ pub fn cuts_generation()
 pub fn answers_one_way()
     ensures { AnswersOneWay }
 {
+    // Called for its law alone.
     prefix_free();
 }
 
