@@ -23,7 +23,7 @@ use Rattle.buffer_state.proofs.Serials.{at_same, at_itself, if_some, filter_same
 use Rattle.buffer_state.proofs.Slots.{removed_chunks, passes_itself, passes_removed, if_removed, all_map}
 use Rattle.buffer_state.proofs.Steps.{claims_removed, rising_removed, found_in, rising_kept, parts}
 
-less : (x y : ℕ) → nat_cmp x y ≡ Less → x < y
+pub less : (x y : ℕ) → nat_cmp x y ≡ Less → x < y
 less x y e = by (nat_lt x y) refl (nat_lt y x) refl
   where
     by : (b : Bool) → nat_lt x y ≡ b → (c : Bool) → nat_lt y x ≡ c → x < y
@@ -136,7 +136,7 @@ module _ {A : Type 0} (slots : Slots) (waiting : BTreeSet ℕ) (order : VecDeque
 
 -- A chunk was new, and is taken back: all is as it was before.
 
-keys_chunks : (slots : Slots) → keys_of (chunks_in slots) ≡ keys_of slots
+pub keys_chunks : (slots : Slots) → keys_of (chunks_in slots) ≡ keys_of slots
 keys_chunks [] = refl
 keys_chunks (e ∷ es) = ap (λ r. e.0 ∷ r) (keys_chunks es)
 

@@ -49,10 +49,10 @@ removed_chunks (e ∷ es) s = by (is_at (nat_cmp s) e.0) (removed_chunks es s)
 
 -- The slot of a serial after a change
 
-same_test : (s x y : ℕ) → is_at (nat_cmp s) x ≡ true → is_at (nat_cmp s) y ≡ eq_by_cmp nat_cmp x y
+pub same_test : (s x y : ℕ) → is_at (nat_cmp s) x ≡ true → is_at (nat_cmp s) y ≡ eq_by_cmp nat_cmp x y
 same_test s x y h = ap (λ (t : ℕ). is_at (nat_cmp t) y) (at_same s x h)
 
-there : {X : Type 0} (o : Option X) (v : X) → o ≡ Some v → IsSome o
+pub there : {X : Type 0} (o : Option X) (v : X) → o ≡ Some v → IsSome o
 there None v e = absurd (cc e)
 there (Some x) v e = refl
 

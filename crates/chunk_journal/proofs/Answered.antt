@@ -45,7 +45,7 @@ cuts_behind records state l j = record {
   here = refl;
 }
 
-each_front : (Fits : State → Record → Type 0) (s : State) (items more : List Record) → Each Fits s (items ++ more) → Each Fits s items
+pub each_front : (Fits : State → Record → Type 0) (s : State) (items more : List Record) → Each Fits s (items ++ more) → Each Fits s items
 each_front Fits s [] more a = tt
 each_front Fits s (x ∷ items) more a = (a.0, each_front Fits (after s x) items more a.1)
 

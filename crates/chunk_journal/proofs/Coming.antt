@@ -1,6 +1,5 @@
 -- A replay goes from one place to the next.
 use Rattle.std.proofs.Common.{◌≡◌, ℕ, ◌-◌, ◌<◌, ◌≤◌, Bool, true, false, List, [], ◌∷◌, ◌++◌, length, refl, sym, ap, subst, ◌∙◌, append_assoc, arith, inl, inr, ◌⊎◌}
-use Rattle.std.specs.List.{AllByRecursion}
 use Rattle.std.proofs.lemmas.List.{length-append, flat_map_more}
 use Rattle.buffer_state.specs.State.{State, empty}
 use Rattle.buffer_state.specs.Steps.{settled}
@@ -9,11 +8,8 @@ use Rattle.chunk_journal.specs.Journal.{IsTorn, IsBad, BeginsWith, journal_bytes
 use Rattle.chunk_journal.specs.Reading.{Begins}
 use Rattle.chunk_journal.specs.Meaning.{after, IsReplayed, EndsUnsealed, IsDamaged}
 use Rattle.chunk_journal.specs.Replaying.{Place, sealed_after, Stands, SoFar, Advances, Refuses}
+use Rattle.msgpack_bytes.proofs.Walk.{all_with}
 use Rattle.chunk_journal.proofs.Standing.{stands_more, misplaced}
-
-all_push : (items : List Record) (item : Record) → AllByRecursion IsRecord items → IsRecord item → AllByRecursion IsRecord (items ++ item ∷ [])
-all_push [] item a i = (i, tt)
-all_push (x ∷ items) item a i = (a.0, all_push items item a.1 i)
 
 -- the bytes of one record more
 pub journal_push : (items : List Record) (item : Record) → journal_bytes (items ++ item ∷ []) ≡ journal_bytes items ++ record_bytes item
@@ -22,7 +18,7 @@ journal_push items item = sym (flat_map_more record_bytes [] items item)
 -- one record more at the front
 pub begins_more : (bytes rest behind : List ℕ) (records : List Record) (item : Record) → BeginsWith records rest bytes → Begins rest item behind → BeginsWith (records ++ item ∷ []) behind bytes
 begins_more bytes rest behind records item b s = record {
-  each = all_push records item b.each s.is;
+  each = all_with IsRecord records item b.each s.is;
   whole = b.whole ∙ ap (λ (z : List ℕ). journal_bytes records ++ z) s.whole ∙ sym (append_assoc (journal_bytes records) (record_bytes item) behind)
       ∙ ap (λ (z : List ℕ). z ++ behind) (sym (journal_push records item));
 }

@@ -1,11 +1,11 @@
 -- The places of entries as a journal goes on.
-use Rattle.std.proofs.Common.{◌≡◌, ℕ, ◌-◌, Bool, true, false, cond, List, [], ◌∷◌, ◌++◌, length, take, drop, Option, Some, None, refl, sym, ap, ap₂, subst, ◌∙◌, arith, IsSome}
+use Rattle.std.proofs.Common.{◌≡◌, ℕ, ◌-◌, Bool, true, false, cond, List, [], ◌∷◌, ◌++◌, length, take, drop, Option, Some, None, refl, sym, ap, ap₂, subst, ◌∙◌, arith}
 use Rattle.std.specs.Prelude.{◌≢◌}
 use Rattle.std.specs.Option.{option_map_or}
 use Rattle.std.specs.List.{AllByRecursion, concat}
 use Rattle.std.specs.List.Sorted.{IsStrictlySortedBy}
 use Rattle.std.specs.Map.{lookup, set_value, remove_entry, keys_of}
-use Rattle.std.specs.Ordering.{nat_cmp, eq_by_cmp}
+use Rattle.std.specs.Ordering.{nat_cmp}
 use Rattle.std.specs.BTreeMap.{is_at}
 use Rattle.std.proofs.lemmas.Bool.{true≢false}
 use Rattle.std.proofs.lemmas.Cmp.{nat_cmp_total, eq_by_cmp_equiv}
@@ -18,6 +18,7 @@ use Rattle.buffer_state.specs.declared.chunk.Stage.TheVariants.{Staged, Queued}
 use Rattle.buffer_state.specs.State.{Chunk, State, chunk_at, size}
 use Rattle.buffer_state.specs.Steps.{with_chunk, appended, added, restaged, removed}
 use Rattle.buffer_state.proofs.Serials.{at_same, at_itself}
+use Rattle.buffer_state.proofs.Slots.{same_test, there}
 use Rattle.chunk_journal.specs.declared.places.Extent.{Extent}
 use Rattle.chunk_journal.specs.Records.{Seal, Append, Queue, Purge}
 use Rattle.chunk_journal.specs.Meaning.{after}
@@ -71,14 +72,7 @@ ends_within seen entries end ends =
 
 -- ---- a chunk under its serial after a change
 
-same_test : (s x y : ℕ) → is_at (nat_cmp s) x ≡ true → is_at (nat_cmp s) y ≡ eq_by_cmp nat_cmp x y
-same_test s x y h = ap (λ (t : ℕ). is_at (nat_cmp t) y) (at_same s x h)
-
 module _ {X : Type 0} where
-  there : (o : Option X) (v : X) → o ≡ Some v → IsSome o
-  there None v e = absurd (cc e)
-  there (Some x) v e = refl
-
   set_at : (es : List (ℕ × X)) (s q : ℕ) (v w : X) → lookup (is_at (nat_cmp s)) es ≡ Some v
       → lookup (is_at (nat_cmp q)) (set_value (is_at (nat_cmp s)) es w) ≡ cond (is_at (nat_cmp s) q) (Some w) (lookup (is_at (nat_cmp q)) es)
   set_at es s q v w at = lookup-set_value (eq_by_cmp_equiv nat_cmp_total) (is_at (nat_cmp s)) (same_test s) q w es (there (lookup (is_at (nat_cmp s)) es) v at)

@@ -1,29 +1,22 @@
 -- The records that tell live chunks lead to these chunks again.
-use Rattle.std.proofs.Common.{◌≡◌, ℕ, ◌+◌, ◌^◌, ◌<◌, ◌≤◌, true, false, List, [], ◌∷◌, ◌++◌, Option, Some, None, refl, sym, ap, subst, ◌∙◌, append_assoc, arith, inr}
+use Rattle.std.proofs.Common.{◌≡◌, ℕ, ◌+◌, ◌^◌, ◌<◌, ◌≤◌, List, [], ◌∷◌, ◌++◌, Option, Some, None, refl, sym, ap, subst, ◌∙◌, append_assoc, arith, inr}
 use Rattle.std.specs.Prelude.{IsSomeAnd}
 use Rattle.std.specs.Option.{option_map_or}
 use Rattle.std.specs.List.{AllByRecursion, flat_map}
 use Rattle.std.specs.Map.{lookup, set_value}
-use Rattle.std.specs.Ordering.{nat_cmp, is_eq}
-use Rattle.std.specs.declared.cmp.Ordering.TheVariants.{Equal, Greater}
-use Rattle.std.specs.Cmp.{nat_cmp_is}
+use Rattle.std.specs.Ordering.{nat_cmp}
 use Rattle.std.specs.BTreeMap.{is_at}
 use Rattle.std.proofs.lemmas.List.{append-nil}
 use Rattle.buffer_state.specs.declared.chunk.Stage.{Stage}
 use Rattle.buffer_state.specs.declared.chunk.Stage.TheVariants.{Staged, Queued, Claimed}
 use Rattle.buffer_state.specs.State.{Chunk, Numbered, State, empty, size, size_at, IsAt}
 use Rattle.buffer_state.specs.Steps.{with_chunk, added, appended, queued_last, greatest_size, last_serial, unclaimed, unclaimed_chunks, settled, reopened}
+use Rattle.buffer_state.proofs.Serials.{at_itself, at_below}
 use Rattle.chunk_journal.specs.Records.{Record, Seal, Append, Queue}
 use Rattle.chunk_journal.specs.Meaning.{Tells, after, after_all, Each, IsGeneration, telling, beginning, AreTold}
 use Rattle.chunk_journal.proofs.Standing.{after_more, each_more}
 
 -- ---- chunks by serial
-
-at_itself : (s : ℕ) → is_at (nat_cmp s) s ≡ true
-at_itself s = ap is_eq (sym (nat_cmp_is s s Equal refl))
-
-at_below : (s q : ℕ) → q < s → is_at (nat_cmp s) q ≡ false
-at_below s q lt = ap is_eq (sym (nat_cmp_is s q Greater lt))
 
 -- all serials are below this
 abbrev Below : ℕ → List Numbered → Type 0

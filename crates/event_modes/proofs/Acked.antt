@@ -28,7 +28,8 @@ use Rattle.event_modes.specs.Acknowledgement.{IsAcknowledgement, acknowledgement
 use Rattle.event_modes.proofs.Parting.{same_front, text_item, scalar_is_part, container_is_item}
 use Rattle.event_modes.proofs.Begins.{map_one, text_one}
 use Rattle.event_modes.proofs.Counted.{pair_concat}
-use Rattle.event_modes.proofs.Last.{last_one, same_last, lacks_last}
+use Rattle.msgpack_bytes.proofs.Walk.{last_one}
+use Rattle.event_modes.proofs.Last.{same_last, lacks_last}
 
 ack_key : List ℕ
 ack_key = 0xa3 ∷ 0x61 ∷ 0x63 ∷ 0x6b ∷ []

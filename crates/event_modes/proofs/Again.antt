@@ -12,7 +12,8 @@ use Rattle.event_modes.specs.Rows.{items_of, IsStored, AreStored, AreEntries, So
 use Rattle.event_modes.specs.Faults.{PackedEnd}
 use Rattle.event_modes.proofs.Parting.{IsItem, same_front, same_behind, some_item, text_item, front_nil, all_map}
 use Rattle.event_modes.proofs.Counted.{are_items}
-use Rattle.event_modes.proofs.Stored.{all_push, concat-push}
+use Rattle.msgpack_bytes.proofs.Walk.{all_with}
+use Rattle.event_modes.proofs.Stored.{concat-push}
 use Rattle.event_modes.proofs.Only.{no_begin}
 
 short_header : (h : List ℕ) → IsContainerHeader container.Array 2 (0x92 ∷ h) → h ≡ []
@@ -59,7 +60,7 @@ counting_start count bytes = record { before = []; each = tt; all = omega arith;
 pub counting_more : (count : ℕ) (bytes rest entry behind : List ℕ) (left : ℕ) → Counting count bytes rest left → 0 < left → IsStored entry → rest ≡ entry ++ behind → Counting count bytes behind (left - 1)
 counting_more count bytes rest entry behind left c l s e = record {
   before = c.before ++ entry ∷ [];
-  each = all_push IsStored c.before entry c.each s;
+  each = all_with IsStored c.before entry c.each s;
   all = (let a = c.all in omega (arith, length-append c.before (entry ∷ [])));
   whole = c.whole ∙ ap (λ (x : List ℕ). concat c.before ++ x) e ∙ sym (append_assoc (concat c.before) entry behind) ∙ ap (λ (x : List ℕ). x ++ behind) (sym (concat-push c.before entry));
 }

@@ -182,7 +182,7 @@ array_one xs ys bytes a b =
     let h = one_header container.Array (length xs) (length ys) a.header b.header (concat xs) (concat ys) a.counted b.counted (sym a.whole ∙ b.whole) in
     (same_items xs ys [] [] (parts_items xs a.each) (parts_items ys b.each) h.count (append-nil (concat xs) ∙ h.behind ∙ sym (append-nil (concat ys)))).0
 
-same_pair : (a b : Pair) → a.key ≡ b.key → a.value ≡ b.value → a ≡ b
+pub same_pair : (a b : Pair) → a.key ≡ b.key → a.value ≡ b.value → a ≡ b
 same_pair a b k v = ap (λ (x : List ℕ). pair x a.value) k ∙ ap (λ (x : List ℕ). pair b.key x) v
   where
     pair : List ℕ → List ℕ → Pair

@@ -14,7 +14,8 @@ use Rattle.event_modes.specs.Message.{Forward, Packed, Carries}
 use Rattle.event_modes.specs.Faults.{EntryFault, IsGoodEntry, PackedEnd, CarriedFault}
 use Rattle.event_modes.proofs.Parting.{part_item, container_is_item, text_item, some_item}
 use Rattle.event_modes.proofs.Counted.{element_texts}
-use Rattle.event_modes.proofs.Stored.{all_push, concat-push}
+use Rattle.msgpack_bytes.proofs.Walk.{all_with}
+use Rattle.event_modes.proofs.Stored.{concat-push}
 
 -- ---- an event as it is stored
 
@@ -64,7 +65,7 @@ entry_stored entry stored t e =
 
 -- ---- entries of an array
 
-good_entries : (items entries : List (List ℕ)) → AllZip IsEntry items entries → AllByRecursion IsGoodEntry items
+pub good_entries : (items entries : List (List ℕ)) → AllZip IsEntry items entries → AllByRecursion IsGoodEntry items
 good_entries [] [] p = tt
 good_entries [] (e ∷ es) p = absurd p
 good_entries (i ∷ is) [] p = absurd p
@@ -117,7 +118,7 @@ packed_start content entries e = record { before = []; texts = tt; each = subst 
 pub packed_more : (content rest entry behind stored : List ℕ) (entries : List (List ℕ)) → Packing content rest entries → IsTextItem entry → rest ≡ entry ++ behind → IsEntry entry stored → Packing content behind (entries ++ stored ∷ [])
 packed_more content rest entry behind stored entries p t e i = record {
   before = p.before ++ entry ∷ [];
-  texts = all_push IsTextItem p.before entry p.texts t;
+  texts = all_with IsTextItem p.before entry p.texts t;
   each = AllZip-push IsEntry p.before entries entry stored p.each i;
   whole = p.whole ∙ ap (λ (x : List ℕ). concat p.before ++ x) e ∙ sym (append_assoc (concat p.before) entry behind) ∙ ap (λ (x : List ℕ). x ++ behind) (sym (concat-push p.before entry));
 }

@@ -4,30 +4,14 @@ use Rattle.std.specs.Prelude.{codes}
 use Rattle.msgpack_bytes.specs.Kinds.{IsNil}
 use Rattle.msgpack_bytes.specs.Containers.{Pair}
 use Rattle.msgpack_bytes.specs.Names.{IsNamed, Lacks, IsLastValue}
+use Rattle.msgpack_bytes.proofs.Walk.{lacks_at, lasts_one, last_one}
 use Rattle.event_modes.specs.Options.{AsksFor, IsOption}
+use Rattle.event_modes.specs.Pairs.{pair_of}
 use Rattle.event_modes.proofs.Begins.{map_one, no_map_nil}
-
-abbrev pub pair_of : List ℕ → List ℕ → Pair
-pair_of key value = record { key = key; value = value }
-
--- where no key is the name, none is behind a part of the pairs
-lacks_at : (name : List ℕ) (before : List Pair) (pair : Pair) (after : List Pair) → Lacks name (before ++ pair ∷ after) → IsNamed name pair → ⊥
-lacks_at name [] pair after l h = l.0 h
-lacks_at name (p ∷ before) pair after l h = lacks_at name before pair after l.1 h
 
 pub lacks_last : (name : List ℕ) (pairs : List Pair) (value : List ℕ) → Lacks name pairs → IsLastValue name pairs value → ⊥
 lacks_last name pairs value l last =
     lacks_at name last.before (pair_of last.key value) last.after (subst (Lacks name) last.whole l) last.named
-
-lasts_one : (name : List ℕ) (b c : List Pair) (p q : Pair) (d e : List Pair) → IsNamed name p → IsNamed name q → Lacks name d → Lacks name e → b ++ p ∷ d ≡ c ++ q ∷ e → p ≡ q
-lasts_one name [] [] p q d e h k l m eq = cc
-lasts_one name [] (x ∷ c) p q d e h k l m eq =
-    let t : d ≡ c ++ q ∷ e = cc in
-    absurd (lacks_at name c q e (subst (Lacks name) t l) k)
-lasts_one name (x ∷ b) [] p q d e h k l m eq =
-    let t : b ++ p ∷ d ≡ e = cc in
-    absurd (lacks_at name b p d (subst (Lacks name) (sym t) m) h)
-lasts_one name (x ∷ b) (y ∷ c) p q d e h k l m eq = lasts_one name b c p q d e h k l m (cc)
 
 afters_one : (name : List ℕ) (b c : List Pair) (p q : Pair) (d e : List Pair) → IsNamed name p → IsNamed name q → Lacks name d → Lacks name e → b ++ p ∷ d ≡ c ++ q ∷ e → d ≡ e
 afters_one name [] [] p q d e h k l m eq = cc
@@ -46,10 +30,6 @@ same_last name ps qs v w e l m =
       ap (λ (p : Pair). p.value) (lasts_one name l.before m.before (pair_of l.key v) (pair_of m.key w) l.after m.after l.named m.named l.last m.last whole),
       afters_one name l.before m.before (pair_of l.key v) (pair_of m.key w) l.after m.after l.named m.named l.last m.last whole,
     )
-
-pub last_one : (name : List ℕ) (pairs : List Pair) (v w : List ℕ) → IsLastValue name pairs v → IsLastValue name pairs w → v ≡ w
-last_one name pairs v w l m =
-    ap (λ (p : Pair). p.value) (lasts_one name l.before m.before (pair_of l.key v) (pair_of m.key w) l.after m.after l.named m.named l.last m.last (sym l.whole ∙ m.whole))
 
 pub asks_one : (pairs : List Pair) (a b : Option (List ℕ)) → AsksFor pairs a → AsksFor pairs b → a ≡ b
 asks_one pairs None None p q = refl

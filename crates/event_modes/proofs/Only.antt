@@ -1,7 +1,7 @@
 -- There is one answer to bytes.
 use Rattle.std.proofs.Common.{ℕ, ◌≡◌, ◌⊎◌, List, [], ◌∷◌, ◌++◌, length, take, drop, refl, ap, sym, subst, ◌∙◌, arith, append_assoc, inl, inr, Option, Some, None}
 use Rattle.std.specs.Prelude.{codes}
-use Rattle.std.specs.List.{AllByRecursion, AllZip, concat}
+use Rattle.std.specs.List.{AllByRecursion, concat}
 use Rattle.std.proofs.lemmas.List.{take-append-drop, length-append, length-take-le}
 use Rattle.msgpack_bytes.specs.declared.answers.MsgFault.{MsgFault}
 use Rattle.msgpack_bytes.specs.declared.answers.Scan.TheVariants as scan
@@ -13,12 +13,13 @@ use Rattle.msgpack_bytes.proofs.Scanned.{one_answer}
 use Rattle.event_modes.specs.declared.fault.ModeFault.{ModeFault}
 use Rattle.event_modes.specs.declared.fault.ModeFault.TheVariants.{NotAMessage, BadTag, BadTime, BadRecord, BadEntry, TornPacked, Compressed, BadOption, Bytes}
 use Rattle.msgpack_bytes.specs.Containers.{Pair, IsArray}
-use Rattle.event_modes.specs.Entry.{IsTime, IsRecord, IsEntry}
+use Rattle.event_modes.specs.Entry.{IsTime, IsRecord}
 use Rattle.event_modes.specs.Options.{IsFit, IsOption}
 use Rattle.event_modes.specs.Message.{Parts, Carrier, Single, Forward, Packed, Frame, IsTag, Carries, IsMessage}
 use Rattle.event_modes.specs.Faults.{EventFault, EntryFault, IsGoodEntry, PackedEnd, PackedFault, CarriedFault, PairFault, OptionFault, FrameFault, ItemFault, StreamFault}
 use Rattle.event_modes.specs.Reading.{Answer, Means, Beats, Wants, Refuses, Answers}
 use Rattle.event_modes.proofs.Parting.{IsItem, same_front, same_behind, some_item, text_item, nil_item, front_nil}
+use Rattle.event_modes.proofs.Collected.{good_entries}
 use Rattle.event_modes.proofs.Begins.{array_one, map_one, text_one, no_array_nil, no_map_nil}
 use Rattle.event_modes.proofs.Scans.{not_open, not_faulty}
 use Rattle.event_modes.proofs.One.{frame_one, means_one, never_both}
@@ -51,12 +52,6 @@ first_one Good One Other (x ∷ b) (y ∷ c) p q d e n m g o h r eq = first_one 
 none_bad : {X : Type 0} (Good Bad : X → Type 0) (b : List X) (p : X) (d : List X) → ((x : X) → Good x → Bad x → ⊥) → AllByRecursion Good (b ++ p ∷ d) → Bad p → ⊥
 none_bad Good Bad [] p d n g r = n p g.0 r
 none_bad Good Bad (x ∷ b) p d n g r = none_bad Good Bad b p d n g.1 r
-
-all_good : (items entries : List (List ℕ)) → AllZip IsEntry items entries → AllByRecursion IsGoodEntry items
-all_good [] [] p = tt
-all_good [] (e ∷ es) p = absurd p
-all_good (i ∷ is) [] p = absurd p
-all_good (i ∷ is) (e ∷ es) p = ((e, p.0), all_good is es p.1)
 
 -- ---- events
 
@@ -229,8 +224,8 @@ good_carried (Single time fields) entries f p q = good_event time fields f p.0 p
 good_carried (Forward array) entries f p q =
     let e = array_one p.0 q.0 array p.1 q.1 in
     let b = q.2 in
-    none_bad IsGoodEntry (EntryFault f) b.before b.first b.after (good_entry f) (subst (AllByRecursion IsGoodEntry) (e ∙ b.whole) (all_good p.0 entries p.2)) b.bad
-good_carried (Packed content) entries f p q = packed_good p.0 q.0 q.1 f p.1 (all_good p.0 entries p.3) q.2 (sym p.2 ∙ q.4) q.5
+    none_bad IsGoodEntry (EntryFault f) b.before b.first b.after (good_entry f) (subst (AllByRecursion IsGoodEntry) (e ∙ b.whole) (good_entries p.0 entries p.2)) b.bad
+good_carried (Packed content) entries f p q = packed_good p.0 q.0 q.1 f p.1 (good_entries p.0 entries p.3) q.2 (sym p.2 ∙ q.4) q.5
 
 -- ---- the option
 

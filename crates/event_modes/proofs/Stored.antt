@@ -4,6 +4,7 @@ use Rattle.std.specs.List.{AllByRecursion, concat}
 use Rattle.std.proofs.lemmas.List.{append-nil, length-append}
 use Rattle.msgpack_bytes.specs.Item.{IsTextItem}
 use Rattle.event_modes.specs.Rows.{items_of, IsStored, AreStored}
+use Rattle.msgpack_bytes.proofs.Walk.{all_with}
 use Rattle.event_modes.proofs.Counted.{no_items, length-items, are_items}
 
 pub none_stored : (bytes : List ℕ) → bytes ≡ [] → AreStored 0 bytes
@@ -18,10 +19,6 @@ pub concat-push : (xs : List (List ℕ)) (x : List ℕ) → concat (xs ++ x ∷ 
 concat-push [] x = append-nil x
 concat-push (y ∷ xs) x = ap (λ (z : List ℕ). y ++ z) (concat-push xs x) ∙ sym (append_assoc y (concat xs) x)
 
-pub all_push : {X : Type 0} (P : X → Type 0) (xs : List X) (x : X) → AllByRecursion P xs → P x → AllByRecursion P (xs ++ x ∷ [])
-all_push P [] x p q = (q, tt)
-all_push P (y ∷ xs) x p q = (p.0, all_push P xs x p.1 q)
-
 pub record Pushed (count : ℕ) (bytes : List ℕ) (entry : List ℕ) : Type 0 where
   pub stored : AreStored (count + 1) (bytes ++ entry)
   pub last : items_of (count + 1) (bytes ++ entry) ≡ items_of count bytes ++ entry ∷ []
@@ -31,9 +28,9 @@ push_stored count bytes entry a s =
     let xs : List (List ℕ) = items_of count bytes in
     let n : count + 1 ≡ length (xs ++ entry ∷ []) = omega (arith, length-append xs (entry ∷ []), length-items count bytes) in
     let e : bytes ++ entry ≡ concat (xs ++ entry ∷ []) = ap (λ (z : List ℕ). z ++ entry) a.items.whole ∙ sym (concat-push xs entry) in
-    let r = are_items (count + 1) (bytes ++ entry) (xs ++ entry ∷ []) n e (all_push IsTextItem xs entry a.items.each s.item) in
+    let r = are_items (count + 1) (bytes ++ entry) (xs ++ entry ∷ []) n e (all_with IsTextItem xs entry a.items.each s.item) in
     record {
-      stored = record { items = r.0; each = subst (AllByRecursion IsStored) (sym r.1) (all_push IsStored xs entry a.each s) };
+      stored = record { items = r.0; each = subst (AllByRecursion IsStored) (sym r.1) (all_with IsStored xs entry a.each s) };
       last = r.1;
     }
 

@@ -13,10 +13,8 @@ use Rattle.msgpack_bytes.specs.Names.{IsNamed, Lacks, IsLastValue}
 use Rattle.event_modes.specs.Options.{IsFit}
 use Rattle.event_modes.specs.Pairs.{ArePairs, pair_of}
 use Rattle.event_modes.specs.Faults.{FirstBad, PairFault}
-use Rattle.event_modes.proofs.Stored.{all_push}
-
-same_pair : (a b : Pair) → a.key ≡ b.key → a.value ≡ b.value → a ≡ b
-same_pair a b k v = ap (λ (x : List ℕ). pair_of x a.value) k ∙ ap (λ (x : List ℕ). pair_of b.key x) v
+use Rattle.msgpack_bytes.proofs.Walk.{all_with}
+use Rattle.event_modes.proofs.Begins.{same_pair}
 
 -- keys and values by turns are those of one list of pairs
 pub pairs_back : (ps qs : List Pair) → pair_items ps ≡ pair_items qs → ps ≡ qs
@@ -94,7 +92,7 @@ first_bad all left walk key value others pairs fault e a fit bad =
     record { before = walk.before; first = pair_of key value; after = n.walk_on.after; good = fit; bad = bad; whole = sym (walking all left walk pairs a) ∙ n.at }
 
 pub fit_more : (all left : List (List ℕ)) (walk : Walk all left) (key value : List ℕ) (others : List (List ℕ)) (n : Next all left walk key value others) → AllByRecursion IsFit walk.before → IsFit (pair_of key value) → AllByRecursion IsFit n.walk_on.before
-fit_more all left walk key value others n fit p = subst (AllByRecursion IsFit) (sym n.before) (all_push IsFit walk.before (pair_of key value) fit p)
+fit_more all left walk key value others n fit p = subst (AllByRecursion IsFit) (sym n.before) (all_with IsFit walk.before (pair_of key value) fit p)
 
 -- ---- the last of a name
 
@@ -115,14 +113,14 @@ length-pair_items-push (p ∷ ps) key value =
 
 pub last_before : (name : List ℕ) (before : List Pair) (key value : List ℕ) (left others : List (List ℕ)) (last : Option LastValue) → (IsText key name → ⊥) → left ≡ key ∷ value ∷ others
     → LastSoFar name before left last → LastSoFar name (before ++ pair_of key value ∷ []) others last
-last_before name before key value left others None n e l = all_push (λ pair. IsNamed name pair → ⊥) before (pair_of key value) l n
+last_before name before key value left others None n e l = all_with (λ pair. IsNamed name pair → ⊥) before (pair_of key value) l n
 last_before name before key value left others (Some v) n e l = (
   record {
     before = l.0.before;
     key = l.0.key;
     after = l.0.after ++ pair_of key value ∷ [];
     named = l.0.named;
-    last = all_push (λ pair. IsNamed name pair → ⊥) l.0.after (pair_of key value) l.0.last n;
+    last = all_with (λ pair. IsNamed name pair → ⊥) l.0.after (pair_of key value) l.0.last n;
     whole = ap (λ (x : List Pair). x ++ pair_of key value ∷ []) l.0.whole ∙ append_assoc l.0.before (pair_of l.0.key v.value.now ∷ l.0.after) (pair_of key value ∷ []);
   },
   let b = l.1 in let m = ap (λ (z : List (List ℕ)). length (concat z)) e in omega (arith, length-pair_items-push l.0.after key value, length-append key (value ++ concat others), length-append value (concat others)),

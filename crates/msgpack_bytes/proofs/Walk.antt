@@ -18,11 +18,11 @@ bytes_with [] pair = append-nil (pair_bytes pair)
 bytes_with (p ∷ pairs) pair = ap (λ (xs : List ℕ). pair_bytes p ++ xs) (bytes_with pairs pair) ∙ sym (append_assoc (pair_bytes p) (flat_map pair_bytes pairs) (pair_bytes pair))
 
 -- where no key is the name, none in front of a part of the pairs is
-lacks_at : (name : List ℕ) (before : List Pair) (pair : Pair) (after : List Pair) → Lacks name (before ++ pair ∷ after) → IsNamed name pair → ⊥
+pub lacks_at : (name : List ℕ) (before : List Pair) (pair : Pair) (after : List Pair) → Lacks name (before ++ pair ∷ after) → IsNamed name pair → ⊥
 lacks_at name [] pair after l h = l.0 h
 lacks_at name (p ∷ before) pair after l h = lacks_at name before pair after l.1 h
 
-lasts_one : (name : List ℕ) (b c : List Pair) (p q : Pair) (d e : List Pair) → IsNamed name p → IsNamed name q → Lacks name d → Lacks name e → b ++ p ∷ d ≡ c ++ q ∷ e → p ≡ q
+pub lasts_one : (name : List ℕ) (b c : List Pair) (p q : Pair) (d e : List Pair) → IsNamed name p → IsNamed name q → Lacks name d → Lacks name e → b ++ p ∷ d ≡ c ++ q ∷ e → p ≡ q
 lasts_one name [] [] p q d e h k l m eq = cc
 lasts_one name [] (x ∷ c) p q d e h k l m eq =
     let t : d ≡ c ++ q ∷ e = cc in
@@ -36,7 +36,7 @@ abbrev pub pair_of : List ℕ → List ℕ → Pair
 pair_of key value = record { key = key; value = value }
 
 -- the last value of a name is one
-last_one : (name : List ℕ) (pairs : List Pair) (v w : List ℕ) → IsLastValue name pairs v → IsLastValue name pairs w → v ≡ w
+pub last_one : (name : List ℕ) (pairs : List Pair) (v w : List ℕ) → IsLastValue name pairs v → IsLastValue name pairs w → v ≡ w
 last_one name pairs v w l m =
     ap (λ (p : Pair). p.value) (lasts_one name l.before m.before (pair_of l.key v) (pair_of m.key w) l.after m.after l.named m.named l.last m.last (sym l.whole ∙ m.whole))
 

@@ -1,13 +1,10 @@
-use Rattle.std.proofs.Common.{ℕ, false, ◌==◌, ◌≡◌, ◌∷◌, List, [], length, sym, subst}
+use Rattle.std.proofs.Common.{sym, subst}
 use Rattle.std.proofs.lemmas.Result.{err_from_is_err_and}
 use Rattle.event_modes.specs.Message.{Packed, Carries}
+use Rattle.event_modes.proofs.Again.{not_empty}
 use Rattle.event_modes.proofs.Evented.{failed}
 use Rattle.event_modes.proofs.Collected.{Packing, packed_more, packed_torn, packed_bad}
 use Rattle.event_modes.proofs.entries.packed.Goals as goal
-
-not_empty : (xs : List ℕ) → false ≡ (length xs == 0) → xs ≡ [] → ⊥
-not_empty [] e n = cc
-not_empty (x ∷ xs) e n = cc
 
 pub returns-in_err-entry : goal.returns-in_err-entry
 returns-in_err-entry g c =
