@@ -1,6 +1,5 @@
 -- No tag grows in any step.
 use Rattle.std.proofs.Common.{◌≡◌, ℕ, ◌≤◌, Bool, true, false, cond, List, [], ◌∷◌, ◌++◌, length, Option, Some, None, refl, subst}
-use Rattle.std.specs.List.{AllByRecursion}
 use Rattle.std.specs.Ordering.{nat_cmp}
 use Rattle.std.specs.BTreeMap.{is_at}
 use Rattle.std.specs.Map.{lookup, set_value, remove_entry}
@@ -12,10 +11,7 @@ use Rattle.buffer_state.specs.declared.chunk.Stage.TheVariants.{Staged, Queued, 
 use Rattle.buffer_state.specs.State.{State, Chunk, Numbered, chunk_at}
 use Rattle.buffer_state.specs.Steps.{with_chunk, added, appended, restaged, queued_last, claimed, claimed_from, removed}
 use Rattle.journal_files.specs.Views.{HasShortTags}
-
--- no chunk's tag is too long
-abbrev Short : List Numbered → Type 0
-Short chunks = AllByRecursion (λ (numbered : Numbered). length numbered.1.tag ≤ longest_tag) chunks
+use Rattle.journal_files.proofs.Tags.{Short}
 
 short_at : (test : ℕ → Bool) (chunks : List Numbered) (chunk : Chunk) → Short chunks → lookup test chunks ≡ Some chunk → length chunk.tag ≤ longest_tag
 short_at test [] chunk h at = absurd (cc at)

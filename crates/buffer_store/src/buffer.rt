@@ -192,6 +192,7 @@ fn entries_of<A: Allocator>(
     ensures undamaged { bytes.now ≡ concat chunk.now.chunk.entries → result ≢ Err BufferFault.Damaged }
     ensures only { OnErr result ((result ≡ Err BufferFault.Memory) ⊎ (result ≡ Err BufferFault.Damaged)) }
 {
+    // Called for its law alone.
     chunk.stays_stored();
     match Entries::read(alloc, bytes, chunk.count())? {
         Some(entries) => Ok(entries),

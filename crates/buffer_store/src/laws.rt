@@ -11,6 +11,7 @@ pub fn recovers_what_is_sure()
     ensures holds { HoldsRecovers }
     ensures recovers { RecoversWhatIsSure }
 {
+    // Called for their laws alone.
     recovers_all();
     opens_one_way();
 }

@@ -116,7 +116,8 @@ impl<A: Allocator + Copy> Feed<A> {
     }
 }
 
-fn drop_front<A: Allocator>(bytes: &mut Vec<u8, A>, n: usize)
+/// Drops the first n bytes.
+pub fn drop_front<A: Allocator>(bytes: &mut Vec<u8, A>, n: usize)
     requires { n ≤ vec_len bytes.old }
     ensures { bytes.new.items ≡ drop n bytes.old.items }
 {

@@ -22,7 +22,7 @@ pub use acks::{AckRead, put_ack, read_ack};
 pub use chunk_id::ChunkId;
 pub use entry::ENTRY_HEADER;
 pub use fault::{FeedError, ModeFault};
-pub use feed::{Feed, Next};
+pub use feed::{Feed, Next, drop_front};
 pub use items::Items;
 pub use laws::{means_one, never_both, reads_one_way};
 pub use message::{Entries, Message, Read};

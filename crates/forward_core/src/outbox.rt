@@ -11,7 +11,7 @@ ghost use Rattle.event_modes.specs.Message.{longest_tag};
 ghost use Rattle.event_modes.specs.Packed.{packed_message};
 
 use auth_handshake::{Client, HandshakeFault, HeloError};
-use event_modes::{ChunkId, Entries, put_packed};
+use event_modes::{ChunkId, Entries, drop_front, put_packed};
 use std::alloc::{AllocError, Allocator};
 use std::marker::Model;
 
@@ -107,15 +107,5 @@ impl<A: Allocator> Outbox<A> {
             Some(id) => put_packed(&mut self.bytes, tag, entries, Some(id)),
             None => put_packed(&mut self.bytes, tag, entries, None),
         }
-    }
-}
-
-/// Drops the first n bytes.
-pub fn drop_front<A: Allocator>(bytes: &mut Vec<u8, A>, n: usize)
-    requires { n ≤ vec_len bytes.old }
-    ensures { bytes.new.items ≡ drop n bytes.old.items }
-{
-    if n > 0 {
-        bytes.drain(..n);
     }
 }

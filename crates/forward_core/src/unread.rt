@@ -4,7 +4,7 @@ ghost use Rattle.std.specs.Prelude.{◌≡◌, ◌≤◌, ◌↔◌, ◌++◌, [
 ghost use Rattle.msgpack_bytes.specs.Item.{IsOpen};
 ghost use Rattle.msgpack_bytes.specs.Pieces.{IsAfter};
 
-use crate::outbox::drop_front;
+use event_modes::drop_front;
 use msgpack_bytes::{Scanner, Taken};
 use std::alloc::{AllocError, Allocator};
 use std::marker::Model;

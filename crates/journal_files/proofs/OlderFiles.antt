@@ -4,6 +4,7 @@ use Rattle.std.specs.Prelude.{IsSome, IsTrue}
 use Rattle.std.specs.Ordering.{nat_cmp}
 use Rattle.std.specs.BTreeMap.{BTreeMap, get, is_at}
 use Rattle.std.specs.BTreeSet.{BTreeSet, contains}
+use Rattle.std.proofs.lemmas.Option.{same_Some}
 use Rattle.disk_files.specs.Disk.{Disk, SameDisk, Changes, unlinked, read_of}
 use Rattle.disk_files.specs.Moments.{History, now, Elapses, LeavesOnly}
 use Rattle.disk_files.specs.declared.dir.FileNo.{FileNo}
@@ -80,9 +81,6 @@ module _ (path : List ℕ) (number k : ℕ) (file : FileNo) (opened : FileNo →
   below_only old new (inr changes) name above = elsewhere old new (journal_name path k) name _ changes (apart (journal_name path k) name (λ e. above k lt (sym e)))
 
   module _ (after : FileNo → Option (List ℕ)) (others : (other : FileNo) → (other ≡ file → ⊥) → after other ≡ opened other) where
-    some_same : {A : Type 0} {x y : A} → Some x ≡ Some y → x ≡ y
-    some_same e = cc e
-
     below_by : (b : Bool) (n : ℕ) → get nat_cmp rest n ≡ cond b None (get nat_cmp files n) → IsSome (get nat_cmp rest n) → n < number
     below_by true n is some = absurd (not_some (get nat_cmp rest n) is some)
     below_by false n is some = older.below n (subst IsSome is some)
@@ -91,7 +89,7 @@ module _ (path : List ℕ) (number k : ℕ) (file : FileNo) (opened : FileNo →
     named_by true n g at is there = absurd (cc (is, there))
     named_by false n g at is there =
         let here = older.named n g (sym is ∙ there) in
-        others g (λ same. differs n at (same_number path k n (omega (arith, lt, last)) (omega (arith, last, older.below n (is_some_name _ _ (sym is ∙ there)))) (some_same (sym named ∙ ap opened (sym same) ∙ here)))) ∙ here
+        others g (λ same. differs n at (same_number path k n (omega (arith, lt, last)) (omega (arith, last, older.below n (is_some_name _ _ (sym is ∙ there)))) (same_Some _ _ (sym named ∙ ap opened (sym same) ∙ here)))) ∙ here
 
     pub older_next : AreOlder path number after rest
     older_next = record {
@@ -100,7 +98,7 @@ module _ (path : List ℕ) (number k : ℕ) (file : FileNo) (opened : FileNo →
     }
 
     pub kept_next : (other : FileNo) (name : List ℕ) → IsAbove path number name → opened other ≡ Some name → after other ≡ Some name
-    kept_next other name above is = others other (λ same. above k lt (some_same (sym is ∙ ap opened same ∙ named))) ∙ is
+    kept_next other name above is = others other (λ same. above k lt (same_Some _ _ (sym is ∙ ap opened same ∙ named))) ∙ is
 
   gone_by : (b : Bool) (n : ℕ) (old new : Disk) → n < 2 ^ 32 → Changes (journal_name path k) unlinked old new → is_at (nat_cmp k) n ≡ b → get nat_cmp rest n ≡ cond b None (get nat_cmp files n)
       → IsGoneBut path files old n → IsGoneBut path rest new n

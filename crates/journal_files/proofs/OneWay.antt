@@ -1,6 +1,7 @@
 -- A folder opens one way.
 use Rattle.std.proofs.Common.{◌≡◌, ℕ, ◌<◌, List, Option, Some, sym, ap, subst, ◌∙◌, arith, inl, inr}
 use Rattle.std.proofs.lemmas.Bool.{cases_lt}
+use Rattle.std.proofs.lemmas.Option.{same_Some}
 use Rattle.disk_files.specs.Disk.{Folder}
 use Rattle.buffer_state.specs.State.{State}
 use Rattle.chunk_journal.specs.Meaning.{IsReplayed, IsDamaged, Answer, Means, NotSealed, BadRecord}
@@ -11,9 +12,6 @@ state_in : State → Answer → State
 state_in other (Means state used) = state
 state_in other NotSealed = other
 state_in other BadRecord = other
-
-some_same : {A : Type 0} {x y : A} → Some x ≡ Some y → x ≡ y
-some_same e = cc e
 
 module _ (law : AnswersOneWay) where
   -- a sealed generation isn't passed over
@@ -32,7 +30,7 @@ module _ (law : AnswersOneWay) where
 
   same_generation : (path : List ℕ) (folder : Folder) (one other : State) (a : OpensBy path folder one) (b : OpensBy path folder other) → a.number ≡ b.number → one ≡ other
   same_generation path folder one other a b e =
-      let same : a.bytes ≡ b.bytes = some_same (sym a.highest.there ∙ ap (λ (n : ℕ). folder (journal_name path n)) e ∙ b.highest.there) in
+      let same : a.bytes ≡ b.bytes = same_Some _ _ (sym a.highest.there ∙ ap (λ (n : ℕ). folder (journal_name path n)) e ∙ b.highest.there) in
       same_state b.bytes one other a.used b.used (subst (λ (z : List ℕ). IsReplayed z one a.used) same a.means) b.means
 
   pub one_way : (path : List ℕ) (folder : Folder) (one other : State) → Opens path folder one → Opens path folder other → one ≡ other
@@ -58,7 +56,7 @@ module _ (law : AnswersOneWay) where
 
   at_one : (path : List ℕ) (folder : Folder) (state : State) (a : OpensBy path folder state) (d : IsDamagedFolder path folder) → a.number ≡ d.number → ⊥
   at_one path folder state a d e =
-      let same : a.bytes ≡ d.bytes = some_same (sym a.highest.there ∙ ap (λ (n : ℕ). folder (journal_name path n)) e ∙ d.highest.there) in
+      let same : a.bytes ≡ d.bytes = same_Some _ _ (sym a.highest.there ∙ ap (λ (n : ℕ). folder (journal_name path n)) e ∙ d.highest.there) in
       let differs : Means state a.used ≡ BadRecord = law d.bytes (Means state a.used) BadRecord (subst (λ (z : List ℕ). IsReplayed z state a.used) same a.means) d.damaged in
       cc differs
 

@@ -1,18 +1,19 @@
 -- Where the entries of live chunks lie as a journal goes on.
-use Rattle.std.proofs.Common.{◌≡◌, ℕ, ◌+◌, ◌-◌, List, [], ◌∷◌, ◌++◌, length, take, drop, refl, sym, ap, subst, ◌∙◌, append_assoc, arith}
+use Rattle.std.proofs.Common.{◌≡◌, ℕ, ◌+◌, ◌-◌, List, [], ◌∷◌, ◌++◌, length, take, drop, sym, ap, subst, ◌∙◌, append_assoc, arith}
 use Rattle.std.specs.Int.{w16, w32, w64, to_be_bytes}
 use Rattle.std.specs.List.{concat}
 use Rattle.std.proofs.lemmas.List.{length-append, take_all}
 use Rattle.std.proofs.Math.Seq.{drop-append_seam}
 use Rattle.chunk_journal.specs.Records.{Record, Seal, Append, Queue, Purge, body_of, record_bytes}
 use Rattle.chunk_journal.specs.Journal.{journal_bytes}
-use Rattle.chunk_journal.specs.Meaning.{Leads, after}
+use Rattle.chunk_journal.specs.Meaning.{after}
 use Rattle.chunk_journal.specs.Places.{Spots, ArePlaced, EndsAt, MovesPlaces, bytes_from, extent_before}
 use Rattle.chunk_journal.specs.Laws.{PlacesFollow, LeadsInOrder}
 use Rattle.chunk_journal.proofs.Standing.{after_more}
 use Rattle.journal_files.specs.Fronts.{front_within}
 use Rattle.journal_files.specs.Placings.{placing_of, MovesBy}
 use Rattle.journal_files.specs.Tellings.{Telling, records_of, state_at_seal, state_of, IsTelling, begun}
+use Rattle.journal_files.proofs.Cuts.{leads_of}
 
 -- ---- a record's entries end where it ends
 
@@ -54,9 +55,6 @@ moves_so (Seal next) end old new moves = moves
 moves_so (Append serial tag entries) end old new moves = moves
 moves_so (Queue serial) end old new moves = moves
 moves_so (Purge serial) end old new moves = moves
-
-pub leads_of : (t : Telling) → IsTelling t → Leads (records_of t) (state_of t)
-leads_of t is = record { told = t.told; next = t.next; steps = t.steps; tells = is.tells; greater = is.greater; allowed = is.allowed; whole = refl; here = refl }
 
 pub placed_begun : (follow : PlacesFollow) (order : LeadsInOrder) (t : Telling) (item : Record) (old new : Spots) (end : ℕ) → IsTelling t
     → journal_bytes (records_of (begun item t)) ≡ journal_bytes (records_of t) ++ record_bytes item → end ≡ length (journal_bytes (records_of t)) + length (record_bytes item)

@@ -2,6 +2,7 @@
 use Rattle.std.proofs.Common.{◌≡◌, ◌⊎◌, ⊎_elim, ℕ, ◌+◌, ◌<◌, ◌≤◌, ◌^◌, false, List, Option, Some, None, option_map, Result, OnOk, OnErr, refl, sym, ap, subst, ◌∙◌, arith, inr}
 use Rattle.std.specs.Prelude.{IsSome}
 use Rattle.std.specs.Str.{bytes_eq}
+use Rattle.std.proofs.lemmas.Option.{same_Some}
 use Rattle.disk_files.specs.Disk.{File, Disk, SameDisk, Changes, unlinked, read_of, reads}
 use Rattle.disk_files.specs.Moments.{History, now, Elapses, LeavesOnly}
 use Rattle.disk_files.specs.declared.dir.FileNo.{FileNo}
@@ -48,15 +49,12 @@ module _ (journal next : OpenJournal) (mid new : Disk) (path_is : next.path ≡ 
       let w = recovers next new (opening s) (still_keeps s begun removed) folder leaves in
       renewed journal.path t s folder leads m (subst (λ (p : List ℕ). OpensWithin p (opening s) folder) path_is w)
 
-some_same : {A : Type 0} {x y : A} → Some x ≡ Some y → x ≡ y
-some_same e = cc e
-
 -- the two files are two open files
 pub two_files : (opened : FileNo → Option (List ℕ)) (journal next : OpenJournal) → next.path ≡ journal.path → next.number ≡ journal.number + 1 → next.number < 2 ^ 32
     → opened journal.file ≡ Some (journal_name journal.path journal.number) → IsOpenIn next opened → next.file ≡ journal.file → ⊥
 two_files opened journal next path_is number_is last here there same =
     let names : journal_name journal.path next.number ≡ journal_name journal.path journal.number =
-    some_same (ap (λ (p : List ℕ). Some (journal_name p next.number)) (sym path_is) ∙ sym there ∙ ap opened same ∙ here) in
+    same_Some _ _ (ap (λ (p : List ℕ). Some (journal_name p next.number)) (sym path_is) ∙ sym there ∙ ap opened same ∙ here) in
     let numbers = same_number journal.path next.number journal.number last (omega (arith, last, number_is)) names in
     absurd (omega (arith, numbers, number_is))
 

@@ -1,14 +1,12 @@
 -- The records that a generation begins with.
-use Rattle.std.proofs.Common.{◌≡◌, ℕ, ◌+◌, ◌≤◌, ◌<◌, ◌^◌, Bool, cond, List, [], ◌∷◌, ◌++◌, length, Option, Some, refl, sym, ap, subst, ◌∙◌, append_assoc, arith, inl, inr}
+use Rattle.std.proofs.Common.{◌≡◌, ℕ, ◌+◌, ◌≤◌, ◌<◌, ◌^◌, Bool, cond, List, [], ◌∷◌, ◌++◌, length, Option, Some, refl, sym, ap, subst, ◌∙◌, append_assoc, arith}
 use Rattle.std.specs.Option.{option_map_or}
 use Rattle.std.specs.List.{AllByRecursion, All, concat, flat_map}
 use Rattle.std.specs.BTreeMap.{is_at}
 use Rattle.std.specs.List.Sorted.{IsStrictlySortedBy}
 use Rattle.std.specs.Map.{lookup, keys_of, values_of}
 use Rattle.std.specs.Ordering.{nat_cmp}
-use Rattle.std.specs.declared.cmp.Ordering.TheVariants.{Less, Equal, Greater}
-use Rattle.std.proofs.lemmas.Bool.{cases_lt}
-use Rattle.std.specs.Cmp.{nat_cmp_is}
+use Rattle.std.specs.declared.cmp.Ordering.TheVariants.{Less}
 use Rattle.std.proofs.lemmas.List.{append-nil, length-append}
 use Rattle.std.proofs.lemmas.List.Elements.{All-head, All-tail}
 use Rattle.std.proofs.lemmas.Grind.{flat_map-append}
@@ -19,12 +17,14 @@ use Rattle.buffer_state.specs.Steps.{greatest_size}
 use Rattle.buffer_state.specs.Slots.{Slot, Slots, slot_size, chunks_in, AreBelow}
 use Rattle.chunk_journal.specs.Records.{Record, Seal, Append, Queue, record_bytes, IsRecord}
 use Rattle.chunk_journal.specs.Journal.{journal_bytes}
-use Rattle.chunk_journal.specs.Meaning.{Tells, Each, IsUnsealed, after, after_all, telling, queueing, AreTold}
+use Rattle.chunk_journal.specs.Meaning.{Tells, IsUnsealed, after_all, telling, queueing, AreTold}
 use Rattle.chunk_journal.specs.Places.{Spots, LieAt, ArePlaced, AddsPlace, MovesPlaces, entries_at, extent_before, places_at}
 use Rattle.chunk_journal.specs.Laws.{PlacesFollow, TellsInOrder}
+use Rattle.chunk_journal.proofs.Answered.{each_front}
 use Rattle.chunk_journal.proofs.Coming.{journal_push}
 use Rattle.chunk_journal.proofs.Standing.{after_more}
 use Rattle.chunk_journal.proofs.Telling.{told_so}
+use Rattle.buffer_state.proofs.Rooms.{less as less_of}
 use Rattle.buffer_state.proofs.Serials.{at_itself, at_below}
 use Rattle.file_pieces.specs.Pieces.{AreWithin, pieces_bytes}
 use Rattle.file_pieces.specs.declared.piece.Piece.{Piece}
@@ -33,16 +33,6 @@ use Rattle.journal_files.proofs.Placed.{ends_so}
 use Rattle.journal_files.proofs.Tags.{Short}
 
 -- ---- chunks that a generation can begin with
-
-less_of : (x y : ℕ) → nat_cmp x y ≡ Less → x < y
-less_of x y e =
-    elim (cases_lt x y) [
-      | inl lt ↦ lt
-      | inr le ↦ elim (cases_lt y x) [
-        | inl gt ↦ absurd (cc (e, nat_cmp_is x y Greater gt))
-        | inr ge ↦ absurd (cc (e, nat_cmp_is x y Equal (omega (arith, le, ge))))
-      ]
-    ]
 
 rise : (x : ℕ) (ks : List ℕ) → AllByRecursion (λ y. nat_cmp x y ≡ Less) ks → AllByRecursion (λ y. x + 1 ≤ y) ks
 rise x [] less = tt
@@ -68,10 +58,6 @@ can_be_told slots chunks next is sorted below small =
     subst (λ (z : List Numbered). AreTold 0 z next) is (from_least 0 slots next (omega arith) (any (keys_of slots)) sorted below small)
 
 -- ---- the places of their entries
-
-each_first : (Fits : State → Record → Type 0) (s : State) (items more : List Record) → Each Fits s (items ++ more) → Each Fits s items
-each_first Fits s [] more each = tt
-each_first Fits s (item ∷ items) more each = (each.0, each_first Fits (after s item) items more each.1)
 
 module _ (follow : PlacesFollow) (order : TellsInOrder) where
   -- one more record
@@ -99,8 +85,8 @@ module _ (follow : PlacesFollow) (order : TellsInOrder) where
       let apart : (done ++ item ∷ []) ++ queueing serial chunk.stage ≡ done ++ telling (serial, chunk) = append_assoc done (item ∷ []) (queueing serial chunk.stage) in
       let first = subst IsUnsealed (sym apart) unsealed in
       subst (λ (r : List Record). ArePlaced (journal_bytes r) new (after_all empty r)) apart
-      (placed_queue (done ++ item ∷ []) serial chunk.stage new (each_first Tells empty (done ++ item ∷ []) (queueing serial chunk.stage) first)
-      (placed_one done item old new (each_first Tells empty done (telling (serial, chunk)) unsealed) placed adds))
+      (placed_queue (done ++ item ∷ []) serial chunk.stage new (each_front Tells empty (done ++ item ∷ []) (queueing serial chunk.stage) first)
+      (placed_one done item old new (each_front Tells empty done (telling (serial, chunk)) unsealed) placed adds))
 
 -- ---- each chunk is found under its serial
 
@@ -194,7 +180,7 @@ module _ (follow : PlacesFollow) (order : TellsInOrder) {A : Type 0} (old new : 
             ∙ ap (λ (z : List ℕ). z ++ journal_bytes more) (so_far.bytes_so_far seen fits are) ∙ sym joined;
         within = λ seen fits are. tells.within seen fits (subst (LieAt seen (places_at from serial)) so_far.found.0 (are serial)) (so_far.within seen fits are);
         len_so_far = tells.len_is ∙ ap (λ (n : ℕ). n + length (journal_bytes more)) so_far.len_so_far ∙ sym (length-append (journal_bytes so_far.done) (journal_bytes more)) ∙ ap length (sym joined);
-        placed = placed_chunk follow order so_far.done serial slot.chunk spots behind (each_first Tells empty (so_far.done ++ more) (flat_map telling (chunks_in rest)) (subst IsUnsealed (sym all) so_far.unsealed)) so_far.placed
+        placed = placed_chunk follow order so_far.done serial slot.chunk spots behind (each_front Tells empty (so_far.done ++ more) (flat_map telling (chunks_in rest)) (subst IsUnsealed (sym all) so_far.unsealed)) so_far.placed
             (subst (λ (n : ℕ). AddsPlace serial (extent_before n (size slot.chunk.entries)) spots behind) at tells.places);
         records = both so_far.done more so_far.records tells.records;
         all = all;

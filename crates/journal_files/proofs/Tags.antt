@@ -5,6 +5,7 @@ use Rattle.std.specs.List.{AllByRecursion}
 use Rattle.std.specs.Map.{lookup, set_value, remove_entry}
 use Rattle.std.specs.Ordering.{nat_cmp}
 use Rattle.std.specs.BTreeMap.{is_at}
+use Rattle.std.proofs.lemmas.Option.{same_Some}
 use Rattle.event_modes.specs.Message.{longest_tag}
 use Rattle.buffer_state.specs.declared.chunk.Stage.{Stage}
 use Rattle.buffer_state.specs.declared.chunk.Stage.TheVariants.{Staged, Queued}
@@ -15,9 +16,6 @@ use Rattle.chunk_journal.specs.Meaning.{IsReplayed, after, after_all}
 use Rattle.journal_files.specs.Views.{HasShortTags}
 
 -- ---- what steps keep of each chunk
-
-some_same : {A : Type 0} {x y : A} → Some x ≡ Some y → x ≡ y
-some_same e = cc e
 
 in_front : (front back : List Record) → AllByRecursion IsRecord (front ++ back) → AllByRecursion IsRecord front
 in_front [] back each = tt
@@ -48,7 +46,7 @@ module _ (Fits : Chunk → Type 0) where
   removed_all at (x ∷ chunks) each = removed_first (at x.0) at x chunks each (removed_all at chunks each.1)
 
   found_first : (b : Bool) (at : ℕ → Bool) (x : Numbered) (chunks : List Numbered) (c : Chunk) → cond b (Some x.1) (lookup at chunks) ≡ Some c → AllFit (x ∷ chunks) → (lookup at chunks ≡ Some c → Fits c) → Fits c
-  found_first true at x chunks c is each more = subst Fits (some_same is) each.0
+  found_first true at x chunks c is each more = subst Fits (same_Some _ _ is) each.0
   found_first false at x chunks c is each more = more is
 
   found_fits : (at : ℕ → Bool) (chunks : List Numbered) (c : Chunk) → lookup at chunks ≡ Some c → AllFit chunks → Fits c

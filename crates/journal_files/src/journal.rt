@@ -170,6 +170,7 @@ impl<A: Allocator + Copy> Journal<A> {
         ensures cause { HasCause (D.fault_count dir.old) (D.fault_count dir.new) result }
         ensures only { OnErr result (result ≡ Err DirError.Fault) }
     {
+        // Called for their laws alone.
         places_follow();
         leads_in_order();
         let told = dir.append(self.file, &self.ready);

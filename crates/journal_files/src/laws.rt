@@ -9,6 +9,7 @@ use numbered_files::names_differ;
 pub fn recovers_all()
     ensures { RecoversAll }
 {
+    // Called for their laws alone.
     cuts_whole();
     cuts_generation();
 }
@@ -24,5 +25,6 @@ pub fn opens_one_way()
     ensures one { OpensOneWay }
     ensures undamaged { OpensUndamaged }
 {
+    // Called for its law alone.
     answers_one_way();
 }

@@ -78,6 +78,7 @@ impl<A: Allocator + Copy> Journal<A> {
         ensures cause { HasReason (D.fault_count dir.old) (D.fault_count dir.new) result OpenError.Fault }
     {
         let found = find(alloc, dir, path)?;
+        // Called for its law alone.
         answers_one_way();
         let number = found.greatest + 1;
         let older = Older::open(alloc, dir, path, number)?;

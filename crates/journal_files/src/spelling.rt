@@ -17,7 +17,9 @@ ghost use Rattle.journal_files.specs.Views.{HasShortTags};
 
 use crate::placing::last_extent;
 use buffer_state::{Chunk, Chunks, Stage};
-use chunk_journal::{Extent, Places, Record, leads_in_order, places_follow, put_record};
+use chunk_journal::{
+    APPEND_KIND, Extent, Places, Record, leads_in_order, places_follow, put_record,
+};
 use file_pieces::Piece;
 use std::alloc::{AllocError, Allocator};
 
@@ -53,6 +55,7 @@ pub(crate) fn tell_chunks<'a, A: Allocator + Copy>(
     ensures seal { IfOk result (λ told. told.seal.items ≡ record_bytes (Seal chunks.now.next)) }
     ensures next { IsRecord (Seal chunks.now.next) }
 {
+    // Called for their laws alone.
     places_follow();
     leads_in_order();
     let live = chunks.live();
@@ -122,6 +125,7 @@ fn tell_entries<'a, A: Allocator + Copy>(
         places.old places.new) }
     ensures record { IsRecord (Append serial chunk.now.chunk.tag chunk.now.chunk.entries) }
 {
+    // Called for its law alone.
     chunk.stays_stored();
     let front = spell_front(alloc, serial, chunk.tag(), chunk.count(), chunk.size())?;
     let end = behind(len, front.len() + chunk.size())?;
@@ -176,7 +180,7 @@ fn spell_front<A: Allocator>(
     let length = 15 + tag.len() + size;
     let mut front = Vec::with_capacity(alloc, 19 + tag.len())?;
     front.extend_from_slice(&(length as u32).to_be_bytes())?;
-    front.push(2)?;
+    front.push(APPEND_KIND)?;
     front.extend_from_slice(&serial.to_be_bytes())?;
     front.extend_from_slice(&(tag.len() as u16).to_be_bytes())?;
     front.extend_from_slice(tag)?;

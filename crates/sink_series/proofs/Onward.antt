@@ -10,7 +10,7 @@ use Rattle.std.proofs.lemmas.Bool.{cases_lt, cases_eq}
 use Rattle.std.proofs.lemmas.Grind.{flat_map-append}
 use Rattle.disk_files.specs.Disk.{Disk, Folder, SameDisk, reads, read_of}
 use Rattle.disk_files.specs.Moments.{History, now, Elapses}
-use Rattle.event_modes.proofs.Stored.{all_push}
+use Rattle.msgpack_bytes.proofs.Walk.{all_with}
 use Rattle.sink_series.specs.Events.{Event, IsEvent, item_of, run_of, BeginsNone, Holds, Counts}
 use Rattle.sink_series.specs.Names.{sink_name}
 use Rattle.sink_series.specs.Folders.{FileHolds, HasFile, HoldsTo}
@@ -24,7 +24,7 @@ pub record ReadOn (bytes : List ℕ) (events : List Event) (rest : List ℕ) : T
 pub read_more : (bytes rest behind : List ℕ) (events more : List Event) (event : Event) → ReadOn bytes events rest → IsEvent event → rest ≡ item_of event ++ behind → more ≡ events ++ event ∷ []
     → ReadOn bytes more behind
 read_more bytes rest behind events more event so_far is first pushed = record {
-  each = subst (AllByRecursion IsEvent) (sym pushed) (all_push IsEvent events event so_far.each is);
+  each = subst (AllByRecursion IsEvent) (sym pushed) (all_with IsEvent events event so_far.each is);
   whole = so_far.whole ∙ ap (λ (z : List ℕ). run_of events ++ z) (first ∙ ap (λ (z : List ℕ). z ++ behind) (sym (append-nil (item_of event))))
       ∙ sym (append_assoc (run_of events) (run_of (event ∷ [])) behind) ∙ ap (λ (z : List ℕ). z ++ behind) (sym (flat_map-append item_of events (event ∷ [])))
       ∙ ap (λ (es : List Event). run_of es ++ behind) (sym pushed);

@@ -1,12 +1,13 @@
 //! The events that the bytes of a sink's file hold.
 
 ghost use Rattle.std.specs.Prelude.{◌≡◌, ℕ, ◌≤◌, List, ◌∷◌, ◌++◌, length, IfOk, IsSomeAnd, MatchOption};
+ghost use Rattle.event_modes.specs.Entry.{entry_header};
 ghost use Rattle.event_modes.specs.Message.{longest_tag};
 ghost use Rattle.sink_series.specs.Events.{Event, IsEvent, item_of, BeginsNone, Holds, Counts};
 
 use crate::event::SinkEvent;
 use crate::writing::put_front;
-use event_modes::{Entries, LONGEST_TAG};
+use event_modes::{ENTRY_HEADER, Entries, LONGEST_TAG};
 use msgpack_bytes::{array_of, next_item, next_text};
 use std::alloc::{AllocError, Allocator};
 
@@ -95,7 +96,7 @@ fn behind_item<'a, A: Allocator>(
 // The tag, and the time with the record, of the item that the bytes begin with.
 fn parts_of(bytes: &[u8]) -> Option<(&[u8], &[u8])>
     ensures { (event : Event) (rest : List ℕ) → IsEvent event → bytes.now ≡ item_of event ++ rest
-        → IsSomeAnd result (λ found. (found.0.now ≡ event.tag) × (0x92 ∷ found.1.now ≡ event.entry)) }
+        → IsSomeAnd result (λ found. (found.0.now ≡ event.tag) × (entry_header ∷ found.1.now ≡ event.entry)) }
 {
     let behind = array_of(bytes, 3)?;
     let (tag, content) = next_text(behind)?;
@@ -110,14 +111,14 @@ fn event_of<A: Allocator + Copy>(
     tag: &[u8],
     body: &[u8],
 ) -> Result<Option<SinkEvent<A>>, AllocError>
-    ensures { IfOk result (λ found. MatchOption found (IsEvent (record { tag = tag.now; entry = 0x92 ∷ body.now }) → ⊥)
-        (λ event. IsEvent event × (event ≡ record { tag = tag.now; entry = 0x92 ∷ body.now }))) }
+    ensures { IfOk result (λ found. MatchOption found (IsEvent (record { tag = tag.now; entry = entry_header ∷ body.now }) → ⊥)
+        (λ event. IsEvent event × (event ≡ record { tag = tag.now; entry = entry_header ∷ body.now }))) }
 {
     if tag.len() > LONGEST_TAG {
         return Ok(None);
     }
     let mut entry = Vec::with_capacity(alloc, 1 + body.len())?;
-    entry.push(0x92)?;
+    entry.push(ENTRY_HEADER)?;
     entry.extend_from_slice(body)?;
     match Entries::read(alloc, &entry, 1)? {
         None => Ok(None),
