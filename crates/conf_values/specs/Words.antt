@@ -28,6 +28,10 @@ is_path_byte b = is_ascii_alphanumeric b || b == 95 || b == 45 || b == 46
 unfoldable pub is_path : List ℕ → Bool
 is_path text = is_in_range 1 64 (length text) && list_all is_path_byte text && not (begins 46 text)
 
+-- the most bytes of a host's name; chosen here
+abbrev pub most_host_bytes : ℕ
+most_host_bytes = 1024
+
 -- whether a `/` stands in the text
 abbrev pub has_slash : List ℕ → Bool
 has_slash text = list_any (λ b. b == 47) text

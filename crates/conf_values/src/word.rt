@@ -2,7 +2,10 @@
 
 ghost use Rattle.std.specs.Prelude.{◌≡◌, ◌≤◌, ◌↔◌, IsTrue, length};
 ghost use Rattle.std.specs.List.{list_all};
-ghost use Rattle.conf_values.specs.Words.{boolean_of, begins, is_path_byte, is_path, has_slash, is_label_byte, is_bare_label, is_label_name};
+ghost use Rattle.conf_values.specs.Words.{boolean_of, begins, is_path_byte, is_path, has_slash, is_label_byte, is_bare_label, is_label_name, most_host_bytes};
+
+// The most bytes of a host's name.
+const MOST_HOST_BYTES: usize = 1_024;
 
 /// The boolean of a text: `true`, `yes` and the empty text are true, `false` and `no` are false.
 /// `None`: it is none of these.
@@ -45,9 +48,9 @@ pub fn is_label_name(text: &[u8]) -> bool
 
 /// Whether the text is short enough for the name of a host: at most 1,024 bytes.
 pub fn is_host_name(text: &[u8]) -> bool
-    ensures { IsTrue result ↔ (length text.now ≤ 1024) }
+    ensures { IsTrue result ↔ (length text.now ≤ most_host_bytes) }
 {
-    text.len() <= 1_024
+    text.len() <= MOST_HOST_BYTES
 }
 
 fn begins(text: &[u8], byte: u8) -> bool

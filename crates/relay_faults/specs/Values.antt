@@ -5,6 +5,7 @@ use Rattle.std.specs.Int.{is_in_range}
 use Rattle.relay_faults.specs.declared.form.OutputType.{OutputType}
 use Rattle.relay_faults.specs.declared.form.OutputType.TheVariants as outputs
 use Rattle.conf_values.specs.Numbers.{number_of}
+use Rattle.conf_values.specs.Words.{most_host_bytes}
 
 -- a number of threads is a whole number from 1 to 64
 abbrev pub few_threads : ℕ → Option ℕ
@@ -46,6 +47,6 @@ is_source_type text = bytes_eq text (codes "forward")
 abbrev pub is_no_target : List ℕ → Bool
 is_no_target text = bytes_eq text (codes "@ROOT") || bytes_eq text (codes "@ERROR")
 
--- at most 1,024 bytes
+-- short enough for the name of a host
 abbrev pub is_short : List ℕ → Bool
-is_short text = nat_le (length text) 1024
+is_short text = nat_le (length text) most_host_bytes

@@ -2,6 +2,10 @@
 use Rattle.std.specs.Prelude.{◌≡◌, ◌≢◌, ℕ, List, [], ◌==◌}
 use Rattle.std.specs.List.{AllByRecursion, slice_split, join_with_byte}
 
+-- the most bytes of a tag; chosen here
+abbrev pub most_tag_bytes : ℕ
+most_tag_bytes = 1024
+
 -- the code of a dot
 abbrev pub dot : ℕ
 dot = 46

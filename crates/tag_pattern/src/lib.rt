@@ -26,4 +26,4 @@ pub use pattern::{Pattern, PatternError};
 pub use plain::Plain;
 pub use prefix::{Prefix, PrefixError, is_prefix};
 pub use prefixed::PrefixedPlain;
-pub use tag::{Tag, TagError};
+pub use tag::{MOST_TAG_BYTES, Tag, TagError};

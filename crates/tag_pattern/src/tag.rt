@@ -1,6 +1,7 @@
 //! Tags: what an event is routed by.
 
 ghost use Rattle.std.specs.Prelude.{◌≡◌, ◌<◌, ◌≤◌, ◌↔◌, length, IfOk};
+ghost use Rattle.tag_pattern.specs.Parts.{most_tag_bytes};
 ghost use Rattle.tag_pattern.specs.Prefixes.{prefixed_tag};
 
 use crate::prefix::Prefix;
@@ -41,12 +42,13 @@ pub struct Tag<A: Allocator> {
 
 impl<A: Allocator> Model for Tag<A> {
     ghost use Rattle.std.specs.Prelude.{ℕ, ◌≤◌, List, length};
+    ghost use Rattle.tag_pattern.specs.Parts.{most_tag_bytes};
 
     ghost Value = { List ℕ };
 
     ghost view = { λ tag. tag.bytes.items };
 
-    ghost invariant = { λ tag. length tag.bytes.items ≤ 1024 };
+    ghost invariant = { λ tag. length tag.bytes.items ≤ most_tag_bytes };
 }
 
 impl<A: Allocator> Tag<A> {
@@ -54,7 +56,7 @@ impl<A: Allocator> Tag<A> {
     /// `Memory`.
     pub fn read(alloc: A, bytes: &[u8]) -> Result<Tag<A>, TagError>
         ensures tag { IfOk result (λ tag. tag ≡ bytes.now) }
-        ensures too_long { (result ≡ Err TagError.TagTooLong) ↔ (1024 < length bytes.now) }
+        ensures too_long { (result ≡ Err TagError.TagTooLong) ↔ (most_tag_bytes < length bytes.now) }
     {
         if bytes.len() > MOST_TAG_BYTES {
             return Err(TagError::TagTooLong);
@@ -81,7 +83,7 @@ impl<A: Allocator> Tag<A> {
         prefix: &Prefix<C>,
     ) -> Result<Tag<B>, TagError>
         ensures tag { IfOk result (λ tag. tag ≡ prefixed_tag prefix.now self.now) }
-        ensures too_long { (result ≡ Err TagError.TagTooLong) ↔ (1024 < length (prefixed_tag prefix.now self.now)) }
+        ensures too_long { (result ≡ Err TagError.TagTooLong) ↔ (most_tag_bytes < length (prefixed_tag prefix.now self.now)) }
     {
         let front = prefix.as_bytes();
         let length = front.len() + 1 + self.bytes.len();
@@ -98,7 +100,7 @@ impl<A: Allocator> Tag<A> {
     /// The tag's bytes, at most 1,024.
     pub fn as_bytes(&self) -> &[u8]
         ensures bytes { result.now ≡ self.now }
-        ensures limit { length self.now ≤ 1024 }
+        ensures limit { length self.now ≤ most_tag_bytes }
     {
         &self.bytes
     }
