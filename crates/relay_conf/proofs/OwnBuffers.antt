@@ -15,7 +15,7 @@ use Rattle.relay_conf.specs.declared.output.Output.TheVariants as output
 use Rattle.relay_conf.specs.declared.relay.MatchRule.{MatchRule}
 use Rattle.relay_conf.specs.declared.relay.Relay.{Relay}
 use Rattle.relay_conf.specs.declared.relay.Scope.{Scope}
-use Rattle.relay_conf.specs.Buffers.{buffer_number, output_there, HaveOwnBuffers}
+use Rattle.relay_conf.specs.Buffers.{buffer_number, output_in_relay, HaveOwnBuffers}
 use Rattle.relay_conf.specs.Meaning.{OutputMeaning, to_nowhere, to_scope, to_relays, to_sink, output_by, output_of, kind_of, is_buffered, has_buffer, one_if, is_copy, outputs_of, numbered, tree_buffers, trees_buffers}
 use Rattle.relay_conf.specs.Relays.{IsMatchOf, AreMatchesOf, IsScopeOf, AreScopesOf, IsRelayOf}
 use Rattle.relay_conf.specs.Views.{output_view}
@@ -271,7 +271,7 @@ record Stands {A : Type 0} (relay : Relay A) (scope rule output : ℕ) (found : 
   r_is : slice_get s.matches.items rule ≡ Some r
   o_is : slice_get r.outputs.items output ≡ Some found
 
-stands : {A : Type 0} (relay : Relay A) (scope rule output : ℕ) (found : Output A) → output_there relay scope rule output ≡ Some found → Stands relay scope rule output found
+stands : {A : Type 0} (relay : Relay A) (scope rule output : ℕ) (found : Output A) → output_in_relay relay scope rule output ≡ Some found → Stands relay scope rule output found
 stands {A} relay scope rule output found e = by (slice_get relay.scopes.items scope) refl e
   where
     inner : (s : Scope A) → slice_get relay.scopes.items scope ≡ Some s → (m : Option (MatchRule A)) → slice_get s.matches.items rule ≡ m

@@ -17,7 +17,7 @@ use crate::target::target;
 use crate::values::{flag_or, text_or, time_or};
 use conf_text::{Element, Pair};
 use relay_faults::{
-    OutputType, argument_of, children_of, is_named, last_value, line_of, output_type, pairs_of,
+    OutputType, argument_of, children_of, is_named, line_of, output_type, pairs_of, value_of,
 };
 use std::alloc::{AllocError, Allocator};
 
@@ -58,7 +58,7 @@ fn file<A: Allocator + Copy>(
 fn kind_of<A: Allocator>(pairs: &[Pair<A>]) -> Option<OutputType>
     ensures { result ≡ kind_of (map setting pairs.now) }
 {
-    match last_value(pairs, "@type") {
+    match value_of(pairs, "@type") {
         None => None,
         Some(kind) => output_type(kind),
     }
@@ -85,7 +85,7 @@ fn output<A: Allocator + Copy>(
             line,
         }),
         Some(OutputType::Relabel) => Ok(Output::Relabel {
-            target: target(elements, last_value(pairs, "@label")),
+            target: target(elements, value_of(pairs, "@label")),
             line,
         }),
         _ => Ok(Output::Null { line }),

@@ -17,7 +17,7 @@ use crate::target::target;
 use crate::values::{port_or, prefix, text_or};
 use conf_text::Element;
 use relay_faults::{
-    RelayError, RelayFault, children_of, examine_elements, is_named, last_value, line_of, pairs_of,
+    RelayError, RelayFault, children_of, examine_elements, is_named, line_of, pairs_of, value_of,
 };
 use std::alloc::{AllocError, Allocator};
 
@@ -89,7 +89,7 @@ fn source<A: Allocator + Copy>(
     Ok(Source {
         port: port_or(pairs, "port", DEFAULT_PORT),
         bind: text_or(alloc, pairs, "bind", DEFAULT_BIND)?,
-        label: target(elements, last_value(pairs, "@label")),
+        label: target(elements, value_of(pairs, "@label")),
         prefix: prefix(alloc, pairs, "add_tag_prefix")?,
         security: security_in(alloc, children_of(element))?,
         line: line_of(element),

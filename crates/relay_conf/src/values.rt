@@ -14,7 +14,7 @@ ghost use Rattle.relay_conf.specs.Meaning.{read_or, last_child};
 use crate::buffer::{FlushMode, OverflowAction};
 use conf_text::{Element, Pair};
 use conf_values::{boolean, port, seconds, size, whole_number};
-use relay_faults::{is_named, last_value, threads};
+use relay_faults::{is_named, threads, value_of};
 use std::alloc::{AllocError, Allocator};
 use tag_pattern::{Prefix, PrefixError};
 
@@ -27,7 +27,7 @@ pub(crate) fn text_or<A: Allocator + Copy>(
 ) -> Result<String<A>, AllocError>
     ensures { IfOk result (λ text. string_bytes text ≡ unwrap_or (value_of name.now (map setting pairs.now)) default.now) }
 {
-    match last_value(pairs, name) {
+    match value_of(pairs, name) {
         None => String::from_str(alloc, default),
         Some(value) => String::from_str(alloc, value),
     }
@@ -37,7 +37,7 @@ pub(crate) fn text_or<A: Allocator + Copy>(
 pub(crate) fn number<A: Allocator>(pairs: &[Pair<A>], name: &str) -> Option<u64>
     ensures { result ≡ option_and_then number_of (value_of name.now (map setting pairs.now)) }
 {
-    match last_value(pairs, name) {
+    match value_of(pairs, name) {
         None => None,
         Some(value) => whole_number(value.as_bytes()),
     }
@@ -47,7 +47,7 @@ pub(crate) fn number<A: Allocator>(pairs: &[Pair<A>], name: &str) -> Option<u64>
 pub(crate) fn time<A: Allocator>(pairs: &[Pair<A>], name: &str) -> Option<u64>
     ensures { result ≡ option_and_then seconds_of (value_of name.now (map setting pairs.now)) }
 {
-    match last_value(pairs, name) {
+    match value_of(pairs, name) {
         None => None,
         Some(value) => seconds(value.as_bytes()),
     }
@@ -71,7 +71,7 @@ pub(crate) fn time_or<A: Allocator>(pairs: &[Pair<A>], name: &str, default: u64)
 pub(crate) fn size_or<A: Allocator>(pairs: &[Pair<A>], name: &str, default: u64) -> u64
     ensures { result ≡ read_or size_of default (value_of name.now (map setting pairs.now)) }
 {
-    match last_value(pairs, name) {
+    match value_of(pairs, name) {
         None => default,
         Some(value) => size(value.as_bytes()).unwrap_or(default),
     }
@@ -81,7 +81,7 @@ pub(crate) fn size_or<A: Allocator>(pairs: &[Pair<A>], name: &str, default: u64)
 pub(crate) fn flag_or<A: Allocator>(pairs: &[Pair<A>], name: &str, default: bool) -> bool
     ensures { result ≡ read_or boolean_of default (value_of name.now (map setting pairs.now)) }
 {
-    match last_value(pairs, name) {
+    match value_of(pairs, name) {
         None => default,
         Some(value) => boolean(value.as_bytes()).unwrap_or(default),
     }
@@ -91,7 +91,7 @@ pub(crate) fn flag_or<A: Allocator>(pairs: &[Pair<A>], name: &str, default: bool
 pub(crate) fn port_or<A: Allocator>(pairs: &[Pair<A>], name: &str, default: u16) -> u16
     ensures { result ≡ read_or port_of default (value_of name.now (map setting pairs.now)) }
 {
-    match last_value(pairs, name) {
+    match value_of(pairs, name) {
         None => default,
         Some(value) => port(value.as_bytes()).unwrap_or(default),
     }
@@ -101,7 +101,7 @@ pub(crate) fn port_or<A: Allocator>(pairs: &[Pair<A>], name: &str, default: u16)
 pub(crate) fn threads_or<A: Allocator>(pairs: &[Pair<A>], name: &str, default: usize) -> usize
     ensures { result ≡ read_or threads_of default (value_of name.now (map setting pairs.now)) }
 {
-    match last_value(pairs, name) {
+    match value_of(pairs, name) {
         None => default,
         Some(value) => threads(value.as_bytes()).unwrap_or(default),
     }
@@ -115,7 +115,7 @@ pub(crate) fn prefix<A: Allocator>(
 ) -> Result<Option<Prefix<A>>, AllocError>
     ensures { IfOk result (λ prefix. prefix ≡ option_and_then prefix_of (value_of name.now (map setting pairs.now))) }
 {
-    let Some(value) = last_value(pairs, name) else {
+    let Some(value) = value_of(pairs, name) else {
         return Ok(None);
     };
     match Prefix::read(alloc, value.as_bytes()) {
@@ -133,7 +133,7 @@ pub(crate) fn flush_mode_or<A: Allocator>(
 ) -> FlushMode
     ensures { result ≡ read_or flush_mode_of default (value_of name.now (map setting pairs.now)) }
 {
-    match last_value(pairs, name) {
+    match value_of(pairs, name) {
         None => default,
         Some(value) => flush_mode(value).unwrap_or(default),
     }
@@ -147,7 +147,7 @@ pub(crate) fn overflow_or<A: Allocator>(
 ) -> OverflowAction
     ensures { result ≡ read_or overflow_of default (value_of name.now (map setting pairs.now)) }
 {
-    match last_value(pairs, name) {
+    match value_of(pairs, name) {
         None => default,
         Some(value) => overflow(value).unwrap_or(default),
     }

@@ -52,7 +52,7 @@ pub fn is_named<A: Allocator>(element: &Element<A>, name: &str) -> bool
 }
 
 /// The value in the last line of this name among some parameters, if there is one.
-pub fn last_value<'a, A: Allocator>(pairs: &'a [Pair<A>], name: &str) -> Option<&'a str>
+pub fn value_of<'a, A: Allocator>(pairs: &'a [Pair<A>], name: &str) -> Option<&'a str>
     ensures { option_copied result ≡ value_of name.now (map setting pairs.now) }
 {
     let mut found = None;

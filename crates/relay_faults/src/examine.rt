@@ -9,7 +9,7 @@ ghost use Rattle.relay_faults.specs.Elements.{heading_of, settings_of, value_of,
 ghost use Rattle.relay_faults.specs.Findings.{Examines};
 ghost use Rattle.relay_faults.specs.Examined.{found_if, needs_type, section_of, match_section, store_section, is_passed, settings_found, looked_at, lacks, lacks_child, has_files, output_lacks, section_lacks, front_found, opening_found, tree_found, is_chunk_key};
 
-use crate::element::{argument_of, children_of, is_named, last_value, line_of, name_of, pairs_of};
+use crate::element::{argument_of, children_of, is_named, line_of, name_of, pairs_of, value_of};
 use crate::fault::{RelayError, RelayFault, RelayFaultKind};
 use crate::form::{OutputType, is_file, output_type, store_type};
 use crate::patterns::examine_patterns;
@@ -54,7 +54,7 @@ fn examine_front<A: Allocator + Copy>(
         RelayFaultKind::Missing,
         line_of(element),
     )?;
-    let section = section_of(opening, last_value(pairs, "@type"));
+    let section = section_of(opening, value_of(pairs, "@type"));
     look_at(section, pairs)?;
     Ok(section)
 }
@@ -212,7 +212,7 @@ fn output_lacks<A: Allocator>(kind: OutputType, pairs: &[Pair<A>], children: &[E
 fn lacks<A: Allocator>(pairs: &[Pair<A>], name: &str) -> bool
     ensures { result ≡ lacks name.now (map setting pairs.now) }
 {
-    last_value(pairs, name).is_none()
+    value_of(pairs, name).is_none()
 }
 
 fn lacks_child<A: Allocator>(children: &[Element<A>], name: &str) -> bool
@@ -230,7 +230,7 @@ fn lacks_child<A: Allocator>(children: &[Element<A>], name: &str) -> bool
 pub fn has_files<A: Allocator>(pairs: &[Pair<A>]) -> bool
     ensures { result ≡ has_files (map setting pairs.now) }
 {
-    match last_value(pairs, "@type") {
+    match value_of(pairs, "@type") {
         None => false,
         Some(kind) => is_file(kind).unwrap_or(false),
     }

@@ -11,7 +11,7 @@ mod patterns;
 mod section;
 
 pub use configuration::examine_elements;
-pub use element::{argument_of, children_of, is_named, last_value, line_of, pairs_of};
+pub use element::{argument_of, children_of, is_named, line_of, pairs_of, value_of};
 pub use examine::has_files;
 pub use fault::{RelayError, RelayFault, RelayFaultKind};
 pub use form::{MOST_FLUSH_THREADS, OutputType, is_flush_mode, is_overflow, output_type, threads};
