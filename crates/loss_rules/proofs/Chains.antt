@@ -3,11 +3,12 @@ use Rattle.std.proofs.Common.{ℕ, ◌<◌, List, [], length, refl, subst, inl, 
 use Rattle.std.proofs.lemmas.Bool.{cases_lt}
 use Rattle.std.proofs.lemmas.List.{get_or_past}
 use Rattle.relay_net.specs.Network.{Network}
-use Rattle.loss_rules.specs.Rules.{GoesTo, here, onward}
+use Rattle.loss_rules.specs.Rules.{GoesOn}
 use Rattle.loss_rules.specs.Sites.{line_of}
 use Rattle.loss_rules.specs.declared.label.Reach.{Reach}
-use Rattle.loss_rules.specs.Graphs.{HasRelabel, Leads, LeadsTo, already, further, IsGraphOf}
+use Rattle.loss_rules.specs.Graphs.{HasRelabel, Leads, IsGraphOf}
 use Rattle.loss_rules.specs.declared.relabel.Relabel.{Relabel}
+use Rattle.route_graph.specs.Chains.{Chain, here, onward}
 use Rattle.route_graph.proofs.Members.{nil-none}
 
 -- a scope that isn't there has no relabels
@@ -17,21 +18,16 @@ leads-within graph scope target line has = elim (cases_lt scope (length graph)) 
   | inr past ↦ absurd (nil-none (record { target = target; line = line }) (subst (λ (x : List Relabel). Contains x (record { target = target; line = line })) (get_or_past graph scope [] past) has))
 ]
 
--- one relabel more at the end of a chain
-pub leads-on : {graph : List (List Relabel)} {scope middle last : ℕ} → LeadsTo graph scope middle → Leads graph middle last → LeadsTo graph scope last
-leads-on already h = further h already
-leads-on (further g k) h = further g (leads-on k h)
-
 -- a chain in the network is one in the graph
-pub goes-leads : {A : Type 0} (net : Network A) (reaches : List (Reach A)) (place : ℕ) (graph : List (List Relabel)) → IsGraphOf net reaches place graph → {scope last : ℕ} → GoesTo net reaches place scope last → LeadsTo graph scope last
-goes-leads net reaches place graph is here = already
-goes-leads net reaches place graph is (onward {scope = scope} {target = target} g k) =
+pub goes-leads : {A : Type 0} (net : Network A) (reaches : List (Reach A)) (place : ℕ) (graph : List (List Relabel)) → IsGraphOf net reaches place graph → {scope last : ℕ} → Chain (GoesOn net reaches place) scope last → Chain (Leads graph) scope last
+goes-leads net reaches place graph is here = here
+goes-leads net reaches place graph is (onward {start = scope} {next = target} g k) =
     let line = line_of g.2 in
-    further (line, (is scope target line).1 (g.0, g.1, g.2, g.3, g.4, g.5, refl)) (goes-leads net reaches place graph is k)
+    onward (line, (is scope target line).1 (g.0, g.1, g.2, g.3, g.4, g.5, refl)) (goes-leads net reaches place graph is k)
 
 -- and the other way round
-pub leads-goes : {A : Type 0} (net : Network A) (reaches : List (Reach A)) (place : ℕ) (graph : List (List Relabel)) → IsGraphOf net reaches place graph → {scope last : ℕ} → LeadsTo graph scope last → GoesTo net reaches place scope last
-leads-goes net reaches place graph is already = here
-leads-goes net reaches place graph is (further {scope = scope} {target = target} h k) =
+pub leads-goes : {A : Type 0} (net : Network A) (reaches : List (Reach A)) (place : ℕ) (graph : List (List Relabel)) → IsGraphOf net reaches place graph → {scope last : ℕ} → Chain (Leads graph) scope last → Chain (GoesOn net reaches place) scope last
+leads-goes net reaches place graph is here = here
+leads-goes net reaches place graph is (onward {start = scope} {next = target} h k) =
     let r = (is scope target h.0).0 h.1 in
     onward (r.0, r.1, r.2, r.3, r.4, r.5) (leads-goes net reaches place graph is k)

@@ -11,22 +11,23 @@ use Rattle.loss_rules.specs.Rules.{IsOnNoCycle, NoRelabelCycle}
 use Rattle.loss_rules.specs.Sites.{line_of}
 use Rattle.loss_rules.specs.declared.label.Reach.{Reach}
 use Rattle.loss_rules.specs.Firsts.{IsLeast, earlier_of}
-use Rattle.loss_rules.specs.Graphs.{LeadsTo, IsGraphOf, IsOnCycle, IsOnCycleFrom}
+use Rattle.loss_rules.specs.Graphs.{Leads, IsGraphOf, IsOnCycle, IsOnCycleFrom}
 use Rattle.loss_rules.specs.declared.relabel.Relabel.{Relabel}
 use Rattle.loss_rules.proofs.Chains.{leads-within, goes-leads, leads-goes}
 use Rattle.loss_rules.proofs.Leasts.{first-joined, first-same}
+use Rattle.route_graph.specs.Chains.{Chain}
 use Rattle.route_graph.proofs.Members.{nil-none}
 
 -- ---- the relabels of one scope
 
 -- In this line there is one of these relabels, from whose target a chain leads back to the scope.
 abbrev pub IsAmong : List (List Relabel) → ℕ → List Relabel → ℕ → Type 0
-IsAmong graph scope relabels line = (target : ℕ) × Contains relabels (record { target = target; line = line }) × LeadsTo graph target scope
+IsAmong graph scope relabels line = (target : ℕ) × Contains relabels (record { target = target; line = line }) × Chain (Leads graph) target scope
 
 pub among-none : (graph : List (List Relabel)) (scope : ℕ) → IsLeast (IsAmong graph scope []) None
 among-none graph scope = λ line h. nil-none (record { target = h.0; line = line }) h.1
 
-pub among-back : (graph : List (List Relabel)) (scope : ℕ) (relabels : List Relabel) (relabel : Relabel) (first : Option ℕ) → LeadsTo graph relabel.target scope → IsLeast (IsAmong graph scope relabels) first → IsLeast (IsAmong graph scope (relabels ++ relabel ∷ [])) (earlier_of first (Some relabel.line))
+pub among-back : (graph : List (List Relabel)) (scope : ℕ) (relabels : List Relabel) (relabel : Relabel) (first : Option ℕ) → Chain (Leads graph) relabel.target scope → IsLeast (IsAmong graph scope relabels) first → IsLeast (IsAmong graph scope (relabels ++ relabel ∷ [])) (earlier_of first (Some relabel.line))
 among-back graph scope relabels relabel first leads is =
     first-joined (IsAmong graph scope relabels) (λ line. line ≡ relabel.line) (IsAmong graph scope (relabels ++ relabel ∷ []))
     (λ line h. elim (Contains-push_cases relabels relabel (record { target = h.0; line = line }) h.1) [
@@ -37,12 +38,12 @@ among-back graph scope relabels relabel first leads is =
     (λ line e. (relabel.target, subst (λ (x : ℕ). Contains (relabels ++ relabel ∷ []) (record { target = relabel.target; line = x })) (sym e) (Contains-push relabels relabel), leads))
     first (Some relabel.line) is (refl, λ line less e. absurd (omega arith))
 
-pub among-gone : (graph : List (List Relabel)) (scope : ℕ) (relabels : List Relabel) (relabel : Relabel) (first : Option ℕ) → (LeadsTo graph relabel.target scope → ⊥) → IsLeast (IsAmong graph scope relabels) first → IsLeast (IsAmong graph scope (relabels ++ relabel ∷ [])) first
+pub among-gone : (graph : List (List Relabel)) (scope : ℕ) (relabels : List Relabel) (relabel : Relabel) (first : Option ℕ) → (Chain (Leads graph) relabel.target scope → ⊥) → IsLeast (IsAmong graph scope relabels) first → IsLeast (IsAmong graph scope (relabels ++ relabel ∷ [])) first
 among-gone graph scope relabels relabel first gone is =
     first-same (IsAmong graph scope relabels) (IsAmong graph scope (relabels ++ relabel ∷ []))
     (λ line h. elim (Contains-push_cases relabels relabel (record { target = h.0; line = line }) h.1) [
       | inl c ↦ (h.0, c, h.2)
-      | inr e ↦ absurd (gone (subst (λ (x : ℕ). LeadsTo graph x scope) (sym (ap (λ (x : Relabel). x.target) e)) h.2))
+      | inr e ↦ absurd (gone (subst (λ (x : ℕ). Chain (Leads graph) x scope) (sym (ap (λ (x : Relabel). x.target) e)) h.2))
     ])
     (λ line h. (h.0, Contains-append_left relabels (relabel ∷ []) (record { target = h.0; line = line }) h.1, h.2))
     first is

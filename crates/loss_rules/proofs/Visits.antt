@@ -3,18 +3,20 @@ use Rattle.std.proofs.Common.{◌≡◌, ◌≢◌, ◌∙◌, ℕ, ◌<◌, Boo
 use Rattle.std.proofs.lemmas.Bool.{cases_eq, cases_lt}
 use Rattle.std.proofs.lemmas.List.{length-set, length-replicate, get_or-replicate, get_or_past, get_or-set_other, get_or-set_same}
 use Rattle.std.proofs.lemmas.List.Elements.{Contains-append_left, Contains-append_right, Contains-append_cases, Contains-push_cases}
-use Rattle.loss_rules.specs.Graphs.{relabels_at, HasRelabel, Leads, LeadsTo, already, further}
+use Rattle.loss_rules.specs.Graphs.{relabels_at, HasRelabel, Leads}
 use Rattle.loss_rules.specs.Visits.{mark_at}
 use Rattle.loss_rules.specs.declared.relabel.Relabel.{Relabel}
-use Rattle.loss_rules.proofs.Chains.{leads-within, leads-on}
+use Rattle.loss_rules.proofs.Chains.{leads-within}
+use Rattle.route_graph.specs.Chains.{Chain, here, onward}
 use Rattle.route_graph.proofs.Members.{cons-cases, cons-head, nil-none}
+use Rattle.route_graph.proofs.WalkLaws.{leads-on}
 use Rattle.loss_rules.proofs.Members.{contains-map, map-contains}
 
 -- What is marked and what is to come fits the graph: all of it is led to, and what is marked leads no further.
 pub record IsVisit (graph : List (List Relabel)) (start : ℕ) (marks : List Bool) (ahead : List ℕ) : Type 0 where
   pub sized : length marks ≡ length graph
-  pub marked : (scope : ℕ) → scope < length graph → mark_at marks scope ≡ true → LeadsTo graph start scope
-  pub coming : (scope : ℕ) → Contains ahead scope → LeadsTo graph start scope
+  pub marked : (scope : ℕ) → scope < length graph → mark_at marks scope ≡ true → Chain (Leads graph) start scope
+  pub coming : (scope : ℕ) → Contains ahead scope → Chain (Leads graph) start scope
   pub closed : (scope target : ℕ) → mark_at marks scope ≡ true → Leads graph scope target → (mark_at marks target ≡ true) ⊎ Contains ahead target
   pub begun : (mark_at marks start ≡ true) ⊎ Contains ahead start
 
@@ -52,7 +54,7 @@ visit-begun graph start = record {
   sized = length-replicate (length graph) false;
   marked = λ scope less e. absurd (none-marked (length graph) scope less e);
   coming = λ scope c. elim (cons-cases start [] scope c) [
-    | inl same ↦ subst (λ (x : ℕ). LeadsTo graph start x) same already
+    | inl same ↦ subst (λ (x : ℕ). Chain (Leads graph) start x) same here
     | inr k ↦ absurd (nil-none scope k)
   ];
   closed = λ scope target e h. absurd (none-marked (length graph) scope (leads-within graph scope target h.0 h.1) e);
@@ -88,18 +90,18 @@ visit-entered graph start marks rest scope e visit =
         | inr same ↦ inl (subst (λ (x : ℕ). mark_at (slice_set marks scope true) x ≡ true) same (marked-itself marks scope))
       ]
     ] in
-    let there : LeadsTo graph start scope = visit.coming scope (Contains-append_right rest (scope ∷ []) scope (cons-head scope [])) in
+    let there : Chain (Leads graph) start scope = visit.coming scope (Contains-append_right rest (scope ∷ []) scope (cons-head scope [])) in
     record {
       sized = length-set marks scope true ∙ visit.sized;
       marked = λ other within m. elim (cases_eq other scope) [
-        | inl same ↦ subst (λ (x : ℕ). LeadsTo graph start x) (sym same) there
+        | inl same ↦ subst (λ (x : ℕ). Chain (Leads graph) start x) (sym same) there
         | inr apart ↦ visit.marked other within (sym (marked-other marks scope other apart) ∙ m)
       ];
       coming = λ other c. elim (Contains-append_cases rest targets other c) [
         | inl k ↦ visit.coming other (Contains-append_left rest (scope ∷ []) other k)
         | inr k ↦ (
             let r = map-contains (λ (relabel : Relabel). relabel.target) (relabels_at graph scope) other k in
-            subst (λ (x : ℕ). LeadsTo graph start x) r.2 (leads-on there (r.0.line, r.1)))
+            subst (λ (x : ℕ). Chain (Leads graph) start x) r.2 (leads-on there (onward (r.0.line, r.1) here)))
       ];
       closed = λ from target m h. elim (cases_eq from scope) [
         | inl same ↦ inr (Contains-append_right rest targets target (contains-map (λ (relabel : Relabel). relabel.target) (relabels_at graph scope) (record { target = target; line = h.0 }) (subst (λ (x : ℕ). HasRelabel graph x target h.0) same h.1)))
@@ -108,12 +110,12 @@ visit-entered graph start marks rest scope e visit =
       begun = less start visit.begun;
     }
 
-onward-marked : (graph : List (List Relabel)) (marks : List Bool) → ((scope target : ℕ) → mark_at marks scope ≡ true → Leads graph scope target → mark_at marks target ≡ true) → {scope last : ℕ} → LeadsTo graph scope last → mark_at marks scope ≡ true → mark_at marks last ≡ true
-onward-marked graph marks closed already e = e
-onward-marked graph marks closed (further {scope = scope} {target = target} h k) e = onward-marked graph marks closed k (closed scope target e h)
+onward-marked : (graph : List (List Relabel)) (marks : List Bool) → ((scope target : ℕ) → mark_at marks scope ≡ true → Leads graph scope target → mark_at marks target ≡ true) → {scope last : ℕ} → Chain (Leads graph) scope last → mark_at marks scope ≡ true → mark_at marks last ≡ true
+onward-marked graph marks closed here e = e
+onward-marked graph marks closed (onward {start = scope} {next = target} h k) e = onward-marked graph marks closed k (closed scope target e h)
 
 -- nothing is to come
-pub visit-ended : (graph : List (List Relabel)) (start : ℕ) (marks : List Bool) (ahead : List ℕ) (last : ℕ) → IsVisit graph start marks ahead → ahead ≡ [] → last < length graph → (mark_at marks last ≡ true) ↔ LeadsTo graph start last
+pub visit-ended : (graph : List (List Relabel)) (start : ℕ) (marks : List Bool) (ahead : List ℕ) (last : ℕ) → IsVisit graph start marks ahead → ahead ≡ [] → last < length graph → (mark_at marks last ≡ true) ↔ Chain (Leads graph) start last
 visit-ended graph start marks ahead last visit none less =
     let only : (scope : ℕ) → (mark_at marks scope ≡ true) ⊎ Contains ahead scope → mark_at marks scope ≡ true = λ scope h. elim h [
       | inl e ↦ e

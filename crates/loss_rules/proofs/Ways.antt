@@ -8,13 +8,14 @@ use Rattle.relay_conf.specs.declared.relay.MatchRule.{MatchRule}
 use Rattle.relay_net.specs.Network.{Network, relay_at, prefix_at, address_of_server, output_at}
 use Rattle.relay_net.specs.Outputs.{servers_of, Keeps}
 use Rattle.relay_net.specs.Ways.{table_at}
+use Rattle.route_graph.specs.Chains.{Chain, here, onward}
 use Rattle.route_graph.specs.Table.{hop_of, rule_of}
-use Rattle.route_graph.specs.Ways.{IsHandedTo, IsRelabelled, IsLeaf, own, further, LeadsTo, here, onward, IsLoop}
+use Rattle.route_graph.specs.Ways.{IsHandedTo, IsRelabelled, IsLeaf, own, further, IsLoop}
 use Rattle.route_graph.specs.declared.hop.Hop.{Hop}
 use Rattle.route_graph.proofs.Members.{cons-cases, nil-none}
 use Rattle.route_graph.proofs.WalkLaws.{leads-on}
 use Rattle.loss_rules.specs.Labels.{IsLabelledTag, IsReachedTag}
-use Rattle.loss_rules.specs.Rules.{AreRulesKept, GoesOn, GoesTo, here as arrived, onward as going, KeepsOrRelabels, AllKeepOrRelabel, EachOutputKeeps}
+use Rattle.loss_rules.specs.Rules.{AreRulesKept, GoesOn, KeepsOrRelabels, AllKeepOrRelabel, EachOutputKeeps}
 use Rattle.loss_rules.specs.Sites.{rule_at, output_in_rule, BuffersAreDistinct, RelabelsTo}
 use Rattle.loss_rules.specs.declared.label.Label.{Label}
 use Rattle.loss_rules.specs.declared.label.Reach.{Reach}
@@ -45,7 +46,7 @@ record IsBehind {A : Type 0} (net : Network A) (place : ℕ) (tag : List ℕ) (s
   within : before < scope_count (relay_at net place)
   next : ℕ
   left : IsRelabelled (table_at net place) tag before next
-  leads : LeadsTo (table_at net place) tag next scope
+  leads : Chain (IsRelabelled (table_at net place) tag) next scope
 
 -- Each of these scopes was.
 abbrev AreBehind : {A : Type 0} → Network A → ℕ → List ℕ → List ℕ → ℕ → Type 0
@@ -91,16 +92,16 @@ module _ {A : Type 0} (net : Network A) (labels : List (Label A)) (reaches : Lis
       let by = handed-by scope (to_scope target) labelled relabelled in
       reach-labelled labels reaches place scope by.rule place target None tag (kept.relabels place scope by.rule by.output by.found by.there target (scope-relabel by.found target by.is)) by.reached
 
-  leads-labelled : {scope last : ℕ} → LeadsTo (table_at net place) tag scope last → IsLabelledTag labels place scope tag → IsLabelledTag labels place last tag
+  leads-labelled : {scope last : ℕ} → Chain (IsRelabelled (table_at net place) tag) scope last → IsLabelledTag labels place scope tag → IsLabelledTag labels place last tag
   leads-labelled here labelled = labelled
-  leads-labelled (onward {scope = scope} {target = target} r l) labelled = leads-labelled l (relabel-labelled scope target labelled r)
+  leads-labelled (onward {start = scope} {next = target} r l) labelled = leads-labelled l (relabel-labelled scope target labelled r)
 
-  leads-goes : {scope last : ℕ} → LeadsTo (table_at net place) tag scope last → IsLabelledTag labels place scope tag → GoesTo net reaches place scope last
-  leads-goes here labelled = arrived
-  leads-goes (onward {scope = scope} {target = target} r l) labelled = going (relabel-goes scope target labelled r) (leads-goes l (relabel-labelled scope target labelled r))
+  leads-goes : {scope last : ℕ} → Chain (IsRelabelled (table_at net place) tag) scope last → IsLabelledTag labels place scope tag → Chain (GoesOn net reaches place) scope last
+  leads-goes here labelled = here
+  leads-goes (onward {start = scope} {next = target} r l) labelled = onward (relabel-goes scope target labelled r) (leads-goes l (relabel-labelled scope target labelled r))
 
   -- no chain of relabels comes back
-  not_back : (scope next : ℕ) → IsLabelledTag labels place scope tag → IsRelabelled (table_at net place) tag scope next → LeadsTo (table_at net place) tag next scope → ⊥
+  not_back : (scope next : ℕ) → IsLabelledTag labels place scope tag → IsRelabelled (table_at net place) tag scope next → Chain (IsRelabelled (table_at net place) tag) next scope → ⊥
   not_back scope next labelled relabelled back =
       let goes = relabel-goes scope next labelled relabelled in
       kept.no_cycle place scope goes.0 goes.1 goes.2 goes.3 goes.4 next goes.5 (leads-goes back (relabel-labelled scope next labelled relabelled))

@@ -3,6 +3,7 @@ use Rattle.std.specs.Prelude.{◌≡◌, ℕ, List, [], Option, Some, None, Cont
 use Rattle.relay_conf.specs.declared.output.Output.{Output}
 use Rattle.relay_conf.specs.declared.output.Output.TheVariants as output
 use Rattle.relay_net.specs.Network.{Network}
+use Rattle.route_graph.specs.Chains.{Chain}
 use Rattle.loss_rules.specs.Labels.{IsReached}
 use Rattle.loss_rules.specs.Sites.{output_in_rule, line_of, RelabelsTo}
 use Rattle.loss_rules.specs.declared.label.Reach.{Reach}
@@ -27,14 +28,9 @@ HasRelabel graph scope target line = Contains (relabels_at graph scope) (record 
 abbrev pub Leads : List (List Relabel) → ℕ → ℕ → Type 0
 Leads graph scope target = (line : ℕ) × HasRelabel graph scope target line
 
--- A chain of relabels, which may be empty, leads from the one scope to the other.
-pub data LeadsTo (graph : List (List Relabel)) : ℕ → ℕ → Type 0 where
-  already : {scope : ℕ} → LeadsTo graph scope scope
-  further : {scope target last : ℕ} → Leads graph scope target → LeadsTo graph target last → LeadsTo graph scope last
-
 -- In this line the scope has a relabel from whose target a chain leads back to the scope.
 abbrev pub IsOnCycleFrom : List (List Relabel) → ℕ → ℕ → Type 0
-IsOnCycleFrom graph scope line = (target : ℕ) × HasRelabel graph scope target line × LeadsTo graph target scope
+IsOnCycleFrom graph scope line = (target : ℕ) × HasRelabel graph scope target line × Chain (Leads graph) target scope
 
 -- In this line some scope has such a relabel.
 abbrev pub IsOnCycle : List (List Relabel) → ℕ → Type 0

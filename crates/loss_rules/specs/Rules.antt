@@ -13,6 +13,7 @@ use Rattle.relay_net.specs.Network.{Network, entrance, prefix_at, address_of_cli
 use Rattle.relay_net.specs.Outputs.{settings_of, Keeps}
 use Rattle.relay_net.specs.declared.node.Client.{Client}
 use Rattle.relay_net.specs.declared.node.Node.{Node}
+use Rattle.route_graph.specs.Chains.{Chain}
 use Rattle.tag_pattern.specs.Items.{Item}
 use Rattle.tag_pattern.specs.Patterns.{Fits, Meets}
 use Rattle.loss_rules.specs.Labels.{FitsLabel, FitsLabelWith, FitsReach, IsReached, EachReach}
@@ -186,14 +187,9 @@ abbrev pub GoesOn : {A : Type 0} → Network A → List (Reach A) → ℕ → �
 GoesOn {A} net reaches place scope target = (rule output : ℕ) × (found : Output A) × (output_in_rule net place scope rule output ≡ Some found)
     × IsReached reaches place scope rule × RelabelsTo found target
 
--- A chain of such relabels, which may be empty, leads from the one scope to the other.
-pub data GoesTo {A : Type 0} (net : Network A) (reaches : List (Reach A)) (place : ℕ) : ℕ → ℕ → Type 0 where
-  here : {scope : ℕ} → GoesTo net reaches place scope scope
-  onward : {scope target last : ℕ} → GoesOn net reaches place scope target → GoesTo net reaches place target last → GoesTo net reaches place scope last
-
--- Where the output is a relabel of a reached match, no chain leads from its target back to its scope.
+-- Where the output is a relabel of a reached match, no chain of such relabels leads from its target back to its scope.
 abbrev pub IsOnNoCycle : {A : Type 0} → Network A → List (Reach A) → ℕ → ℕ → ℕ → Output A → Type 0
-IsOnNoCycle net reaches place scope rule found = IsReached reaches place scope rule → (target : ℕ) → RelabelsTo found target → ¬ GoesTo net reaches place target scope
+IsOnNoCycle net reaches place scope rule found = IsReached reaches place scope rule → (target : ℕ) → RelabelsTo found target → ¬ Chain (GoesOn net reaches place) target scope
 
 -- This is so of each output.
 abbrev pub NoRelabelCycle : {A : Type 0} → Network A → List (Reach A) → Type 0

@@ -2,8 +2,9 @@
 
 ghost use Rattle.std.specs.Prelude.{◌≡◌, ◌<◌, ◌↔◌, ℕ, ◌++◌, length, Contains, IfOk, OnOk, IsTrue};
 ghost use Rattle.std.specs.List.{filter_map};
+ghost use Rattle.route_graph.specs.Chains.{Chain};
 ghost use Rattle.loss_rules.specs.Firsts.{IsLeast};
-ghost use Rattle.loss_rules.specs.Graphs.{relabel_of, relabels_at, LeadsTo, HasReachedRelabel, IsGraphOf, IsOnCycle, IsOnCycleFrom};
+ghost use Rattle.loss_rules.specs.Graphs.{relabel_of, relabels_at, Leads, HasReachedRelabel, IsGraphOf, IsOnCycle, IsOnCycleFrom};
 
 use crate::by_site::Reaches;
 use crate::fitting::is_reached;
@@ -139,7 +140,7 @@ impl<A: Allocator + Copy> RelabelGraph<A> {
     // Whether a chain of relabels, which may be empty, leads from the one scope to the other.
     fn leads(&self, start: usize, last: usize) -> Result<bool, AllocError>
         requires { last < length self.now }
-        ensures { IfOk result (λ found. IsTrue found ↔ LeadsTo self.now start last) }
+        ensures { IfOk result (λ found. IsTrue found ↔ Chain (Leads self.now) start last) }
     {
         let mut visit = Visit::begin(*self.scopes.allocator(), self.scopes.len(), start)?;
         while let Some(scope) = visit.next() {

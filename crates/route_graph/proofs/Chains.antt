@@ -1,8 +1,9 @@
 -- The steps to come, as a chain of open scopes: each hop above a scope that is to be left is one of its own.
 use Rattle.std.proofs.Common.{◌≡◌, ℕ, List, [], ◌∷◌, ◌++◌, map, sym, subst, ◌⊎◌, inl, inr, Contains}
 use Rattle.relay_conf.specs.declared.relay.ScopeNo.{ScopeNo}
+use Rattle.route_graph.specs.Chains.{Chain, here, onward}
 use Rattle.route_graph.specs.Table.{Table}
-use Rattle.route_graph.specs.Ways.{IsHandedTo, IsRelabelled, LeadsTo, here, onward, IsLoop}
+use Rattle.route_graph.specs.Ways.{IsHandedTo, IsRelabelled, IsLoop}
 use Rattle.route_graph.specs.declared.hop.Hop.{Hop}
 use Rattle.route_graph.specs.declared.hop.Hop.TheVariants.{Scope}
 use Rattle.route_graph.specs.declared.visit.Step.{Step}
@@ -29,16 +30,16 @@ IsOpenIn (Take hop ∷ steps) scope = IsOpenIn steps scope
 IsOpenIn (Leave left ∷ steps) scope = (left.0 ≡ scope) ⊎ IsOpenIn steps scope
 
 -- what is handed on is reached from the start, and from each open scope
-chain-leads : (table : Table) (tag : List ℕ) (start : ℕ) (steps : List Step) → IsChain table tag start steps → (target : ScopeNo) → IsHandedIn table tag start steps (Scope target) → LeadsTo table tag start target.0 × ((inner : ℕ) → IsOpenIn steps inner → (middle : ℕ) × LeadsTo table tag inner middle × IsRelabelled table tag middle target.0)
+chain-leads : (table : Table) (tag : List ℕ) (start : ℕ) (steps : List Step) → IsChain table tag start steps → (target : ScopeNo) → IsHandedIn table tag start steps (Scope target) → Chain (IsRelabelled table tag) start target.0 × ((inner : ℕ) → IsOpenIn steps inner → (middle : ℕ) × Chain (IsRelabelled table tag) inner middle × IsRelabelled table tag middle target.0)
 chain-leads table tag start [] chain target e =
     let same : target ≡ record { 0 = start } = cc in
-    (subst (λ (x : ScopeNo). LeadsTo table tag start x.0) (sym same) here, λ inner h. absurd h)
+    (subst (λ (x : ScopeNo). Chain (IsRelabelled table tag) start x.0) (sym same) here, λ inner h. absurd h)
 chain-leads table tag start (Take hop ∷ steps) chain target h = chain-leads table tag start steps chain.1 target h
 chain-leads table tag start (Leave scope ∷ steps) chain target h =
     let below = chain-leads table tag start steps chain.1 scope chain.0 in (
       leads-on below.0 (onward h here),
       λ inner k. elim k [
-        | inl e ↦ (scope.0, subst (λ (x : ℕ). LeadsTo table tag x scope.0) e here, h)
+        | inl e ↦ (scope.0, subst (λ (x : ℕ). Chain (IsRelabelled table tag) x scope.0) e here, h)
         | inr j ↦ let r = below.1 inner j in (scope.0, leads-on r.1 (onward r.2 here), h)
       ],
     )

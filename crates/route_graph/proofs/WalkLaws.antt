@@ -2,8 +2,9 @@
 use Rattle.std.proofs.Common.{◌≡◌, ℕ, List, refl, sym, subst, inl, inr, arith, Contains, ◌↔◌}
 use Rattle.std.proofs.lemmas.List.Elements.{Contains-append_left, Contains-append_right, Contains-append_cases}
 use Rattle.relay_conf.specs.declared.relay.ScopeNo.{ScopeNo}
+use Rattle.route_graph.specs.Chains.{Chain, here, onward}
 use Rattle.route_graph.specs.Table.{Table}
-use Rattle.route_graph.specs.Ways.{IsHandedTo, IsRelabelled, IsLeaf, own, further, LeadsTo, here, onward, IsLoop}
+use Rattle.route_graph.specs.Ways.{IsHandedTo, IsRelabelled, IsLeaf, own, further, IsLoop}
 use Rattle.route_graph.specs.Walks.{AreHopsFrom, IsWalk, ended, stored, relabelled, IsWalkFrom}
 use Rattle.route_graph.specs.declared.hop.Hop.{Hop}
 use Rattle.route_graph.specs.declared.hop.Hop.TheVariants.{Buffer, Scope}
@@ -74,21 +75,21 @@ walk-ends {table} {tag} (relabelled {target = first} {within = within} {hops = h
       | inr k ↦ walk-ends v target k
     ]
 
-ends-further : {table : Table} {tag : List ℕ} {scope last : ℕ} → Ends table tag scope → LeadsTo table tag scope last → Ends table tag last
+ends-further : {table : Table} {tag : List ℕ} {scope last : ℕ} → Ends table tag scope → Chain (IsRelabelled table tag) scope last → Ends table tag last
 ends-further e here = e
 ends-further (ends less) (onward r l) = ends-further (less _ r) l
 
-pub leads-on : {table : Table} {tag : List ℕ} {scope middle last : ℕ} → LeadsTo table tag scope middle → LeadsTo table tag middle last → LeadsTo table tag scope last
+pub leads-on : {A : Type 0} {IsFollowed : A → A → Type 0} {start middle last : A} → Chain IsFollowed start middle → Chain IsFollowed middle last → Chain IsFollowed start last
 leads-on here k = k
 leads-on (onward r l) k = onward r (leads-on l k)
 
--- a chain from a scope to itself goes on from the next scope to that one itself
-turned : {table : Table} {tag : List ℕ} {scope next : ℕ} → IsRelabelled table tag scope next → LeadsTo table tag next scope → (after : ℕ) × IsRelabelled table tag next after × LeadsTo table tag after next
-turned {scope = scope} r here = (scope, r, here)
-turned r (onward {target = after} s l) = (after, s, leads-on l (onward r here))
+-- a chain from one to itself goes on from the next to that one itself
+turned : {A : Type 0} {IsFollowed : A → A → Type 0} {start next : A} → IsFollowed start next → Chain IsFollowed next start → (after : A) × IsFollowed next after × Chain IsFollowed after next
+turned {start = start} r here = (start, r, here)
+turned r (onward {next = after} s l) = (after, s, leads-on l (onward r here))
 
-no_return : {table : Table} {tag : List ℕ} {scope : ℕ} → Ends table tag scope → (next : ℕ) → IsRelabelled table tag scope next → LeadsTo table tag next scope → ⊥
-no_return (ends less) next r back = let t = turned r back in no_return (less next r) t.0 t.1 t.2
+no_return : {table : Table} {tag : List ℕ} {scope : ℕ} → Ends table tag scope → (next : ℕ) → IsRelabelled table tag scope next → Chain (IsRelabelled table tag) next scope → ⊥
+no_return {table} {tag} (ends less) next r back = let t = turned {IsFollowed = IsRelabelled table tag} r back in no_return (less next r) t.0 t.1 t.2
 
 -- where there is a walk, there is no loop
 pub walk-no_loop : (table : Table) (tag : List ℕ) (scope : ℕ) (walk : List ℕ) → IsWalkFrom table tag scope walk → IsLoop table tag scope → ⊥

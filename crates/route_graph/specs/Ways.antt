@@ -2,6 +2,7 @@
 use Rattle.std.specs.Prelude.{◌≡◌, ℕ, List, [], ◌∷◌, Any, Contains, ◌⊎◌, slice_get, unwrap_or}
 use Rattle.tag_pattern.specs.Items.{Item}
 use Rattle.tag_pattern.specs.Patterns.{IsTagOf}
+use Rattle.route_graph.specs.Chains.{Chain}
 use Rattle.route_graph.specs.Table.{Table, Rule}
 use Rattle.route_graph.specs.declared.hop.Hop.{Hop}
 use Rattle.route_graph.specs.declared.hop.Hop.TheVariants.{Buffer, Scope}
@@ -32,15 +33,10 @@ pub data IsLeaf (table : Table) (tag : List ℕ) : ℕ → ℕ → Type 0 where
   own : {scope buffer : ℕ} → IsHandedTo table tag scope (Buffer (record { 0 = buffer })) → IsLeaf table tag scope buffer
   further : {scope target buffer : ℕ} → IsRelabelled table tag scope target → IsLeaf table tag target buffer → IsLeaf table tag scope buffer
 
--- A chain of relabels, which may be empty, leads from the one scope to the other.
-pub data LeadsTo (table : Table) (tag : List ℕ) : ℕ → ℕ → Type 0 where
-  here : {scope : ℕ} → LeadsTo table tag scope scope
-  onward : {scope target last : ℕ} → IsRelabelled table tag scope target → LeadsTo table tag target last → LeadsTo table tag scope last
-
 -- The way of such an event is a loop: a chain of relabels comes back to a scope on that chain.
 pub record IsLoop (table : Table) (tag : List ℕ) (scope : ℕ) : Type 0 where
   pub again : ℕ
   pub next : ℕ
-  pub reached : LeadsTo table tag scope again
+  pub reached : Chain (IsRelabelled table tag) scope again
   pub left : IsRelabelled table tag again next
-  pub back : LeadsTo table tag next again
+  pub back : Chain (IsRelabelled table tag) next again

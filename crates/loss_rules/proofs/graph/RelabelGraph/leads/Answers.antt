@@ -1,5 +1,6 @@
 use Rattle.std.proofs.Common.{◌≡◌, ◌++◌, ◌∷◌, ◌∙◌, ◌↔◌, ℕ, Bool, true, false, [], List, length, map, replicate, ap, sym, subst, arith}
-use Rattle.loss_rules.specs.Graphs.{LeadsTo}
+use Rattle.route_graph.specs.Chains.{Chain}
+use Rattle.loss_rules.specs.Graphs.{Leads}
 use Rattle.loss_rules.specs.Visits.{mark_at}
 use Rattle.loss_rules.specs.declared.relabel.Relabel.{Relabel}
 use Rattle.loss_rules.proofs.Visits.{visit-begun, visit-passed, visit-entered, visit-ended, visit-parts}
@@ -43,4 +44,4 @@ loop-scope-preserved g c =
 pub returns : goal.returns
 returns g c =
     let all = visit-ended c.args.self.now c.args.start c.loop-scope.visit.marks.items c.loop-scope.visit.ahead.items c.args.last c.loop-scope.invariant c.in_default.ensures.none c.requires in
-    subst (λ (x : Bool). (x ≡ true) ↔ LeadsTo c.args.self.now c.args.start c.args.last) (sym (c.is_marked-2.ensures ∙ ap (λ (x : List Bool). mark_at x c.args.last) c.in_default.ensures.marks)) all
+    subst (λ (x : Bool). (x ≡ true) ↔ Chain (Leads c.args.self.now) c.args.start c.args.last) (sym (c.is_marked-2.ensures ∙ ap (λ (x : List Bool). mark_at x c.args.last) c.in_default.ensures.marks)) all
