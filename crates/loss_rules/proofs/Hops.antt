@@ -6,7 +6,8 @@ use Rattle.relay_conf.specs.declared.output.BufferNo.{BufferNo}
 use Rattle.relay_conf.specs.declared.output.Output.{Output}
 use Rattle.relay_conf.specs.declared.output.Output.TheVariants as output
 use Rattle.relay_conf.specs.declared.relay.ScopeNo.{ScopeNo}
-use Rattle.relay_net.specs.Outputs.{number_of, Keeps}
+use Rattle.relay_conf.specs.Buffers.{buffer_number}
+use Rattle.relay_net.specs.Outputs.{Keeps}
 use Rattle.route_graph.specs.Table.{hop_of}
 use Rattle.route_graph.specs.declared.hop.Hop.{Hop}
 use Rattle.route_graph.specs.declared.hop.Hop.TheVariants.{Buffer, Scope}
@@ -49,13 +50,13 @@ output-hop (out ∷ outputs) zero found hop e h =
 output-hop (out ∷ outputs) (suc o) found hop e h = option-tail (hop_of out) (filter_map hop_of outputs) hop (output-hop outputs o found hop e h)
 
 -- a hop to a buffer is that of the output with this number
-pub buffer-number : {A : Type 0} (found : Output A) (number : ℕ) → hop_of found ≡ Some (to_buffer number) → number_of found ≡ Some number
+pub buffer-number : {A : Type 0} (found : Output A) (number : ℕ) → hop_of found ≡ Some (to_buffer number) → buffer_number found ≡ Some number
 buffer-number (output.Null line) number e = absurd (cc)
 buffer-number (output.Relabel target line) number e = absurd (cc)
 buffer-number (output.Forward settings line) number e = let same : settings.number ≡ record { 0 = number } = cc in ap (λ (x : BufferNo). Some x.0) same
 buffer-number (output.File settings line) number e = let same : settings.number ≡ record { 0 = number } = cc in ap (λ (x : BufferNo). Some x.0) same
 
-pub number-buffer : {A : Type 0} (found : Output A) (number : ℕ) → number_of found ≡ Some number → hop_of found ≡ Some (to_buffer number)
+pub number-buffer : {A : Type 0} (found : Output A) (number : ℕ) → buffer_number found ≡ Some number → hop_of found ≡ Some (to_buffer number)
 number-buffer (output.Null line) number e = absurd (cc)
 number-buffer (output.Relabel target line) number e = absurd (cc)
 number-buffer (output.Forward settings line) number e = ap (λ x. Some (to_buffer x)) (same_Some settings.number.0 number e)
@@ -75,7 +76,7 @@ relabel-scope (output.Forward settings line) scope h = absurd h
 relabel-scope (output.File settings line) scope h = absurd h
 
 -- an output that keeps has a buffer
-pub keeps-number : {A : Type 0} (found : Output A) → Keeps found → (number : ℕ) × (number_of found ≡ Some number)
+pub keeps-number : {A : Type 0} (found : Output A) → Keeps found → (number : ℕ) × (buffer_number found ≡ Some number)
 keeps-number (output.Null line) h = absurd h
 keeps-number (output.Relabel target line) h = absurd h
 keeps-number (output.Forward settings line) h = (settings.number.0, refl)

@@ -10,7 +10,8 @@ use Rattle.relay_conf.specs.declared.relay.Relay.{Relay}
 use Rattle.relay_conf.specs.declared.relay.Scope.{Scope}
 use Rattle.relay_net.specs.Index.{output_in, among_scopes}
 use Rattle.relay_net.specs.Network.{Network, relay_at, output_of, output_at, outputs_of}
-use Rattle.relay_net.specs.Outputs.{number_of, is_numbered}
+use Rattle.relay_conf.specs.Buffers.{buffer_number, HaveOwnBuffers}
+use Rattle.relay_net.specs.Outputs.{is_numbered}
 use Rattle.relay_net.specs.declared.index.OutputPlace.{OutputPlace}
 use Rattle.relay_net.proofs.Agreement.{has, places_are}
 use Rattle.route_graph.proofs.Members.{cons-cases, cons-head, cons-tail, nil-none}
@@ -77,7 +78,7 @@ pub record IsSite {A : Type 0} (relay : Option (Relay A)) (found : Output A) (bu
   pub rule : ℕ
   pub output : ℕ
   pub there : output_within relay scope rule output ≡ Some found
-  pub number : number_of found ≡ Some buffer
+  pub number : buffer_number found ≡ Some buffer
 
 found-site : {A : Type 0} (relay : Relay A) (found : Output A) (buffer : ℕ) → output_of relay buffer ≡ Some found → IsSite (Some relay) found buffer
 found-site {A} relay found buffer e =
@@ -87,7 +88,7 @@ found-site {A} relay found buffer e =
       rule = place.rule;
       output = place.output;
       there = sym (places-agree (slice_get relay.scopes.items place.scope) place.rule place.output) ∙ here;
-      number = numbered-is (number_of found) buffer (find-passes (has buffer) (outputs_of relay) found e);
+      number = numbered-is (buffer_number found) buffer (find-passes (has buffer) (outputs_of relay) found e);
     })
 
 -- the output that is found for a buffer stands somewhere
@@ -103,19 +104,25 @@ within-contains {A} relay scope rule output found e =
     (flat-contains (λ rule. rule.outputs.items) s.matches.items rule r found place (place-contains r.outputs.items output found here))))
 
 -- where an output with a buffer stands, one is found
-some-found : {A : Type 0} (relay : Option (Relay A)) (scope rule output : ℕ) (found : Output A) (buffer : ℕ) → output_within relay scope rule output ≡ Some found → number_of found ≡ Some buffer
+some-found : {A : Type 0} (relay : Option (Relay A)) (scope rule output : ℕ) (found : Output A) (buffer : ℕ) → output_within relay scope rule output ≡ Some found → buffer_number found ≡ Some buffer
     → (other : Output A) × (option_and_then (λ r. output_of r buffer) relay ≡ Some other)
 some-found None scope rule output found buffer e h = absurd (cc)
 some-found (Some relay) scope rule output found buffer e h =
-    find-some (has buffer) (outputs_of relay) found (within-contains relay scope rule output found e) (is-numbered (number_of found) buffer h)
+    find-some (has buffer) (outputs_of relay) found (within-contains relay scope rule output found e) (is-numbered (buffer_number found) buffer h)
+
+-- where a relay's outputs have buffers of their own, two with one buffer stand at one place
+own-place : {A : Type 0} (relay : Option (Relay A)) → ((r : Relay A) → relay ≡ Some r → HaveOwnBuffers r) → (scope rule output : ℕ) (found : Output A) → output_within relay scope rule output ≡ Some found
+    → (s r o : ℕ) (other : Output A) → output_within relay s r o ≡ Some other → (buffer : ℕ) → buffer_number found ≡ Some buffer → buffer_number other ≡ Some buffer → (s ≡ scope) × (r ≡ rule) × (o ≡ output)
+own-place None own scope rule output found e s r o other there buffer h k = absurd (cc)
+own-place (Some relay) own scope rule output found e s r o other there buffer h k = own relay refl scope rule output found e s r o other there buffer h k
 
 -- where each buffer belongs to one output, the output that stands there is the one that is found for its buffer
-pub output-found : {A : Type 0} (net : Network A) → BuffersAreDistinct net → (place scope rule output : ℕ) (found : Output A) (buffer : ℕ) → output_in_rule net place scope rule output ≡ Some found → number_of found ≡ Some buffer
+pub output-found : {A : Type 0} (net : Network A) → BuffersAreDistinct net → (place scope rule output : ℕ) (found : Output A) (buffer : ℕ) → output_in_rule net place scope rule output ≡ Some found → buffer_number found ≡ Some buffer
     → output_at net place buffer ≡ Some found
 output-found {A} net distinct place scope rule output found buffer e h =
     let other = some-found (relay_at net place) scope rule output found buffer e h in
     let site = site-of (relay_at net place) other.0 buffer other.1 in
-    let same = distinct place scope rule output found e site.scope site.rule site.output other.0 site.there buffer h site.number in
+    let same = own-place (relay_at net place) (distinct place) scope rule output found e site.scope site.rule site.output other.0 site.there buffer h site.number in
     let moved : output_in_rule net place site.scope site.rule site.output ≡ output_in_rule net place scope rule output = λ i. output_in_rule net place (same.0 i) (same.1 i) (same.2 i) in
     other.1 ∙ (sym site.there ∙ (moved ∙ e))
 

@@ -5,8 +5,10 @@ use Rattle.relay_conf.specs.declared.output.Output.{Output}
 use Rattle.relay_conf.specs.declared.output.Output.TheVariants as output
 use Rattle.relay_conf.specs.declared.output.Server.{Server}
 use Rattle.relay_conf.specs.declared.relay.MatchRule.{MatchRule}
+use Rattle.relay_conf.specs.declared.relay.Relay.{Relay}
 use Rattle.relay_net.specs.Network.{Network, relay_at}
-use Rattle.relay_net.specs.Outputs.{number_of, servers_of}
+use Rattle.relay_conf.specs.Buffers.{HaveOwnBuffers}
+use Rattle.relay_net.specs.Outputs.{servers_of}
 
 -- the match with this place in this scope of the relay at this place, each counted from 0
 abbrev pub rule_at : {A : Type 0} → Network A → ℕ → ℕ → ℕ → Option (MatchRule A)
@@ -50,7 +52,6 @@ RelabelsTo (output.Relabel target line) scope = target.0 ≡ scope
 RelabelsTo (output.Forward settings line) scope = ⊥
 RelabelsTo (output.File settings line) scope = ⊥
 
--- Each buffer of a relay belongs to one output.
+-- Each relay's outputs have buffers of their own.
 abbrev pub BuffersAreDistinct : {A : Type 0} → Network A → Type 0
-BuffersAreDistinct {A} net = EachOutput net (λ place scope rule output found. (s r o : ℕ) (other : Output A) → output_in_rule net place s r o ≡ Some other
-    → (buffer : ℕ) → number_of found ≡ Some buffer → number_of other ≡ Some buffer → (s ≡ scope) × (r ≡ rule) × (o ≡ output))
+BuffersAreDistinct {A} net = (place : ℕ) (relay : Relay A) → relay_at net place ≡ Some relay → HaveOwnBuffers relay

@@ -1,17 +1,13 @@
 -- In the network of a plan no two outputs of a relay share a buffer.
 use Rattle.std.proofs.Common.{◌≡◌, ℕ, ◌+◌, List, length, Option, Some, None, slice_get, refl, sym, subst}
 use Rattle.std.specs.Prelude.{All, option_map}
-use Rattle.std.specs.Option.{option_and_then}
 use Rattle.std.proofs.lemmas.List.Elements.{All-push, All-nil}
-use Rattle.std.proofs.lemmas.Option.{slice_get_within, get_or_from_slice_get}
+use Rattle.std.proofs.lemmas.Option.{same_Some, slice_get_within, get_or_from_slice_get}
 use Rattle.loss_rules.specs.Breaks.{Subject}
 use Rattle.loss_rules.specs.Sites.{BuffersAreDistinct}
-use Rattle.relay_conf.specs.Buffers.{buffer_number, HaveOwnBuffers}
-use Rattle.relay_conf.specs.declared.output.Output.{Output}
-use Rattle.relay_conf.specs.declared.output.Output.TheVariants as output
+use Rattle.relay_conf.specs.Buffers.{HaveOwnBuffers}
 use Rattle.relay_conf.proofs.OwnBuffers.{own_buffers}
 use Rattle.relay_net.specs.Network.{Network}
-use Rattle.relay_net.specs.Outputs.{number_of}
 use Rattle.relay_net.specs.declared.node.Node.{Node}
 use Rattle.plan_lines.specs.Forms.{nothing, a_relay, a_client, a_label, a_reach, a_duty, no_form, line_form}
 use Rattle.plan_lines.specs.Plans.{Say, none, one_more}
@@ -24,30 +20,17 @@ HaveOwn nodes = All (λ node. HaveOwnBuffers node.relay) nodes
 abbrev HasOwnBuffers : {A : Type 0} → Subject A → Type 0
 HasOwnBuffers plan = HaveOwn plan.net.relays
 
--- a relay's number of an output's buffer is the network's
-same_number : {A : Type 0} (found : Output A) (buffer : ℕ) → number_of found ≡ Some buffer → buffer_number found ≡ Some buffer
-same_number (output.Null line) buffer e = e
-same_number (output.Relabel target line) buffer e = e
-same_number (output.Forward settings line) buffer e = e
-same_number (output.File settings line) buffer e = e
-
 at_place : {A : Type 0} (nodes : List (Node A)) (place : ℕ) (node : Node A) → HaveOwn nodes → slice_get nodes place ≡ Some node → HaveOwnBuffers node.relay
 at_place nodes place node own at =
     subst (λ (n : Node _). HaveOwnBuffers n.relay) (get_or_from_slice_get nodes place node node at) (own place node (slice_get_within nodes place node at))
 
--- the output with this place in a match of a scope of the relay, where there is one
-abbrev within : {A : Type 0} → Option (Node A) → ℕ → ℕ → ℕ → Option (Output A)
-within node scope rule output = option_and_then (λ found. slice_get found.outputs.items output) (option_and_then (λ found. slice_get found.matches.items rule)
-    (option_and_then (λ relay. slice_get relay.scopes.items scope) (option_map (λ node. node.relay) node)))
-
--- so are the network's
+-- so have the network's
 distinct : {A : Type 0} (net : Network A) → HaveOwn net.relays → BuffersAreDistinct net
-distinct {A} net own place scope rule output found at s r o other there buffer number same = by (slice_get net.relays place) refl at there
+distinct {A} net own place relay is = by (slice_get net.relays place) refl is
   where
-    by : (node : Option (Node A)) → slice_get net.relays place ≡ node → within node scope rule output ≡ Some found → within node s r o ≡ Some other → (s ≡ scope) × (r ≡ rule) × (o ≡ output)
-    by None is at there = absurd (cc)
-    by (Some node) is at there =
-        at_place net.relays place node own is scope rule output found at s r o other there buffer (same_number found buffer number) (same_number other buffer same)
+    by : (node : Option (Node A)) → slice_get net.relays place ≡ node → option_map (λ n. n.relay) node ≡ Some relay → HaveOwnBuffers relay
+    by None at is = absurd (cc)
+    by (Some node) at is = subst HaveOwnBuffers (same_Some node.relay relay is) (at_place net.relays place node own at)
 
 own_buffers_kept : {A : Type 0} → Kept A HasOwnBuffers
 own_buffers_kept confs line nothing before after h e = subst HasOwnBuffers (sym h) e

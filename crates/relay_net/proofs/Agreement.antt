@@ -9,7 +9,8 @@ use Rattle.relay_conf.specs.declared.relay.MatchRule.{MatchRule}
 use Rattle.relay_conf.specs.declared.output.Output.{Output}
 use Rattle.relay_net.specs.Index.{output_in, among_outputs, among_rules, among_scopes}
 use Rattle.relay_net.specs.Network.{output_of}
-use Rattle.relay_net.specs.Outputs.{number_of, is_numbered}
+use Rattle.relay_conf.specs.Buffers.{buffer_number}
+use Rattle.relay_net.specs.Outputs.{is_numbered}
 use Rattle.relay_net.specs.declared.index.OutputPlace.{OutputPlace}
 
 -- The one is nothing where the other is, else it leads to the other.
@@ -33,13 +34,13 @@ agree_means f (Some x) (Some y) h = h
 
 -- the output has this buffer
 abbrev pub has : {A : Type 0} → ℕ → Output A → Bool
-has buffer o = is_numbered (number_of o) buffer
+has buffer o = is_numbered (buffer_number o) buffer
 
 module _ {A : Type 0} (f : OutputPlace → Option (Output A)) (buffer : ℕ) where
   at_outputs : (scope rule place : ℕ) (outputs : List (Output A)) → ((i : ℕ) → f (record { scope = scope; rule = rule; output = place + i }) ≡ slice_get outputs i)
       → Agree f (among_outputs scope rule place outputs buffer) (find (has buffer) outputs)
   at_outputs scope rule place [] h = tt
-  at_outputs scope rule place (o ∷ outputs) h = by (is_numbered (number_of o) buffer) (at_outputs scope rule (suc place) outputs (λ i. ap (λ n. f (there n)) (omega arith) ∙ h (suc i)))
+  at_outputs scope rule place (o ∷ outputs) h = by (is_numbered (buffer_number o) buffer) (at_outputs scope rule (suc place) outputs (λ i. ap (λ n. f (there n)) (omega arith) ∙ h (suc i)))
     where
       there : ℕ → OutputPlace
       there n = record { scope = scope; rule = rule; output = n }

@@ -8,7 +8,8 @@ use Rattle.relay_conf.specs.declared.relay.Scope.{Scope}
 use Rattle.relay_conf.specs.declared.relay.MatchRule.{MatchRule}
 use Rattle.relay_conf.specs.declared.output.Output.{Output}
 use Rattle.relay_net.specs.Network.{output_of}
-use Rattle.relay_net.specs.Outputs.{number_of, is_numbered}
+use Rattle.relay_conf.specs.Buffers.{buffer_number}
+use Rattle.relay_net.specs.Outputs.{is_numbered}
 use Rattle.relay_net.specs.declared.index.OutputIndex.{OutputIndex}
 use Rattle.relay_net.specs.declared.index.OutputPlace.{OutputPlace}
 
@@ -24,7 +25,7 @@ output_in relay place = option_and_then (λ scope. output_within scope place) (s
 abbrev pub among_outputs : {A : Type 0} → ℕ → ℕ → ℕ → List (Output A) → ℕ → Option OutputPlace
 among_outputs scope rule output [] buffer = None
 among_outputs scope rule output (o ∷ outputs) buffer =
-    cond (is_numbered (number_of o) buffer) (Some (record { scope = scope; rule = rule; output = output })) (among_outputs scope rule (suc output) outputs buffer)
+    cond (is_numbered (buffer_number o) buffer) (Some (record { scope = scope; rule = rule; output = output })) (among_outputs scope rule (suc output) outputs buffer)
 
 -- the same over the outputs of these matches
 abbrev pub among_rules : {A : Type 0} → ℕ → ℕ → List (MatchRule A) → ℕ → Option OutputPlace

@@ -9,7 +9,8 @@ use Rattle.relay_conf.specs.declared.output.Output.{Output}
 use Rattle.relay_conf.specs.declared.output.Server.{Server}
 use Rattle.tag_pattern.specs.Prefixes.{entered_tag}
 use Rattle.relay_net.specs.Addresses.{Address}
-use Rattle.relay_net.specs.Outputs.{number_of, is_numbered, settings_of, is_memory}
+use Rattle.relay_conf.specs.Buffers.{buffer_number}
+use Rattle.relay_net.specs.Outputs.{is_numbered, settings_of, is_memory}
 use Rattle.relay_net.specs.declared.address.Entrance.{Entrance}
 use Rattle.relay_net.specs.declared.node.Client.{Client}
 use Rattle.relay_net.specs.declared.node.Node.{Node}
@@ -109,7 +110,7 @@ outputs_of relay = flat_map (λ scope. flat_map (λ rule. rule.outputs.items) sc
 
 -- the output of this buffer of a relay; of equal numbers the first is meant
 abbrev pub output_of : {A : Type 0} → Relay A → ℕ → Option (Output A)
-output_of relay buffer = find (λ o. is_numbered (number_of o) buffer) (outputs_of relay)
+output_of relay buffer = find (λ o. is_numbered (buffer_number o) buffer) (outputs_of relay)
 
 -- the output of this buffer of the relay at this place
 abbrev pub output_at : {A : Type 0} → Network A → ℕ → ℕ → Option (Output A)

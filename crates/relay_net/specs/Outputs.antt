@@ -10,13 +10,6 @@ use Rattle.relay_conf.specs.declared.output.Output.{Output}
 use Rattle.relay_conf.specs.declared.output.Output.TheVariants as output
 use Rattle.relay_conf.specs.declared.output.Server.{Server}
 
--- the number of an output's buffer, if it has one
-abbrev pub number_of : {A : Type 0} → Output A → Option ℕ
-number_of (output.Null line) = None
-number_of (output.Relabel target line) = None
-number_of (output.Forward settings line) = Some settings.number.0
-number_of (output.File settings line) = Some settings.number.0
-
 -- the number is there and is this buffer
 abbrev pub is_numbered : Option ℕ → ℕ → Bool
 is_numbered None buffer = false

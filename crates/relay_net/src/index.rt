@@ -2,7 +2,8 @@
 
 ghost use Rattle.std.specs.Prelude.{◌≡◌, ℕ, Some, None, [], ◌∷◌, cond, IfOk, OnOk};
 ghost use Rattle.std.specs.Option.{option_copied, option_or};
-ghost use Rattle.relay_net.specs.Outputs.{number_of, is_numbered};
+ghost use Rattle.relay_conf.specs.Buffers.{buffer_number};
+ghost use Rattle.relay_net.specs.Outputs.{is_numbered};
 
 use crate::output;
 use relay_conf::{MatchRule, Output, Relay, Scope};

@@ -2,14 +2,15 @@
 
 ghost use Rattle.std.specs.Prelude.{◌≡◌, ◌↔◌, IsTrue, slice_get};
 ghost use Rattle.std.specs.Option.{option_copied};
-ghost use Rattle.relay_net.specs.Outputs.{number_of, settings_of, servers_of, has_memory, KeepsChunks, is_memory as has_memory_kind, keeps_chunks as chunks_kept, Keeps};
+ghost use Rattle.relay_conf.specs.Buffers.{buffer_number};
+ghost use Rattle.relay_net.specs.Outputs.{settings_of, servers_of, has_memory, KeepsChunks, is_memory as has_memory_kind, keeps_chunks as chunks_kept, Keeps};
 
 use relay_conf::{BufferKind, BufferSettings, Output, OverflowAction, Server};
 use std::alloc::Allocator;
 
 /// The number of the output's buffer, if it has one.
 pub fn buffer_number<A: Allocator>(output: &Output<A>) -> Option<usize>
-    ensures { result ≡ number_of output.now }
+    ensures { result ≡ buffer_number output.now }
 {
     match output {
         Output::Null { line: _ } => None,

@@ -4,7 +4,8 @@ ghost use Rattle.std.specs.Prelude.{◌≡◌, ◌++◌, OnOk};
 ghost use Rattle.std.specs.List.{find, flat_map};
 ghost use Rattle.std.specs.Option.{option_copied};
 ghost use Rattle.relay_net.specs.Network.{output_of};
-ghost use Rattle.relay_net.specs.Outputs.{number_of, is_numbered};
+ghost use Rattle.relay_conf.specs.Buffers.{buffer_number};
+ghost use Rattle.relay_net.specs.Outputs.{is_numbered};
 ghost use Rattle.route_listing.specs.Outputs.{buffer_text, output_text, outputs_in, server_text};
 
 use relay_conf::{BufferNo, Output, Relay, Scope, Server};
@@ -90,7 +91,7 @@ fn output_of<A: Allocator>(relay: &Relay<A>, buffer: BufferNo) -> Option<&Output
 
 // The output of the scope that has this buffer.
 fn in_scope<A: Allocator>(scope: &Scope<A>, buffer: BufferNo) -> Option<&Output<A>>
-    ensures { option_copied result ≡ find (λ output. is_numbered (number_of output) buffer.0) (outputs_in scope.now) }
+    ensures { option_copied result ≡ find (λ output. is_numbered (buffer_number output) buffer.0) (outputs_in scope.now) }
 {
     for rule in &scope.matches {
         if let Some(output) = among(&rule.outputs, buffer) {
@@ -102,7 +103,7 @@ fn in_scope<A: Allocator>(scope: &Scope<A>, buffer: BufferNo) -> Option<&Output<
 
 // The output among these that has this buffer.
 fn among<A: Allocator>(outputs: &[Output<A>], buffer: BufferNo) -> Option<&Output<A>>
-    ensures { option_copied result ≡ find (λ output. is_numbered (number_of output) buffer.0) outputs.now }
+    ensures { option_copied result ≡ find (λ output. is_numbered (buffer_number output) buffer.0) outputs.now }
 {
     for output in outputs {
         if has_buffer(output, buffer) {
@@ -114,7 +115,7 @@ fn among<A: Allocator>(outputs: &[Output<A>], buffer: BufferNo) -> Option<&Outpu
 
 // Whether the output has this buffer.
 fn has_buffer<A: Allocator>(output: &Output<A>, buffer: BufferNo) -> bool
-    ensures { result ≡ is_numbered (number_of output.now) buffer.0 }
+    ensures { result ≡ is_numbered (buffer_number output.now) buffer.0 }
 {
     match output {
         Output::Null { line: _ } => false,
