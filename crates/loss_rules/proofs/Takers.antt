@@ -38,24 +38,24 @@ rule-is net place scope rule = scope-rule (option_and_then (λ r. slice_get r.sc
 -- ---- who takes an event
 
 -- The match with this place is the first of these with the tag.
-record IsFirst {A : Type 0} (matches : List (MatchRule A)) (tag : List ℕ) (rule : ℕ) (found : MatchRule A) : Type 0 where
+record IsFirstWithTag {A : Type 0} (matches : List (MatchRule A)) (tag : List ℕ) (rule : ℕ) (found : MatchRule A) : Type 0 where
   there : slice_get matches rule ≡ Some found
   has : HaveTag found.patterns.items tag
   others : (before : ℕ) (other : MatchRule A) → before < rule → slice_get matches before ≡ Some other → ¬ HaveTag other.patterns.items tag
 
-first-further : {A : Type 0} (first : MatchRule A) (matches : List (MatchRule A)) (tag : List ℕ) (rule : ℕ) (found : MatchRule A) → ¬ HaveTag first.patterns.items tag → IsFirst matches tag rule found → IsFirst (first ∷ matches) tag (suc rule) found
+first-further : {A : Type 0} (first : MatchRule A) (matches : List (MatchRule A)) (tag : List ℕ) (rule : ℕ) (found : MatchRule A) → ¬ HaveTag first.patterns.items tag → IsFirstWithTag matches tag rule found → IsFirstWithTag (first ∷ matches) tag (suc rule) found
 first-further {A} first matches tag rule found none is = record { there = is.there; has = is.has; others = by }
   where
     by : (before : ℕ) (other : MatchRule A) → before < suc rule → slice_get (first ∷ matches) before ≡ Some other → ¬ HaveTag other.patterns.items tag
     by zero other less e = subst (λ m. ¬ HaveTag m.patterns.items tag) (same_Some first other e) none
     by (suc before) other less e = is.others before other (omega arith) e
 
-taken-first : {A : Type 0} (matches : List (MatchRule A)) (tag : List ℕ) (taker : Rule) → IsTakenBy (map rule_of matches) tag taker → (rule : ℕ) × (found : MatchRule A) × IsFirst matches tag rule found × (taker ≡ rule_of found)
+taken-first : {A : Type 0} (matches : List (MatchRule A)) (tag : List ℕ) (taker : Rule) → IsTakenBy (map rule_of matches) tag taker → (rule : ℕ) × (found : MatchRule A) × IsFirstWithTag matches tag rule found × (taker ≡ rule_of found)
 taken-first [] tag taker h = absurd h
 taken-first (m ∷ matches) tag taker (inl h) = (zero, m, record { there = refl; has = h.0; others = λ before other less e. absurd (omega arith) }, h.1)
 taken-first (m ∷ matches) tag taker (inr h) = let r = taken-first matches tag taker h.1 in (suc r.0, r.1, first-further m matches tag r.0 r.1 h.0 r.2, r.3)
 
-first-taken : {A : Type 0} (matches : List (MatchRule A)) (tag : List ℕ) (rule : ℕ) (found : MatchRule A) → IsFirst matches tag rule found → IsTakenBy (map rule_of matches) tag (rule_of found)
+first-taken : {A : Type 0} (matches : List (MatchRule A)) (tag : List ℕ) (rule : ℕ) (found : MatchRule A) → IsFirstWithTag matches tag rule found → IsTakenBy (map rule_of matches) tag (rule_of found)
 first-taken [] tag rule found is = let e = is.there in absurd (cc)
 first-taken (m ∷ matches) tag zero found is = subst (λ x. IsTakenBy (map rule_of (m ∷ matches)) tag (rule_of x)) same (inl (subst (λ x. HaveTag x.patterns.items tag) (sym same) is.has, refl))
   where

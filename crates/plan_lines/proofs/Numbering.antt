@@ -9,7 +9,7 @@ use Rattle.std.proofs.lemmas.List.Folds.{position_or_len_push, find_at}
 use Rattle.std.proofs.lemmas.Option.{slice_get_past}
 use Rattle.relay_net.specs.Network.{node_of}
 use Rattle.relay_net.specs.declared.node.Node.{Node}
-use Rattle.plan_lines.specs.Plans.{place_of}
+use Rattle.plan_lines.specs.Plans.{place_among}
 
 module _ {X : Type 0} (p : X → Bool) where
   at_most : (xs : List X) → position_or_len p xs ≤ length xs
@@ -42,9 +42,9 @@ module _ {X : Type 0} (p : X → Bool) where
       by false e = slice_get_past xs (position_or_len p xs) (grind (arith, common_steps))
 
 -- the place of a relay, when one more stands behind the others
-pub place_more : {A : Type 0} (nodes : List (Node A)) (node : Node A) (number : ℕ) → place_of (nodes ++ node ∷ []) number ≡ option_or (place_of nodes number) (cond (node.number == number) (Some (length nodes)) None)
+pub place_more : {A : Type 0} (nodes : List (Node A)) (node : Node A) (number : ℕ) → place_among (nodes ++ node ∷ []) number ≡ option_or (place_among nodes number) (cond (node.number == number) (Some (length nodes)) None)
 place_more nodes node number = position_push (λ node. node.number == number) nodes node
 
 -- the relay that a number means stands at its place
-pub node_there : {A : Type 0} (nodes : List (Node A)) (number : ℕ) → node_of nodes number ≡ option_and_then (slice_get nodes) (place_of nodes number)
+pub node_there : {A : Type 0} (nodes : List (Node A)) (number : ℕ) → node_of nodes number ≡ option_and_then (slice_get nodes) (place_among nodes number)
 node_there nodes number = found_at (λ node. node.number == number) nodes

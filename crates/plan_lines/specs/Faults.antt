@@ -17,7 +17,7 @@ use Rattle.text_lines.specs.Lines.{text_lines}
 use Rattle.plan_lines.specs.declared.error.PlanError.{PlanError}
 use Rattle.plan_lines.specs.declared.error.PlanError.TheVariants as error
 use Rattle.plan_lines.specs.Forms.{LineForm, a_relay, a_client, a_label, a_reach, no_form, line_form, relay_number}
-use Rattle.plan_lines.specs.Plans.{Say, place_of, scope_at}
+use Rattle.plan_lines.specs.Plans.{Say, place_among, scope_at}
 
 -- a field that should be a number is none: a relay's number, a port or an index
 abbrev pub HasBadNumber : LineForm → Type 0
@@ -50,11 +50,11 @@ NoSource nodes number port = option_and_then (λ node. source_of_port node.relay
 
 -- none of these relays has the number, or the scope
 abbrev pub NoScope : {A : Type 0} → List (Node A) → ℕ → List ℕ → Type 0
-NoScope nodes number scope = option_and_then (λ place. scope_at nodes place scope) (place_of nodes number) ≡ None
+NoScope nodes number scope = option_and_then (λ place. scope_at nodes place scope) (place_among nodes number) ≡ None
 
 -- none of these relays has the number, or the scope, or no match of that scope has the index
 abbrev pub NoMatch : {A : Type 0} → Network A → ℕ → List ℕ → ℕ → Type 0
-NoMatch net number scope index = option_and_then (λ place. option_and_then (λ s. rule_at net place s index) (scope_at net.relays place scope)) (place_of net.relays number) ≡ None
+NoMatch net number scope index = option_and_then (λ place. option_and_then (λ s. rule_at net place s index) (scope_at net.relays place scope)) (place_among net.relays number) ≡ None
 
 -- what the line names isn't in the plan of the lines before it
 abbrev pub NamesNone : {A : Type 0} → Subject A → LineForm → Type 0

@@ -33,8 +33,8 @@ empty_plan A = record { net = network [] []; relay_lines = []; client_lines = []
 -- scopes, of which the main one is the first.
 
 -- the place of the relay that a number means: of equal numbers the first
-abbrev pub place_of : {A : Type 0} → List (Node A) → ℕ → Option ℕ
-place_of nodes number = position (λ node. node.number == number) nodes
+abbrev pub place_among : {A : Type 0} → List (Node A) → ℕ → Option ℕ
+place_among nodes number = position (λ node. node.number == number) nodes
 
 -- the name of the scope that a field means: `.` is the main scope, whose name is empty
 abbrev pub scope_name : List ℕ → List ℕ
@@ -84,7 +84,7 @@ pub record AddsLabel {A : Type 0} (line : ℕ) (number scope : List ℕ) (patter
   pub label : Label A
   pub meant : ℕ
   pub number_is : relay_number number ≡ Some meant
-  pub place_is : place_of before.net.relays meant ≡ Some label.place
+  pub place_is : place_among before.net.relays meant ≡ Some label.place
   pub scope_is : scope_at before.net.relays label.place scope ≡ Some label.scope
   pub patterns_are : AreOfWords patterns label.patterns.items
   pub line_is : label.line ≡ line
@@ -95,7 +95,7 @@ pub record AddsReach {A : Type 0} (line : ℕ) (number scope index : List ℕ) (
   pub reach : Reach A
   pub meant : ℕ
   pub number_is : relay_number number ≡ Some meant
-  pub place_is : place_of before.net.relays meant ≡ Some reach.place
+  pub place_is : place_among before.net.relays meant ≡ Some reach.place
   pub scope_is : scope_at before.net.relays reach.place scope ≡ Some reach.scope
   pub rule_is : number_of index ≡ Some reach.rule
   pub rule_there : IsSome (rule_at before.net reach.place reach.scope reach.rule)

@@ -5,7 +5,7 @@ ghost use Rattle.std.specs.BTreeMap.{get};
 ghost use Rattle.std.specs.Option.{option_copied, option_or};
 ghost use Rattle.std.specs.Ordering.{nat_cmp};
 ghost use Rattle.relay_net.specs.Network.{node_of};
-ghost use Rattle.plan_lines.specs.Plans.{place_of};
+ghost use Rattle.plan_lines.specs.Plans.{place_among};
 
 use relay_net::Node;
 use std::alloc::{AllocError, Allocator};
@@ -23,14 +23,14 @@ impl<A: Allocator> Model for Relays<A> {
     ghost use Rattle.std.specs.Prelude.{◌≡◌, ℕ, List};
     ghost use Rattle.std.specs.BTreeMap.{get};
     ghost use Rattle.std.specs.Ordering.{nat_cmp};
-    ghost use Rattle.plan_lines.specs.Plans.{place_of};
+    ghost use Rattle.plan_lines.specs.Plans.{place_among};
     ghost use Rattle.relay_net.specs.declared.node.Node.{Node};
 
     ghost Value = { List (Node A) };
 
     ghost view = { λ relays. relays.nodes.items };
 
-    ghost invariant = { λ relays. (number : ℕ) → get nat_cmp relays.places number ≡ place_of relays.nodes.items number };
+    ghost invariant = { λ relays. (number : ℕ) → get nat_cmp relays.places number ≡ place_among relays.nodes.items number };
 }
 
 impl<A: Allocator + Copy> Relays<A> {
@@ -70,7 +70,7 @@ impl<A: Allocator + Copy> Relays<A> {
 
     /// The place of the relay that the number means: of equal numbers the first.
     pub fn place(&self, number: u32) -> Option<usize>
-        ensures { result ≡ place_of self.now number }
+        ensures { result ≡ place_among self.now number }
     {
         self.places.get(&number).copied()
     }
