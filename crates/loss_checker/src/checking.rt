@@ -57,7 +57,7 @@ fn keep_all_but_the_last<'a, 'b, A: Allocator + Copy>(
 ) -> Result<(), Answer>
     requires labels { labels.now ≡ plan.now.labels }
     requires reaches { reaches.now ≡ plan.now.reaches }
-    ensures kept { OnOk result (AreKeptBefore plan.now 10) }
+    ensures kept { OnOk result (AreKeptBefore plan.now (rule_number Rule.NoRelabelCycle)) }
     ensures broken { IfErr result (IsAnswer plan.now) }
 {
     let net = plan.net();
