@@ -4,6 +4,7 @@ use Rattle.relay_net.specs.Addresses.{Address}
 use Rattle.relay_net.specs.Network.{Network, entrance, tag_at}
 use Rattle.relay_net.specs.declared.address.Entrance.{Entrance}
 use Rattle.routed_tags.specs.Routed.{ComesTo, SendsTo, Follows, sent, onward, IsRoutedTag}
+use Rattle.tag_pattern.specs.Parts.{most_tag_bytes}
 
 -- an event of a message with this tag that was sent to this address
 pub record Origin : Type 0 where
@@ -21,7 +22,7 @@ pub record IsBorne {A : Type 0} (net : Network A) (address : Address) (tag : Lis
   pub place_is : at.relay ≡ place
   pub comes : ComesTo net at (tag_at net last before) buffer
   pub borne_is : borne ≡ tag_at net last before
-  pub short : length borne ≤ 1024
+  pub short : length borne ≤ most_tag_bytes
 
 -- So the origin's event may.
 abbrev pub Bears : {A : Type 0} → Network A → Origin → ℕ → ℕ → List ℕ → Type 0
@@ -54,7 +55,7 @@ borne_on net address tag mid mid_tag place buffer borne f b = record {
 }
 
 -- where the message itself comes in
-pub borne_first : {A : Type 0} (net : Network A) (address : Address) (tag : List ℕ) (at : Entrance) (buffer : ℕ) (borne : List ℕ) → entrance net address ≡ Some at → borne ≡ tag_at net address tag → length borne ≤ 1024 → ComesTo net at borne buffer → IsBorne net address tag at.relay buffer borne
+pub borne_first : {A : Type 0} (net : Network A) (address : Address) (tag : List ℕ) (at : Entrance) (buffer : ℕ) (borne : List ℕ) → entrance net address ≡ Some at → borne ≡ tag_at net address tag → length borne ≤ most_tag_bytes → ComesTo net at borne buffer → IsBorne net address tag at.relay buffer borne
 borne_first net address tag at buffer borne enters is short comes = record {
   last = address;
   before = tag;

@@ -32,6 +32,7 @@ use Rattle.custody_core.proofs.Deliverings.{chosen_again, state_here}
 use Rattle.custody_core.proofs.Along.{AnsweredStay}
 use Rattle.custody_core.proofs.AlongRanked.{IsGoneOn, ArePassedAlong, AreHeldThere, IsToldAlong, IsEach, WasAppended, each_goes, was_appended, follow_same, was_evident}
 use Rattle.custody_core.proofs.AlongMoves.{same_moves, mark_each, gone_each, queue_each, fuller_each, loose_each, again_each}
+use Rattle.tag_pattern.specs.Parts.{most_tag_bytes}
 
 -- Each leaf of each labelled tag's way keeps.
 abbrev pub LeavesKeep : {A : Type 0} → Network A → Labelling → Type 0
@@ -240,7 +241,7 @@ module _ {A : Type 0} (net : Network A) (labelled : Labelling) (ranks : Ranking)
   pub begun_each : (number : ℕ) → Allowed net w (step.Begin number) → IsEach net ranks (effect net w (step.Begin number))
   begun_each number h =
       let m = some_and (slice_get w.messages number) (CanBegin net) h in
-      let may = some_and (entrance net m.0.address) (λ at. (length (tag_of net m.0) ≤ 1024) × ¬ HasLoop net at (tag_of net m.0) m.0.entries) m.2 in
+      let may = some_and (entrance net m.0.address) (λ at. (length (tag_of net m.0) ≤ most_tag_bytes) × ¬ HasLoop net at (tag_of net m.0) m.0.entries) m.2 in
       rw m.1 (rw may.1 (opened_each (record { message = number; entrance = may.0; tag = tag_of net m.0; appended = []; is_open = true }) refl))
 
   pub abandoned_each : (number : ℕ) → Allowed net w (step.Abandon number) → IsEach net ranks (effect net w (step.Abandon number))

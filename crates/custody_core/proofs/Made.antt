@@ -25,6 +25,7 @@ use Rattle.custody_core.proofs.Lists.{get-push, get-more, get-set, get-after_set
 use Rattle.custody_core.proofs.Sendings.{Follow}
 use Rattle.custody_core.proofs.Deliverings.{server_of}
 use Rattle.custody_core.proofs.Sourced.{AllSent, IsSourced, sourced_more, chunk_changes, sink_takes, takes_sent, oldest_goes, starts_again}
+use Rattle.tag_pattern.specs.Parts.{most_tag_bytes}
 
 -- A client sent this entry with one of these messages, which may go on in one with this tag to this address.
 pub record IsFrom {A : Type 0} (net : Network A) (messages : List Message) (address : Address) (tag entry : List ℕ) : Type 0 where
@@ -54,7 +55,7 @@ pub record IsOpened {A : Type 0} (net : Network A) (messages : List Message) (de
   pub there : slice_get messages delivery.message ≡ Some message
   pub enters : entrance net message.address ≡ Some delivery.entrance
   pub tag_is : delivery.tag ≡ tag_at net message.address message.tag
-  pub short : length delivery.tag ≤ 1024
+  pub short : length delivery.tag ≤ most_tag_bytes
   pub ends : ¬ HasLoop net delivery.entrance delivery.tag message.entries
 
 -- A client sent each entry of every message, and whatever is in a buffer or a sink, under tags that lead there.
@@ -220,7 +221,7 @@ module _ {A : Type 0} (net : Network A) (w : World) (is : IsHonest net w) where
   begin_honest : (message : ℕ) → Allowed net w (step.Begin message) → IsHonest net (effect net w (step.Begin message))
   begin_honest message h = honest_or net w _ (slice_get w.messages message) is (λ m e. honest_or net w _ (entrance net m.address) is (λ at f.
       (let may : CanBegin net m = rw e at h in
-      let can : (length (tag_of net m) ≤ 1024) × ¬ HasLoop net at (tag_of net m) m.entries = rw f at may in
+      let can : (length (tag_of net m) ≤ most_tag_bytes) × ¬ HasLoop net at (tag_of net m) m.entries = rw f at may in
       let opened : Delivery = record { message = message; entrance = at; tag = tag_of net m; appended = []; is_open = true } in
       record {
         messages = is.messages;

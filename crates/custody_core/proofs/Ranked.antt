@@ -18,6 +18,7 @@ use Rattle.routed_tags.specs.Routed.{SendsTo}
 use Rattle.custody_steps.specs.World.{World}
 use Rattle.custody_core.proofs.Borne.{Origin, Bears}
 use Rattle.custody_core.proofs.Safe.{Buffers, Ranking, KeepsAt, IsSafe}
+use Rattle.tag_pattern.specs.Parts.{most_tag_bytes}
 
 -- which tags are labelled where
 abbrev pub Labelling : Type 1
@@ -102,7 +103,7 @@ module _ {A : Type 0} (net : Network A) (ranks : Ranking) (clock : ℕ) (buffers
     pub there : slice_get messages delivery.message ≡ Some message
     pub enters : entrance net message.address ≡ Some delivery.entrance
     pub tag_is : delivery.tag ≡ tag_at net message.address message.tag
-    pub short : length delivery.tag ≤ 1024
+    pub short : length delivery.tag ≤ most_tag_bytes
     pub taken : labelled delivery.entrance delivery.tag
     pub appended : (buffer : ℕ) → Contains delivery.appended buffer → KeepsAt net delivery.entrance.relay buffer → ArePassedOn message.sender message.address message.tag message.entries
 

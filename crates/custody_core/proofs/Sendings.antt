@@ -19,6 +19,7 @@ use Rattle.custody_core.proofs.Lists.{get-push, get-more, get-set, get-after_set
 use Rattle.custody_core.proofs.Safe.{Ranking, IsSafe}
 use Rattle.custody_core.proofs.Ranked.{Labelling, LeadOn, IsSentFrom, ArePassedOn, IsToldSafe, IsKnown, IsKnownDelivery, IsRanked}
 use Rattle.custody_core.proofs.AppendMoves.{append_ranked}
+use Rattle.tag_pattern.specs.Parts.{most_tag_bytes}
 
 -- Each message of the one list is in the other, from the same sender to the same address, with its tag and its entries.
 pub record IsMessageOf (messages : List Message) (number : ℕ) (old : Message) : Type 0 where
@@ -140,7 +141,7 @@ module _ {A : Type 0} (net : Network A) (labelled : Labelling) (leads : LeadOn n
   begun number h =
       let m = some_and (slice_get w.messages number) (CanBegin net) h in
       let at = some_and (entrance net m.0.address) (λ at. labelled at (tag_of net m.0)) (is.messages number m.0 m.1).taken in
-      let may = some_and (entrance net m.0.address) (λ at. (length (tag_of net m.0) ≤ 1024) × ¬ HasLoop net at (tag_of net m.0) m.0.entries) m.2 in
+      let may = some_and (entrance net m.0.address) (λ at. (length (tag_of net m.0) ≤ most_tag_bytes) × ¬ HasLoop net at (tag_of net m.0) m.0.entries) m.2 in
       let opened : Delivery = record { message = number; entrance = at.0; tag = tag_of net m.0; appended = []; is_open = true } in
       rw m.1 (rw at.1 (deliveries_ranked net labelled ranks clock w is (w.deliveries ++ opened ∷ []) (λ k d there. elim (get-push w.deliveries opened d k there) [
         | inl old ↦ is.deliveries k d old

@@ -21,6 +21,7 @@ use Rattle.step_lines.specs.declared.step.Step.TheVariants as step
 use Rattle.custody_steps.specs.declared.fault.StepFault.{StepFault}
 use Rattle.custody_steps.specs.declared.fault.StepFault.TheVariants as fault
 use Rattle.custody_steps.specs.World.{World, opening, with_buffer}
+use Rattle.tag_pattern.specs.Parts.{most_tag_bytes}
 
 -- What a step names.
 
@@ -87,7 +88,7 @@ tag_of net message = tag_at net message.address message.tag
 
 -- A message may be taken where it comes in, if the tag that its events bear there is one, and its way ends.
 abbrev pub CanBegin : {A : Type 0} → Network A → Message → Type 0
-CanBegin net message = IsSomeAnd (entrance net message.address) (λ at. (length (tag_of net message) ≤ 1024) × ¬ HasLoop net at (tag_of net message) message.entries)
+CanBegin net message = IsSomeAnd (entrance net message.address) (λ at. (length (tag_of net message) ≤ most_tag_bytes) × ¬ HasLoop net at (tag_of net message) message.entries)
 
 -- An open delivery of the message may be appended there: to a leaf that it wasn't appended to.
 pub record CanAppend {A : Type 0} (net : Network A) (w : World) (delivery : Delivery) (message : Message) (buffer serial : ℕ) : Type 0 where

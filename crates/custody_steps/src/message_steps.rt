@@ -1,6 +1,7 @@
 //! The steps on messages and their deliveries; a chunk that is forwarded is one more message.
 
 ghost use Rattle.std.specs.Prelude.{◌≡◌, ◌↔◌, ◌<◌, ℕ, length, true, Contains, IsTrue, IsSomeAnd, IfSome, IfOk, OnOk, OnErr, slice_get};
+ghost use Rattle.tag_pattern.specs.Parts.{most_tag_bytes};
 
 use crate::fault::StepFault;
 use crate::found::Found;
@@ -61,7 +62,7 @@ impl<'n, A: Allocator + Copy> World<'n, A> {
     // The tag that the message's events bear where it comes in.
     fn entered_tag(&self, message: &Message<A>) -> Result<Tag<A>, TagError>
         ensures tag { IfOk result (λ tag. tag ≡ tag_of (net_of self.now) message.now) }
-        ensures too_long { (result ≡ Err TagError.TagTooLong) ↔ (1024 < length (tag_of (net_of self.now) message.now)) }
+        ensures too_long { (result ≡ Err TagError.TagTooLong) ↔ (most_tag_bytes < length (tag_of (net_of self.now) message.now)) }
     {
         let address = message.address();
         match self.net.prefix(address.host(), address.port()) {

@@ -15,6 +15,7 @@ use Rattle.routed_tags.specs.Routed.{ComesTo}
 use Rattle.kept_branches.specs.Branches.{Reaches}
 use Rattle.kept_branches.specs.Searches.{KeepsSoFar, EachSoFar}
 use Rattle.kept_branches.proofs.Lists.{number_in, leaf_of}
+use Rattle.tag_pattern.specs.Parts.{most_tag_bytes}
 
 first_of : (leaves : List BufferNo) → leaves ≢ [] → (leaf : BufferNo) × Contains leaves leaf
 first_of [] some = absurd (some refl)
@@ -36,7 +37,7 @@ module _ {A : Type 0} (net : Network A) (address : Address) (tag : List ℕ) whe
     pub never_looped : IsLoop (table_at net at.relay) borne at.scope → (p b : ℕ) (t : List ℕ) → Reaches net address tag p b t → ⊥
     never_looped loop p b t r = (comes_there p b t r).ends loop
 
-    module _ (short : length borne ≤ 1024) (leaves : List BufferNo) (ends : ¬ IsLoop (table_at net at.relay) borne at.scope) (are : (buffer : ℕ) → Contains (numbers_of leaves) buffer ↔ IsLeaf (table_at net at.relay) borne at.scope buffer) where
+    module _ (short : length borne ≤ most_tag_bytes) (leaves : List BufferNo) (ends : ¬ IsLoop (table_at net at.relay) borne at.scope) (are : (buffer : ℕ) → Contains (numbers_of leaves) buffer ↔ IsLeaf (table_at net at.relay) borne at.scope buffer) where
       pub leaf_reached : (leaf : BufferNo) → Contains leaves leaf → Reaches net address tag at.relay leaf.0 borne
       leaf_reached leaf inside = record {
         at = at;

@@ -11,6 +11,7 @@ use Rattle.relay_net.specs.Addresses.{Address}
 use Rattle.relay_net.specs.Network.{Network, entrance, tag_at}
 use Rattle.relay_net.specs.declared.address.Entrance.{Entrance}
 use Rattle.routed_tags.specs.Routed.{ComesTo}
+use Rattle.tag_pattern.specs.Parts.{most_tag_bytes}
 
 -- the buffers, by the place of the relay and the buffer in it
 abbrev pub buffers_of : {A : Type 0} → Places A → ℕ → ℕ → BufferState
@@ -23,7 +24,7 @@ pub record Reaches {A : Type 0} (net : Network A) (address : Address) (tag : Lis
   pub enters : entrance net address ≡ Some at
   pub place_is : place ≡ at.relay
   pub borne_is : borne ≡ tag_at net address tag
-  pub short : length borne ≤ 1024
+  pub short : length borne ≤ most_tag_bytes
   pub comes : ComesTo net at borne buffer
 
 -- It was sent from a chunk of this buffer.

@@ -2,6 +2,7 @@
 
 ghost use Rattle.std.specs.Prelude.{◌≡◌, ◌<◌, Err, IfOk, length};
 ghost use Rattle.relay_net.specs.Network.{tag_at};
+ghost use Rattle.tag_pattern.specs.Parts.{most_tag_bytes};
 
 use relay_net::Net;
 use std::alloc::Allocator;
@@ -16,7 +17,7 @@ pub(crate) fn entered<A: Allocator + Copy>(
     tag: &[u8],
 ) -> Result<Tag<A>, TagError>
     ensures tag { IfOk result (λ borne. borne ≡ tag_at net.now (record { host = host.now; port = port }) tag.now) }
-    ensures too_long { (result ≡ Err TagError.TagTooLong) → (1024 < length (tag_at net.now (record { host = host.now; port = port }) tag.now)) }
+    ensures too_long { (result ≡ Err TagError.TagTooLong) → (most_tag_bytes < length (tag_at net.now (record { host = host.now; port = port }) tag.now)) }
 {
     let sent = match Tag::read(alloc, tag) {
         Ok(sent) => sent,

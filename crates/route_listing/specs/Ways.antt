@@ -15,6 +15,7 @@ use Rattle.route_graph.specs.declared.way.Way.{Way}
 use Rattle.route_graph.specs.declared.way.Way.TheVariants.{Leaves, Loop}
 use Rattle.route_listing.specs.Outputs.{buffer_text}
 use Rattle.tag_pattern.specs.Prefixes.{entered_tag}
+use Rattle.tag_pattern.specs.Parts.{most_tag_bytes}
 
 -- the outputs that have these buffers, in their order; ` nowhere` where there are none
 abbrev pub outputs_text : {A : Type 0} → Relay A → List ℕ → List ℕ
@@ -28,7 +29,7 @@ way_text relay Loop = codes " loop"
 
 -- a tag of at most 1,024 bytes goes its way from the source's scope, and this is the text of that way
 pub record IsWayText {A : Type 0} (relay : Relay A) (scope : ℕ) (tag text : List ℕ) : Type 0 where
-  pub short : length tag ≤ 1024
+  pub short : length tag ≤ most_tag_bytes
   pub way : Way A
   pub is_way : IsWay (table_of relay) tag scope way
   pub text_is : text ≡ way_text relay way
@@ -36,7 +37,7 @@ pub record IsWayText {A : Type 0} (relay : Relay A) (scope : ℕ) (tag text : Li
 -- what stands behind a tag: the way of the tag that it is behind the source, or that this is too long for one
 abbrev pub IsBehindTag : {A : Type 0} → Relay A → Source A → List ℕ → List ℕ → Type 0
 IsBehindTag relay source tag text =
-    ((1024 < length (entered_tag source.prefix tag)) × (text ≡ codes " is no tag")) ⊎ IsWayText relay source.label.0 (entered_tag source.prefix tag) text
+    ((most_tag_bytes < length (entered_tag source.prefix tag)) × (text ≡ codes " is no tag")) ⊎ IsWayText relay source.label.0 (entered_tag source.prefix tag) text
 
 -- the line of a tag at a source: the source's port, the tag, and what stands behind it
 pub record IsWayLine {A : Type 0} (relay : Relay A) (source : Source A) (tag text : List ℕ) : Type 0 where

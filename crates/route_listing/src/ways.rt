@@ -8,6 +8,7 @@ ghost use Rattle.route_graph.specs.Table.{table_of};
 ghost use Rattle.route_listing.specs.Ways.{way_text, AreWays, AreWaysFrom, IsBehindTag, IsWayLine, PrintsWays};
 ghost use Rattle.route_listing.specs.Outputs.{buffer_text};
 ghost use Rattle.tag_pattern.specs.Prefixes.{entered_tag};
+ghost use Rattle.tag_pattern.specs.Parts.{most_tag_bytes};
 
 use crate::outputs::put_buffer;
 use program_text::{Status, put_last};
@@ -120,8 +121,8 @@ fn entered<A: Allocator + Copy>(
     prefix: Option<&Prefix<A>>,
     tag: &[u8],
 ) -> Result<Option<Tag<A>>, AllocError>
-    ensures { IfOk result (λ found. MatchOption found (1024 < length (entered_tag (option_copied prefix.entry) tag.now))
-        (λ entered. (entered ≡ entered_tag (option_copied prefix.entry) tag.now) × (length (entered_tag (option_copied prefix.entry) tag.now) ≤ 1024))) }
+    ensures { IfOk result (λ found. MatchOption found (most_tag_bytes < length (entered_tag (option_copied prefix.entry) tag.now))
+        (λ entered. (entered ≡ entered_tag (option_copied prefix.entry) tag.now) × (length (entered_tag (option_copied prefix.entry) tag.now) ≤ most_tag_bytes))) }
 {
     let tag = match Tag::read(alloc, tag) {
         Ok(tag) => tag,

@@ -3,7 +3,7 @@ use Rattle.std.proofs.Common.{◌≡◌, ℕ, zero, suc, ◌+◌, ◌<◌, ◌�
 use Rattle.std.proofs.lemmas.Bool.{cases_lt}
 use Rattle.std.proofs.lemmas.List.{drop-drop}
 use Rattle.std.proofs.lemmas.Option.{same_Some}
-use Rattle.tag_pattern.specs.Parts.{dot}
+use Rattle.tag_pattern.specs.Parts.{dot, most_tag_bytes}
 use Rattle.tag_pattern.specs.Prefixes.{entered_tag}
 use Rattle.relay_net.specs.Addresses.{Address}
 use Rattle.relay_net.specs.Network.{Network, entrance, prefix_at, tag_at}
@@ -115,7 +115,7 @@ module _ {A : Type 0} (net : Network A) (address : Address) (tag wanted : List �
       get_of (y ∷ xs) x (suc k, less, is) = let r = get_of xs x (k, omega arith, is) in (suc r.0, (let l = r.1 in omega arith), r.2)
 
   -- whether one of them bears the whole tag
-  pub searched_all : (found : List Arrival) → IsSearched found (length found) → length wanted ≤ 1024 → (((a : Arrival) × Contains found a × (a.offset ≡ 0)) → IsRoutedTag net address tag wanted) × (IsRoutedTag net address tag wanted → (a : Arrival) × Contains found a × (a.offset ≡ 0))
+  pub searched_all : (found : List Arrival) → IsSearched found (length found) → length wanted ≤ most_tag_bytes → (((a : Arrival) × Contains found a × (a.offset ≡ 0)) → IsRoutedTag net address tag wanted) × (IsRoutedTag net address tag wanted → (a : Arrival) × Contains found a × (a.offset ≡ 0))
   searched_all found s short = (
     λ h. (let r = s.sound h.0 h.1 in record {
       last = r.last;
@@ -148,7 +148,7 @@ grown net address tag (onward {last = last} {before = before} f leads) =
     omega arith
 
 -- a tag of more than 1,024 bytes is and has no routed tag
-pub too_long : {A : Type 0} (net : Network A) (address : Address) (tag wanted : List ℕ) → (1024 < length tag) ⊎ (1024 < length wanted) → IsRoutedTag net address tag wanted → ⊥
+pub too_long : {A : Type 0} (net : Network A) (address : Address) (tag wanted : List ℕ) → (most_tag_bytes < length tag) ⊎ (most_tag_bytes < length wanted) → IsRoutedTag net address tag wanted → ⊥
 too_long net address tag wanted long r =
     let less = grown net address tag r.follows in
     let more = entered_longer (prefix_at net r.last) r.before in

@@ -9,6 +9,7 @@ use Rattle.relay_net.specs.Outputs.{servers_of}
 use Rattle.relay_net.specs.Ways.{table_at}
 use Rattle.relay_net.specs.declared.address.Entrance.{Entrance}
 use Rattle.route_graph.specs.Ways.{IsLeaf, IsLoop}
+use Rattle.tag_pattern.specs.Parts.{most_tag_bytes}
 
 -- An event that bears this tag where it comes in has a way that ends, and the buffer is a leaf of it.
 pub record ComesTo {A : Type 0} (net : Network A) (at : Entrance) (tag : List ℕ) (buffer : ℕ) : Type 0 where
@@ -46,4 +47,4 @@ pub record IsRoutedTag {A : Type 0} (net : Network A) (address : Address) (tag r
   pub at : Entrance
   pub enters : entrance net last ≡ Some at
   pub routed_is : routed ≡ tag_at net last before
-  pub short : length routed ≤ 1024
+  pub short : length routed ≤ most_tag_bytes

@@ -2,7 +2,7 @@
 
 ghost use Rattle.std.specs.Prelude.{◌≡◌, ◌↔◌, ◌≤◌, ◌∷◌, Some, length, Any, Contains, IsTrue};
 ghost use Rattle.std.specs.Option.{option_copied};
-ghost use Rattle.tag_pattern.specs.Parts.{dot};
+ghost use Rattle.tag_pattern.specs.Parts.{dot, most_tag_bytes};
 ghost use Rattle.tag_pattern.specs.Prefixes.{entered_tag, prefixed_tag};
 ghost use Rattle.routed_tags.specs.Arrivals.{IsArrival};
 
@@ -55,7 +55,7 @@ pub(crate) fn comes_in<A: Allocator + Copy>(
     tag: &[u8],
     wanted: &[u8],
 ) -> Option<Arrival>
-    requires { length tag.now ≤ 1024 }
+    requires { length tag.now ≤ most_tag_bytes }
     ensures { (arrival : Arrival) → (result ≡ Some arrival) ↔ IsArrival net.now wanted.now (record { host = host.now; port = port }) tag.now arrival }
 {
     let at = net.entrance(host, port)?;
@@ -74,7 +74,7 @@ pub(crate) fn comes_in<A: Allocator + Copy>(
 
 // The length of the tag with the prefix in front, if there is one.
 fn entered_length<A: Allocator>(prefix: Option<&Prefix<A>>, tag: &[u8]) -> usize
-    requires { length tag.now ≤ 1024 }
+    requires { length tag.now ≤ most_tag_bytes }
     ensures { result ≡ length (entered_tag (option_copied prefix.entry) tag.now) }
 {
     match prefix {

@@ -3,6 +3,7 @@
 ghost use Rattle.std.specs.Prelude.{◌≡◌, ◌≤◌, Some, length, drop, OnOk};
 ghost use Rattle.relay_net.specs.Network.{address_of_server};
 ghost use Rattle.relay_net.specs.Outputs.{servers_of};
+ghost use Rattle.tag_pattern.specs.Parts.{most_tag_bytes};
 ghost use Rattle.routed_tags.specs.Arrivals.{Grows, Through, IsArrival, IsSentOn, IsNext};
 
 use crate::arrival::{Arrival, comes_in, is_among};
@@ -21,7 +22,7 @@ pub(crate) fn follow<A: Allocator + Copy>(
     found: &mut Vec<Arrival, A>,
 ) -> Result<(), AllocError>
     requires within { here.offset ≤ length wanted.now }
-    requires short { length wanted.now ≤ 1024 }
+    requires short { length wanted.now ≤ most_tag_bytes }
     ensures { OnOk result (Grows (IsNext net.now wanted.now here) found.old.items found.new.items) }
 {
     let (_, borne) = wanted.split_at(here.offset);
@@ -45,7 +46,7 @@ fn follow_buffers<A: Allocator + Copy>(
     tag: &[u8],
     found: &mut Vec<Arrival, A>,
 ) -> Result<(), AllocError>
-    requires { length tag.now ≤ 1024 }
+    requires { length tag.now ≤ most_tag_bytes }
     ensures { OnOk result (Grows (Through (λ leaf. IsSentOn net.now wanted.now place leaf.0 tag.now) leaves.now) found.old.items found.new.items) }
 {
     for leaf in leaves {
@@ -63,7 +64,7 @@ fn follow_buffer<A: Allocator + Copy>(
     tag: &[u8],
     found: &mut Vec<Arrival, A>,
 ) -> Result<(), AllocError>
-    requires { length tag.now ≤ 1024 }
+    requires { length tag.now ≤ most_tag_bytes }
     ensures { OnOk result (Grows (IsSentOn net.now wanted.now place buffer tag.now) found.old.items found.new.items) }
 {
     match net.output(place, buffer) {
@@ -80,7 +81,7 @@ fn follow_servers<A: Allocator + Copy>(
     tag: &[u8],
     found: &mut Vec<Arrival, A>,
 ) -> Result<(), AllocError>
-    requires { length tag.now ≤ 1024 }
+    requires { length tag.now ≤ most_tag_bytes }
     ensures { OnOk result (Grows (Through (λ server. IsArrival net.now wanted.now (address_of_server server) tag.now) servers.now) found.old.items found.new.items) }
 {
     for server in servers {

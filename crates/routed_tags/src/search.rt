@@ -1,15 +1,14 @@
 //! Whether a tag is one that an event may bear on its way.
 
 ghost use Rattle.std.specs.Prelude.{◌↔◌, ◌≤◌, IfOk, IsTrue, length};
+ghost use Rattle.tag_pattern.specs.Parts.{most_tag_bytes};
 ghost use Rattle.routed_tags.specs.Routed.{IsRoutedTag};
 
 use crate::arrival::{comes_in, has_whole};
 use crate::following::{add, follow};
 use relay_net::Net;
 use std::alloc::{AllocError, Allocator};
-
-// The greatest length of a tag, in bytes.
-const MOST_TAG_BYTES: usize = 1_024;
+use tag_pattern::MOST_TAG_BYTES;
 
 /// Whether the events of a message with this tag, sent to this host and port, may bear the wanted tag where they come in, there
 /// or after any number of forwards. It goes once through each place and end of the wanted tag that they may come to.
@@ -41,8 +40,8 @@ fn search<A: Allocator + Copy>(
     tag: &[u8],
     wanted: &[u8],
 ) -> Result<bool, AllocError>
-    requires tag { length tag.now ≤ 1024 }
-    requires wanted { length wanted.now ≤ 1024 }
+    requires tag { length tag.now ≤ most_tag_bytes }
+    requires wanted { length wanted.now ≤ most_tag_bytes }
     ensures { IfOk result (λ yes. IsTrue yes ↔ IsRoutedTag net.now (record { host = host.now; port = port }) tag.now wanted.now) }
 {
     let mut found = Vec::new(alloc);

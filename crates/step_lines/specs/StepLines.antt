@@ -13,6 +13,7 @@ use Rattle.step_lines.specs.declared.lines.StepsError.{StepsError}
 use Rattle.step_lines.specs.declared.lines.StepsError.TheVariants as error
 use Rattle.step_lines.specs.declared.step.Step.{Step}
 use Rattle.step_lines.specs.declared.step.Step.TheVariants as step
+use Rattle.tag_pattern.specs.Parts.{most_tag_bytes}
 
 -- a space or a tab
 abbrev pub is_blank : ℕ → Bool
@@ -60,7 +61,7 @@ IsChunkAndNumber name words chunk n =
 -- The fields are those of the step.
 abbrev pub IsStepOf : {A : Type 0} → List (List ℕ) → Step A → Type 0
 IsStepOf words (step.Send client tag entries) = (number : List ℕ) × (texts : List (List ℕ))
-    × (words ≡ codes "send" ∷ number ∷ tag ∷ texts) × IsNumber number client × (length tag ≤ 1024) × AllZip Spells texts (texts_of entries.items)
+    × (words ≡ codes "send" ∷ number ∷ tag ∷ texts) × IsNumber number client × (length tag ≤ most_tag_bytes) × AllZip Spells texts (texts_of entries.items)
 IsStepOf words (step.Begin message) = IsOneNumber (codes "begin") words message
 IsStepOf words (step.Append delivery buffer serial) = (d : List ℕ) × (b : List ℕ) × (s : List ℕ)
     × (words ≡ codes "append" ∷ d ∷ b ∷ s ∷ []) × IsNumber d delivery × IsNumber b buffer × IsNumber s serial

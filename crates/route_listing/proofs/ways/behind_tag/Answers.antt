@@ -3,12 +3,13 @@ use Rattle.route_graph.specs.Listing.{IsWay}
 use Rattle.route_graph.specs.Table.{Table, table_of}
 use Rattle.tag_pattern.specs.Prefixes.{entered_tag}
 use Rattle.route_listing.proofs.ways.behind_tag.Goals as goal
+use Rattle.tag_pattern.specs.Parts.{most_tag_bytes}
 
 pub returns : goal.returns
 returns g c =
     let tag = entered_tag c.args.source.now.prefix c.args.tag.now in
     let is : c.in-Some.tag ≡ tag = search rules in
-    let short : length tag ≤ 1024 = search rules in
+    let short : length tag ≤ most_tag_bytes = search rules in
     inr (record {
       short = short;
       way = c.in_ok-way.way;

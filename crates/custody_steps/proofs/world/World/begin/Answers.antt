@@ -8,6 +8,7 @@ use Rattle.custody_steps.specs.Steps.{tag_of}
 use Rattle.custody_steps.specs.WorldOf.{world_from}
 use Rattle.custody_steps.proofs.Keeping as keeping
 use Rattle.custody_steps.proofs.world.World.begin.Goals as goal
+use Rattle.tag_pattern.specs.Parts.{most_tag_bytes}
 
 pub invariant_of-self : goal.invariant_of-self
 invariant_of-self g c =
@@ -40,7 +41,7 @@ returns-clause-answer g c =
     let m = c.in-Some.found.now in
     let at = sym c.in-Some.ensures in
     let tag_is = c.in-Ok.ensures.tag in
-    let short : length (tag_of w.net.now m) ≤ 1024 = elim (cases_lt 1024 (length (tag_of w.net.now m))) [
+    let short : length (tag_of w.net.now m) ≤ most_tag_bytes = elim (cases_lt most_tag_bytes (length (tag_of w.net.now m))) [
       | inl long ↦ absurd (let e = c.in-Ok.ensures.too_long.1 long in cc)
       | inr le ↦ le
     ] in
