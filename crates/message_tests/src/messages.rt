@@ -1,8 +1,8 @@
 //! Messages from outside, and what no clause says.
 
 use event_modes::{
-    AckRead, ChunkId, Entries, Feed, FeedError, ModeFault, Next, Read, put_ack, put_packed, read,
-    read_ack,
+    AckRead, ChunkId, Entries, Feed, FeedError, Message, ModeFault, Next, Read, put_ack,
+    put_packed, read, read_ack,
 };
 use std::alloc::{AllocError, Global};
 use std::test::Fail;
@@ -16,7 +16,7 @@ struct Case {
     ack: &'static [u8],
 }
 
-const CASES: [Case; 11] = [
+static CASES: [Case; 11] = [
     // Message mode.
     Case {
         bytes: b"\x93\xa1\x61\x01\x81\xa1\x6b\xa1\x76",
@@ -104,25 +104,35 @@ const CASES: [Case; 11] = [
     },
 ];
 
+// Whether a message has what the case says.
+fn is_case(message: &Message<Global>, case: &Case) -> bool {
+    let ack = match &message.ack {
+        Some(item) => item.as_slice(),
+        None => b"",
+    };
+    message.tag.as_slice() == case.tag
+        && message.entries.as_bytes() == case.entries
+        && message.entries.count() == case.count
+        && ack == case.ack
+}
+
+// Whether these bytes are that message and nothing more.
+fn comes_to(alloc: Global, case: &Case) -> Result<bool, AllocError> {
+    Ok(match read(alloc, case.bytes)? {
+        Read::Message(message, n) => n == case.bytes.len() && is_case(&message, case),
+        _ => false,
+    })
+}
+
 #[test]
 fn messages(rt: HostRuntime) -> Result<(), Fail> {
     for case in &CASES {
-        let Read::Message(message, n) = read(rt.alloc(), case.bytes)? else {
-            panic!(rt; "no message: {:?}", case.bytes);
-        };
-        assert_eq!(rt; n, case.bytes.len());
-        assert_eq!(rt; message.tag.as_slice(), case.tag);
-        assert_eq!(rt; message.entries.as_bytes(), case.entries);
-        assert_eq!(rt; message.entries.count(), case.count);
-        match &message.ack {
-            Some(item) => assert_eq!(rt; item.as_slice(), case.ack),
-            None => assert!(rt; case.ack.is_empty()),
-        }
+        assert!(rt; comes_to(rt.alloc(), case)?, "of {:?}", case.bytes);
     }
     Ok(())
 }
 
-const FAULTS: [(&[u8], &str); 19] = [
+static FAULTS: [(&[u8], &str); 19] = [
     (b"\x01", "V1"),
     (b"\x90", "V1"),
     (b"\x91\xa1\x61", "V1"),
@@ -156,109 +166,161 @@ const FAULTS: [(&[u8], &str); 19] = [
     (b"\x92\xa1\x61\xc4\x04\x92\x01\x90\xc1", "V4"),
 ];
 
+// What bytes are answered by, without what is read.
+#[derive(Clone, Copy, Debug, PartialEq, Eq)]
+enum Answer {
+    Need,
+    Message,
+    Heartbeat(usize),
+    Bad(ModeFault),
+}
+
+fn answered(alloc: Global, bytes: &[u8]) -> Result<Answer, AllocError> {
+    Ok(match read(alloc, bytes)? {
+        Read::Need => Answer::Need,
+        Read::Message(..) => Answer::Message,
+        Read::Heartbeat(n) => Answer::Heartbeat(n),
+        Read::Bad(fault) => Answer::Bad(fault),
+    })
+}
+
+// What the fault of these bytes prints, or nothing.
+fn printed(alloc: Global, bytes: &[u8]) -> Result<String<Global>, AllocError> {
+    match answered(alloc, bytes)? {
+        Answer::Bad(fault) => format!(in alloc; "{fault}"),
+        _ => Ok(String::new(alloc)),
+    }
+}
+
 #[test]
 fn faults(rt: HostRuntime) -> Result<(), Fail> {
     for (bytes, code) in &FAULTS {
-        let Read::Bad(fault) = read(rt.alloc(), *bytes)? else {
-            panic!(rt; "no fault: {bytes:?}");
-        };
-        let printed = format!(in rt.alloc(); "{fault}")?;
-        assert_eq!(rt; printed.as_str(), *code);
+        assert_eq!(rt; printed(rt.alloc(), bytes)?.as_str(), *code, "of {bytes:?}");
     }
     Ok(())
 }
 
+// A message with a tag and a chunk of so many bytes.
 fn tagged(alloc: Global, tag: u16, chunk: u16) -> Result<Vec<u8>, AllocError> {
-    let mut bytes = vec![in alloc; 0x94, 0xda]?;
+    let mut bytes = Vec::from_slice(alloc, b"\x94\xda")?;
     bytes.extend_from_slice(&tag.to_be_bytes())?;
-    for _ in 0..tag {
-        bytes.push(b't')?;
-    }
+    bytes.resize(bytes.len() + usize::from(tag), b't')?;
     bytes.extend_from_slice(b"\x01\x80\x81\xa5chunk\xda")?;
     bytes.extend_from_slice(&chunk.to_be_bytes())?;
-    for _ in 0..chunk {
-        bytes.push(b'c')?;
-    }
+    bytes.resize(bytes.len() + usize::from(chunk), b'c')?;
     Ok(bytes)
 }
 
 // A tag has at most 1,024 bytes, a chunk's item with its header too.
+static LIMITS: [(u16, u16, Answer); 3] = [
+    (1024, 1021, Answer::Message),
+    (1025, 1021, Answer::Bad(ModeFault::BadTag)),
+    (1024, 1022, Answer::Bad(ModeFault::BadOption)),
+];
+
 #[test]
 fn limits(rt: HostRuntime) -> Result<(), Fail> {
-    for (tag, chunk, fault) in [
-        (1024, 1021, None),
-        (1025, 1021, Some(ModeFault::BadTag)),
-        (1024, 1022, Some(ModeFault::BadOption)),
-    ] {
-        let bytes = tagged(rt.alloc(), tag, chunk)?;
-        let found = match read(rt.alloc(), &bytes)? {
-            Read::Message(..) => None,
-            Read::Bad(found) => Some(found),
-            _ => panic!(rt; "neither"),
-        };
-        assert!(rt; found == fault, "{tag} {chunk}");
+    for (tag, chunk, want) in &LIMITS {
+        let bytes = tagged(rt.alloc(), *tag, *chunk)?;
+        assert_eq!(rt; answered(rt.alloc(), &bytes)?, *want, "{tag} {chunk}");
     }
     Ok(())
 }
+
+static OTHERS: [(&[u8], Answer); 3] = [
+    (b"", Answer::Need),
+    (b"\xa5\x61", Answer::Need),
+    (b"\xc0\x93", Answer::Heartbeat(1)),
+];
 
 #[test]
 fn other_answers(rt: HostRuntime) -> Result<(), Fail> {
-    assert!(rt; matches!(read(rt.alloc(), b"")?, Read::Need));
-    assert!(rt; matches!(read(rt.alloc(), b"\xa5\x61")?, Read::Need));
-    assert!(rt; matches!(read(rt.alloc(), b"\xc0\x93")?, Read::Heartbeat(1)));
+    for (bytes, want) in &OTHERS {
+        assert_eq!(rt; answered(rt.alloc(), bytes)?, *want, "of {bytes:?}");
+    }
     Ok(())
 }
 
-// How many times a feed asks for more where these bytes come one by one, if a message comes then.
-fn asked_for(rt: &HostRuntime, bytes: &[u8]) -> Result<Option<usize>, Fail> {
-    let mut feed = Feed::new(rt.alloc());
+// What a feed answers next: a message's tag has one byte here.
+#[derive(Clone, Copy, Debug, PartialEq, Eq)]
+enum Came {
+    Need,
+    Tag(u8),
+    Heartbeat,
+    BadBytes,
+    Other,
+}
+
+fn next_of(feed: &mut Feed<Global>) -> Result<Came, AllocError> {
+    Ok(match feed.next()? {
+        Next::Need => Came::Need,
+        Next::Message(message) => match message.tag.as_slice() {
+            [tag] => Came::Tag(*tag),
+            _ => Came::Other,
+        },
+        Next::Heartbeat => Came::Heartbeat,
+        Next::Bad(ModeFault::Bytes(_)) => Came::BadBytes,
+        Next::Bad(_) => Came::Other,
+    })
+}
+
+// Whether a feed takes these bytes, which it doesn't behind bytes that are bad.
+fn fed(feed: &mut Feed<Global>, bytes: &[u8]) -> Result<Came, Fail> {
+    match feed.feed(bytes) {
+        Ok(()) => Ok(Came::Need),
+        Err(FeedError::Fault(ModeFault::Bytes(_))) => Ok(Came::BadBytes),
+        Err(_) => Err(Fail::from("no memory")),
+    }
+}
+
+// How many times a feed asks for more where these bytes come one by one, and what comes then.
+fn asked_for(feed: &mut Feed<Global>, bytes: &[u8]) -> Result<(usize, Came), Fail> {
     for (i, byte) in bytes.iter().enumerate() {
-        feed.feed(&[*byte])?;
-        match feed.next()? {
-            Next::Need => {}
-            Next::Message(_) => return Ok(Some(i)),
-            _ => return Ok(None),
+        let _ = fed(feed, &[*byte])?;
+        match next_of(feed)? {
+            Came::Need => {}
+            other => return Ok((i, other)),
         }
     }
-    Ok(None)
+    Ok((bytes.len(), Came::Need))
+}
+
+// A message of a million bytes and twelve.
+fn long_message(alloc: Global) -> Result<Vec<u8>, AllocError> {
+    let mut bytes = Vec::from_slice(alloc, b"\x93\xa1a\x00\x81\xa1k\xdb\x00\x0f\x42\x40")?;
+    bytes.resize(1_000_012, b'v')?;
+    Ok(bytes)
 }
 
 // A million bytes one by one: each is looked at once.
 #[test]
 fn fed_for_long(rt: HostRuntime) -> Result<(), Fail> {
-    let mut bytes = vec![in rt.alloc();
-        0x93, 0xa1, b'a', 0, 0x81, 0xa1, b'k', 0xdb, 0, 0x0f, 0x42, 0x40,
-    ]?;
-    bytes.resize(1_000_012, b'v')?;
-    assert_eq!(rt; asked_for(&rt, &bytes)?, Some(1_000_011));
+    let mut feed = Feed::new(rt.alloc());
+    let bytes = long_message(rt.alloc())?;
+    assert_eq!(rt; asked_for(&mut feed, &bytes)?, (1_000_011, Came::Tag(b'a')));
     Ok(())
 }
+
+// What is fed, and what comes then, over and over. Bad bytes stay, and no more are taken.
+static BEHIND: [(&[u8], Came, Came); 3] = [
+    (b"\xc0\xc1\x00", Came::Need, Came::Heartbeat),
+    (b"", Came::Need, Came::BadBytes),
+    (b"\x01", Came::BadBytes, Came::BadBytes),
+];
 
 // Byte by byte a feed wants more until the last byte has come.
 #[test]
 fn fed_slowly(rt: HostRuntime) -> Result<(), Fail> {
     let mut feed = Feed::new(rt.alloc());
-    let (front, last) = CASES[1].bytes.split_at(14);
-    for byte in front {
-        feed.feed(&[*byte])?;
-        assert!(rt; matches!(feed.next()?, Next::Need));
-    }
-    feed.feed(last)?;
-    let Next::Message(message) = feed.next()? else {
-        panic!(rt; "no message");
-    };
-    assert_eq!(rt; message.tag.as_slice(), b"a".as_slice());
-    assert_eq!(rt; feed.held_len(), 0);
-    feed.feed(b"\xc0\xc1\x00")?;
-    assert!(rt; matches!(feed.next()?, Next::Heartbeat));
-    assert!(rt; matches!(feed.next()?, Next::Bad(ModeFault::Bytes(_))));
-    assert!(rt; matches!(feed.next()?, Next::Bad(ModeFault::Bytes(_))));
-    assert!(rt;
-        matches!(
-            feed.feed(b"\x01"),
-            Err(FeedError::Fault(ModeFault::Bytes(_)))
-        )
+    assert_eq!(rt;
+        asked_for(&mut feed, CASES[1].bytes)?,
+        (17, Came::Tag(b'a'))
     );
+    assert_eq!(rt; feed.held_len(), 0);
+    for (bytes, taken, next) in &BEHIND {
+        assert_eq!(rt; fed(&mut feed, bytes)?, *taken);
+        assert_eq!(rt; next_of(&mut feed)?, *next);
+    }
     assert_eq!(rt; feed.held_len(), 2);
     Ok(())
 }
