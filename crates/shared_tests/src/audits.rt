@@ -11,7 +11,7 @@ const LEAF: Leaf = Leaf {
 };
 
 /// Two appends of delivery 7 and delivery 8 to chunk 3.
-const LINES: [Line; 2] = [
+static LINES: [Line; 2] = [
     Line {
         delivery: 7,
         serial: 3,
@@ -61,18 +61,21 @@ fn audited(alloc: Global, named: &[(u64, u64)]) -> Result<String<Global>, Fail> 
     }
 }
 
+// Deliveries and lines that stubs name, and what an audit of them prints.
+static AUDITS: [(&[(u64, u64)], &str); 7] = [
+    (&[(7, 0), (8, 1)], ""),
+    (&[(8, 1), (7, 0)], ""),
+    (&[(7, 0)], "A3"),
+    (&[(7, 0), (8, 1), (7, 0)], "A2"),
+    (&[(7, 0), (7, 0)], "A2"),
+    (&[(8, 0), (7, 0), (7, 0)], "A1"),
+    (&[(7, 2)], "A1"),
+];
+
 #[test]
 fn audits(rt: HostRuntime) -> Result<(), Fail> {
-    for (named, printed) in [
-        ([(7, 0), (8, 1)].as_slice(), ""),
-        (&[(8, 1), (7, 0)], ""),
-        (&[(7, 0)], "A3"),
-        (&[(7, 0), (8, 1), (7, 0)], "A2"),
-        (&[(7, 0), (7, 0)], "A2"),
-        (&[(8, 0), (7, 0), (7, 0)], "A1"),
-        (&[(7, 2)], "A1"),
-    ] {
-        assert_eq!(rt; audited(rt.alloc(), named)?.as_str(), printed, "{named:?}");
+    for (named, printed) in &AUDITS {
+        assert_eq!(rt; audited(rt.alloc(), named)?.as_str(), *printed, "{named:?}");
     }
     Ok(())
 }

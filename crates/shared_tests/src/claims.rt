@@ -1,5 +1,7 @@
 // What lets chunks go.
-use crate::shelves::{ENTRY, LEAF, Shelf, WIDE, buffer_in, shelf_in, stored};
+use crate::shelves::{
+    ENTRY, LEAF, Shelf, WIDE, buffer_in, dropped, enqueue, is_live, shelf_in, stored,
+};
 use ack_receipt::{Basis, Claim, Evidence, Leaf, Numbers, PurgeFault, SharedBuffer, Takes};
 use buffer_store::BufferFault;
 use disk_files::{Dir, Fuse, MemoryDir};
@@ -9,36 +11,43 @@ use std::alloc::Global;
 use std::sync::Wait;
 use std::test::Fail;
 
-// A buffer in this folder with one queued chunk, whose chunks go by what is stored in the sink `all`.
-fn queued<R: Wait, D: Dir + Drop>(alloc: Global, rt: &R, dir: D) -> Result<Shelf<D>, BufferFault> {
+// A shared buffer in this folder, whose chunks go by what is stored in the sink `all`.
+fn by_sink<D: Dir + Drop>(alloc: Global, dir: D) -> Result<Shelf<D>, BufferFault> {
     let buffer = buffer_in(alloc, dir, WIDE)?;
     let takes = Takes {
         basis: Basis::Stored(Vec::from_slice(alloc, b"all")?),
         expires: false,
         drops: false,
     };
-    let shelf = SharedBuffer::new(alloc, buffer, LEAF, takes);
-    let _ = stored(alloc, rt, &shelf, &mut Numbers::new())?;
-    shelf.enqueue(rt, 0)?;
-    Ok(shelf)
+    Ok(SharedBuffer::new(alloc, buffer, LEAF, takes))
 }
 
-// What a sink of this path gives for these entries under this tag.
-fn stored_in(
+// Stores one message there, and queues its chunk.
+fn queued<R: Wait, D: Dir>(alloc: Global, rt: &R, shelf: &Shelf<D>) -> Result<(), BufferFault> {
+    let _ = stored(alloc, rt, shelf, &mut Numbers::new())?;
+    enqueue(rt, shelf, 0)
+}
+
+// A purge of the only chunk: by these entries under this tag in the sink of this path, and why not.
+struct Purge {
+    path: &'static [u8],
+    tag: &'static [u8],
+    bytes: &'static [u8],
+    fault: Option<PurgeFault>,
+}
+
+// What a sink in this folder gives for those entries.
+fn stored_in<D: Dir + Drop>(
     alloc: Global,
-    path: &[u8],
-    tag: &[u8],
-    bytes: &[u8],
+    dir: D,
+    purge: &Purge,
 ) -> Result<Stored<Global>, SeriesFault> {
-    let mut series = match Series::open(alloc, MemoryDir::new(alloc), path) {
-        Ok(series) => series,
-        Err((fault, _dir)) => return Err(fault),
-    };
-    if tag.len() > 1_024 {
+    let mut series = Series::open(alloc, dir, purge.path).map_err(|(fault, _dir)| fault)?;
+    if purge.tag.len() > 1_024 {
         return Err(SeriesFault::Memory);
     }
-    match Entries::read(alloc, bytes, 1)? {
-        Some(entries) => series.write_all_entries(tag, &entries),
+    match Entries::read(alloc, purge.bytes, 1)? {
+        Some(entries) => series.write_all_entries(purge.tag, &entries),
         None => Err(SeriesFault::Memory),
     }
 }
@@ -63,51 +72,115 @@ fn purged<R: Wait, D: Dir>(
     }
 }
 
+// Whether the purges are answered so, one after another, and the chunk is gone then.
+fn are_answered<R: Wait, D: Dir>(
+    alloc: Global,
+    rt: &R,
+    shelf: &Shelf<D>,
+    purges: &[Purge],
+) -> Result<bool, Fail> {
+    for purge in purges {
+        let stored = stored_in(alloc, MemoryDir::new(alloc), purge)?;
+        if purged(rt, shelf, stored)? != purge.fault {
+            return Ok(false);
+        }
+    }
+    Ok(!is_live(rt, shelf, 0))
+}
+
+// The same of a buffer in this folder with one queued chunk.
+fn goes<R: Wait, D: Dir + Drop>(
+    alloc: Global,
+    rt: &R,
+    dir: D,
+    purges: &[Purge],
+) -> Result<bool, Fail> {
+    let shelf = by_sink(alloc, dir)?;
+    queued(alloc, rt, &shelf)?;
+    are_answered(alloc, rt, &shelf, purges)
+}
+
 // A chunk goes by its own entries in its output's sink alone.
+static STRANGERS: [Purge; 4] = [
+    Purge {
+        path: b"other",
+        tag: b"a",
+        bytes: ENTRY,
+        fault: Some(PurgeFault::Stranger),
+    },
+    Purge {
+        path: b"all",
+        tag: b"b",
+        bytes: ENTRY,
+        fault: Some(PurgeFault::Stranger),
+    },
+    Purge {
+        path: b"all",
+        tag: b"a",
+        bytes: b"\x92\x02\x80",
+        fault: Some(PurgeFault::Stranger),
+    },
+    Purge {
+        path: b"all",
+        tag: b"a",
+        bytes: ENTRY,
+        fault: None,
+    },
+];
+
 #[test]
 fn a_chunk_goes_by_its_own_entries(rt: HostRuntime) -> Result<(), Fail> {
-    let alloc = rt.alloc();
-    let shelf = queued(alloc, &rt, MemoryDir::new(alloc))?;
-    let strangers: [(&[u8], &[u8], &[u8]); 3] = [
-        (b"other", b"a", ENTRY),
-        (b"all", b"b", ENTRY),
-        (b"all", b"a", b"\x92\x02\x80"),
-    ];
-    for (path, tag, bytes) in strangers {
-        let stored = stored_in(alloc, path, tag, bytes)?;
-        assert_eq!(rt; purged(&rt, &shelf, stored)?, Some(PurgeFault::Stranger));
-    }
-    let stored = stored_in(alloc, b"all", b"a", ENTRY)?;
-    assert_eq!(rt; purged(&rt, &shelf, stored)?, None);
-    assert!(rt; !shelf.is_live(&rt, 0));
+    let dir = MemoryDir::new(rt.alloc());
+    assert!(rt; goes(rt.alloc(), &rt, dir, &STRANGERS)?);
     Ok(())
 }
 
-// A chunk whose entries can't be read stays, and goes when they can: the device fails the first call behind the opening, the
-// append and the queueing.
+// A chunk whose entries can't be read stays, and goes when they can.
+static UNREAD: [Purge; 2] = [
+    Purge {
+        path: b"all",
+        tag: b"a",
+        bytes: ENTRY,
+        fault: Some(PurgeFault::Buffer(BufferFault::Fault)),
+    },
+    Purge {
+        path: b"all",
+        tag: b"a",
+        bytes: ENTRY,
+        fault: None,
+    },
+];
+
+// The device fails the first call behind the opening, the append and the queueing.
 #[test]
 fn a_chunk_that_cant_be_read_stays(rt: HostRuntime) -> Result<(), Fail> {
-    let alloc = rt.alloc();
-    let shelf = queued(alloc, &rt, Fuse::once(MemoryDir::new(alloc), 9))?;
-    let unread = Some(PurgeFault::Buffer(BufferFault::Fault));
-    for fault in [unread, None] {
-        let stored = stored_in(alloc, b"all", b"a", ENTRY)?;
-        assert_eq!(rt; purged(&rt, &shelf, stored)?, fault);
-    }
-    assert!(rt; !shelf.is_live(&rt, 0));
+    let dir = Fuse::once(MemoryDir::new(rt.alloc()), 9);
+    assert!(rt; goes(rt.alloc(), &rt, dir, &UNREAD)?);
     Ok(())
+}
+
+// Whether the journal, which is short, is renewed.
+fn renewed<R: Wait, D: Dir>(rt: &R, shelf: &Shelf<D>) -> bool {
+    shelf.renew(rt).is_ok()
+}
+
+// Whether the only chunk of a buffer that drops stays over a renewal, and what two drops are answered by.
+fn oldest<R: Wait, D: Dir + Drop>(
+    alloc: Global,
+    rt: &R,
+    dir: D,
+) -> Result<(bool, [Result<u64, BufferFault>; 2]), BufferFault> {
+    let shelf = shelf_in(alloc, dir, LEAF, WIDE)?;
+    queued(alloc, rt, &shelf)?;
+    let stays = renewed(rt, &shelf) && is_live(rt, &shelf, 0);
+    Ok((stays, [dropped(rt, &shelf), dropped(rt, &shelf)]))
 }
 
 // A buffer that drops lets its only chunk go once; renewing a short journal changes nothing.
 #[test]
 fn the_oldest_is_dropped_once(rt: HostRuntime) -> Result<(), Fail> {
-    let alloc = rt.alloc();
-    let shelf = shelf_in(alloc, MemoryDir::new(alloc), LEAF, WIDE)?;
-    let _ = stored(alloc, &rt, &shelf, &mut Numbers::new())?;
-    shelf.enqueue(&rt, 0)?;
-    assert_eq!(rt; shelf.renew(&rt), Ok(()));
-    assert!(rt; shelf.is_live(&rt, 0));
-    assert_eq!(rt; shelf.drop_oldest(&rt), Ok(0));
-    assert_eq!(rt; shelf.drop_oldest(&rt), Err(BufferFault::Gone));
+    let (stays, drops) = oldest(rt.alloc(), &rt, MemoryDir::new(rt.alloc()))?;
+    assert!(rt; stays);
+    assert_eq!(rt; drops, [Ok(0), Err(BufferFault::Gone)]);
     Ok(())
 }

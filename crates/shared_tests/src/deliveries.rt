@@ -1,7 +1,8 @@
 //! What becomes of receipts: deliveries take them, and stubs are what is left.
 
 use crate::shelves::{
-    LEAF, Refused, Shelf, WIDE, audited, begun, begun_of, message, put, shelf_in, stored,
+    LEAF, Refused, Shelf, WIDE, audited, begun, begun_of, dropped, enqueue, message, put, shelf_in,
+    stored,
 };
 use ack_receipt::{AckFault, Delivery, Leaf, Numbers, Reserved, Stub};
 use buffer_state::Limits;
@@ -28,15 +29,24 @@ fn twice<R: Wait, D: Dir>(
     Ok((delivery.abandon(), refused))
 }
 
+// Why a second receipt of one buffer isn't taken, and what an audit by what is left of both finds.
+fn doubled<R: Wait, D: Dir + Drop>(
+    alloc: Global,
+    rt: &R,
+    dir: D,
+) -> Result<(AckFault, Option<AckFault>), Fail> {
+    let shelf = shelf_in(alloc, dir, LEAF, WIDE)?;
+    let (stub, Some((fault, spent))) = twice(alloc, rt, &shelf)? else {
+        return Err(Fail::from("the second is taken"));
+    };
+    Ok((fault, audited(alloc, shelf, &[stub, spent])?))
+}
+
 // A second receipt of one buffer isn't taken, and what is left of both accounts for the book.
 #[test]
 fn a_second_receipt_is_double(rt: HostRuntime) -> Result<(), Fail> {
-    let shelf = shelf_in(rt.alloc(), MemoryDir::new(rt.alloc()), LEAF, WIDE)?;
-    let (stub, Some((fault, spent))) = twice(rt.alloc(), &rt, &shelf)? else {
-        return Err(Fail::from("the second is taken"));
-    };
-    assert_eq!(rt; fault, AckFault::Double);
-    assert_eq!(rt; audited(rt.alloc(), shelf, &[stub, spent])?, None);
+    let doubled = doubled(rt.alloc(), &rt, MemoryDir::new(rt.alloc()))?;
+    assert_eq!(rt; doubled, (AckFault::Double, None));
     Ok(())
 }
 
@@ -83,13 +93,22 @@ fn crossed<R: Wait, D: Dir>(
     }
 }
 
+// Why a delivery doesn't take the receipt of another, and what an audit by what is left of that finds.
+fn strange<R: Wait, D: Dir + Drop>(
+    alloc: Global,
+    rt: &R,
+    dir: D,
+) -> Result<(Option<AckFault>, Option<AckFault>), Fail> {
+    let shelf = shelf_in(alloc, dir, LEAF, WIDE)?;
+    let (fault, stub) = crossed(alloc, rt, &shelf)?;
+    Ok((fault, audited(alloc, shelf, &[stub])?))
+}
+
 // A delivery doesn't take the receipt of another, which is spent.
 #[test]
 fn a_receipt_of_another_is_strange(rt: HostRuntime) -> Result<(), Fail> {
-    let shelf = shelf_in(rt.alloc(), MemoryDir::new(rt.alloc()), LEAF, WIDE)?;
-    let (fault, stub) = crossed(rt.alloc(), &rt, &shelf)?;
-    assert_eq!(rt; fault, Some(AckFault::Stranger));
-    assert_eq!(rt; audited(rt.alloc(), shelf, &[stub])?, None);
+    let strange = strange(rt.alloc(), &rt, MemoryDir::new(rt.alloc()))?;
+    assert_eq!(rt; strange, (Some(AckFault::Stranger), None));
     Ok(())
 }
 
@@ -112,18 +131,32 @@ fn copied<R: Wait, D: Dir>(
     }
 }
 
-// What settling answers to these stubs, one after another.
-fn settled<R: Wait, D: Dir>(
+// What settling answers to this stub.
+fn settled<R: Wait, D: Dir>(rt: &R, shelf: &Shelf<D>, stub: &Stub<Global>) -> Option<AckFault> {
+    shelf.settle(rt, stub).err()
+}
+
+// What settling answers to a stub of a further book, and twice to one of its own; then what audits of both books find.
+fn settled_twice<R: Wait, D: Dir + Drop>(
     alloc: Global,
     rt: &R,
-    shelf: &Shelf<D>,
-    stubs: &[&Stub<Global>],
-) -> Result<Vec<Option<AckFault>, Global>, Fail> {
-    let mut answers = Vec::new(alloc);
-    for stub in stubs {
-        answers.push(shelf.settle(rt, stub).err())?;
-    }
-    Ok(answers)
+    shelf: Shelf<D>,
+    longer: Shelf<D>,
+) -> Result<([Option<AckFault>; 3], [Option<AckFault>; 2]), Fail> {
+    let mut numbers = Numbers::new();
+    let one = stored(alloc, rt, &shelf, &mut numbers)?;
+    let _ = stored(alloc, rt, &longer, &mut numbers)?;
+    let stranger = stored(alloc, rt, &longer, &mut numbers)?;
+    let answers = [
+        settled(rt, &shelf, &stranger),
+        settled(rt, &shelf, &one),
+        settled(rt, &shelf, &one),
+    ];
+    let audits = [
+        audited(alloc, shelf, &[])?,
+        audited(alloc, longer, &[stranger])?,
+    ];
+    Ok((answers, audits))
 }
 
 // A stub closes its lines once; a stub of a further book closes none.
@@ -131,18 +164,12 @@ fn settled<R: Wait, D: Dir>(
 fn stubs_are_settled_once(rt: HostRuntime) -> Result<(), Fail> {
     let shelf = shelf_in(rt.alloc(), MemoryDir::new(rt.alloc()), LEAF, WIDE)?;
     let longer = shelf_in(rt.alloc(), MemoryDir::new(rt.alloc()), LEAF, WIDE)?;
-    let mut numbers = Numbers::new();
-    let one = stored(rt.alloc(), &rt, &shelf, &mut numbers)?;
-    let _ = stored(rt.alloc(), &rt, &longer, &mut numbers)?;
-    let stranger = stored(rt.alloc(), &rt, &longer, &mut numbers)?;
-    let answers = settled(rt.alloc(), &rt, &shelf, &[&stranger, &one, &one])?;
-    let wanted = [Some(AckFault::Stranger), None, Some(AckFault::Double)];
-    assert_eq!(rt; answers.as_slice(), wanted.as_slice());
-    assert_eq!(rt; audited(rt.alloc(), shelf, &[])?, None);
+    let (answers, audits) = settled_twice(rt.alloc(), &rt, shelf, longer)?;
     assert_eq!(rt;
-        audited(rt.alloc(), longer, &[stranger])?,
-        Some(AckFault::Missing)
+        answers,
+        [Some(AckFault::Stranger), None, Some(AckFault::Double)]
     );
+    assert_eq!(rt; audits, [None, Some(AckFault::Missing)]);
     Ok(())
 }
 
@@ -152,22 +179,37 @@ const SMALL: Limits = Limits {
     total: 5,
 };
 
+// What becomes of a message while there is no room for its copy, and once there is again: whether it was answered, and what audits of
+// the small buffer and of the wide one find.
+fn waited<R: Wait, D: Dir + Drop>(
+    alloc: Global,
+    rt: &R,
+    wide: Shelf<D>,
+    small: Shelf<D>,
+) -> Result<([bool; 2], [Option<AckFault>; 2]), Fail> {
+    let mut numbers = Numbers::new();
+    let before = stored(alloc, rt, &small, &mut numbers)?;
+    enqueue(rt, &small, 0)?;
+    let (early, first) = copied(alloc, rt, &wide, &small, &mut numbers)?;
+    if dropped(rt, &small) != Ok(0) {
+        return Err(Fail::from("nothing is dropped"));
+    }
+    let (late, second) = copied(alloc, rt, &wide, &small, &mut numbers)?;
+    let stubs = [before, first, second];
+    let audits = [
+        audited(alloc, small, &stubs)?,
+        audited(alloc, wide, &stubs[..2])?,
+    ];
+    Ok(([early, late], audits))
+}
+
 // A message that one of two buffers refuses isn't answered; it is, once there is room again.
 #[test]
 fn a_copy_waits_for_room(rt: HostRuntime) -> Result<(), Fail> {
-    let alloc = rt.alloc();
-    let wide = shelf_in(alloc, MemoryDir::new(alloc), LEAF, WIDE)?;
-    let small = shelf_in(alloc, MemoryDir::new(alloc), OTHER, SMALL)?;
-    let mut numbers = Numbers::new();
-    let before = stored(alloc, &rt, &small, &mut numbers)?;
-    small.enqueue(&rt, 0)?;
-    let (answered, first) = copied(alloc, &rt, &wide, &small, &mut numbers)?;
-    assert!(rt; !answered);
-    assert_eq!(rt; small.drop_oldest(&rt), Ok(0));
-    let (answered, second) = copied(alloc, &rt, &wide, &small, &mut numbers)?;
-    assert!(rt; answered);
-    let stubs = [before, first, second];
-    assert_eq!(rt; audited(alloc, small, &stubs)?, None);
-    assert_eq!(rt; audited(alloc, wide, &stubs[..2])?, Some(AckFault::Missing));
+    let wide = shelf_in(rt.alloc(), MemoryDir::new(rt.alloc()), LEAF, WIDE)?;
+    let small = shelf_in(rt.alloc(), MemoryDir::new(rt.alloc()), OTHER, SMALL)?;
+    let (answered, audits) = waited(rt.alloc(), &rt, wide, small)?;
+    assert_eq!(rt; answered, [false, true]);
+    assert_eq!(rt; audits, [None, Some(AckFault::Missing)]);
     Ok(())
 }

@@ -90,30 +90,63 @@ fn redeemed<R: Wait, D: Dir>(
     }
 }
 
-// What a stop that keeps what was synced leaves: how many entries chunk 0 has, and the next serial.
-fn after_stop(
-    alloc: Global,
-    shelf: Shelf<MemoryDir<Global>>,
-) -> Result<(Option<usize>, u64), Fail> {
-    let dir = shelf.close().into_dir().stop(Keep::Least);
+// How many entries chunk 0 of the buffer in this folder has, and the next serial.
+fn left_in<D: Dir + Drop>(alloc: Global, dir: D) -> Result<(Option<usize>, u64), BufferFault> {
     let mut buffer = buffer_in(alloc, dir, WIDE)?;
     let next = buffer.chunks().next_serial();
     Ok((buffer.body(0).ok().map(|entries| entries.count()), next))
 }
 
+// The same of what a stop leaves that keeps what was synced.
+fn after_stop(
+    alloc: Global,
+    shelf: Shelf<MemoryDir<Global>>,
+) -> Result<(Option<usize>, u64), BufferFault> {
+    left_in(alloc, shelf.close().into_dir().stop(Keep::Least))
+}
+
+// Two appends wait, and are given up.
+fn give_up_two<R: Wait, D: Dir>(alloc: Global, rt: &R, shelf: &Shelf<D>) {
+    let pendings = waiting(alloc, rt, shelf, 2);
+    give_up_all(rt, shelf, pendings);
+}
+
+// Two appends wait, and are redeemed: both answers.
+fn redeem_two<R: Wait, D: Dir>(
+    alloc: Global,
+    rt: &R,
+    shelf: &Shelf<D>,
+) -> [Option<RedeemFault>; 2] {
+    let pendings = waiting(alloc, rt, shelf, 2);
+    redeemed(rt, shelf, pendings)
+}
+
 // Two appends that wait are lost by a stop before their redemption, and both there behind it.
 #[test]
 fn a_redeemed_list_outlives_a_stop(rt: HostRuntime) -> Result<(), Fail> {
-    let alloc = rt.alloc();
-    let early = shelf_in(alloc, MemoryDir::new(alloc), LEAF, WIDE)?;
-    let pendings = waiting(alloc, &rt, &early, 2);
-    give_up_all(&rt, &early, pendings);
-    assert_eq!(rt; after_stop(alloc, early)?, (None, 0));
-    let late = shelf_in(alloc, MemoryDir::new(alloc), LEAF, WIDE)?;
-    let pendings = waiting(alloc, &rt, &late, 2);
-    assert_eq!(rt; redeemed(&rt, &late, pendings), [None, None]);
-    assert_eq!(rt; after_stop(alloc, late)?, (Some(2), 1));
+    let early = shelf_in(rt.alloc(), MemoryDir::new(rt.alloc()), LEAF, WIDE)?;
+    give_up_two(rt.alloc(), &rt, &early);
+    assert_eq!(rt; after_stop(rt.alloc(), early)?, (None, 0));
+    let late = shelf_in(rt.alloc(), MemoryDir::new(rt.alloc()), LEAF, WIDE)?;
+    assert_eq!(rt; redeem_two(rt.alloc(), &rt, &late), [None, None]);
+    assert_eq!(rt; after_stop(rt.alloc(), late)?, (Some(2), 1));
     Ok(())
+}
+
+// Both answers to so many appends that wait in this folder, if they come to that.
+fn answers_in<R: Wait, D: Dir + Drop>(
+    alloc: Global,
+    rt: &R,
+    dir: D,
+    count: u64,
+) -> Option<[Option<RedeemFault>; 2]> {
+    let shelf = shelf_in(alloc, dir, LEAF, WIDE).ok()?;
+    let pendings = waiting(alloc, rt, &shelf, count);
+    if (pendings.len() as u64) < count {
+        give_up_all(rt, &shelf, pendings);
+        return None;
+    }
+    Some(redeemed(rt, &shelf, pendings))
 }
 
 // The least number of calls of the folder under which so many appends that wait are redeemed, and both answers with one less.
@@ -125,15 +158,9 @@ fn calls<R: Wait>(
     let mut before = [None, None];
     for passes in 0..MANY {
         let fuse = Fuse::after(MemoryDir::new(alloc), passes);
-        let Ok(shelf) = shelf_in(alloc, fuse, LEAF, WIDE) else {
+        let Some(answers) = answers_in(alloc, rt, fuse, count) else {
             continue;
         };
-        let pendings = waiting(alloc, rt, &shelf, count);
-        if (pendings.len() as u64) < count {
-            give_up_all(rt, &shelf, pendings);
-            continue;
-        }
-        let answers = redeemed(rt, &shelf, pendings);
         if answers == [None, None] {
             return Ok((passes, before));
         }

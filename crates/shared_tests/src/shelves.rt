@@ -40,10 +40,7 @@ pub fn buffer_in<D: Dir + Drop>(
         limits,
         renewed_past: RENEWED_PAST_IN_MEMORY,
     };
-    match Buffer::open(alloc, dir, b"buf", settings) {
-        Ok(buffer) => Ok(buffer),
-        Err((fault, _dir)) => Err(fault),
-    }
+    Buffer::open(alloc, dir, b"buf", settings).map_err(|(fault, _dir)| fault)
 }
 
 // The same under this name, shared; its chunks go by acknowledgements, and may be dropped.
@@ -123,6 +120,21 @@ pub fn put<R: Wait, D: Dir>(
         Ok(delivery) => (delivery, None),
         Err((fault, delivery, receipt)) => (delivery, Some((fault, receipt.spend()))),
     }
+}
+
+// Queues the chunk of this serial.
+pub fn enqueue<R: Wait, D: Dir>(rt: &R, shelf: &Shelf<D>, serial: u64) -> Result<(), BufferFault> {
+    shelf.enqueue(rt, serial)
+}
+
+// Whether there is a chunk of this serial.
+pub fn is_live<R: Wait, D: Dir>(rt: &R, shelf: &Shelf<D>, serial: u64) -> bool {
+    shelf.is_live(rt, serial)
+}
+
+// What dropping the oldest chunk is answered by.
+pub fn dropped<R: Wait, D: Dir>(rt: &R, shelf: &Shelf<D>) -> Result<u64, BufferFault> {
+    shelf.drop_oldest(rt)
 }
 
 // What is left of a delivery that is stored once.
