@@ -28,7 +28,36 @@ const QUEUED_AT: u64 = 8;
 // A chunk takes so many bytes of entries at most.
 const CHUNK_LIMIT: u64 = 262_144;
 
-type Folder<'a> = RealDir<&'a HostRuntime, Global>;
+// What is done with the buffer in a folder.
+#[derive(Clone, Copy)]
+enum Word {
+    Append,
+    List,
+    Fill,
+    Churn,
+    Open,
+    Renew,
+    Stage,
+}
+
+// Each word, and how many counts are given behind the folder.
+static WORDS: [(&str, usize, Word); 7] = [
+    ("append", 0, Word::Append),
+    ("list", 0, Word::List),
+    ("fill", 2, Word::Fill),
+    ("churn", 2, Word::Churn),
+    ("open", 0, Word::Open),
+    ("renew", 0, Word::Renew),
+    ("stage", 3, Word::Stage),
+];
+
+// How many entries, of how many bytes each, and how many for one sync; what isn't given is 0.
+#[derive(Clone, Copy)]
+struct Counts {
+    count: u32,
+    size: u32,
+    each: u32,
+}
 
 // The numbers of the entries in these bytes.
 fn numbers_in(bytes: &[u8], numbers: &mut Vec<u64>) -> io::Result<()> {
@@ -50,20 +79,8 @@ fn entry_of(rt: &HostRuntime, number: u64) -> io::Result<Entries<Global>> {
     }
 }
 
-// The buffer in the folder.
-fn open<'a>(rt: &'a HostRuntime, folder: &str) -> io::Result<Buffer<Folder<'a>, Global>> {
-    let settings = Settings {
-        limits: Limits {
-            chunk: CHUNK_LIMIT,
-            total: 2_147_483_648,
-        },
-        renewed_past: RENEWED_PAST_IN_FILES,
-    };
-    open_with(rt, RealDir::new(rt, rt.alloc(), folder)?, settings)
-}
-
 // The buffer in this folder.
-fn open_with<D: Dir + Drop>(
+fn open<D: Dir + Drop>(
     rt: &HostRuntime,
     dir: D,
     settings: Settings,
@@ -77,24 +94,33 @@ fn open_with<D: Dir + Drop>(
     }
 }
 
-// The numbers of all entries in live chunks.
-fn numbers(rt: &HostRuntime, buffer: &mut Buffer<Folder<'_>, Global>) -> io::Result<Vec<u64>> {
+// The serials of the live chunks.
+fn serials<D: Dir>(rt: &HostRuntime, buffer: &Buffer<D, Global>) -> io::Result<Vec<u64>> {
     let mut serials = Vec::new(rt.alloc());
     for facts in buffer.chunks().iter() {
         serials.push(facts.serial)?;
     }
+    Ok(serials)
+}
+
+// The entries of the chunk of this serial.
+fn body<D: Dir>(buffer: &mut Buffer<D, Global>, serial: u64) -> io::Result<Entries<Global>> {
+    buffer.body(serial).map_err(|_| io::ErrorKind::Other.into())
+}
+
+// The numbers of all entries in live chunks.
+fn numbers<D: Dir>(rt: &HostRuntime, buffer: &mut Buffer<D, Global>) -> io::Result<Vec<u64>> {
+    let serials = serials(rt, buffer)?;
     let mut numbers = Vec::new(rt.alloc());
     for serial in &serials {
-        let Ok(entries) = buffer.body(*serial) else {
-            return Err(io::ErrorKind::Other.into());
-        };
+        let entries = body(buffer, *serial)?;
         numbers_in(entries.as_bytes(), &mut numbers)?;
     }
     Ok(numbers)
 }
 
 // Appends entries, and gives the serial of their chunk, if the buffer took them.
-fn add(buffer: &mut Buffer<Folder<'_>, Global>, entries: &Entries<Global>) -> Option<u64> {
+fn add<D: Dir>(buffer: &mut Buffer<D, Global>, entries: &Entries<Global>) -> Option<u64> {
     if entries.count() == 0 {
         return None;
     }
@@ -104,10 +130,41 @@ fn add(buffer: &mut Buffer<Folder<'_>, Global>, entries: &Entries<Global>) -> Op
     }
 }
 
+// Stages entries, and gives the serial of their chunk, if the buffer took them.
+fn stage<D: Dir>(buffer: &mut Buffer<D, Global>, entries: &Entries<Global>) -> Option<u64> {
+    if entries.count() == 0 {
+        return None;
+    }
+    match buffer.stage(b"trial", entries) {
+        Ok(appended) => Some(appended.serial),
+        Err(_) => None,
+    }
+}
+
+// Whether the chunk of this serial is queued.
+fn queue<D: Dir>(buffer: &mut Buffer<D, Global>, serial: u64) -> bool {
+    buffer.enqueue(serial).is_ok()
+}
+
+// Claims the first of the queue.
+fn claim<D: Dir>(buffer: &mut Buffer<D, Global>) -> Option<u64> {
+    buffer.claim()
+}
+
+// Whether the claimed chunk of this serial goes.
+fn purge<D: Dir>(buffer: &mut Buffer<D, Global>, serial: u64) -> bool {
+    buffer.purge(serial).is_ok()
+}
+
+// Whether what was staged is synced.
+fn sync<D: Dir>(buffer: &mut Buffer<D, Global>) -> bool {
+    buffer.sync().is_ok()
+}
+
 // Appends the entry of this number, and queues its chunk where it is the last of some.
-fn append(
+fn append<D: Dir>(
     rt: &HostRuntime,
-    buffer: &mut Buffer<Folder<'_>, Global>,
+    buffer: &mut Buffer<D, Global>,
     number: u64,
 ) -> io::Result<bool> {
     let entries = entry_of(rt, number)?;
@@ -115,26 +172,24 @@ fn append(
         return Ok(false);
     };
     println!(rt; "{number}")?;
-    Ok(number % QUEUED_AT != QUEUED_AT - 1 || buffer.enqueue(serial).is_ok())
+    Ok(number % QUEUED_AT != QUEUED_AT - 1 || queue(buffer, serial))
 }
 
-fn append_all(rt: &HostRuntime, folder: &str) -> io::Result<u8> {
-    let mut buffer = open(rt, folder)?;
-    let first = match numbers(rt, &mut buffer)?.iter().max() {
+fn append_all<D: Dir>(rt: &HostRuntime, buffer: &mut Buffer<D, Global>) -> io::Result<u8> {
+    let first = match numbers(rt, buffer)?.iter().max() {
         Some(last) => last.saturating_add(1),
         None => 0,
     };
     for number in first..u64::MAX {
-        if !append(rt, &mut buffer, number)? {
+        if !append(rt, buffer, number)? {
             return Ok(1);
         }
     }
     Ok(0)
 }
 
-fn list(rt: &HostRuntime, folder: &str) -> io::Result<u8> {
-    let mut buffer = open(rt, folder)?;
-    for number in &numbers(rt, &mut buffer)? {
+fn list<D: Dir>(rt: &HostRuntime, buffer: &mut Buffer<D, Global>) -> io::Result<u8> {
+    for number in &numbers(rt, buffer)? {
         println!(rt; "{number}")?;
     }
     Ok(0)
@@ -152,11 +207,14 @@ fn sized_entry(rt: &HostRuntime, size: u32) -> io::Result<Entries<Global>> {
     }
 }
 
-fn fill(rt: &HostRuntime, folder: &str, count: u32, size: u32) -> io::Result<u8> {
-    let mut buffer = open(rt, folder)?;
-    let entries = sized_entry(rt, size)?;
-    for _ in 0..count {
-        if add(&mut buffer, &entries).is_none() {
+fn fill<D: Dir>(
+    rt: &HostRuntime,
+    buffer: &mut Buffer<D, Global>,
+    counts: Counts,
+) -> io::Result<u8> {
+    let entries = sized_entry(rt, counts.size)?;
+    for _ in 0..counts.count {
+        if add(buffer, &entries).is_none() {
             return Ok(1);
         }
     }
@@ -164,59 +222,167 @@ fn fill(rt: &HostRuntime, folder: &str, count: u32, size: u32) -> io::Result<u8>
 }
 
 // Queues, claims and purges the chunk of this serial.
-fn deliver(buffer: &mut Buffer<Folder<'_>, Global>, serial: u64) -> bool {
-    if buffer.enqueue(serial).is_err() {
+fn deliver<D: Dir>(buffer: &mut Buffer<D, Global>, serial: u64) -> bool {
+    if !queue(buffer, serial) {
         return false;
     }
-    match buffer.claim() {
-        Some(claimed) => buffer.purge(claimed).is_ok(),
+    match claim(buffer) {
+        Some(claimed) => purge(buffer, claimed),
         None => false,
     }
 }
 
-fn churn(rt: &HostRuntime, folder: &str, count: u32, size: u32) -> io::Result<u8> {
-    let mut buffer = open(rt, folder)?;
-    let entries = sized_entry(rt, size)?;
-    for _ in 0..count {
-        let Some(serial) = add(&mut buffer, &entries) else {
+fn churn<D: Dir>(
+    rt: &HostRuntime,
+    buffer: &mut Buffer<D, Global>,
+    counts: Counts,
+) -> io::Result<u8> {
+    let entries = sized_entry(rt, counts.size)?;
+    for _ in 0..counts.count {
+        let Some(serial) = add(buffer, &entries) else {
             return Ok(1);
         };
-        if !deliver(&mut buffer, serial) {
+        if !deliver(buffer, serial) {
             return Ok(1);
         }
     }
     Ok(0)
 }
 
-// Stages entries, and gives the serial of their chunk, if the buffer took them.
-fn stage<D: Dir>(buffer: &mut Buffer<D, Global>, entries: &Entries<Global>) -> Option<u64> {
-    if entries.count() == 0 {
-        return None;
+fn stage_all<D: Dir>(
+    rt: &HostRuntime,
+    buffer: &mut Buffer<D, Global>,
+    counts: Counts,
+) -> io::Result<u8> {
+    let entries = sized_entry(rt, counts.size)?;
+    let each = counts.each.max(1);
+    for number in 0..counts.count {
+        if stage(buffer, &entries).is_none() {
+            return Ok(1);
+        }
+        if number % each == each - 1 && !sync(buffer) {
+            return Ok(1);
+        }
     }
-    match buffer.stage(b"trial", entries) {
-        Ok(appended) => Some(appended.serial),
-        Err(_) => None,
-    }
+    Ok(0)
 }
 
-fn stage_all(rt: &HostRuntime, folder: &str, counts: [u32; 3]) -> io::Result<u8> {
-    let [count, size, each] = counts;
-    let mut buffer = open(rt, folder)?;
-    let entries = sized_entry(rt, size)?;
-    let each = each.max(1);
-    for number in 0..count {
-        if stage(&mut buffer, &entries).is_none() {
-            return Ok(1);
-        }
-        if number % each == each - 1 && buffer.sync().is_err() {
-            return Ok(1);
-        }
+// Prints how many bytes of entries the live chunks have.
+fn total<D: Dir>(rt: &HostRuntime, buffer: &Buffer<D, Global>) -> io::Result<u8> {
+    let total = buffer.chunks().total();
+    println!(rt; "{total}")?;
+    Ok(0)
+}
+
+// Whether the journal is renewed.
+fn renewed<D: Dir>(buffer: &mut Buffer<D, Global>) -> bool {
+    buffer.renew().is_ok()
+}
+
+fn renew<D: Dir>(rt: &HostRuntime, buffer: &mut Buffer<D, Global>) -> io::Result<u8> {
+    if !renewed(buffer) {
+        return Ok(1);
     }
+    let serials = serials(rt, buffer)?;
+    let Some(first) = serials.first() else {
+        return Ok(1);
+    };
+    let Ok(entries) = body(buffer, *first) else {
+        return Ok(1);
+    };
+    println!(rt; "{}", entries.count())?;
     Ok(0)
 }
 
 // Stages so many entries, each in a chunk of its own, and queues the chunks.
-fn queue_all(rt: &HostRuntime, count: u32) -> io::Result<u8> {
+fn queue_all<D: Dir>(
+    rt: &HostRuntime,
+    buffer: &mut Buffer<D, Global>,
+    count: u32,
+) -> io::Result<u8> {
+    let entries = entry_of(rt, 0)?;
+    for _ in 0..count {
+        if stage(buffer, &entries).is_none() {
+            return Ok(1);
+        }
+    }
+    for serial in 0..u64::from(count) {
+        if !queue(buffer, serial) {
+            return Ok(1);
+        }
+    }
+    Ok(0)
+}
+
+// The word at this place as a count, or 0 where there is none.
+fn count_at(words: &[String], place: usize) -> Option<u32> {
+    match words.get(place) {
+        Some(word) => word.parse().ok(),
+        None => Some(0),
+    }
+}
+
+// These words as counts, if they are so many.
+fn counts_of(words: &[String], wanted: usize) -> Option<Counts> {
+    if words.len() != wanted {
+        return None;
+    }
+    Some(Counts {
+        count: count_at(words, 0)?,
+        size: count_at(words, 1)?,
+        each: count_at(words, 2)?,
+    })
+}
+
+// The word of this name, and its counts.
+fn asked(name: &str, words: &[String]) -> Option<(Word, Counts)> {
+    for (known, wanted, word) in &WORDS {
+        if *known == name {
+            return Some((*word, counts_of(words, *wanted)?));
+        }
+    }
+    None
+}
+
+// Does with the buffer what the word says.
+fn act<D: Dir>(
+    rt: &HostRuntime,
+    buffer: &mut Buffer<D, Global>,
+    word: Word,
+    counts: Counts,
+) -> io::Result<u8> {
+    match word {
+        Word::Append => append_all(rt, buffer),
+        Word::List => list(rt, buffer),
+        Word::Fill => fill(rt, buffer, counts),
+        Word::Churn => churn(rt, buffer, counts),
+        Word::Open => total(rt, buffer),
+        Word::Renew => renew(rt, buffer),
+        Word::Stage => stage_all(rt, buffer, counts),
+    }
+}
+
+// What becomes of a word on the buffer in the folder of this path.
+fn in_folder(rt: &HostRuntime, name: &str, folder: &str, words: &[String]) -> io::Result<u8> {
+    let Some((word, counts)) = asked(name, words) else {
+        return Ok(2);
+    };
+    let settings = Settings {
+        limits: Limits {
+            chunk: CHUNK_LIMIT,
+            total: 2_147_483_648,
+        },
+        renewed_past: RENEWED_PAST_IN_FILES,
+    };
+    let mut buffer = open(rt, RealDir::new(rt, rt.alloc(), folder)?, settings)?;
+    act(rt, &mut buffer, word, counts)
+}
+
+// The same of the word `queue`, on a buffer in memory.
+fn in_memory(rt: &HostRuntime, words: &[String]) -> io::Result<u8> {
+    let Some(counts) = counts_of(words, 1) else {
+        return Ok(2);
+    };
     let settings = Settings {
         limits: Limits {
             chunk: ENTRY_LEN as u64,
@@ -224,68 +390,15 @@ fn queue_all(rt: &HostRuntime, count: u32) -> io::Result<u8> {
         },
         renewed_past: u64::MAX,
     };
-    let mut buffer = open_with(rt, MemoryDir::new(rt.alloc()), settings)?;
-    let entries = entry_of(rt, 0)?;
-    for _ in 0..count {
-        if stage(&mut buffer, &entries).is_none() {
-            return Ok(1);
-        }
-    }
-    for serial in 0..u64::from(count) {
-        if buffer.enqueue(serial).is_err() {
-            return Ok(1);
-        }
-    }
-    Ok(0)
-}
-
-fn open_again(rt: &HostRuntime, folder: &str) -> io::Result<u8> {
-    let buffer = open(rt, folder)?;
-    let total = buffer.chunks().total();
-    println!(rt; "{total}")?;
-    Ok(0)
-}
-
-fn renew(rt: &HostRuntime, folder: &str) -> io::Result<u8> {
-    let mut buffer = open(rt, folder)?;
-    if buffer.renew().is_err() {
-        return Ok(1);
-    }
-    let serial = match buffer.chunks().iter().next() {
-        Some(first) => first.serial,
-        None => return Ok(1),
-    };
-    match buffer.body(serial) {
-        Ok(entries) => {
-            println!(rt; "{}", entries.count())?;
-            Ok(0)
-        }
-        Err(_) => Ok(1),
-    }
+    let mut buffer = open(rt, MemoryDir::new(rt.alloc()), settings)?;
+    queue_all(rt, &mut buffer, counts.count)
 }
 
 fn answer(rt: &HostRuntime) -> io::Result<u8> {
     let words: Vec<String> = env::args(rt)?.collect(rt.alloc())?;
     match words.as_slice() {
-        [_, word, folder] if word.as_str() == "append" => append_all(rt, folder),
-        [_, word, folder] if word.as_str() == "list" => list(rt, folder),
-        [_, word, folder] if word.as_str() == "open" => open_again(rt, folder),
-        [_, word, folder] if word.as_str() == "renew" => renew(rt, folder),
-        [_, word, count] if word.as_str() == "queue" => match count.parse() {
-            Ok(count) => queue_all(rt, count),
-            Err(_) => Ok(2),
-        },
-        [_, word, folder, count, size, each] if word.as_str() == "stage" => {
-            match (count.parse(), size.parse(), each.parse()) {
-                (Ok(count), Ok(size), Ok(each)) => stage_all(rt, folder, [count, size, each]),
-                _ => Ok(2),
-            }
-        }
-        [_, word, folder, count, size] => match (count.parse(), size.parse()) {
-            (Ok(count), Ok(size)) if word.as_str() == "fill" => fill(rt, folder, count, size),
-            (Ok(count), Ok(size)) if word.as_str() == "churn" => churn(rt, folder, count, size),
-            _ => Ok(2),
-        },
+        [_, name, rest @ ..] if name.as_str() == "queue" => in_memory(rt, rest),
+        [_, name, folder, rest @ ..] => in_folder(rt, name, folder, rest),
         _ => Ok(2),
     }
 }
