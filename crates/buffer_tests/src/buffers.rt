@@ -6,7 +6,7 @@ use buffer_store::BufferFault;
 use disk_files::{Dir, DirError, Keep, MemoryDir};
 use std::alloc::Global;
 
-const STEPS: [Sitting; 3] = [
+static STEPS: [Sitting; 3] = [
     Sitting {
         calls: Failing::Never,
         rows: &[
@@ -49,7 +49,7 @@ fn steps_and_opening_again(rt: HostRuntime) {
     );
 }
 
-const OLDEST: [Sitting; 2] = [
+static OLDEST: [Sitting; 2] = [
     Sitting {
         calls: Failing::Never,
         rows: &[
@@ -89,7 +89,7 @@ fn oldest_goes_first(rt: HostRuntime) {
     );
 }
 
-const SHOWN: [Sitting; 1] = [Sitting {
+static SHOWN: [Sitting; 1] = [Sitting {
     calls: Failing::Never,
     rows: &[
         (Step::Append(b'a', 1), Answer::Serial(0)),
@@ -114,7 +114,7 @@ fn chunks_without_their_entries(rt: HostRuntime) {
     );
 }
 
-const LIMITED: [Sitting; 1] = [Sitting {
+static LIMITED: [Sitting; 1] = [Sitting {
     calls: Failing::Never,
     rows: &[
         (
@@ -135,7 +135,7 @@ const LIMITED: [Sitting; 1] = [Sitting {
     keep: Keep::Least,
 }];
 
-const NARROW: [Sitting; 1] = [Sitting {
+static NARROW: [Sitting; 1] = [Sitting {
     calls: Failing::Never,
     rows: &[
         (Step::Append(b'a', 1), Answer::Serial(0)),
@@ -164,17 +164,15 @@ fn limits(rt: HostRuntime) {
     );
 }
 
-const FAILED: [Row; 3] = [
-    (Step::Append(b'a', 1), Answer::Refused(BufferFault::Fault)),
-    (Step::Append(b'a', 1), Answer::Refused(BufferFault::Failed)),
-    (Step::Body(0), Answer::Refused(BufferFault::Failed)),
-];
-
 // The append's sync fails once, and the buffer stays failed.
-const LOST_APPEND: [Sitting; 2] = [
+static LOST_APPEND: [Sitting; 2] = [
     Sitting {
         calls: Failing::At(OPENING + 1),
-        rows: &FAILED,
+        rows: &[
+            (Step::Append(b'a', 1), Answer::Refused(BufferFault::Fault)),
+            (Step::Append(b'a', 1), Answer::Refused(BufferFault::Failed)),
+            (Step::Body(0), Answer::Refused(BufferFault::Failed)),
+        ],
         keep: Keep::Least,
     },
     Sitting {
@@ -187,10 +185,14 @@ const LOST_APPEND: [Sitting; 2] = [
     },
 ];
 
-const KEPT_APPEND: [Sitting; 2] = [
+static KEPT_APPEND: [Sitting; 2] = [
     Sitting {
         calls: Failing::At(OPENING + 1),
-        rows: &FAILED,
+        rows: &[
+            (Step::Append(b'a', 1), Answer::Refused(BufferFault::Fault)),
+            (Step::Append(b'a', 1), Answer::Refused(BufferFault::Failed)),
+            (Step::Body(0), Answer::Refused(BufferFault::Failed)),
+        ],
         keep: Keep::Greatest,
     },
     Sitting {
@@ -217,7 +219,7 @@ fn sync_that_fails(rt: HostRuntime) {
 
 // A read of a chunk's entries fails once, and the buffer goes on as it was. A renewal copies those of a claimed chunk and a staged one,
 // which grows then.
-const UNREAD: [Sitting; 2] = [
+static UNREAD: [Sitting; 2] = [
     Sitting {
         calls: Failing::At(OPENING + 2),
         rows: &[
@@ -265,7 +267,7 @@ struct Folder {
     went: Went,
 }
 
-const FOLDERS: [Folder; 4] = [
+static FOLDERS: [Folder; 4] = [
     Folder {
         name: b"buf.0000000007.journal",
         bytes: b"\0\0\0\0",
@@ -296,15 +298,15 @@ const FOLDERS: [Folder; 4] = [
     },
 ];
 
-fn with_file(alloc: Global, name: &[u8], bytes: &[u8]) -> Result<MemoryDir<Global>, DirError> {
-    let mut dir = MemoryDir::new(alloc);
+fn put_file<D: Dir>(dir: &mut D, name: &[u8], bytes: &[u8]) -> Result<(), DirError> {
     let file = dir.create(name, bytes.len())?;
-    dir.append(file, bytes)?;
-    Ok(dir)
+    dir.append(file, bytes)
 }
 
-fn went_with(alloc: Global, folder: &Folder) -> Result<Went, DirError> {
-    let dir = with_file(alloc, folder.name, folder.bytes)?;
+// How the buffer goes on where this folder, which is empty, has the file.
+fn went_in<D: Dir + Drop>(alloc: Global, dir: D, folder: &Folder) -> Result<Went, DirError> {
+    let mut dir = dir;
+    put_file(&mut dir, folder.name, folder.bytes)?;
     let (went, _left) = play(alloc, dir, WIDE, folder.rows);
     Ok(went)
 }
@@ -312,9 +314,27 @@ fn went_with(alloc: Global, folder: &Folder) -> Result<Went, DirError> {
 #[test]
 fn folders_that_are_there(rt: HostRuntime) -> Result<(), DirError> {
     for folder in &FOLDERS {
-        assert_eq!(rt; went_with(rt.alloc(), folder)?, folder.went);
+        let went = went_in(rt.alloc(), MemoryDir::new(rt.alloc()), folder)?;
+        assert_eq!(rt; went, folder.went);
     }
     Ok(())
+}
+
+// Whether the folder has a file of this name alone.
+fn is_alone<D: Dir>(alloc: Global, dir: &mut D, name: &[u8]) -> Result<bool, DirError> {
+    let names = dir.list(alloc)?;
+    Ok(match names.as_slice() {
+        [only] => only.as_bytes() == name,
+        _ => false,
+    })
+}
+
+// Whether the file of this name has these bytes, which are fewer than a hundred.
+fn reads_as<D: Dir>(dir: &mut D, name: &[u8], bytes: &[u8]) -> Result<bool, DirError> {
+    let file = dir.open(name)?;
+    let mut into = [0; 100];
+    let read = dir.read_at(file, 0, &mut into)?;
+    Ok(into.get(..read) == Some(bytes))
 }
 
 // Whether the folder has this file alone, with these bytes.
@@ -324,17 +344,7 @@ fn has_alone<D: Dir>(
     name: &[u8],
     bytes: &[u8],
 ) -> Result<bool, DirError> {
-    let names = dir.list(alloc)?;
-    let [only] = names.as_slice() else {
-        return Ok(false);
-    };
-    if only.as_bytes() != name {
-        return Ok(false);
-    }
-    let file = dir.open(name)?;
-    let mut into = [0; 100];
-    let read = dir.read_at(file, 0, &mut into)?;
-    Ok(into.get(..read) == Some(bytes))
+    Ok(is_alone(alloc, dir, name)? && reads_as(dir, name, bytes)?)
 }
 
 // What a buffer tells its journal, and the one file that is left then.
@@ -344,7 +354,7 @@ struct Told {
     bytes: &'static [u8],
 }
 
-const TOLD: [Told; 2] = [
+static TOLD: [Told; 2] = [
     // A Seal of 0, one entry for chunk 0 of tag `a`, its Queue, and its Purge.
     Told {
         rows: &[

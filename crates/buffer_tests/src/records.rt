@@ -6,7 +6,7 @@ use std::alloc::{AllocError, Global};
 use std::test::Fail;
 
 // A Seal of 0, one entry for chunk 0 of tag `a`, and its Queue.
-const JOURNAL: [u8; 49] =
+static JOURNAL: [u8; 49] =
     *b"\0\0\0\x09\x01\0\0\0\0\0\0\0\0\0\0\0\x13\x02\0\0\0\0\0\0\0\0\0\x01a\0\0\0\x01\x92\x01\x80\0\0\0\x09\x03\0\0\0\0\0\0\0\0";
 
 // Records of one serial; an Append has one entry, of tag `a`, or `b` in the others.
@@ -96,13 +96,14 @@ fn each_cut_of_a_journal(rt: HostRuntime) -> Result<(), Fail> {
     Ok(())
 }
 
+static GENERATION: [&[u8]; 8] = [
+    APPEND_0, QUEUE_0, APPEND_3, SEAL_9, APPEND_3, OTHER_9, QUEUE_3, PURGE_0,
+];
+
 #[test]
 fn a_generation_with_chunks(rt: HostRuntime) -> Result<(), Fail> {
     let alloc = rt.alloc();
-    let records = [
-        APPEND_0, QUEUE_0, APPEND_3, SEAL_9, APPEND_3, OTHER_9, QUEUE_3, PURGE_0,
-    ];
-    let bytes = journal(alloc, &records)?;
+    let bytes = journal(alloc, &GENERATION)?;
     let expected = Outcome {
         used: bytes.len(),
         next: 10,
@@ -113,7 +114,7 @@ fn a_generation_with_chunks(rt: HostRuntime) -> Result<(), Fail> {
 }
 
 // The last record of each can't stand there.
-const MISPLACED: [&[&[u8]]; 17] = [
+static MISPLACED: [&[&[u8]]; 17] = [
     &[APPEND_0, APPEND_0],
     &[APPEND_1, APPEND_0],
     &[QUEUE_0],
@@ -136,7 +137,7 @@ const MISPLACED: [&[&[u8]]; 17] = [
 #[test]
 fn misplaced_records(rt: HostRuntime) -> Result<(), Fail> {
     let alloc = rt.alloc();
-    for records in MISPLACED {
+    for records in &MISPLACED {
         let bytes = journal(alloc, records)?;
         assert_eq!(rt; seen(alloc, &bytes), Err(ReplayError::BadRecord));
     }
@@ -145,7 +146,7 @@ fn misplaced_records(rt: HostRuntime) -> Result<(), Fail> {
 
 // No record begins so: a length of 0, one too long, kinds that aren't, a Seal too short and too long,
 // an Append whose tag passes its end, one entry too many, one too few, and an entry that isn't stored so.
-const BAD: [&[u8]; 10] = [
+static BAD: [&[u8]; 10] = [
     b"\0\0\0\0",
     b"\x01\0\0\x01",
     b"\0\0\0\x01\0",
@@ -161,7 +162,7 @@ const BAD: [&[u8]; 10] = [
 #[test]
 fn what_is_no_record(rt: HostRuntime) -> Result<(), Fail> {
     let alloc = rt.alloc();
-    for bytes in BAD {
+    for bytes in &BAD {
         assert_eq!(rt; seen(alloc, bytes), Err(ReplayError::BadRecord));
     }
     Ok(())

@@ -101,23 +101,38 @@ fn found(serial: Option<u64>) -> Answer {
     }
 }
 
-fn append<D: Dir>(
-    alloc: Global,
-    buffer: &mut Buffer<D, Global>,
-    tag: u8,
-    count: usize,
-    synced: bool,
-) -> Answer {
+fn stage<D: Dir>(alloc: Global, buffer: &mut Buffer<D, Global>, tag: u8, count: usize) -> Answer {
     match entries(alloc, count) {
-        Ok(some) if some.count() > 0 => {
-            if synced {
-                appended(buffer.append(&[tag], &some))
-            } else {
-                appended(buffer.stage(&[tag], &some))
-            }
-        }
+        Ok(some) if some.count() > 0 => appended(buffer.stage(&[tag], &some)),
         _ => Answer::Nothing,
     }
+}
+
+fn append<D: Dir>(alloc: Global, buffer: &mut Buffer<D, Global>, tag: u8, count: usize) -> Answer {
+    match entries(alloc, count) {
+        Ok(some) if some.count() > 0 => appended(buffer.append(&[tag], &some)),
+        _ => Answer::Nothing,
+    }
+}
+
+fn sync<D: Dir>(buffer: &mut Buffer<D, Global>) -> Answer {
+    done(buffer.sync())
+}
+
+fn enqueue<D: Dir>(buffer: &mut Buffer<D, Global>, serial: u64) -> Answer {
+    done(buffer.enqueue(serial))
+}
+
+fn claim<D: Dir>(buffer: &mut Buffer<D, Global>) -> Answer {
+    found(buffer.claim())
+}
+
+fn purge<D: Dir>(buffer: &mut Buffer<D, Global>, serial: u64) -> Answer {
+    done(buffer.purge(serial))
+}
+
+fn renew<D: Dir>(buffer: &mut Buffer<D, Global>) -> Answer {
+    done(buffer.renew())
 }
 
 // Gives back a chunk that is claimed.
@@ -171,15 +186,15 @@ fn sum<D: Dir>(buffer: &Buffer<D, Global>) -> Answer {
 /// Takes the buffer through a step.
 pub fn take<D: Dir>(alloc: Global, buffer: &mut Buffer<D, Global>, step: Step) -> Answer {
     match step {
-        Step::Stage(tag, count) => append(alloc, buffer, tag, count, false),
-        Step::Append(tag, count) => append(alloc, buffer, tag, count, true),
-        Step::Sync => done(buffer.sync()),
-        Step::Enqueue(serial) => done(buffer.enqueue(serial)),
-        Step::Claim => found(buffer.claim()),
+        Step::Stage(tag, count) => stage(alloc, buffer, tag, count),
+        Step::Append(tag, count) => append(alloc, buffer, tag, count),
+        Step::Sync => sync(buffer),
+        Step::Enqueue(serial) => enqueue(buffer, serial),
+        Step::Claim => claim(buffer),
         Step::GiveBack(serial) => give_back(buffer, serial),
-        Step::Purge(serial) => done(buffer.purge(serial)),
+        Step::Purge(serial) => purge(buffer, serial),
         Step::DropOldest => drop_oldest(buffer),
-        Step::Renew => done(buffer.renew()),
+        Step::Renew => renew(buffer),
         Step::Next => Answer::Serial(buffer.chunks().next_serial()),
         Step::First => found(buffer.chunks().first()),
         Step::Look(serial) => look(buffer, serial),

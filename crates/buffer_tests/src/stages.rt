@@ -1,49 +1,20 @@
 //! Appends that are told and synced later, and what of them a stop leaves.
 
-use crate::script::{Answer, Failing, OPENING, Row, Sitting, Step, WIDE, Went, sit_all};
+use crate::script::{Answer, Failing, OPENING, Sitting, Step, WIDE, Went, sit_all};
 use buffer_state::Stage;
 use buffer_store::BufferFault;
 use disk_files::Keep;
 
-const STAGED: [Row; 3] = [
-    (Step::Stage(b'a', 1), Answer::Serial(0)),
-    (Step::Stage(b'a', 1), Answer::Serial(0)),
-    (Step::HasStaged, Answer::Is(true)),
-];
-
-// The device would fail a call for the second sync, and there is none.
-const SYNCED: [Row; 5] = [
-    (Step::Stage(b'a', 1), Answer::Serial(0)),
-    (Step::Stage(b'a', 1), Answer::Serial(0)),
-    (Step::Sync, Answer::Done),
-    (Step::HasStaged, Answer::Is(false)),
-    (Step::Sync, Answer::Done),
-];
-
-const FAILED: [Row; 7] = [
-    (Step::Stage(b'a', 1), Answer::Serial(0)),
-    (Step::Stage(b'a', 1), Answer::Serial(0)),
-    (Step::Sync, Answer::Refused(BufferFault::Fault)),
-    (Step::Sync, Answer::Refused(BufferFault::Failed)),
-    (Step::Stage(b'a', 1), Answer::Refused(BufferFault::Failed)),
-    (Step::Body(0), Answer::Refused(BufferFault::Failed)),
-    (Step::Facts(0), Answer::Facts(b'a', 2, 6)),
-];
-
-const PURGED: [Row; 5] = [
-    (Step::Stage(b'a', 1), Answer::Serial(0)),
-    (Step::Stage(b'a', 1), Answer::Serial(0)),
-    (Step::Enqueue(0), Answer::Done),
-    (Step::Claim, Answer::Serial(0)),
-    (Step::Purge(0), Answer::Done),
-];
-
 // Steps on a device, a stop, and how the buffer goes on.
-const CASES: [[Sitting; 2]; 6] = [
+static CASES: [[Sitting; 2]; 6] = [
     [
         Sitting {
             calls: Failing::Past(OPENING + 2),
-            rows: &STAGED,
+            rows: &[
+                (Step::Stage(b'a', 1), Answer::Serial(0)),
+                (Step::Stage(b'a', 1), Answer::Serial(0)),
+                (Step::HasStaged, Answer::Is(true)),
+            ],
             keep: Keep::Least,
         },
         Sitting {
@@ -58,7 +29,11 @@ const CASES: [[Sitting; 2]; 6] = [
     [
         Sitting {
             calls: Failing::Past(OPENING + 2),
-            rows: &STAGED,
+            rows: &[
+                (Step::Stage(b'a', 1), Answer::Serial(0)),
+                (Step::Stage(b'a', 1), Answer::Serial(0)),
+                (Step::HasStaged, Answer::Is(true)),
+            ],
             keep: Keep::Greatest,
         },
         Sitting {
@@ -71,9 +46,16 @@ const CASES: [[Sitting; 2]; 6] = [
         },
     ],
     [
+        // The device would fail a call for the second sync, and there is none.
         Sitting {
             calls: Failing::Past(OPENING + 3),
-            rows: &SYNCED,
+            rows: &[
+                (Step::Stage(b'a', 1), Answer::Serial(0)),
+                (Step::Stage(b'a', 1), Answer::Serial(0)),
+                (Step::Sync, Answer::Done),
+                (Step::HasStaged, Answer::Is(false)),
+                (Step::Sync, Answer::Done),
+            ],
             keep: Keep::Least,
         },
         Sitting {
@@ -89,7 +71,15 @@ const CASES: [[Sitting; 2]; 6] = [
     [
         Sitting {
             calls: Failing::Past(OPENING + 2),
-            rows: &FAILED,
+            rows: &[
+                (Step::Stage(b'a', 1), Answer::Serial(0)),
+                (Step::Stage(b'a', 1), Answer::Serial(0)),
+                (Step::Sync, Answer::Refused(BufferFault::Fault)),
+                (Step::Sync, Answer::Refused(BufferFault::Failed)),
+                (Step::Stage(b'a', 1), Answer::Refused(BufferFault::Failed)),
+                (Step::Body(0), Answer::Refused(BufferFault::Failed)),
+                (Step::Facts(0), Answer::Facts(b'a', 2, 6)),
+            ],
             keep: Keep::Least,
         },
         Sitting {
@@ -101,7 +91,13 @@ const CASES: [[Sitting; 2]; 6] = [
     [
         Sitting {
             calls: Failing::Never,
-            rows: &PURGED,
+            rows: &[
+                (Step::Stage(b'a', 1), Answer::Serial(0)),
+                (Step::Stage(b'a', 1), Answer::Serial(0)),
+                (Step::Enqueue(0), Answer::Done),
+                (Step::Claim, Answer::Serial(0)),
+                (Step::Purge(0), Answer::Done),
+            ],
             keep: Keep::Least,
         },
         Sitting {
@@ -116,7 +112,13 @@ const CASES: [[Sitting; 2]; 6] = [
     [
         Sitting {
             calls: Failing::Never,
-            rows: &PURGED,
+            rows: &[
+                (Step::Stage(b'a', 1), Answer::Serial(0)),
+                (Step::Stage(b'a', 1), Answer::Serial(0)),
+                (Step::Enqueue(0), Answer::Done),
+                (Step::Claim, Answer::Serial(0)),
+                (Step::Purge(0), Answer::Done),
+            ],
             keep: Keep::Greatest,
         },
         Sitting {

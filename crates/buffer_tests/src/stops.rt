@@ -36,7 +36,7 @@ struct Claimed {
     size: usize,
 }
 
-const CLAIMED: [Claimed; 2] = [
+static CLAIMED: [Claimed; 2] = [
     Claimed {
         row: 5,
         serial: 0,
@@ -159,7 +159,7 @@ fn reopened(passes: u64, rows: &'static [Row]) -> [Sitting; 2] {
     ]
 }
 
-const NEW: [Row; 1] = [(Step::Next, Answer::Serial(0))];
+static NEW: [Row; 1] = [(Step::Next, Answer::Serial(0))];
 
 #[test]
 fn a_new_folder_at_each_call(rt: HostRuntime) {
@@ -169,9 +169,9 @@ fn a_new_folder_at_each_call(rt: HostRuntime) {
     }
 }
 
-const STAGED: [Row; 1] = [(Step::Append(b'a', 1), Answer::Serial(0))];
+static STAGED: [Row; 1] = [(Step::Append(b'a', 1), Answer::Serial(0))];
 
-const KEPT: [Row; 1] = [(Step::Look(0), Answer::At(Stage::Staged))];
+static KEPT: [Row; 1] = [(Step::Look(0), Answer::At(Stage::Staged))];
 
 #[test]
 fn a_folder_with_a_chunk_at_each_call(rt: HostRuntime) {
