@@ -6,26 +6,38 @@ use std::fs;
 use std::rt::Files;
 use std::test::Fail;
 
-// Each call that touches the device, once, on a file of this name; `reserve` touches none.
-fn each_call<D: Dir>(alloc: Global, dir: &mut D, name: &[u8]) -> Result<(), DirError> {
+// A new file of this name gets four bytes; `reserve` doesn't touch the device.
+fn write_new<D: Dir>(dir: &mut D, name: &[u8]) -> Result<(), DirError> {
     let file = dir.create(name, 2)?;
     dir.append(file, b"ab")?;
     dir.reserve(file, 2)?;
     dir.append(file, b"cd")?;
-    dir.sync(file)?;
-    let again = dir.open(name)?;
-    if dir.length(again)? != 4 {
-        return Err(DirError::NoSuchFile);
-    }
-    let mut into = [9u8; 4];
-    if dir.read_at(again, 1, &mut into)? != 3 || into != [98, 99, 100, 9] {
-        return Err(DirError::NoSuchFile);
-    }
+    dir.sync(file)
+}
+
+fn is_listed<D: Dir>(alloc: Global, dir: &mut D, name: &[u8]) -> Result<bool, DirError> {
     let names = dir.list(alloc)?;
-    if !names.iter().any(|n| n.as_bytes() == name) {
-        return Err(DirError::NoSuchFile);
+    Ok(names.iter().any(|n| n.as_bytes() == name))
+}
+
+// Removes the file, and says whether it read as it was written.
+fn read_and_remove<D: Dir>(dir: &mut D, name: &[u8]) -> Result<bool, DirError> {
+    let file = dir.open(name)?;
+    let length = dir.length(file)?;
+    let mut into = [9u8; 4];
+    let read = dir.read_at(file, 1, &mut into)?;
+    dir.remove(file)?;
+    Ok(length == 4 && read == 3 && into == [98, 99, 100, 9])
+}
+
+// Each call that touches the device, once, and the append twice, on a file of this name.
+fn each_call<D: Dir>(alloc: Global, dir: &mut D, name: &[u8]) -> Result<(), DirError> {
+    write_new(dir, name)?;
+    if is_listed(alloc, dir, name)? && read_and_remove(dir, name)? {
+        Ok(())
+    } else {
+        Err(DirError::NoSuchFile)
     }
-    dir.remove(again)
 }
 
 const CALLS: u64 = 9;
@@ -44,22 +56,87 @@ fn bytes_of<D: Dir>(alloc: Global, dir: &mut D, name: &[u8]) -> Result<Option<Ve
     Ok(Some(bytes))
 }
 
+// What is done to a file of some name.
+#[derive(Clone, Copy)]
+enum Act {
+    Create,
+    Open,
+    Append(&'static [u8]),
+    Sync,
+    Remove,
+}
+
+// A name, what is done to its file, and why not.
+type Row = (&'static [u8], Act, Option<DirError>);
+
+fn create<D: Dir>(dir: &mut D, name: &[u8]) -> Option<DirError> {
+    dir.create(name, 0).err()
+}
+
+fn open<D: Dir>(dir: &mut D, name: &[u8]) -> Option<DirError> {
+    dir.open(name).err()
+}
+
+fn append<D: Dir>(dir: &mut D, name: &[u8], bytes: &[u8]) -> Result<(), DirError> {
+    let file = dir.open(name)?;
+    dir.reserve(file, bytes.len())?;
+    dir.append(file, bytes)
+}
+
+fn sync<D: Dir>(dir: &mut D, name: &[u8]) -> Result<(), DirError> {
+    let file = dir.open(name)?;
+    dir.sync(file)
+}
+
+fn remove<D: Dir>(dir: &mut D, name: &[u8]) -> Result<(), DirError> {
+    let file = dir.open(name)?;
+    dir.remove(file)
+}
+
+fn do_act<D: Dir>(dir: &mut D, name: &[u8], act: Act) -> Option<DirError> {
+    match act {
+        Act::Create => create(dir, name),
+        Act::Open => open(dir, name),
+        Act::Append(bytes) => append(dir, name, bytes).err(),
+        Act::Sync => sync(dir, name).err(),
+        Act::Remove => remove(dir, name).err(),
+    }
+}
+
+// Whether the folder answers each row as it says.
+fn answers<D: Dir>(dir: &mut D, rows: &[Row]) -> bool {
+    for (name, done, refused) in rows {
+        if do_act(dir, name, *done) != *refused {
+            return false;
+        }
+    }
+    true
+}
+
 // One file synced in part, one never synced, one removed, and the one that was written to last.
+static FILLED: [Row; 14] = [
+    (b"kept", Act::Create, None),
+    (b"kept", Act::Append(b"ab"), None),
+    (b"kept", Act::Sync, None),
+    (b"kept", Act::Append(b"cd"), None),
+    (b"young", Act::Create, None),
+    (b"young", Act::Append(b"xy"), None),
+    (b"gone", Act::Create, None),
+    (b"gone", Act::Append(b"z"), None),
+    (b"gone", Act::Sync, None),
+    (b"gone", Act::Remove, None),
+    (b"last", Act::Create, None),
+    (b"last", Act::Append(b"abc"), None),
+    (b"last", Act::Sync, None),
+    (b"last", Act::Append(b"def"), None),
+];
+
 fn fill<D: Dir>(dir: &mut D) -> Result<(), DirError> {
-    let kept = dir.create(b"kept", 4)?;
-    dir.append(kept, b"ab")?;
-    dir.sync(kept)?;
-    dir.append(kept, b"cd")?;
-    let young = dir.create(b"young", 2)?;
-    dir.append(young, b"xy")?;
-    let gone = dir.create(b"gone", 1)?;
-    dir.append(gone, b"z")?;
-    dir.sync(gone)?;
-    dir.remove(gone)?;
-    let last = dir.create(b"last", 6)?;
-    dir.append(last, b"abc")?;
-    dir.sync(last)?;
-    dir.append(last, b"def")
+    if answers(dir, &FILLED) {
+        Ok(())
+    } else {
+        Err(DirError::Fault)
+    }
 }
 
 fn folder(alloc: Global) -> Result<MemoryDir<Global>, DirError> {
@@ -104,32 +181,62 @@ fn leaves(alloc: Global, keep: Keep, left: &Left) -> Result<bool, DirError> {
     has(alloc, &mut dir, left)
 }
 
-// All but what was written to `last`.
-const fn all_but(last: &'static [u8]) -> Left {
-    Left {
-        kept: b"abcd",
-        young: Some(b"xy"),
-        last,
-    }
-}
+// How much a stop keeps, and what it leaves. All but what was written to `last` is there, or what was synced.
+static STOPS: [(Keep, Left); 6] = [
+    (
+        Keep::Least,
+        Left {
+            kept: b"ab",
+            young: None,
+            last: b"abc",
+        },
+    ),
+    (
+        Keep::Greatest,
+        Left {
+            kept: b"abcd",
+            young: Some(b"xy"),
+            last: b"abcdef",
+        },
+    ),
+    (
+        Keep::Last(0),
+        Left {
+            kept: b"abcd",
+            young: Some(b"xy"),
+            last: b"abc",
+        },
+    ),
+    (
+        Keep::Last(4),
+        Left {
+            kept: b"abcd",
+            young: Some(b"xy"),
+            last: b"abcd",
+        },
+    ),
+    (
+        Keep::Last(6),
+        Left {
+            kept: b"abcd",
+            young: Some(b"xy"),
+            last: b"abcdef",
+        },
+    ),
+    (
+        Keep::Last(9),
+        Left {
+            kept: b"abcd",
+            young: Some(b"xy"),
+            last: b"abcdef",
+        },
+    ),
+];
 
 #[test]
 fn what_a_stop_leaves(rt: HostRuntime) -> Result<(), DirError> {
-    let synced = Left {
-        kept: b"ab",
-        young: None,
-        last: b"abc",
-    };
-    let rows = [
-        (Keep::Least, synced),
-        (Keep::Greatest, all_but(b"abcdef")),
-        (Keep::Last(0), all_but(b"abc")),
-        (Keep::Last(4), all_but(b"abcd")),
-        (Keep::Last(6), all_but(b"abcdef")),
-        (Keep::Last(9), all_but(b"abcdef")),
-    ];
-    for (keep, left) in rows {
-        assert!(rt; leaves(rt.alloc(), keep, &left)?);
+    for (keep, left) in &STOPS {
+        assert!(rt; leaves(rt.alloc(), *keep, left)?);
     }
     Ok(())
 }
@@ -145,8 +252,15 @@ fn turns<D: Dir>(alloc: Global, dir: &mut D) -> [bool; 3] {
 fn fails_after(alloc: Global, passes: u64) -> bool {
     let mut fuse = Fuse::after(MemoryDir::new(alloc), passes);
     let failed = turns(alloc, &mut fuse);
-    let mut inner = fuse.into_inner();
-    failed == [passes < CALLS, true, true] && each_call(alloc, &mut inner, b"d").is_ok()
+    failed == [passes < CALLS, true, true] && is_sound(alloc, fuse.into_inner())
+}
+
+fn is_sound<D: Dir>(alloc: Global, dir: D) -> bool
+where
+    D: Drop,
+{
+    let mut dir = dir;
+    each_call(alloc, &mut dir, b"d").is_ok()
 }
 
 // A fuse that fails one call.
@@ -161,7 +275,7 @@ fn faults_of<D: Dir>(dir: &D) -> u64 {
 
 #[test]
 fn fuse_fails_one_call_or_all_later_ones(rt: HostRuntime) {
-    for passes in [0u64, 1, 2, 3, 4, 5, 6, 7, 8, 9] {
+    for passes in 0..=CALLS {
         assert!(rt; fails_after(rt.alloc(), passes), "{passes}");
         assert!(rt; fails_once(rt.alloc(), passes), "{passes}");
     }
@@ -171,29 +285,29 @@ fn fuse_fails_one_call_or_all_later_ones(rt: HostRuntime) {
 fn send<T: Send>(_value: &T) {}
 
 // Names are taken for good, and each refusal is counted.
-fn keeps_names<D: Dir>(alloc: Global, dir: &mut D) -> Result<bool, DirError> {
-    Ok(
-        dir.list(alloc)?.len() == 3
-            && dir.create(b"kept", 0) == Err(DirError::NameTaken)
-            && dir.create(b"gone", 0) == Err(DirError::NameTaken)
-            && dir.open(b"gone") == Err(DirError::NoSuchFile)
-            && dir.open(b"none") == Err(DirError::NoSuchFile)
-            && dir.faults() == 4,
-    )
-}
+static TAKEN: [Row; 4] = [
+    (b"kept", Act::Create, Some(DirError::NameTaken)),
+    (b"gone", Act::Create, Some(DirError::NameTaken)),
+    (b"gone", Act::Open, Some(DirError::NoSuchFile)),
+    (b"none", Act::Open, Some(DirError::NoSuchFile)),
+];
 
-fn makes<D: Dir>(dir: &mut D, name: &[u8]) -> bool {
-    dir.create(name, 0).is_ok()
+// After a stop a removed name is free.
+static FREE: [Row; 1] = [(b"gone", Act::Create, None)];
+
+fn listed<D: Dir>(alloc: Global, dir: &mut D) -> Result<usize, DirError> {
+    Ok(dir.list(alloc)?.len())
 }
 
 #[test]
 fn names_of_files(rt: HostRuntime) -> Result<(), DirError> {
     let mut dir = folder(rt.alloc())?;
     send(&dir);
-    assert!(rt; keeps_names(rt.alloc(), &mut dir)?);
-    // After a stop a removed name is free.
+    assert_eq!(rt; listed(rt.alloc(), &mut dir)?, 3);
+    assert!(rt; answers(&mut dir, &TAKEN));
+    assert_eq!(rt; faults_of(&dir), 4);
     let mut dir = dir.stop(Keep::Greatest);
-    assert!(rt; makes(&mut dir, b"gone"));
+    assert!(rt; answers(&mut dir, &FREE));
     Ok(())
 }
 
@@ -202,19 +316,20 @@ fn no_folder<R: Files + Alloc>(rt: &R, path: &str) {
     let _ = fs::remove_dir_all(rt, path);
 }
 
-// A folder of the system has one file more, and the refusals of a folder are counted.
+// A folder of the system gets one file more, and counts what it refuses.
+static REAL: [Row; 7] = [
+    (b"b.sink", Act::Create, None),
+    (b"b.sink", Act::Append(b"hello"), None),
+    (b"b.sink", Act::Sync, None),
+    (b"b.sink", Act::Create, Some(DirError::NameTaken)),
+    (b"a.journal", Act::Open, Some(DirError::NoSuchFile)),
+    (b"x/y", Act::Create, Some(DirError::Fault)),
+    (b"\xff", Act::Open, Some(DirError::Fault)),
+];
+
 fn real_refusals<D: Dir>(alloc: Global, dir: &mut D) -> Result<bool, DirError> {
     each_call(alloc, dir, b"a.journal")?;
-    let file = dir.create(b"b.sink", 5)?;
-    dir.append(file, b"hello")?;
-    dir.sync(file)?;
-    Ok(
-        dir.create(b"b.sink", 0) == Err(DirError::NameTaken)
-            && dir.open(b"a.journal") == Err(DirError::NoSuchFile)
-            && dir.create(b"x/y", 0) == Err(DirError::Fault)
-            && dir.open(b"\xff") == Err(DirError::Fault)
-            && dir.faults() == 4,
-    )
+    Ok(answers(dir, &REAL) && faults_of(dir) == 4)
 }
 
 // A folder has one file of this name and these bytes, and nothing else.
@@ -224,18 +339,18 @@ fn has_one<D: Dir>(
     name: &[u8],
     bytes: &[u8],
 ) -> Result<bool, DirError> {
-    let names = dir.list(alloc)?;
-    let found = bytes_of(alloc, dir, name)?;
     Ok(
-        names.len() == 1
-            && names[0].as_bytes() == name
-            && found.is_some_and(|found| found.as_slice() == bytes),
+        listed(alloc, dir)? == 1
+            && is_listed(alloc, dir, name)?
+            && reads_as(alloc, dir, name, Some(bytes))?,
     )
 }
 
 // A folder that isn't there fails, and says so.
+static MISSING: [Row; 1] = [(b"a", Act::Create, Some(DirError::Fault))];
+
 fn is_missing<D: Dir>(alloc: Global, dir: &mut D) -> bool {
-    dir.create(b"a", 0) == Err(DirError::Fault) && dir.list(alloc).is_err() && dir.faults() == 2
+    answers(dir, &MISSING) && listed(alloc, dir).is_err() && faults_of(dir) == 2
 }
 
 #[test]
@@ -288,8 +403,8 @@ type Folder = EitherDir<RealDir<HostRuntime, Global>, MemoryDir<Global>>;
 // Whether each call goes well, and a name is free again then, in the one, and not before a stop, in the other.
 fn serves<D: Dir>(alloc: Global, dir: &mut D, is_free: bool) -> bool {
     each_call(alloc, dir, b"a") == Ok(())
-        && makes(dir, b"a") == is_free
-        && dir.faults() == u64::from(!is_free)
+        && create(dir, b"a").is_none() == is_free
+        && faults_of(dir) == u64::from(!is_free)
 }
 
 #[test]

@@ -11,52 +11,65 @@ fn sinks() -> Family<'static> {
     }
 }
 
+// A number, and the name of its file.
+static NAMES: [(u32, &[u8]); 3] = [
+    (1, b"buf.0000000001.sink"),
+    (40, b"buf.0000000040.sink"),
+    (4_294_967_295, b"buf.4294967295.sink"),
+];
+
+fn name_of(alloc: Global, number: u32) -> Result<Vec<u8>, AllocError> {
+    sinks().name(alloc, number)
+}
+
+fn number_of(name: &[u8]) -> Option<u32> {
+    sinks().number(name)
+}
+
 #[test]
 fn names_as_they_are_written(rt: HostRuntime) -> Result<(), AllocError> {
-    let alloc = rt.alloc();
-    assert_eq!(rt;
-        sinks().name(alloc, 1)?.as_slice(),
-        b"buf.0000000001.sink".as_slice()
-    );
-    assert_eq!(rt;
-        sinks().name(alloc, 4_294_967_295)?.as_slice(),
-        b"buf.4294967295.sink".as_slice()
-    );
-    assert_eq!(rt; sinks().number(b"buf.0000000040.sink"), Some(40));
-    assert_eq!(rt; sinks().number(b"buf.4294967295.sink"), Some(4_294_967_295));
+    for (number, name) in &NAMES {
+        assert_eq!(rt; name_of(rt.alloc(), *number)?.as_slice(), *name);
+        assert_eq!(rt; number_of(name), Some(*number));
+    }
     Ok(())
 }
 
+static OTHERS: [&[u8]; 12] = [
+    b"",
+    b"buf",
+    b"buf.1.sink",
+    b"buf.00000000001.sink",
+    b"buf.000000000x.sink",
+    b"buf.4294967296.sink",
+    b"buf.0000000001.journal",
+    b"buf.0000000001sink",
+    b"buf0000000001.sink",
+    b"Buf.0000000001.sink",
+    b"buf.0000000001.sink.",
+    b"/buf.0000000001.sink",
+];
+
 #[test]
 fn names_of_others(rt: HostRuntime) {
-    for name in [
-        b"".as_slice(),
-        b"buf".as_slice(),
-        b"buf.1.sink".as_slice(),
-        b"buf.00000000001.sink".as_slice(),
-        b"buf.000000000x.sink".as_slice(),
-        b"buf.4294967296.sink".as_slice(),
-        b"buf.0000000001.journal".as_slice(),
-        b"buf.0000000001sink".as_slice(),
-        b"buf0000000001.sink".as_slice(),
-        b"Buf.0000000001.sink".as_slice(),
-        b"buf.0000000001.sink.".as_slice(),
-        b"/buf.0000000001.sink".as_slice(),
-    ] {
-        assert_eq!(rt; sinks().number(name), None);
+    for name in &OTHERS {
+        assert_eq!(rt; number_of(name), None, "of {name:?}");
     }
 }
 
-// Two files of the family, number 0, strangers and a removed file.
+// Two files of the family, number 0, and strangers.
+static FILES: [&[u8]; 6] = [
+    b"buf.0000000007.sink",
+    b"buf.0000000000.sink",
+    b"buf.0000000002.sink",
+    b"buf.1.sink",
+    b"other.0000000003.sink",
+    b"buf.0000000004.journal",
+];
+
+// These, and a removed file.
 fn fill<D: Dir>(dir: &mut D) -> Result<(), DirError> {
-    for name in [
-        b"buf.0000000007.sink".as_slice(),
-        b"buf.0000000000.sink".as_slice(),
-        b"buf.0000000002.sink".as_slice(),
-        b"buf.1.sink".as_slice(),
-        b"other.0000000003.sink".as_slice(),
-        b"buf.0000000004.journal".as_slice(),
-    ] {
+    for name in &FILES {
         dir.create(name, 0)?;
     }
     let gone = dir.create(b"buf.0000000009.sink", 0)?;

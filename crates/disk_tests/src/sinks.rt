@@ -68,6 +68,19 @@ fn reads_as<D: Dir>(
     Ok(read_file(alloc, dir, file)?.as_slice() == want)
 }
 
+// Whether the sink holds an entry under `a`, and one under `b`.
+fn has_both<D: Dir>(series: &mut Series<D, Global>) -> Result<bool, SeriesFault> {
+    let content = series.content()?;
+    Ok(match content.as_slice() {
+        [first, second] => {
+            first.tag() == b"a".as_slice()
+                && second.tag() == b"b".as_slice()
+                && second.entry() == b"\x92\x01\x80".as_slice()
+        }
+        _ => false,
+    })
+}
+
 // Whether a sink in this folder holds an entry under `a`, and then the one that is written under `b`.
 fn holds_both<D: Dir>(alloc: Global, dir: D) -> Result<bool, SeriesFault>
 where
@@ -75,23 +88,28 @@ where
 {
     let mut series = opened(alloc, dir)?;
     let written = write(alloc, &mut series, b"b")?;
-    let content = series.content()?;
-    Ok(
-        written.is_some()
-            && content.len() == 2
-            && content[0].tag() == b"a".as_slice()
-            && content[1].tag() == b"b".as_slice()
-            && content[1].entry() == b"\x92\x01\x80".as_slice(),
-    )
+    Ok(written.is_some() && has_both(&mut series)?)
+}
+
+// Whether the receipt of an entry under `a` is right, and the folder of the sink that it is written to.
+fn received<D: Dir>(alloc: Global, series: Series<D, Global>) -> Result<(bool, D), SeriesFault>
+where
+    D: Drop,
+{
+    let mut series = series;
+    let is_right = match write(alloc, &mut series, b"a")? {
+        Some(stored) => is_receipt(&stored),
+        None => false,
+    };
+    Ok((is_right, series.into_dir()))
 }
 
 #[test]
 fn bytes_and_receipt(rt: HostRuntime) -> Result<(), Fail> {
     let alloc = rt.alloc();
-    let mut series = opened(alloc, MemoryDir::new(alloc))?;
-    let stored = write(alloc, &mut series, b"a")?.expect(&rt, "it is an entry");
-    assert!(rt; is_receipt(&stored));
-    let mut dir = series.into_dir().stop(Keep::Least);
+    let (is_right, dir) = received(alloc, opened(alloc, MemoryDir::new(alloc))?)?;
+    assert!(rt; is_right);
+    let mut dir = dir.stop(Keep::Least);
     assert!(rt; reads_as(alloc, &mut dir, b"out.0000000001.sink", ITEM)?);
     assert!(rt; holds_both(alloc, dir)?);
     Ok(())
@@ -106,10 +124,11 @@ fn sink_of_a_relay(rt: HostRuntime) -> Result<(), Fail> {
     let _ = fs::remove_dir_all(&rt, "sink_series_test");
     let real = RealDir::make(rt.clone()?, alloc, "sink_series_test")?;
     let dir: EitherDir<RealDir<HostRuntime, Global>, MemoryDir<Global>> = EitherDir::Left(real);
-    let mut series = opened(alloc, dir)?;
+    let series = opened(alloc, dir)?;
     send(&series);
-    assert!(rt; write(alloc, &mut series, b"a")?.is_some());
-    assert!(rt; holds_both(alloc, series.into_dir())?);
+    let (is_right, dir) = received(alloc, series)?;
+    assert!(rt; is_right);
+    assert!(rt; holds_both(alloc, dir)?);
     fs::remove_dir_all(&rt, "sink_series_test")?;
     Ok(())
 }
@@ -130,48 +149,67 @@ fn events_of(alloc: Global, bytes: &[u8]) -> Result<Option<usize>, SeriesFault> 
     events_in(alloc, folder(alloc, b"out.0000000007.sink", bytes)?)
 }
 
-// Files with no item, each torn or spelled otherwise.
-const NONE: [&[u8]; 6] = [
-    b"\x93\xa1a\x01",
-    b"\x93\xc4\x01a\x01\x80",
-    b"\x93\xd9\x01a\x01\x80",
-    b"\xdc\x00\x03\xa1a\x01\x80",
-    b"\x93\xa1a\xc0\x80",
-    b"\x93\xa1a\x01\x01",
+// A file's bytes, and how many items that are: some are torn or spelled otherwise.
+static FILES: [(&[u8], usize); 9] = [
+    (b"\x93\xa1a\x01", 0),
+    (b"\x93\xc4\x01a\x01\x80", 0),
+    (b"\x93\xd9\x01a\x01\x80", 0),
+    (b"\xdc\x00\x03\xa1a\x01\x80", 0),
+    (b"\x93\xa1a\xc0\x80", 0),
+    (b"\x93\xa1a\x01\x01", 0),
+    (b"", 0),
+    (ITEM, 1),
+    (b"\x93\xa1a\x01\x80\x93\xa1b\x02\x80\x93", 2),
 ];
 
 #[test]
-fn items_that_are_none(rt: HostRuntime) -> Result<(), Fail> {
-    let alloc = rt.alloc();
-    for bytes in NONE {
-        assert_eq!(rt; events_of(alloc, bytes)?, Some(0));
+fn items_of_a_file(rt: HostRuntime) -> Result<(), Fail> {
+    for (bytes, count) in &FILES {
+        assert_eq!(rt; events_of(rt.alloc(), bytes)?, Some(*count), "of {bytes:?}");
     }
-    assert_eq!(rt; events_of(alloc, b"")?, Some(0));
-    assert_eq!(rt; events_of(alloc, ITEM)?, Some(1));
-    assert_eq!(rt;
-        events_of(alloc, b"\x93\xa1a\x01\x80\x93\xa1b\x02\x80\x93")?,
-        Some(2)
-    );
     Ok(())
 }
 
-// How a write ends and the next one begins, where the device fails after so many calls.
-fn failing(alloc: Global, passes: u64) -> Result<bool, SeriesFault> {
-    let mut series = opened(alloc, Fuse::once(MemoryDir::new(alloc), passes))?;
-    let first = write(alloc, &mut series, b"a");
-    let second = write(alloc, &mut series, b"a");
-    Ok(matches!(first, Err(SeriesFault::Fault)) && matches!(second, Err(SeriesFault::Failed)))
+// How an opening and two writes end, as far as they come.
+#[derive(Clone, Copy, Debug, PartialEq, Eq)]
+enum Went {
+    Unopened(SeriesFault),
+    Written([Option<SeriesFault>; 2]),
+}
+
+fn tried<D: Dir>(alloc: Global, dir: D) -> Went
+where
+    D: Drop,
+{
+    let mut series = match opened(alloc, dir) {
+        Ok(series) => series,
+        Err(fault) => return Went::Unopened(fault),
+    };
+    let first = write(alloc, &mut series, b"a").err();
+    Went::Written([first, write(alloc, &mut series, b"a").err()])
+}
+
+// After how many calls the device fails, and whether the sink is open then.
+static FAILING: [(u64, bool); 4] = [(0, false), (1, false), (2, true), (3, true)];
+
+// How a device that fails shows: in the opening, or in the first write, behind which there is none.
+fn failed(is_open: bool) -> Went {
+    if is_open {
+        Went::Written([Some(SeriesFault::Fault), Some(SeriesFault::Failed)])
+    } else {
+        Went::Unopened(SeriesFault::Fault)
+    }
 }
 
 #[test]
 fn failures(rt: HostRuntime) -> Result<(), Fail> {
     let alloc = rt.alloc();
-    assert!(rt; matches!(failing(alloc, 0), Err(SeriesFault::Fault)));
-    assert!(rt; matches!(failing(alloc, 1), Err(SeriesFault::Fault)));
-    assert!(rt; failing(alloc, 2)?);
-    assert!(rt; failing(alloc, 3)?);
+    for (passes, is_open) in &FAILING {
+        let fuse = Fuse::once(MemoryDir::new(alloc), *passes);
+        assert_eq!(rt; tried(alloc, fuse), failed(*is_open), "{passes}");
+    }
     let last = folder(alloc, b"out.4294967295.sink", ITEM)?;
-    assert!(rt; matches!(opened(alloc, last), Err(SeriesFault::LastNumber)));
+    assert_eq!(rt; tried(alloc, last), Went::Unopened(SeriesFault::LastNumber));
     assert_eq!(rt;
         format!(in alloc; "{}", SeriesFault::Failed)?.as_str(),
         "F2"
