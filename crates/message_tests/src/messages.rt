@@ -301,27 +301,25 @@ fn fed_for_long(rt: HostRuntime) -> Result<(), Fail> {
     Ok(())
 }
 
-// What is fed, and what comes then, over and over. Bad bytes stay, and no more are taken.
-static BEHIND: [(&[u8], Came, Came); 3] = [
-    (b"\xc0\xc1\x00", Came::Need, Came::Heartbeat),
-    (b"", Came::Need, Came::BadBytes),
-    (b"\x01", Came::BadBytes, Came::BadBytes),
+// What is fed, whether it is taken, what comes then, and how much is held. Bad bytes stay, and no more are taken.
+static BEHIND: [(&[u8], Came, Came, usize); 4] = [
+    (b"\xa1\x6b\xa1\x76", Came::Need, Came::Tag(b'a'), 0),
+    (b"\xc0\xc1\x00", Came::Need, Came::Heartbeat, 2),
+    (b"", Came::Need, Came::BadBytes, 2),
+    (b"\x01", Came::BadBytes, Came::BadBytes, 2),
 ];
 
-// Byte by byte a feed wants more until the last byte has come.
+// Byte by byte a feed wants more until the last bytes come at once.
 #[test]
 fn fed_slowly(rt: HostRuntime) -> Result<(), Fail> {
     let mut feed = Feed::new(rt.alloc());
-    assert_eq!(rt;
-        asked_for(&mut feed, CASES[1].bytes)?,
-        (17, Came::Tag(b'a'))
-    );
-    assert_eq!(rt; feed.held_len(), 0);
-    for (bytes, taken, next) in &BEHIND {
+    let (front, _) = CASES[1].bytes.split_at(14);
+    assert_eq!(rt; asked_for(&mut feed, front)?, (14, Came::Need));
+    for (bytes, taken, next, held) in &BEHIND {
         assert_eq!(rt; fed(&mut feed, bytes)?, *taken);
         assert_eq!(rt; next_of(&mut feed)?, *next);
+        assert_eq!(rt; feed.held_len(), *held);
     }
-    assert_eq!(rt; feed.held_len(), 2);
     Ok(())
 }
 
