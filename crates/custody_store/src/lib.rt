@@ -11,6 +11,6 @@ mod tags;
 
 pub use buffer::Buffer;
 pub use chunk::{Copied, Look, Stage};
-pub use event::{Event, copy_events, copy_texts, has_text};
+pub use event::{Event, copy_texts, has_text};
 pub use places::Places;
 pub use spots::{Spot, Spots};

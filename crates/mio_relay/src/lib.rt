@@ -13,7 +13,6 @@ mod peers;
 mod secret;
 mod socket;
 
-pub use chance::Nonces;
 pub use courier::TcpCourier;
 pub use folders::{Folders, MemoryFolders, SystemDir, SystemFolders};
 pub use in_loop::{Ended, InLoop};

@@ -14,12 +14,10 @@ mod values;
 
 pub use buffer::{BufferKind, BufferSettings, FlushMode, OverflowAction};
 pub use defaults::{
-    DEFAULT_ACK_RESPONSE_TIMEOUT, DEFAULT_BIND, DEFAULT_FILE_CHUNK_LIMIT, DEFAULT_FILE_TOTAL_LIMIT,
-    DEFAULT_FLUSH_INTERVAL, DEFAULT_FLUSH_THREADS, DEFAULT_MEMORY_CHUNK_LIMIT,
-    DEFAULT_MEMORY_TOTAL_LIMIT, DEFAULT_PORT, DEFAULT_REQUIRE_ACK_RESPONSE, DEFAULT_RETRY_BASE,
-    DEFAULT_RETRY_FOREVER, DEFAULT_RETRY_TIMEOUT, DEFAULT_RETRY_WAIT,
+    DEFAULT_BIND, DEFAULT_FILE_CHUNK_LIMIT, DEFAULT_FILE_TOTAL_LIMIT, DEFAULT_FLUSH_INTERVAL,
+    DEFAULT_FLUSH_THREADS, DEFAULT_RETRY_BASE, DEFAULT_RETRY_TIMEOUT, DEFAULT_RETRY_WAIT,
 };
 pub use output::{BufferNo, FileSettings, ForwardSettings, Output, Server};
 pub use relay::{MatchRule, Relay, Scope, ScopeNo, Security, Source};
-pub use relay_faults::{MOST_FLUSH_THREADS, RelayError, RelayFault, RelayFaultKind};
+pub use relay_faults::{RelayError, RelayFault, RelayFaultKind};
 pub use retry_waits::RetrySettings;
