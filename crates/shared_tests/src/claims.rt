@@ -1,4 +1,5 @@
-// What lets chunks go.
+//! What lets chunks go.
+
 use crate::shelves::{
     ENTRY, LEAF, Shelf, WIDE, buffer_in, dropped, enqueue, is_live, shelf_in, stored,
 };
