@@ -8,7 +8,7 @@ ghost use Rattle.ack_receipt.specs.Reservations.{asked_of, answer_of};
 use crate::number::DeliveryNo;
 use crate::receipt::Receipt;
 use crate::reserved::Reserved;
-use book_audit::{AckFault, Leaf, Part, Stub};
+use book_audit::{BookFault, Leaf, Part, Stub};
 use event_modes::{Entries, Message};
 use std::alloc::{AllocError, AllocFailed, Allocator};
 use std::marker::Model;
@@ -122,24 +122,24 @@ fn begin_under<A: Allocator + Copy>(
 impl<A: Allocator> Delivery<A> {
     /// Adds a receipt behind the others. It takes no memory.
     ///
-    /// The errors hand both back as they were. `AckFault::Stranger` comes exactly where the receipt is of another
-    /// delivery, or of a buffer that this one doesn't go to; `AckFault::Double` exactly where it isn't a stranger and
+    /// The errors hand both back as they were. `BookFault::Stranger` comes exactly where the receipt is of another
+    /// delivery, or of a buffer that this one doesn't go to; `BookFault::Double` exactly where it isn't a stranger and
     /// a receipt of its buffer was added already.
     pub fn add(
         mut self,
         receipt: Receipt<A>,
-    ) -> Result<Delivery<A>, (AckFault, Delivery<A>, Receipt<A>)>
+    ) -> Result<Delivery<A>, (BookFault, Delivery<A>, Receipt<A>)>
         ensures when { IsOk result ↔ (IsFor self receipt × ¬ IsAdded self receipt) }
         ensures added { IfOk result (λ delivery. delivery ≡ record self { receipts = self.receipts ++ receipt ∷ [] }) }
-        ensures stranger { IfErr result (λ refused. (refused.0 ≡ AckFault.Stranger) ↔ (¬ IsFor self receipt)) }
-        ensures double { IfErr result (λ refused. (refused.0 ≡ AckFault.Double) ↔ (IsFor self receipt × IsAdded self receipt)) }
+        ensures stranger { IfErr result (λ refused. (refused.0 ≡ BookFault.Stranger) ↔ (¬ IsFor self receipt)) }
+        ensures double { IfErr result (λ refused. (refused.0 ≡ BookFault.Double) ↔ (IsFor self receipt × IsAdded self receipt)) }
         ensures back { IfErr result (λ refused. (refused.1 ≡ self) × (refused.2 ≡ receipt)) }
     {
         if !self.is_for(&receipt) {
-            return Err((AckFault::Stranger, self, receipt));
+            return Err((BookFault::Stranger, self, receipt));
         }
         if has_receipt(&self.receipts, self.number.get(), receipt.leaf()) {
-            return Err((AckFault::Double, self, receipt));
+            return Err((BookFault::Double, self, receipt));
         }
         self.receipts.push_reserved(receipt);
         Ok(self)
@@ -148,19 +148,22 @@ impl<A: Allocator> Delivery<A> {
     /// Answers the message, where each leaf has given a receipt, into the empty room that was made for it.
     /// It takes no memory.
     ///
-    /// `AckFault::Missing` comes exactly where a leaf's receipt is missing; it hands the delivery back,
+    /// `BookFault::Missing` comes exactly where a leaf's receipt is missing; it hands the delivery back,
     /// and leaves it and the room as they were.
-    pub fn acknowledge(self, reserved: &mut Reserved<A>) -> Result<Stub<A>, (AckFault, Delivery<A>)>
+    pub fn acknowledge(
+        self,
+        reserved: &mut Reserved<A>,
+    ) -> Result<Stub<A>, (BookFault, Delivery<A>)>
         requires empty { reserved.old.filled ≡ None }
         requires made { reserved.old.asked ≡ asked_of self.message }
         ensures when { IsOk result ↔ HasEachReceipt self }
         ensures stub { IfOk result (λ stub. (stub.delivery ≡ self.number) × (stub.parts ≡ map part_of self.receipts)) }
         ensures answer { OnOk result (reserved.new ≡ record reserved.old { filled = Some (answer_of self) }) }
-        ensures missing { IfErr result (λ refused. (refused.0 ≡ AckFault.Missing) × (refused.1 ≡ self)) }
+        ensures missing { IfErr result (λ refused. (refused.0 ≡ BookFault.Missing) × (refused.1 ≡ self)) }
         ensures kept { OnErr result (reserved.new ≡ reserved.old) }
     {
         if !self.has_each_receipt() {
-            return Err((AckFault::Missing, self));
+            return Err((BookFault::Missing, self));
         }
         let (stub, tag, leaves) = self.end();
         reserved.fill(tag, leaves);

@@ -10,7 +10,7 @@ mod receipt;
 mod reserved;
 mod shared;
 
-pub use book_audit::{AckFault, AuditError, Leaf, Part, Stub};
+pub use book_audit::{AuditError, BookFault, Leaf, Part, Stub};
 pub use buffer_book::{Basis, Claim, Closed, Evidence, PurgeFault, Takes};
 pub use delivery::{Delivery, Unbegun};
 pub use fault::RedeemFault;

@@ -9,7 +9,7 @@ use crate::delivery::Delivery;
 use crate::fault::RedeemFault;
 use crate::pending::Pending;
 use crate::receipt::{Receipt, append, append_pending, redeem};
-use book_audit::{AckFault, Leaf, Stub};
+use book_audit::{BookFault, Leaf, Stub};
 use buffer_book::{Booked, Claim, Closed, Evidence, PurgeFault, Takes};
 use buffer_store::{Buffer, BufferFault};
 use disk_files::Dir;
@@ -189,7 +189,7 @@ impl<D: Dir, A: Allocator + Copy> SharedBuffer<D, A> {
     /// Closes the lines of the book that the stub's parts of this buffer name. It takes no memory.
     ///
     /// The errors, in this order, change nothing: `Stranger` where a part of this buffer isn't in the book; `Double` where a line is named that was settled before, or one is named twice.
-    pub fn settle<R: Wait>(&self, rt: &R, stub: &Stub<A>) -> Result<(), AckFault> {
+    pub fn settle<R: Wait>(&self, rt: &R, stub: &Stub<A>) -> Result<(), BookFault> {
         self.lock.lock(rt).settle(self.leaf, stub)
     }
 

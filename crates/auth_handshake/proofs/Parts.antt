@@ -4,7 +4,7 @@ use Rattle.std.specs.List.{AllByRecursion, concat}
 use Rattle.std.proofs.lemmas.List.{append-nil, length-append}
 use Rattle.msgpack_bytes.specs.declared.format.Kind.TheVariants as kind
 use Rattle.msgpack_bytes.specs.Format.{shape_of}
-use Rattle.msgpack_bytes.specs.Item.{IsScalar, Item, longest, IsTextItem}
+use Rattle.msgpack_bytes.specs.Item.{IsScalar, Item, longest, IsItemWithin}
 use Rattle.msgpack_bytes.specs.Kinds.{IsText, IsBool, IsArrayHeader}
 use Rattle.msgpack_bytes.specs.Containers.{IsArrayOf}
 use Rattle.auth_handshake.specs.Messages.{Asked, Told}
@@ -18,12 +18,12 @@ unfolding shape_of
 bool_scalar bytes true p = subst IsScalar (sym p) (record { kind = kind.Bool; content = []; spelled = record { header = 0xc3 ∷ []; sized = (refl, refl, refl); whole = refl } })
 bool_scalar bytes false p = subst IsScalar (sym p) (record { kind = kind.Bool; content = []; spelled = record { header = 0xc2 ∷ []; sized = (refl, refl, refl); whole = refl } })
 
-scalar_item : (bytes : List ℕ) → IsScalar bytes → length bytes ≤ longest → IsTextItem bytes
+scalar_item : (bytes : List ℕ) → IsScalar bytes → length bytes ≤ longest → IsItemWithin bytes
 unfolding Item
 scalar_item bytes p short = record { item = inl p; short = short }
 
 -- scalars one after another, no longer together than an item may be, are items
-scalar_items : (items : List (List ℕ)) (n : ℕ) → AllByRecursion IsScalar items → n + length (concat items) ≤ longest → AllByRecursion IsTextItem items
+scalar_items : (items : List (List ℕ)) (n : ℕ) → AllByRecursion IsScalar items → n + length (concat items) ≤ longest → AllByRecursion IsItemWithin items
 scalar_items [] n p short = p
 scalar_items (x ∷ items) n p short = (
   scalar_item x p.0 (omega (arith, length-append x (concat items))),
@@ -31,8 +31,8 @@ scalar_items (x ∷ items) n p short = (
 )
 
 -- an item that is an array's header and scalars is an array of these
-pub scalars_array : (item header : List ℕ) (items : List (List ℕ)) → IsTextItem item → IsArrayHeader (length items) header
-    → item ≡ header ++ concat items → AllByRecursion IsScalar items → IsArrayOf IsTextItem items item
+pub scalars_array : (item header : List ℕ) (items : List (List ℕ)) → IsItemWithin item → IsArrayHeader (length items) header
+    → item ≡ header ++ concat items → AllByRecursion IsScalar items → IsArrayOf IsItemWithin items item
 scalars_array item header items p h e s =
     record { header = header; counted = h; each = scalar_items items (length header) s (let l = ap length e in let short = p.short in omega (arith, length-append header (concat items))); whole = e }
 
@@ -51,8 +51,8 @@ same_told a b v r h d =
     told v r h d = record { accepted = v; reason = r; host = h; digest = d }
 
 -- an item that is the header of an array of two, a text and another item is an array of these
-pub text_and_item : (item header name content options : List ℕ) → IsTextItem item → IsArrayHeader 2 header → IsText name content → IsTextItem options
-    → item ≡ header ++ (name ++ options) → IsArrayOf IsTextItem (name ∷ options ∷ []) item
+pub text_and_item : (item header name content options : List ℕ) → IsItemWithin item → IsArrayHeader 2 header → IsText name content → IsItemWithin options
+    → item ≡ header ++ (name ++ options) → IsArrayOf IsItemWithin (name ∷ options ∷ []) item
 text_and_item item header name content options p h t o e = record {
   header = header;
   counted = h;

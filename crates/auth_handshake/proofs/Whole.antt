@@ -7,7 +7,7 @@ use Rattle.msgpack_bytes.specs.declared.format.Container.TheVariants as containe
 use Rattle.msgpack_bytes.specs.declared.format.Shape.{Shape}
 use Rattle.msgpack_bytes.specs.declared.format.Shape.TheVariants.{Fixed}
 use Rattle.msgpack_bytes.specs.Format.{shape_of}
-use Rattle.msgpack_bytes.specs.Item.{Sizes, IsScalarHeader, Row, IsScalar, Item, longest, IsTextItem}
+use Rattle.msgpack_bytes.specs.Item.{Sizes, IsScalarHeader, Row, IsScalar, Item, longest, IsItemWithin}
 use Rattle.msgpack_bytes.specs.Kinds.{IsText, IsArrayHeader}
 use Rattle.msgpack_bytes.specs.Spelling.{str_of, bin_of, bool_of, array_header_of, map_header_of}
 use Rattle.msgpack_bytes.specs.Containers.{Pair, pair_bytes, IsArrayOf}
@@ -30,17 +30,17 @@ row_of depth [] p = refl
 row_of depth (x ∷ items) p = (x, concat items, scalar_part depth x p.0, row_of depth items p.1, refl)
 
 -- an array of scalars, short enough
-array_item : (items : List (List ℕ)) (header : List ℕ) → IsArrayHeader (length items) header → AllByRecursion IsScalar items → length (header ++ concat items) ≤ longest → IsTextItem (header ++ concat items)
+array_item : (items : List (List ℕ)) (header : List ℕ) → IsArrayHeader (length items) header → AllByRecursion IsScalar items → length (header ++ concat items) ≤ longest → IsItemWithin (header ++ concat items)
 unfolding Item
 array_item items header h p short = record {
   item = inr (record { container = container.Array; n = length items; header = header; inner = concat items; counted = h; parts = row_of 63 items p; whole = refl });
   short = short;
 }
 
-array_is : (items : List (List ℕ)) → IsArrayHeader (length items) (array_header_of (length items)) → AllByRecursion IsScalar items → length (array_of items) ≤ longest → IsArrayOf IsTextItem items (array_of items)
+array_is : (items : List (List ℕ)) → IsArrayHeader (length items) (array_header_of (length items)) → AllByRecursion IsScalar items → length (array_of items) ≤ longest → IsArrayOf IsItemWithin items (array_of items)
 array_is items h p short = scalars_array (array_of items) (array_header_of (length items)) items (array_item items (array_header_of (length items)) h p short) h refl p
 
-array_is_item : (items : List (List ℕ)) → IsArrayHeader (length items) (array_header_of (length items)) → AllByRecursion IsScalar items → length (array_of items) ≤ longest → IsTextItem (array_of items)
+array_is_item : (items : List (List ℕ)) → IsArrayHeader (length items) (array_header_of (length items)) → AllByRecursion IsScalar items → length (array_of items) ≤ longest → IsItemWithin (array_of items)
 array_is_item items h p short = array_item items (array_header_of (length items)) h p short
 
 text : (content : List ℕ) → length content < 65536 → IsText (str_of content) content
@@ -167,7 +167,7 @@ map_item depth p q r hp hq hr = inr (record {
   whole = refl;
 })
 
-helo_item : (name options : List ℕ) → IsScalar name → Item 63 options → length (array_of (name ∷ options ∷ [])) ≤ longest → IsTextItem (array_of (name ∷ options ∷ []))
+helo_item : (name options : List ℕ) → IsScalar name → Item 63 options → length (array_of (name ∷ options ∷ [])) ≤ longest → IsItemWithin (array_of (name ∷ options ∷ []))
 unfolding Item
 helo_item name options n o short = record {
   item = inr (record {
@@ -206,7 +206,7 @@ no_keepalive : IsText (str_of (codes "keepalive")) (codes "nonce") → ⊥
 unfolding shape_of
 no_keepalive p = let e = short_text 0xa9 9 (codes "keepalive") (codes "nonce") refl p in absurd (omega arith)
 
-scalar_item_of : (bytes : List ℕ) → IsScalar bytes → length bytes ≤ longest → IsTextItem bytes
+scalar_item_of : (bytes : List ℕ) → IsScalar bytes → length bytes ≤ longest → IsItemWithin bytes
 scalar_item_of bytes p short = record { item = scalar_part 64 bytes p; short = short }
 
 pub helo_is : IsHeloRead
@@ -224,7 +224,7 @@ helo_is nonce h =
     let name = scalar (codes "HELO") (omega arith) in
     let item : (depth : ℕ) → Item (suc depth) options =
     λ depth. map_item depth (named (codes "nonce") (bin_of nonce)) (named (codes "auth") (str_of [])) (named (codes "keepalive") (bool_of true)) (key, value) (auth, empty) (alive, boolean true) in
-    let options_item : IsTextItem options = record { item = item 63; short = omega arith } in
+    let options_item : IsItemWithin options = record { item = item 63; short = omega arith } in
     record {
       item = helo_item (str_of (codes "HELO")) options name (item 62) whole_length;
       name = str_of (codes "HELO");

@@ -4,7 +4,7 @@ ghost use Rattle.std.specs.Prelude.{◌≡◌, ℕ, List, IfSome, IsSomeAnd};
 ghost use Rattle.auth_handshake.specs.Messages.{Asked, Told, IsHelo, IsPing, IsPong};
 ghost use Rattle.auth_handshake.specs.Readings.{asked, told};
 
-use msgpack_bytes::{after_text, array_of, is_item, last_value, next_bool, next_text, text_of};
+use msgpack_bytes::{after_text, array_of, is_item, last_value, next_bool, next_text, str_or_bin};
 
 // What a PING says: the client's host name, its salt, and its digest.
 #[derive(Clone, Copy)]
@@ -36,7 +36,7 @@ pub fn helo_nonce(item: &[u8]) -> Option<&[u8]>
     if !is_item(options) {
         return None;
     }
-    text_of(last_value(options, b"nonce")?)
+    str_or_bin(last_value(options, b"nonce")?)
 }
 
 /// Likewise a PING.

@@ -6,7 +6,7 @@ ghost use Rattle.std.specs.BTreeSet.{contains};
 ghost use Rattle.book_audit.specs.Naming.{AreNamed};
 ghost use Rattle.book_audit.specs.Audits.{Pages, Accounts, AreInBook, AreOpenOnce, HasStranger, IsAgain, IsInBook, IsLeftOut, lines_named, lines_of, parts_of};
 
-use crate::fault::{AckFault, AuditError};
+use crate::fault::{AuditError, BookFault};
 use crate::line::{Leaf, Part, Stub};
 use crate::pages::OpenLines;
 use std::alloc::{AllocError, Allocator};
@@ -26,22 +26,22 @@ pub fn audit<A: Allocator + Copy, B: Allocator>(
     stubs: &[Stub<B>],
 ) -> Result<(), AuditError>
     ensures ok { OnOk result (Accounts leaf pages.now stubs.now) }
-    ensures stranger { IsErrOf result (AuditError.Fault AckFault.Stranger) ↔ HasStranger leaf pages.now stubs.now }
-    ensures double { IsErrOf result (AuditError.Fault AckFault.Double)
+    ensures stranger { IsErrOf result (AuditError.Fault BookFault.Stranger) ↔ HasStranger leaf pages.now stubs.now }
+    ensures double { IsErrOf result (AuditError.Fault BookFault.Double)
         → All (AreInBook leaf pages.now) stubs.now × IsAgain pages.now (lines_named leaf stubs.now) }
-    ensures missing { IsErrOf result (AuditError.Fault AckFault.Missing)
+    ensures missing { IsErrOf result (AuditError.Fault BookFault.Missing)
         → All (AreInBook leaf pages.now) stubs.now × AreOpenOnce pages.now (lines_named leaf stubs.now) × IsLeftOut pages.now (lines_named leaf stubs.now) }
     ensures memory { IsErrOf result AuditError.Memory → All (AreInBook leaf pages.now) stubs.now }
 {
     if !knows_all(pages, leaf, stubs) {
-        return Err(AuditError::Fault(AckFault::Stranger));
+        return Err(AuditError::Fault(BookFault::Stranger));
     }
     let mut named = Named::new(alloc);
     if !named.add_all(pages, leaf, stubs)? {
-        return Err(AuditError::Fault(AckFault::Double));
+        return Err(AuditError::Fault(BookFault::Double));
     }
     if !pages.are_all_among(&named) {
-        return Err(AuditError::Fault(AckFault::Missing));
+        return Err(AuditError::Fault(BookFault::Missing));
     }
     Ok(())
 }

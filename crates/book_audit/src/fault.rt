@@ -6,7 +6,7 @@ use std::fmt;
 
 /// Why a call on a delivery, its receipts or what is left of them refuses. It is printed by its code.
 #[derive(Clone, Copy, Debug, PartialEq, Eq)]
-pub enum AckFault {
+pub enum BookFault {
     /// `A1`: a receipt of another delivery or buffer; evidence of another chunk or of a kind that isn't taken; a stub whose append isn't in the book.
     Stranger,
     /// `A2`: what is there once already.
@@ -15,7 +15,7 @@ pub enum AckFault {
     Missing,
 }
 
-impl fmt::Display for AckFault {
+impl fmt::Display for BookFault {
     ghost use Rattle.std.specs.Prelude.{Some};
     ghost use Rattle.book_audit.specs.Printed.{code_of};
 
@@ -23,20 +23,20 @@ impl fmt::Display for AckFault {
 
     fn fmt<W: fmt::Write>(&self, f: &mut fmt::Formatter<W>) -> fmt::Result {
         match self {
-            AckFault::Stranger => write!(f, "A1"),
-            AckFault::Double => write!(f, "A2"),
-            AckFault::Missing => write!(f, "A3"),
+            BookFault::Stranger => write!(f, "A1"),
+            BookFault::Double => write!(f, "A2"),
+            BookFault::Missing => write!(f, "A3"),
         }
     }
 }
 
-impl Error for AckFault {}
+impl Error for BookFault {}
 
 /// Why an audit gives no account.
 #[derive(Clone, Copy, Debug, PartialEq, Eq)]
 pub enum AuditError {
     /// The stubs don't account for the book.
-    Fault(AckFault),
+    Fault(BookFault),
     /// Want of memory.
     Memory,
 }

@@ -7,6 +7,6 @@ mod line;
 mod pages;
 
 pub use auditing::audit;
-pub use fault::{AckFault, AuditError};
+pub use fault::{AuditError, BookFault};
 pub use line::{Leaf, Line, Part, Stub};
 pub use pages::OpenLines;

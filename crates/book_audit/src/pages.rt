@@ -5,11 +5,11 @@ ghost use Rattle.std.specs.Map.{keys_of};
 ghost use Rattle.std.specs.Ordering.{nat_cmp};
 ghost use Rattle.std.specs.BTreeSet.{contains};
 ghost use Rattle.book_audit.specs.Naming.{AddsOne};
-ghost use Rattle.book_audit.specs.declared.fault.AckFault.{AckFault};
+ghost use Rattle.book_audit.specs.declared.fault.BookFault.{BookFault};
 ghost use Rattle.book_audit.specs.Audits.{AreInBook, AreOpenOnce, Closes, IsAgain, IsInBook, SameLines, Settles, Writes, is_of, lines_of, open_at};
 
 use crate::auditing::{Named, knows, knows_all};
-use crate::fault::{AckFault, AuditError};
+use crate::fault::{AuditError, BookFault};
 use crate::line::{Leaf, Line, Part, Stub};
 use std::alloc::{AllocError, Allocator};
 use std::collections::HashMap;
@@ -92,20 +92,20 @@ impl<A: Allocator + Copy> OpenLines<A> {
     ///
     /// The errors, in this order, change nothing: `Stranger` exactly where a part of the buffer isn't in the book: no line of its number was written,
     /// or the open one is of another delivery or chunk; `Double` where a line is named that was settled before, or one is named twice.
-    pub fn settle<B: Allocator>(&mut self, leaf: Leaf, stub: &Stub<B>) -> Result<(), AckFault>
+    pub fn settle<B: Allocator>(&mut self, leaf: Leaf, stub: &Stub<B>) -> Result<(), BookFault>
         ensures ok { OnOk result (Settles leaf self.old stub.now) }
         ensures closed { OnOk result (Closes (lines_of leaf stub.now.parts) self.old self.new) }
-        ensures stranger { (result ≡ Err AckFault.Stranger) ↔ (¬ AreInBook leaf self.old stub.now) }
-        ensures double { result ≡ Err AckFault.Double → AreInBook leaf self.old stub.now × IsAgain self.old (lines_of leaf stub.now.parts) }
-        ensures only { result ≢ Err AckFault.Missing }
+        ensures stranger { (result ≡ Err BookFault.Stranger) ↔ (¬ AreInBook leaf self.old stub.now) }
+        ensures double { result ≡ Err BookFault.Double → AreInBook leaf self.old stub.now × IsAgain self.old (lines_of leaf stub.now.parts) }
+        ensures only { result ≢ Err BookFault.Missing }
         ensures same { OnErr result (self.new ≡ self.old) }
         ensures room { self.old.room ≤ self.new.room }
     {
         if !knows(self, leaf, stub) {
-            return Err(AckFault::Stranger);
+            return Err(BookFault::Stranger);
         }
         if !self.are_open_once(leaf, &stub.parts) {
-            return Err(AckFault::Double);
+            return Err(BookFault::Double);
         }
         self.close(leaf, &stub.parts);
         Ok(())

@@ -2,7 +2,7 @@
 
 ghost use Rattle.std.specs.Prelude.{◌≡◌, ◌≢◌, ◌↔◌, ◌⊎◌, ◌<◌, ◌≤◌, ◌+◌, [], true, false, All, Ok, Err, OnOk, OnErr, IsErrOf};
 ghost use Rattle.book_audit.specs.Audits.{Accounts, AreInBook, AreOpenOnce, Closes, HasStranger, IsAgain, IsLeftOut, Settles, lines_named, lines_of};
-ghost use Rattle.book_audit.specs.declared.fault.AckFault.{AckFault};
+ghost use Rattle.book_audit.specs.declared.fault.BookFault.{BookFault};
 ghost use Rattle.book_audit.specs.declared.fault.AuditError.{AuditError};
 ghost use Rattle.buffer_state.specs.State.{IsAt, chunk_at};
 ghost use Rattle.buffer_state.specs.Steps.{queued_last};
@@ -17,7 +17,7 @@ mod leaving;
 
 use crate::past::Past;
 pub use appending::{Noted, Waits};
-use book_audit::{AckFault, AuditError, Leaf, Line, OpenLines, Stub, audit};
+use book_audit::{AuditError, BookFault, Leaf, Line, OpenLines, Stub, audit};
 use buffer_state::LiveChunks;
 use buffer_store::{Buffer, BufferFault};
 use disk_files::Dir;
@@ -154,12 +154,12 @@ impl<D: Dir, A: Allocator + Copy> Booked<D, A> {
     /// Closes the lines that the stub's parts name: those of the buffer of this name. It takes no memory, and the buffer stays as it is.
     ///
     /// The errors, in this order, change nothing: `Stranger` exactly where a part of the buffer isn't in the book; `Double` where a line is named that was settled before, or one is named twice.
-    pub fn settle<B: Allocator>(&mut self, leaf: Leaf, stub: &Stub<B>) -> Result<(), AckFault>
+    pub fn settle<B: Allocator>(&mut self, leaf: Leaf, stub: &Stub<B>) -> Result<(), BookFault>
         ensures ok { OnOk result (Settles leaf self.old.pages stub.now) }
         ensures closed { OnOk result (Closes (lines_of leaf stub.now.parts) self.old.pages self.new.pages) }
-        ensures stranger { (result ≡ Err AckFault.Stranger) ↔ (¬ AreInBook leaf self.old.pages stub.now) }
-        ensures double { result ≡ Err AckFault.Double → AreInBook leaf self.old.pages stub.now × IsAgain self.old.pages (lines_of leaf stub.now.parts) }
-        ensures only { result ≢ Err AckFault.Missing }
+        ensures stranger { (result ≡ Err BookFault.Stranger) ↔ (¬ AreInBook leaf self.old.pages stub.now) }
+        ensures double { result ≡ Err BookFault.Double → AreInBook leaf self.old.pages stub.now × IsAgain self.old.pages (lines_of leaf stub.now.parts) }
+        ensures only { result ≢ Err BookFault.Missing }
         ensures same { OnErr result (self.new ≡ self.old) }
         ensures rest { self.new ≡ record self.old { pages = self.new.pages } }
     {
@@ -174,10 +174,10 @@ impl<D: Dir, A: Allocator + Copy> Booked<D, A> {
         stubs: &[Stub<B>],
     ) -> Result<(), AuditError>
         ensures ok { OnOk result (Accounts leaf self.now.pages stubs.now) }
-        ensures stranger { IsErrOf result (AuditError.Fault AckFault.Stranger) ↔ HasStranger leaf self.now.pages stubs.now }
-        ensures double { IsErrOf result (AuditError.Fault AckFault.Double)
+        ensures stranger { IsErrOf result (AuditError.Fault BookFault.Stranger) ↔ HasStranger leaf self.now.pages stubs.now }
+        ensures double { IsErrOf result (AuditError.Fault BookFault.Double)
             → All (AreInBook leaf self.now.pages) stubs.now × IsAgain self.now.pages (lines_named leaf stubs.now) }
-        ensures missing { IsErrOf result (AuditError.Fault AckFault.Missing)
+        ensures missing { IsErrOf result (AuditError.Fault BookFault.Missing)
             → All (AreInBook leaf self.now.pages) stubs.now × AreOpenOnce self.now.pages (lines_named leaf stubs.now) × IsLeftOut self.now.pages (lines_named leaf stubs.now) }
         ensures memory { IsErrOf result AuditError.Memory → All (AreInBook leaf self.now.pages) stubs.now }
     {

@@ -2,11 +2,11 @@
 
 ghost use Rattle.std.specs.Prelude.{◌≡◌, ◌↔◌, All, OnOk, IsErrOf};
 ghost use Rattle.book_audit.specs.Audits.{Accounts, AreInBook, AreOpenOnce, HasStranger, IsAgain, IsLeftOut, lines_named};
-ghost use Rattle.book_audit.specs.declared.fault.AckFault.{AckFault};
+ghost use Rattle.book_audit.specs.declared.fault.BookFault.{BookFault};
 ghost use Rattle.book_audit.specs.declared.fault.AuditError.{AuditError};
 
 use crate::booked::Booked;
-use book_audit::{AckFault, AuditError, Leaf, Stub};
+use book_audit::{AuditError, BookFault, Leaf, Stub};
 use buffer_state::LiveChunks;
 use disk_files::Dir;
 use std::alloc::Allocator;
@@ -49,10 +49,10 @@ impl<D: Dir, A: Allocator + Copy> Closed<D, A> {
     /// or one is named twice; `Missing` where an open line isn't named.
     pub fn audit<B: Allocator>(&self, alloc: A, stubs: &[Stub<B>]) -> Result<(), AuditError>
         ensures ok { OnOk result (Accounts self.now.leaf self.now.book.pages stubs.now) }
-        ensures stranger { IsErrOf result (AuditError.Fault AckFault.Stranger) ↔ HasStranger self.now.leaf self.now.book.pages stubs.now }
-        ensures double { IsErrOf result (AuditError.Fault AckFault.Double)
+        ensures stranger { IsErrOf result (AuditError.Fault BookFault.Stranger) ↔ HasStranger self.now.leaf self.now.book.pages stubs.now }
+        ensures double { IsErrOf result (AuditError.Fault BookFault.Double)
             → All (AreInBook self.now.leaf self.now.book.pages) stubs.now × IsAgain self.now.book.pages (lines_named self.now.leaf stubs.now) }
-        ensures missing { IsErrOf result (AuditError.Fault AckFault.Missing)
+        ensures missing { IsErrOf result (AuditError.Fault BookFault.Missing)
             → All (AreInBook self.now.leaf self.now.book.pages) stubs.now × AreOpenOnce self.now.book.pages (lines_named self.now.leaf stubs.now)
             × IsLeftOut self.now.book.pages (lines_named self.now.leaf stubs.now) }
         ensures memory { IsErrOf result AuditError.Memory → All (AreInBook self.now.leaf self.now.book.pages) stubs.now }

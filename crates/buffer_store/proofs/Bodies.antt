@@ -9,7 +9,7 @@ use Rattle.disk_files.specs.Moments.{History, now}
 use Rattle.buffer_state.specs.State.{State, Chunk, chunk_at}
 use Rattle.buffer_state.specs.Steps.{settled, reopened}
 use Rattle.chunk_journal.specs.Places.{entries_at}
-use Rattle.journal_files.specs.Tellings.{Telling, state_of}
+use Rattle.journal_files.specs.JournalLogs.{JournalLog, state_of}
 use Rattle.journal_files.specs.Views.{OpenJournal}
 use Rattle.journal_files.specs.Disks.{Keeps}
 use Rattle.buffer_store.specs.Durability.{IsSound}
@@ -19,9 +19,9 @@ use Rattle.buffer_store.specs.declared.fault.BufferFault.{BufferFault}
 use Rattle.buffer_store.proofs.Claims.{same_from, chunk_same, free}
 
 -- what a journal keeps turns on what the disk has
-keeps_over : (journal : OpenJournal) (disk new : Disk) (t : Telling) → SameDisk new disk → Keeps journal disk t → Keeps journal new t
+keeps_over : (journal : OpenJournal) (disk new : Disk) (t : JournalLog) → SameDisk new disk → Keeps journal disk t → Keeps journal new t
 keeps_over journal disk new t same keeps = record {
-  telling = keeps.telling;
+  logged = keeps.logged;
   first = keeps.first;
   last = keeps.last;
   synced = keeps.synced;
@@ -42,8 +42,8 @@ module _ {D : Type 0} (is_honest : D → Type 0) (history : D → History) (log 
     durable = λ began. (let k = sound.durable began in record {
       honest = honest k.honest;
       going = λ on. (let told = k.going on in record {
-        telling = told.telling;
-        holds = record { keeps = keeps_over log.journal (now (history log.dir)) (now (history dir)) told.telling (same k.honest) told.holds.keeps; means = told.holds.means };
+        logged = told.logged;
+        holds = record { keeps = keeps_over log.journal (now (history log.dir)) (now (history dir)) told.logged (same k.honest) told.holds.keeps; means = told.holds.means };
         loses = told.loses;
       });
       failed = λ fails. absurd (false≢true (sym going ∙ fails));
@@ -55,7 +55,7 @@ module _ {D : Type 0} (is_honest : D → Type 0) (history : D → History) (log 
   sound_read next rest honest same = subst (λ (l : Logged D). IsSound is_honest history (held_of l chunks settings)) (sym rest) (read_at next.dir honest same)
 
 -- the entries that a journal has of a chunk are those of the chunk in memory
-pub entries_same : (t : Telling) (chunks : State) (serial : ℕ) (chunk : Chunk) → chunk_at chunks serial ≡ Some chunk → settled (state_of t) ≡ reopened chunks → entries_at (state_of t) serial ≡ concat chunk.entries
+pub entries_same : (t : JournalLog) (chunks : State) (serial : ℕ) (chunk : Chunk) → chunk_at chunks serial ≡ Some chunk → settled (state_of t) ≡ reopened chunks → entries_at (state_of t) serial ≡ concat chunk.entries
 entries_same t chunks serial chunk at means = ap (λ (o : Option Chunk). option_map_or (λ c. concat c.entries) o [])
     (chunk_same (state_of t) chunks (same_from (state_of t) chunks means) serial ∙ ap (option_map free) at)
 

@@ -18,11 +18,11 @@ use Rattle.buffer_state.proofs.Serials.{at_itself, at_below, at_above, at_same}
 use Rattle.chunk_journal.specs.Records.{Record, Seal, Append, Queue, Purge}
 use Rattle.chunk_journal.specs.Meaning.{Tells, Allows, Each, after, after_all}
 use Rattle.journal_files.specs.Disks.{Recovers}
-use Rattle.journal_files.specs.Tellings.{Telling, IsTelling, OpensWithin, state_of, state_at_seal, reopened_at}
+use Rattle.journal_files.specs.JournalLogs.{JournalLog, IsJournalLog, OpensWithin, state_of, state_at_seal, reopened_at}
 use Rattle.buffer_store.specs.Buffers.{Held, with_more}
-use Rattle.buffer_store.specs.Durability.{MayBeLost, LosesOnly, KeepsQueued, Lasts, LastsNow, IsDurable, IsLeft, surely}
+use Rattle.buffer_store.specs.Durability.{MayBeLost, LosesOnly, KeepsQueued, Lasts, LastsNow, IsDurable, IsLeft, durably}
 use Rattle.std.proofs.lemmas.List.{take-append-le}
-use Rattle.journal_files.specs.Tellings.{begun}
+use Rattle.journal_files.specs.JournalLogs.{begun}
 use Rattle.journal_files.proofs.Recovery.{recovers}
 use Rattle.buffer_store.proofs.Claims.{same_from, chunk_same, free}
 
@@ -160,7 +160,7 @@ rising_all_told : (s : State) (items : List Record) → Each Tells s items → R
 rising_all_told s [] each h = h
 rising_all_told s (x ∷ xs) each h = rising_all_told (after s x) xs each.1 (rising_told s x each.0 h)
 
-pub rising_seal : (t : Telling) → IsTelling t → Rising (state_at_seal t)
+pub rising_seal : (t : JournalLog) → IsJournalLog t → Rising (state_at_seal t)
 rising_seal t is = (let h = rising_all_told empty t.told is.tells (omega arith) in rises_on 0 (after_all empty t.told).chunks (after_all empty t.told).next t.next is.greater h)
 
 -- the chunk of this serial once the steps went on: queued it is the same or gone, gone it stays gone; and no serial is given again
@@ -292,24 +292,24 @@ rising_steps s [] (suc k) each rising = rising
 rising_steps s (x ∷ xs) zero each rising = rising
 rising_steps s (x ∷ xs) (suc k) each rising = rising_steps (after s x) xs k each.1 (rising_after s x each.0 rising)
 
--- a folder that opens so keeps what is queued for sure
-pub keeps_queued : (path : List ℕ) (t : Telling) (folder : Folder) → IsTelling t → OpensWithin path t folder → KeepsQueued path t folder
+-- a folder that opens so keeps what is queued durably
+pub keeps_queued : (path : List ℕ) (t : JournalLog) (folder : Folder) → IsJournalLog t → OpensWithin path t folder → KeepsQueued path t folder
 keeps_queued path t folder is w =
-    let f : (n : ℕ) → Follows n (after_all (state_at_seal t) (take t.sure t.steps)) (after_all (state_at_seal t) (take w.steps t.steps)) = λ n. follows_steps n (state_at_seal t) t.steps t.sure w.steps w.enough is.allowed (rising_seal t is) in
-    let rising = rising_steps (state_at_seal t) t.steps t.sure is.allowed (rising_seal t is) in
+    let f : (n : ℕ) → Follows n (after_all (state_at_seal t) (take t.durable t.steps)) (after_all (state_at_seal t) (take w.steps t.steps)) = λ n. follows_steps n (state_at_seal t) t.steps t.durable w.steps w.enough is.allowed (rising_seal t is) in
+    let rising = rising_steps (state_at_seal t) t.steps t.durable is.allowed (rising_seal t is) in
     record {
       state = reopened_at t w.steps;
       opens = w.opens;
       next = (f 0).next;
       queued = λ serial chunk at stage. (
-        let lt = found_below serial 0 (after_all (state_at_seal t) (take t.sure t.steps)).chunks (after_all (state_at_seal t) (take t.sure t.steps)).next chunk rising at in
+        let lt = found_below serial 0 (after_all (state_at_seal t) (take t.durable t.steps)).chunks (after_all (state_at_seal t) (take t.durable t.steps)).next chunk rising at in
             let a = (f serial).next in
             omega (arith, lt, a),
         (f serial).queued chunk at stage,
       );
     }
 
--- ---- back to what is sure
+-- ---- back to what is durable
 
 -- a step that may be lost leaves no chunk newly queued
 back_one : (staged : Bool) (n : ℕ) (s : State) (item : Record) (c : Chunk) → MayBeLost staged item → Allows s item → Rising s → chunk_at (after s item) n ≡ Some c → c.stage ≡ Queued → chunk_at s n ≡ Some c
@@ -368,27 +368,27 @@ back_steps staged n s [] (suc k) c lost each rising at stage = at
 back_steps staged n s (x ∷ xs) zero c lost each rising at stage = back_all staged n s (x ∷ xs) c lost each rising at stage
 back_steps staged n s (x ∷ xs) (suc k) c lost each rising at stage = back_steps staged n (after s x) xs k c lost each.1 (rising_after s x each.0 rising) at stage
 
--- what is queued now is queued for sure
-pub queued_surely : (staged : Bool) (n : ℕ) (t : Telling) (c : Chunk) → IsTelling t → LosesOnly staged t → chunk_at (state_of t) n ≡ Some c → c.stage ≡ Queued → chunk_at (surely t) n ≡ Some c
-queued_surely staged n t c is lost at stage = back_steps staged n (state_at_seal t) t.steps t.sure c lost is.allowed (rising_seal t is) at stage
+-- what is queued now is queued durably
+pub queued_durably : (staged : Bool) (n : ℕ) (t : JournalLog) (c : Chunk) → IsJournalLog t → LosesOnly staged t → chunk_at (state_of t) n ≡ Some c → c.stage ≡ Queued → chunk_at (durably t) n ≡ Some c
+queued_durably staged n t c is lost at stage = back_steps staged n (state_at_seal t) t.steps t.durable c lost is.allowed (rising_seal t is) at stage
 
 -- ---- of a buffer
 
 -- a chunk that counts as queued lasts, whatever a stop leaves
-pub lasts_of : (path : List ℕ) (disk : Disk) (staged : Bool) (t told : Telling) (c : State) (serial : ℕ) (chunk : Chunk) → IsTelling t → IsTelling told → t.sure ≡ told.sure → surely told ≡ surely t → LosesOnly staged t
+pub lasts_of : (path : List ℕ) (disk : Disk) (staged : Bool) (t told : JournalLog) (c : State) (serial : ℕ) (chunk : Chunk) → IsJournalLog t → IsJournalLog told → t.durable ≡ told.durable → durably told ≡ durably t → LosesOnly staged t
     → Recovers path disk told → settled (state_of t) ≡ reopened c → chunk_at c serial ≡ Some chunk → unclaimed chunk.stage ≡ Queued → (folder : Folder) → StopLeaves disk folder → Lasts path serial chunk folder
-lasts_of path disk staged t told c serial chunk is told_is sure same_sure lost recovers means there counts folder left =
+lasts_of path disk staged t told c serial chunk is told_is durable same_durable lost recovers means there counts folder left =
     let queued : Chunk = record chunk { stage = Queued } in
     let same = same_from (state_of t) c means in
     let at : chunk_at (state_of t) serial ≡ Some queued =
     chunk_same (state_of t) c same serial ∙ ap (option_map free) there ∙ ap (λ (s : Stage). Some (record chunk { stage = s })) counts in
-    let surely_at : chunk_at (surely told) serial ≡ Some queued = ap (λ (s : State). chunk_at s serial) same_sure ∙ queued_surely staged serial t queued is lost at refl in
+    let durably_at : chunk_at (durably told) serial ≡ Some queued = ap (λ (s : State). chunk_at s serial) same_durable ∙ queued_durably staged serial t queued is lost at refl in
     let k = keeps_queued path told folder told_is (recovers folder left) in
-    let q = k.queued serial queued surely_at refl in
+    let q = k.queued serial queued durably_at refl in
     record { state = k.state; opens = k.opens; above = q.0; same = q.1 }
 
-surely_more : (item : Record) (t : Telling) → IsTelling t → surely (begun item t) ≡ surely t
-surely_more item t is = ap (λ (z : List Record). settled (after_all (state_at_seal t) z)) (take-append-le t.sure t.steps (item ∷ []) is.few)
+durably_more : (item : Record) (t : JournalLog) → IsJournalLog t → durably (begun item t) ≡ durably t
+durably_more item t is = ap (λ (z : List Record). settled (after_all (state_at_seal t) z)) (take-append-le t.durable t.steps (item ∷ []) is.few)
 
 -- a claimed chunk of a durable buffer
 pub lasts_now : {D : Type 0} (is_honest : D → Type 0) (history : D → History) (buffer : Held D) (serial : ℕ) → IsDurable is_honest history buffer → IsAt Claimed buffer.chunks serial → LastsNow history buffer serial
@@ -397,15 +397,15 @@ lasts_now {D} is_honest history buffer serial durable claimed = by (chunk_at buf
     at : (chunk : Chunk) → chunk_at buffer.chunks serial ≡ Some chunk → chunk.stage ≡ Claimed → (b : Bool) → buffer.failed ≡ b → (folder : Folder) → StopLeaves (now (history buffer.dir)) folder → Lasts buffer.journal.path serial chunk folder
     at chunk there is false going =
         let k = durable.going going in
-        lasts_of buffer.journal.path (now (history buffer.dir)) buffer.staged k.telling k.telling buffer.chunks serial chunk k.holds.keeps.telling k.holds.keeps.telling refl refl k.loses
-        (recovers buffer.journal (now (history buffer.dir)) k.telling k.holds.keeps) k.holds.means there (ap unclaimed is)
+        lasts_of buffer.journal.path (now (history buffer.dir)) buffer.staged k.logged k.logged buffer.chunks serial chunk k.holds.keeps.logged k.holds.keeps.logged refl refl k.loses
+        (recovers buffer.journal (now (history buffer.dir)) k.logged k.holds.keeps) k.holds.means there (ap unclaimed is)
     at chunk there is true fails = left (durable.failed fails).0 (durable.failed fails).1
       where
         left : (more : Option Record) → IsLeft history buffer more → (folder : Folder) → StopLeaves (now (history buffer.dir)) folder → Lasts buffer.journal.path serial chunk folder
         left None k =
-            lasts_of buffer.journal.path (now (history buffer.dir)) buffer.staged k.telling k.telling buffer.chunks serial chunk k.told k.told refl refl k.loses k.recovers k.means there (ap unclaimed is)
+            lasts_of buffer.journal.path (now (history buffer.dir)) buffer.staged k.logged k.logged buffer.chunks serial chunk k.told k.told refl refl k.loses k.recovers k.means there (ap unclaimed is)
         left (Some item) k =
-            lasts_of buffer.journal.path (now (history buffer.dir)) buffer.staged k.telling (with_more (Some item) k.telling) buffer.chunks serial chunk k.told k.could refl (surely_more item k.telling k.told) k.loses k.recovers k.means there (ap unclaimed is)
+            lasts_of buffer.journal.path (now (history buffer.dir)) buffer.staged k.logged (with_more (Some item) k.logged) buffer.chunks serial chunk k.told k.could refl (durably_more item k.logged k.told) k.loses k.recovers k.means there (ap unclaimed is)
 
     by : (o : Option Chunk) → chunk_at buffer.chunks serial ≡ o → IsSomeAnd o (λ chunk. chunk.stage ≡ Claimed) → IfSome o (λ chunk. (folder : Folder) → StopLeaves (now (history buffer.dir)) folder → Lasts buffer.journal.path serial chunk folder)
     by None there is = absurd is

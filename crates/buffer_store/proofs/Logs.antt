@@ -11,7 +11,7 @@ use Rattle.disk_files.proofs.Moments.{joined, weaker}
 use Rattle.chunk_journal.specs.Records.{Record}
 use Rattle.chunk_journal.specs.Meaning.{Allows}
 use Rattle.journal_files.specs.Folders.{journal_name}
-use Rattle.journal_files.specs.Tellings.{Telling, IsTelling, OpensWithin, begun, state_of}
+use Rattle.journal_files.specs.JournalLogs.{JournalLog, IsJournalLog, OpensWithin, begun, state_of}
 use Rattle.journal_files.specs.Views.{OpenJournal, IsReady}
 use Rattle.journal_files.specs.Disks.{Keeps, Recovers, HasNoStray}
 use Rattle.journal_files.specs.Faults.{HasReason}
@@ -19,7 +19,7 @@ use Rattle.journal_files.specs.declared.error.ReadError.{ReadError}
 use Rattle.journal_files.specs.declared.error.ReadError.TheVariants as read
 use Rattle.journal_files.proofs.Recovery.{recovers}
 use Rattle.journal_files.proofs.Strays.{kept_no_stray}
-use Rattle.journal_files.proofs.Steps.{more_steps, telling_begun}
+use Rattle.journal_files.proofs.Steps.{more_steps, log_begun}
 use Rattle.journal_files.proofs.OpeningMoments.{quiet}
 use Rattle.buffer_store.specs.Logs.{Logged, KeepsNow, Reads, Writes, Syncs, is_append}
 use Rattle.buffer_store.specs.Refusals.{of_read}
@@ -33,7 +33,7 @@ pub record IsReadied {D : Type 0} (is_honest : D → Type 0) (history : D → Hi
   pub start : mid.start ≡ old.start
   pub path : mid.journal.path ≡ old.journal.path
   pub number : mid.journal.number ≡ old.journal.number
-  pub keeps : is_honest old.dir → (t : Telling) → KeepsNow history old t → KeepsNow history mid t
+  pub keeps : is_honest old.dir → (t : JournalLog) → KeepsNow history old t → KeepsNow history mid t
   pub honest : is_honest old.dir → is_honest mid.dir
   pub time : is_honest old.dir → Elapses (history old.dir) (history mid.dir)
   pub same : is_honest old.dir → SameDisk (now (history mid.dir)) (now (history old.dir))
@@ -46,11 +46,11 @@ pub record Puts {D : Type 0} (is_honest : D → Type 0) (history : D → History
   pub number : new.journal.number ≡ mid.journal.number
   pub start : new.start ≡ mid.start
   pub honest : is_honest mid.dir → is_honest new.dir
-  pub ok : is_honest mid.dir → (t : Telling) (item : Record) → KeepsNow history mid t → IsReady mid.journal item → Allows (state_of t) item → OnOk result (KeepsNow history new (begun item t))
-  pub err : is_honest mid.dir → (t : Telling) (item : Record) → KeepsNow history mid t → IsReady mid.journal item → Allows (state_of t) item
+  pub ok : is_honest mid.dir → (t : JournalLog) (item : Record) → KeepsNow history mid t → IsReady mid.journal item → Allows (state_of t) item → OnOk result (KeepsNow history new (begun item t))
+  pub err : is_honest mid.dir → (t : JournalLog) (item : Record) → KeepsNow history mid t → IsReady mid.journal item → Allows (state_of t) item
       → OnErr result (Recovers mid.journal.path (now (history new.dir)) (begun item t))
-  pub stray : is_honest mid.dir → (t : Telling) → KeepsNow history mid t → HasNoStray mid.journal.path (now (history new.dir))
-  pub moments : is_honest mid.dir → (t : Telling) (item : Record) → KeepsNow history mid t → IsReady mid.journal item → Allows (state_of t) item
+  pub stray : is_honest mid.dir → (t : JournalLog) → KeepsNow history mid t → HasNoStray mid.journal.path (now (history new.dir))
+  pub moments : is_honest mid.dir → (t : JournalLog) (item : Record) → KeepsNow history mid t → IsReady mid.journal item → Allows (state_of t) item
       → LeavesOnly (history mid.dir) (history new.dir) (OpensWithin mid.journal.path (begun item t))
   pub elsewhere : is_honest mid.dir → (name : List ℕ) → name ≢ journal_name mid.journal.path mid.journal.number → now (history new.dir) name ≡ now (history mid.dir) name
   pub cause : HasCause (fault_count mid.dir) (fault_count new.dir) result
@@ -87,7 +87,7 @@ reason_ok before after x same = record { later = omega (arith, same); passed = s
 module _ {D A : Type 0} (is_honest : D → Type 0) (history : D → History) (fault_count : D → ℕ) (old new : Logged D) (serial : ℕ) (rest : new ≡ record old { dir = new.dir }) (honest : is_honest old.dir → is_honest new.dir)
     (time : is_honest old.dir → Elapses (history old.dir) (history new.dir)) (same : is_honest old.dir → SameDisk (now (history new.dir)) (now (history old.dir))) where
   refused_so : (e : ReadError) → HasReason {T = Vec ℕ A} (fault_count old.dir) (fault_count new.dir) (Err e) read.Fault
-      → (is_honest old.dir → (t : Telling) → KeepsNow history old t → e ≢ read.Short) → Reads {A = A} is_honest history fault_count old new serial (Err (of_read e))
+      → (is_honest old.dir → (t : JournalLog) → KeepsNow history old t → e ≢ read.Short) → Reads {A = A} is_honest history fault_count old new serial (Err (of_read e))
   refused_so read.Memory cause whole = record {
     rest = rest;
     only = inl refl;
@@ -120,15 +120,15 @@ module _ {D A : Type 0} (is_honest : D → Type 0) (history : D → History) (fa
   }
 
   pub reads_refused : (r : Result (Vec ℕ A) ReadError) (e : ReadError) → r ≡ Err e → HasReason (fault_count old.dir) (fault_count new.dir) r read.Fault
-      → (is_honest old.dir → (t : Telling) → KeepsNow history old t → r ≢ Err read.Short) → (result : Result (Vec ℕ A) BufferFault) → result ≡ Err (of_read e) → Reads is_honest history fault_count old new serial result
+      → (is_honest old.dir → (t : JournalLog) → KeepsNow history old t → r ≢ Err read.Short) → (result : Result (Vec ℕ A) BufferFault) → result ≡ Err (of_read e) → Reads is_honest history fault_count old new serial result
   reads_refused r e is cause whole result answer = subst (Reads is_honest history fault_count old new serial) (sym answer)
       (refused_so e (subst (λ (x : Result (Vec ℕ A) ReadError). HasReason (fault_count old.dir) (fault_count new.dir) x read.Fault) is cause) (λ h t keeps q. whole h t keeps (is ∙ ap (λ (f : ReadError). Err f) q)))
 
 module _ {D : Type 0} (is_honest : D → Type 0) (history : D → History) (fault_count : D → ℕ) (old mid : Logged D) (ready : IsReadied is_honest history fault_count old mid) (item : Record) where
-  quiet_mid : is_honest old.dir → (t : Telling) → KeepsNow history old t → LeavesOnly (history old.dir) (history mid.dir) (OpensWithin old.journal.path t)
+  quiet_mid : is_honest old.dir → (t : JournalLog) → KeepsNow history old t → LeavesOnly (history old.dir) (history mid.dir) (OpensWithin old.journal.path t)
   quiet_mid honest t keeps = quiet old.journal.path t (history old.dir) (history mid.dir) (recovers old.journal (now (history old.dir)) t keeps) (ready.time honest) (ready.same honest)
 
-  more_mid : is_honest old.dir → (t : Telling) → KeepsNow history old t → LeavesOnly (history old.dir) (history mid.dir) (OpensWithin old.journal.path (begun item t))
+  more_mid : is_honest old.dir → (t : JournalLog) → KeepsNow history old t → LeavesOnly (history old.dir) (history mid.dir) (OpensWithin old.journal.path (begun item t))
   more_mid honest t keeps =
       weaker (history old.dir) (history mid.dir) (OpensWithin old.journal.path t) (OpensWithin old.journal.path (begun item t)) (λ folder w. more_steps old.journal.path item t folder w) (quiet_mid honest t keeps)
 
@@ -163,19 +163,19 @@ module _ {D : Type 0} (is_honest : D → Type 0) (history : D → History) (faul
     number_new : new.journal.number ≡ old.journal.number
     number_new = puts.number ∙ ready.number
 
-    could_new : (t : Telling) → KeepsNow history old t → Allows (state_of t) item → IsTelling (begun item t)
-    could_new t keeps allowed = telling_begun item t keeps.telling puts.ready.can allowed
+    could_new : (t : JournalLog) → KeepsNow history old t → Allows (state_of t) item → IsJournalLog (begun item t)
+    could_new t keeps allowed = log_begun item t keeps.logged puts.ready.can allowed
 
     elsewhere_new : is_honest old.dir → (name : List ℕ) → name ≢ journal_name old.journal.path old.journal.number → now (history new.dir) name ≡ now (history old.dir) name
     elsewhere_new honest name differs =
         puts.elsewhere (ready.honest honest) name (λ e. differs (e ∙ ap (λ (p : List ℕ). journal_name p mid.journal.number) ready.path ∙ ap (journal_name old.journal.path) ready.number)) ∙ ready.same honest name
 
-    moments_new : is_honest old.dir → (t : Telling) → KeepsNow history old t → Allows (state_of t) item → LeavesOnly (history old.dir) (history new.dir) (OpensWithin old.journal.path (begun item t))
+    moments_new : is_honest old.dir → (t : JournalLog) → KeepsNow history old t → Allows (state_of t) item → LeavesOnly (history old.dir) (history new.dir) (OpensWithin old.journal.path (begun item t))
     moments_new honest t keeps allowed =
         joined (history old.dir) (history mid.dir) (history new.dir) (OpensWithin old.journal.path (begun item t)) (more_mid honest t keeps)
         (subst (λ (p : List ℕ). LeavesOnly (history mid.dir) (history new.dir) (OpensWithin p (begun item t))) ready.path (puts.moments (ready.honest honest) t item (ready.keeps honest t keeps) puts.ready allowed))
 
-    stray_new : is_honest old.dir → (t : Telling) → KeepsNow history old t → HasNoStray old.journal.path (now (history new.dir))
+    stray_new : is_honest old.dir → (t : JournalLog) → KeepsNow history old t → HasNoStray old.journal.path (now (history new.dir))
     stray_new honest t keeps = subst (λ (p : List ℕ). HasNoStray p (now (history new.dir))) ready.path (puts.stray (ready.honest honest) t (ready.keeps honest t keeps))
 
     -- and the device failed
@@ -204,7 +204,7 @@ module _ {D : Type 0} (is_honest : D → Type 0) (history : D → History) (faul
       quiet = λ honest t keeps no. absurd (no refl);
     }
 
-    keeps_new : is_err put ≡ false → is_honest old.dir → (t : Telling) → KeepsNow history old t → Allows (state_of t) item → KeepsNow history new (begun item t)
+    keeps_new : is_err put ≡ false → is_honest old.dir → (t : JournalLog) → KeepsNow history old t → Allows (state_of t) item → KeepsNow history new (begun item t)
     keeps_new is honest t keeps allowed = ok_at put is (puts.ok (ready.honest honest) t item (ready.keeps honest t keeps) puts.ready allowed)
 
     same_new : is_err put ≡ false → fault_count new.dir ≡ fault_count old.dir
@@ -243,7 +243,7 @@ module _ {D : Type 0} (is_honest : D → Type 0) (history : D → History) (faul
       elsewhere_last s honest name differs =
           s.elsewhere (puts.honest (ready.honest honest)) name (λ e. differs (e ∙ ap (λ (p : List ℕ). journal_name p new.journal.number) path_new ∙ ap (journal_name old.journal.path) number_new)) ∙ elsewhere_new honest name differs
 
-      moments_last : {r : Result (Unit {0}) BufferFault} → Syncs is_honest history fault_count new last r → is_honest old.dir → (t : Telling) → KeepsNow history old t → Allows (state_of t) item
+      moments_last : {r : Result (Unit {0}) BufferFault} → Syncs is_honest history fault_count new last r → is_honest old.dir → (t : JournalLog) → KeepsNow history old t → Allows (state_of t) item
           → LeavesOnly (history old.dir) (history last.dir) (OpensWithin old.journal.path (begun item t))
       moments_last s honest t keeps allowed =
           joined (history old.dir) (history new.dir) (history last.dir) (OpensWithin old.journal.path (begun item t)) (moments_new honest t keeps allowed)
@@ -271,7 +271,7 @@ module _ {D : Type 0} (is_honest : D → Type 0) (history : D → History) (faul
         quiet = λ honest t keeps no. tt;
       }
       writes_synced (Err e) s =
-          let kept_last : is_honest old.dir → (t : Telling) → KeepsNow history old t → Allows (state_of t) item → KeepsNow history last (begun item t)
+          let kept_last : is_honest old.dir → (t : JournalLog) → KeepsNow history old t → Allows (state_of t) item → KeepsNow history last (begun item t)
           = λ honest t keeps allowed. s.failed (puts.honest (ready.honest honest)) (begun item t) (keeps_new is honest t keeps allowed) in
           record {
             only = inr s.only;

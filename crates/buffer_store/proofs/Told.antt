@@ -13,14 +13,14 @@ use Rattle.buffer_state.specs.declared.limits.Limits.{Limits}
 use Rattle.buffer_state.specs.declared.limits.AppendFault.TheVariants.{TooLarge, Full, LastSerial}
 use Rattle.chunk_journal.specs.Records.{Record, Seal, Append, Queue, Purge}
 use Rattle.chunk_journal.specs.Meaning.{Allows, after, after_all}
-use Rattle.journal_files.specs.Tellings.{Telling, OpensWithin, state_of, state_at_seal, begun, all_sure, opening}
+use Rattle.journal_files.specs.JournalLogs.{JournalLog, OpensWithin, state_of, state_at_seal, begun, all_durable, new_generation}
 use Rattle.journal_files.specs.Views.{OpenJournal, HasShortTags}
 use Rattle.journal_files.specs.Disks.{Recovers, HasNoStray}
 use Rattle.journal_files.proofs.Recovery.{recovers}
 use Rattle.journal_files.proofs.Steps.{more_steps}
 use Rattle.journal_files.proofs.OpeningMoments.{recovers_same}
 use Rattle.journal_files.proofs.Strays.{same_stray, kept_no_stray}
-use Rattle.buffer_store.specs.Buffers.{Held, Holds, HoldsNow, with_more, sure_if}
+use Rattle.buffer_store.specs.Buffers.{Held, Holds, HoldsNow, with_more, durable_if}
 use Rattle.buffer_store.specs.Calls.{Stays, StaysWithin, Begins}
 use Rattle.buffer_store.specs.Durability.{MayBeLost, LosesOnly, IsDurable, BeganWell, IsSound}
 use Rattle.buffer_store.specs.Logs.{Logged, Writes, Syncs, Renews, is_append, held_of}
@@ -36,12 +36,12 @@ after_one : (state : State) (items : List Record) (item : Record) → after_all 
 after_one state [] item = refl
 after_one state (x ∷ xs) item = after_one (after state x) xs item
 
-begun_means : (t : Telling) (item : Record) (c : State) → Same (after (state_of t) item) c → settled (state_of (begun item t)) ≡ reopened c
+begun_means : (t : JournalLog) (item : Record) (c : State) → Same (after (state_of t) item) c → settled (state_of (begun item t)) ≡ reopened c
 begun_means t item c same = ap settled (after_one (state_at_seal t) t.steps item) ∙ same_to (after (state_of t) item) c same
 
-sure_means : (synced : Bool) (t : Telling) → state_of (sure_if synced t) ≡ state_of t
-sure_means true t = refl
-sure_means false t = refl
+durable_means : (synced : Bool) (t : JournalLog) → state_of (durable_if synced t) ≡ state_of t
+durable_means true t = refl
+durable_means false t = refl
 
 -- a refusal of a call that answers so
 abbrev pub refusing : (T : Type 0) → BufferFault → Result T BufferFault
@@ -70,14 +70,14 @@ module _ {D : Type 0} (is_honest : D → Type 0) (history : D → History) (faul
     elsewhere = λ h name differs. refl;
   }
 
-  still : (b : Held D) (t : Telling) → HoldsNow history b t → LeavesOnly (history b.dir) (history b.dir) (OpensWithin b.journal.path t)
+  still : (b : Held D) (t : JournalLog) → HoldsNow history b t → LeavesOnly (history b.dir) (history b.dir) (OpensWithin b.journal.path t)
   still b t holds = started (history b.dir) (OpensWithin b.journal.path t) (recovers b.journal (now (history b.dir)) t holds.keeps)
 
-  more_within : (path : List ℕ) (more : Option Record) (t : Telling) (folder : Folder) → OpensWithin path t folder → OpensWithin path (with_more more t) folder
+  more_within : (path : List ℕ) (more : Option Record) (t : JournalLog) (folder : Folder) → OpensWithin path t folder → OpensWithin path (with_more more t) folder
   more_within path None t folder w = w
   more_within path (Some item) t folder w = more_steps path item t folder w
 
-  pub begins_none : {T : Type 0} (b : Held D) (e : BufferFault) (more : Option Record) (answered : Telling → Telling) → e ≢ fault.Fault → Begins {T = T} history b b more answered (Err e)
+  pub begins_none : {T : Type 0} (b : Held D) (e : BufferFault) (more : Option Record) (answered : JournalLog → JournalLog) → e ≢ fault.Fault → Begins {T = T} history b b more answered (Err e)
   begins_none b e more answered not = record {
     done = λ t holds. tt;
     refused = λ t holds no. holds;
@@ -89,7 +89,7 @@ module _ {D : Type 0} (is_honest : D → Type 0) (history : D → History) (faul
   }
 
   -- nothing was to be done
-  pub begins_still : {T : Type 0} (b : Held D) (x : T) (answered : Telling → Telling) → ((t : Telling) → HoldsNow history b t → HoldsNow history b (answered t)) → Begins history b b None answered (Ok x)
+  pub begins_still : {T : Type 0} (b : Held D) (x : T) (answered : JournalLog → JournalLog) → ((t : JournalLog) → HoldsNow history b t → HoldsNow history b (answered t)) → Begins history b b None answered (Ok x)
   begins_still b x answered holds_so = record {
     done = holds_so;
     refused = λ t holds no. tt;
@@ -101,7 +101,7 @@ module _ {D : Type 0} (is_honest : D → Type 0) (history : D → History) (faul
   }
 
   -- the same fault answered, or another value
-  as_err : {T U : Type 0} (old new : Held D) (more : Option Record) (answered : Telling → Telling) (e : BufferFault) → Begins {T = T} history old new more answered (Err e) → Begins {T = U} history old new more answered (Err e)
+  as_err : {T U : Type 0} (old new : Held D) (more : Option Record) (answered : JournalLog → JournalLog) (e : BufferFault) → Begins {T = T} history old new more answered (Err e) → Begins {T = U} history old new more answered (Err e)
   as_err old new more answered e b = record {
     done = λ t holds. tt;
     refused = λ t holds no. b.refused t holds (λ q. no (cc q));
@@ -112,11 +112,11 @@ module _ {D : Type 0} (is_honest : D → Type 0) (history : D → History) (faul
     quiet = λ t holds no. b.quiet t holds (λ q. no (cc q));
   }
 
-  pub renamed_err : {T U : Type 0} (old new : Held D) (more : Option Record) (answered : Telling → Telling) (r : Result T BufferFault) (s : Result U BufferFault) (e : BufferFault) → r ≡ Err e → s ≡ Err e → Begins history old new more answered r
+  pub renamed_err : {T U : Type 0} (old new : Held D) (more : Option Record) (answered : JournalLog → JournalLog) (r : Result T BufferFault) (s : Result U BufferFault) (e : BufferFault) → r ≡ Err e → s ≡ Err e → Begins history old new more answered r
       → Begins history old new more answered s
   renamed_err old new more answered r s e r_is s_is b = subst (Begins history old new more answered) (sym s_is) (as_err old new more answered e (subst (Begins history old new more answered) r_is b))
 
-  as_ok : {T U : Type 0} (old new : Held D) (more : Option Record) (answered : Telling → Telling) (x : T) (y : U) → Begins history old new more answered (Ok x) → Begins history old new more answered (Ok y)
+  as_ok : {T U : Type 0} (old new : Held D) (more : Option Record) (answered : JournalLog → JournalLog) (x : T) (y : U) → Begins history old new more answered (Ok x) → Begins history old new more answered (Ok y)
   as_ok old new more answered x y b = record {
     done = b.done;
     refused = λ t holds no. tt;
@@ -127,7 +127,7 @@ module _ {D : Type 0} (is_honest : D → Type 0) (history : D → History) (faul
     quiet = λ t holds no. tt;
   }
 
-  pub renamed_ok : {T U : Type 0} (old new : Held D) (more : Option Record) (answered : Telling → Telling) (r : Result T BufferFault) (x : T) (y : U) → r ≡ Ok x → Begins history old new more answered r → Begins history old new more answered (Ok y)
+  pub renamed_ok : {T U : Type 0} (old new : Held D) (more : Option Record) (answered : JournalLog → JournalLog) (r : Result T BufferFault) (x : T) (y : U) → r ≡ Ok x → Begins history old new more answered r → Begins history old new more answered (Ok y)
   renamed_ok old new more answered r x y r_is b = as_ok old new more answered x y (subst (Begins history old new more answered) r_is b)
 
   -- a record was told, or refused
@@ -157,15 +157,15 @@ module _ {D : Type 0} (is_honest : D → Type 0) (history : D → History) (faul
         by (Err e) (inl m) q = cc (m, q)
         by (Err e) (inr m) q = cc (m, q)
 
-    module _ (item : Record) (changed : State) (step : (t : Telling) → Same (state_of t) chunks → Allows (state_of t) item × Same (after (state_of t) item) changed) where
-      allowed_by : (t : Telling) → Holds log.journal chunks (now (history log.dir)) t → Allows (state_of t) item
+    module _ (item : Record) (changed : State) (step : (t : JournalLog) → Same (state_of t) chunks → Allows (state_of t) item × Same (after (state_of t) item) changed) where
+      allowed_by : (t : JournalLog) → Holds log.journal chunks (now (history log.dir)) t → Allows (state_of t) item
       allowed_by t holds = (step t (same_from (state_of t) chunks holds.means)).0
 
-      means_by : (t : Telling) (synced : Bool) → Holds log.journal chunks (now (history log.dir)) t → other ≡ changed → settled (state_of (sure_if synced (begun item t))) ≡ reopened other
-      means_by t synced holds is = ap settled (sure_means synced (begun item t)) ∙ begun_means t item other (subst (Same (after (state_of t) item)) (sym is) (step t (same_from (state_of t) chunks holds.means)).1)
+      means_by : (t : JournalLog) (synced : Bool) → Holds log.journal chunks (now (history log.dir)) t → other ≡ changed → settled (state_of (durable_if synced (begun item t))) ≡ reopened other
+      means_by t synced holds is = ap settled (durable_means synced (begun item t)) ∙ begun_means t item other (subst (Same (after (state_of t) item)) (sym is) (step t (same_from (state_of t) chunks holds.means)).1)
 
       pub begins_by : (synced : Bool) (result : Result (Unit {0}) BufferFault) → Writes is_honest history fault_count log next item synced result → OnOk result (other ≡ changed) → OnErr result (other ≡ chunks)
-          → is_honest log.dir → Begins history (held_of log chunks settings) (held_of next other settings) (Some item) (sure_if synced) result
+          → is_honest log.dir → Begins history (held_of log chunks settings) (held_of next other settings) (Some item) (durable_if synced) result
       begins_by synced (Ok x) w ok err honest = record {
         done = λ t holds. record { keeps = w.done honest t holds.keeps (allowed_by t holds); means = means_by t synced holds ok };
         refused = λ t holds no. tt;
@@ -187,8 +187,8 @@ module _ {D : Type 0} (is_honest : D → Type 0) (history : D → History) (faul
 
 -- ---- what steps may be lost
 
--- nothing is lost where all steps are sure
-pub loses_none : (staged : Bool) (t : Telling) → LosesOnly staged (all_sure t)
+-- nothing is lost where all steps are durable
+pub loses_none : (staged : Bool) (t : JournalLog) → LosesOnly staged (all_durable t)
 loses_none staged t = subst (AllByRecursion (MayBeLost staged)) (sym (drop_all (length t.steps) t.steps (omega arith))) tt
 
 more_lost : (staged : Bool) (item : Record) → MayBeLost staged item → MayBeLost true item
@@ -215,12 +215,12 @@ drop_last staged (suc n) [] x p h = none n
 drop_last staged (suc n) (y ∷ ys) x p h = drop_last staged n ys x p h
 
 -- a removal more
-pub loses_purge : (staged : Bool) (t : Telling) (serial : ℕ) → LosesOnly staged t → LosesOnly staged (begun (Purge serial) t)
-loses_purge staged t serial h = drop_last staged t.sure t.steps (Purge serial) tt h
+pub loses_purge : (staged : Bool) (t : JournalLog) (serial : ℕ) → LosesOnly staged t → LosesOnly staged (begun (Purge serial) t)
+loses_purge staged t serial h = drop_last staged t.durable t.steps (Purge serial) tt h
 
 -- an append more that isn't synced
-pub loses_append : (staged : Bool) (t : Telling) (serial : ℕ) (tag : List ℕ) (entries : List (List ℕ)) → LosesOnly staged t → LosesOnly true (begun (Append serial tag entries) t)
-loses_append staged t serial tag entries h = drop_last true t.sure t.steps (Append serial tag entries) refl (all_more staged (drop t.sure t.steps) h)
+pub loses_append : (staged : Bool) (t : JournalLog) (serial : ℕ) (tag : List ℕ) (entries : List (List ℕ)) → LosesOnly staged t → LosesOnly true (begun (Append serial tag entries) t)
+loses_append staged t serial tag entries h = drop_last true t.durable t.steps (Append serial tag entries) refl (all_more staged (drop t.durable t.steps) h)
 
 -- ---- the buffer stays durable
 
@@ -234,7 +234,7 @@ is_fault fault.LastSerial = inr (λ q. cc q)
 is_fault fault.Damaged = inr (λ q. cc q)
 is_fault fault.Memory = inr (λ q. cc q)
 
-module _ {D T : Type 0} (is_honest : D → Type 0) (history : D → History) (fault_count : D → ℕ) (old new : Held D) (more : Option Record) (answered : Telling → Telling) where
+module _ {D T : Type 0} (is_honest : D → Type 0) (history : D → History) (fault_count : D → ℕ) (old new : Held D) (more : Option Record) (answered : JournalLog → JournalLog) where
   -- a buffer that the device failed before refuses the call
   durable_failed : Stays {T = T} is_honest history fault_count old new (Err fault.Failed) → old.failed ≡ true → IsDurable is_honest history old → IsDurable is_honest history new
   durable_failed stays before durable =
@@ -248,25 +248,25 @@ module _ {D T : Type 0} (is_honest : D → Type 0) (history : D → History) (fa
         failed = λ _. (
           k.0,
           record {
-            telling = k.1.telling;
+            logged = k.1.logged;
             could = k.1.could;
             told = k.1.told;
             means = k.1.means ∙ ap reopened (sym stays.err);
-            loses = subst (λ (b : Bool). LosesOnly b k.1.telling) (sym stays.staged) k.1.loses;
-            recovers = subst (λ (p : List ℕ). Recovers p (now (history new.dir)) (with_more k.0 k.1.telling)) (sym stays.path) (recovers_same old.journal.path (with_more k.0 k.1.telling) (now (history old.dir)) (now (history new.dir)) disk k.1.recovers);
+            loses = subst (λ (b : Bool). LosesOnly b k.1.logged) (sym stays.staged) k.1.loses;
+            recovers = subst (λ (p : List ℕ). Recovers p (now (history new.dir)) (with_more k.0 k.1.logged)) (sym stays.path) (recovers_same old.journal.path (with_more k.0 k.1.logged) (now (history old.dir)) (now (history new.dir)) disk k.1.recovers);
             stray = subst (λ (p : List ℕ). HasNoStray p (now (history new.dir))) (sym stays.path) (same_stray old.journal.path (now (history old.dir)) (now (history new.dir)) disk k.1.stray);
           },
         );
       }
 
-  durable_ok : (x : T) → Stays is_honest history fault_count old new (Ok x) → Begins history old new more answered (Ok x) → ((t : Telling) → LosesOnly old.staged t → LosesOnly new.staged (answered (with_more more t)))
+  durable_ok : (x : T) → Stays is_honest history fault_count old new (Ok x) → Begins history old new more answered (Ok x) → ((t : JournalLog) → LosesOnly old.staged t → LosesOnly new.staged (answered (with_more more t)))
       → old.failed ≡ false → IsDurable is_honest history old → IsDurable is_honest history new
   durable_ok x stays begins loses before durable =
       let flag : new.failed ≡ false = stays.flags.stays (λ q. cc q) ∙ before in
       let k = durable.going before in
       record {
         honest = stays.honest durable.honest;
-        going = λ _. record { telling = answered (with_more more k.telling); holds = begins.done k.telling k.holds; loses = loses k.telling k.loses };
+        going = λ _. record { logged = answered (with_more more k.logged); holds = begins.done k.logged k.holds; loses = loses k.logged k.loses };
         failed = λ fails. absurd (false≢true (sym flag ∙ fails));
       }
 
@@ -279,13 +279,13 @@ module _ {D T : Type 0} (is_honest : D → Type 0) (history : D → History) (fa
         failed = λ _. (
           more,
           record {
-            telling = k.telling;
-            could = begins.could k.telling k.holds refl;
-            told = k.holds.keeps.telling;
+            logged = k.logged;
+            could = begins.could k.logged k.holds refl;
+            told = k.holds.keeps.logged;
             means = k.holds.means ∙ ap reopened (sym stays.err);
-            loses = subst (λ (b : Bool). LosesOnly b k.telling) (sym stays.staged) k.loses;
-            recovers = subst (λ (p : List ℕ). Recovers p (now (history new.dir)) (with_more more k.telling)) (sym stays.path) (begins.recovers k.telling k.holds refl);
-            stray = subst (λ (p : List ℕ). HasNoStray p (now (history new.dir))) (sym stays.path) (begins.stray k.telling k.holds refl);
+            loses = subst (λ (b : Bool). LosesOnly b k.logged) (sym stays.staged) k.loses;
+            recovers = subst (λ (p : List ℕ). Recovers p (now (history new.dir)) (with_more more k.logged)) (sym stays.path) (begins.recovers k.logged k.holds refl);
+            stray = subst (λ (p : List ℕ). HasNoStray p (now (history new.dir))) (sym stays.path) (begins.stray k.logged k.holds refl);
           },
         );
       }
@@ -298,17 +298,17 @@ module _ {D T : Type 0} (is_honest : D → Type 0) (history : D → History) (fa
       let k = durable.going before in
       record {
         honest = stays.honest durable.honest;
-        going = λ _. record { telling = k.telling; holds = begins.refused k.telling k.holds ne; loses = subst (λ (b : Bool). LosesOnly b k.telling) (sym stays.staged) k.loses };
+        going = λ _. record { logged = k.logged; holds = begins.refused k.logged k.holds ne; loses = subst (λ (b : Bool). LosesOnly b k.logged) (sym stays.staged) k.loses };
         failed = λ fails. absurd (false≢true (sym flag ∙ fails));
       }
 
   -- whatever the call answers
   durable_by : (result : Result T BufferFault) → Stays is_honest history fault_count old new result → (is_honest old.dir → Begins history old new more answered result)
-      → OnOk result ((t : Telling) → LosesOnly old.staged t → LosesOnly new.staged (answered (with_more more t))) → IsDurable is_honest history old → IsDurable is_honest history new
+      → OnOk result ((t : JournalLog) → LosesOnly old.staged t → LosesOnly new.staged (answered (with_more more t))) → IsDurable is_honest history old → IsDurable is_honest history new
   durable_by result stays begins loses durable = at old.failed refl result stays (begins durable.honest) loses
     where
       at : (b : Bool) → old.failed ≡ b → (r : Result T BufferFault) → Stays is_honest history fault_count old new r → Begins history old new more answered r
-          → OnOk r ((t : Telling) → LosesOnly old.staged t → LosesOnly new.staged (answered (with_more more t))) → IsDurable is_honest history new
+          → OnOk r ((t : JournalLog) → LosesOnly old.staged t → LosesOnly new.staged (answered (with_more more t))) → IsDurable is_honest history new
       at true before r stays begins loses = durable_failed (subst (Stays is_honest history fault_count old new) (stays.failed.1 before) stays) before durable
       at false before (Ok x) stays begins loses = durable_ok x stays begins loses before durable
       at false before (Err e) stays begins loses =
@@ -320,7 +320,7 @@ module _ {D T : Type 0} (is_honest : D → Type 0) (history : D → History) (fa
   began_before stays began = (subst is_honest stays.start began.0, subst (λ (p : List ℕ). HasNoStray p (now (history old.start))) stays.path (subst (λ (d : D). HasNoStray new.journal.path (now (history d))) stays.start began.1))
 
   pub sound_by : (result : Result T BufferFault) → Stays is_honest history fault_count old new result → (is_honest old.dir → Begins history old new more answered result)
-      → OnOk result ((t : Telling) → LosesOnly old.staged t → LosesOnly new.staged (answered (with_more more t)))
+      → OnOk result ((t : JournalLog) → LosesOnly old.staged t → LosesOnly new.staged (answered (with_more more t)))
       → (BeganWell is_honest history old → IsDurable is_honest history old) → BeganWell is_honest history new → IsDurable is_honest history new
   sound_by result stays begins loses durable began = durable_by result stays begins loses (durable (began_before stays began))
 
@@ -329,30 +329,30 @@ tags_by other changed chunks (Ok x) ok err new old = subst HasShortTags (sym ok)
 tags_by other changed chunks (Err e) ok err new old = subst HasShortTags (sym err) old
 
 -- so much may be lost of a step that was told
-pub loses_queue : (staged : Bool) (t : Telling) (serial : ℕ) → LosesOnly staged t → LosesOnly (cond true false (is_append (Queue serial) || staged)) (sure_if true (begun (Queue serial) t))
+pub loses_queue : (staged : Bool) (t : JournalLog) (serial : ℕ) → LosesOnly staged t → LosesOnly (cond true false (is_append (Queue serial) || staged)) (durable_if true (begun (Queue serial) t))
 loses_queue staged t serial h = loses_none false (begun (Queue serial) t)
 
-pub loses_added : (staged synced : Bool) (t : Telling) (serial : ℕ) (tag : List ℕ) (entries : List (List ℕ)) → LosesOnly staged t
-    → LosesOnly (cond synced false (is_append (Append serial tag entries) || staged)) (sure_if synced (begun (Append serial tag entries) t))
+pub loses_added : (staged synced : Bool) (t : JournalLog) (serial : ℕ) (tag : List ℕ) (entries : List (List ℕ)) → LosesOnly staged t
+    → LosesOnly (cond synced false (is_append (Append serial tag entries) || staged)) (durable_if synced (begun (Append serial tag entries) t))
 loses_added staged true t serial tag entries h = loses_none false (begun (Append serial tag entries) t)
 loses_added staged false t serial tag entries h = loses_append staged t serial tag entries h
 
 -- a record was told, or refused: the buffer is sound as before
 module _ {D : Type 0} (is_honest : D → Type 0) (history : D → History) (fault_count : D → ℕ) (log next : Logged D) (chunks other : State) (settings : Settings) (going : log.failed ≡ false) (item : Record) (changed : State)
-    (step : (t : Telling) → Same (state_of t) chunks → Allows (state_of t) item × Same (after (state_of t) item) changed) where
+    (step : (t : JournalLog) → Same (state_of t) chunks → Allows (state_of t) item × Same (after (state_of t) item) changed) where
   pub sound_wrote : (synced : Bool) (result : Result (Unit {0}) BufferFault) → Writes is_honest history fault_count log next item synced result → OnOk result (other ≡ changed) → OnErr result (other ≡ chunks) → HasShortTags changed
-      → ((t : Telling) → LosesOnly log.staged t → LosesOnly (cond synced false (is_append item || log.staged)) (sure_if synced (begun item t)))
+      → ((t : JournalLog) → LosesOnly log.staged t → LosesOnly (cond synced false (is_append item || log.staged)) (durable_if synced (begun item t)))
       → IsSound is_honest history (held_of log chunks settings) → IsSound is_honest history (held_of next other settings)
   sound_wrote synced result w ok err tags loses sound = record {
     tags = tags_by other changed chunks result ok err tags sound.tags;
-    durable = sound_by is_honest history fault_count (held_of log chunks settings) (held_of next other settings) (Some item) (sure_if synced) result
+    durable = sound_by is_honest history fault_count (held_of log chunks settings) (held_of next other settings) (Some item) (durable_if synced) result
         (stays_by is_honest history fault_count log next chunks other settings going item synced result w err).rest
         (λ honest. begins_by is_honest history fault_count log next chunks other settings going item changed step synced result w ok err honest)
         (by result w.staged) sound.durable;
   }
     where
-      by : (r : Result (Unit {0}) BufferFault) → OnOk r (next.staged ≡ cond synced false (is_append item || log.staged)) → OnOk r ((t : Telling) → LosesOnly log.staged t → LosesOnly next.staged (sure_if synced (begun item t)))
-      by (Ok x) is = λ t h. subst (λ (b : Bool). LosesOnly b (sure_if synced (begun item t))) (sym is) (loses t h)
+      by : (r : Result (Unit {0}) BufferFault) → OnOk r (next.staged ≡ cond synced false (is_append item || log.staged)) → OnOk r ((t : JournalLog) → LosesOnly log.staged t → LosesOnly next.staged (durable_if synced (begun item t)))
+      by (Ok x) is = λ t h. subst (λ (b : Bool). LosesOnly b (durable_if synced (begun item t))) (sym is) (loses t h)
       by (Err e) is = tt
 
 -- ---- a sync, and a renewal
@@ -390,7 +390,7 @@ module _ {D : Type 0} (is_honest : D → Type 0) (history : D → History) (faul
       untouched P (Err e) only differs = absurd (differs only)
 
   pub syncs_begins : (result : Result (Unit {0}) BufferFault) → Syncs is_honest history fault_count log next result → is_honest log.dir
-      → Begins history (held_of log chunks settings) (held_of next chunks settings) None (sure_if true) result
+      → Begins history (held_of log chunks settings) (held_of next chunks settings) None (durable_if true) result
   syncs_begins (Ok x) s honest = record {
     done = λ t holds. record { keeps = s.done honest t holds.keeps; means = holds.means };
     refused = λ t holds no. tt;
@@ -404,7 +404,7 @@ module _ {D : Type 0} (is_honest : D → Type 0) (history : D → History) (faul
     done = λ t holds. tt;
     refused = λ t holds no. absurd (no s.only);
     recovers = λ t holds q. subst (λ (p : List ℕ). Recovers p (now (history next.dir)) t) (ap (λ (j : OpenJournal). j.path) s.journal) (recovers next.journal (now (history next.dir)) t (s.failed honest t holds.keeps));
-    could = λ t holds q. holds.keeps.telling;
+    could = λ t holds q. holds.keeps.logged;
     stray = λ t holds q. subst (λ (p : List ℕ). HasNoStray p (now (history next.dir))) (ap (λ (j : OpenJournal). j.path) s.journal) (kept_no_stray next.journal (now (history next.dir)) t (s.failed honest t holds.keeps));
     moments = λ t holds. s.moments honest t holds.keeps;
     quiet = λ t holds no. absurd (no s.only);
@@ -413,10 +413,10 @@ module _ {D : Type 0} (is_honest : D → Type 0) (history : D → History) (faul
   pub sound_synced : (result : Result (Unit {0}) BufferFault) → Syncs is_honest history fault_count log next result → IsSound is_honest history (held_of log chunks settings) → IsSound is_honest history (held_of next chunks settings)
   sound_synced result s sound = record {
     tags = sound.tags;
-    durable = sound_by is_honest history fault_count (held_of log chunks settings) (held_of next chunks settings) None (sure_if true) result (syncs_stays result s).rest (syncs_begins result s) (by result) sound.durable;
+    durable = sound_by is_honest history fault_count (held_of log chunks settings) (held_of next chunks settings) None (durable_if true) result (syncs_stays result s).rest (syncs_begins result s) (by result) sound.durable;
   }
     where
-      by : (r : Result (Unit {0}) BufferFault) → OnOk r ((t : Telling) → LosesOnly log.staged t → LosesOnly next.staged (sure_if true t))
+      by : (r : Result (Unit {0}) BufferFault) → OnOk r ((t : JournalLog) → LosesOnly log.staged t → LosesOnly next.staged (durable_if true t))
       by (Ok x) = λ t h. loses_none next.staged t
       by (Err e) = tt
 
@@ -447,7 +447,7 @@ module _ {D : Type 0} (is_honest : D → Type 0) (history : D → History) (faul
       by (Err e) (inr (inr (inr m))) q = cc (m, q)
 
   pub renews_begins : (result : Result (Unit {0}) BufferFault) → Renews is_honest history fault_count log next chunks result → is_honest log.dir
-      → Begins history (held_of log chunks settings) (held_of next chunks settings) None (λ _. opening chunks) result
+      → Begins history (held_of log chunks settings) (held_of next chunks settings) None (λ _. new_generation chunks) result
   renews_begins (Ok x) s honest = record {
     done = λ t holds. record { keeps = s.done honest t holds.keeps holds.means; means = s.starts };
     refused = λ t holds no. tt;
@@ -461,7 +461,7 @@ module _ {D : Type 0} (is_honest : D → Type 0) (history : D → History) (faul
     done = λ t holds. tt;
     refused = λ t holds no. record { keeps = s.refused honest t holds.keeps holds.means no; means = holds.means };
     recovers = λ t holds q. s.recovers honest t holds.keeps holds.means q;
-    could = λ t holds q. holds.keeps.telling;
+    could = λ t holds q. holds.keeps.logged;
     stray = λ t holds q. s.stray honest t holds.keeps;
     moments = λ t holds. s.moments honest t holds.keeps holds.means;
     quiet = λ t holds no. s.moments honest t holds.keeps holds.means;
@@ -470,10 +470,10 @@ module _ {D : Type 0} (is_honest : D → Type 0) (history : D → History) (faul
   pub sound_renewed : (result : Result (Unit {0}) BufferFault) → Renews is_honest history fault_count log next chunks result → IsSound is_honest history (held_of log chunks settings) → IsSound is_honest history (held_of next chunks settings)
   sound_renewed result s sound = record {
     tags = sound.tags;
-    durable = sound_by is_honest history fault_count (held_of log chunks settings) (held_of next chunks settings) None (λ _. opening chunks) result (renews_stays result s) (renews_begins result s) (by result) sound.durable;
+    durable = sound_by is_honest history fault_count (held_of log chunks settings) (held_of next chunks settings) None (λ _. new_generation chunks) result (renews_stays result s) (renews_begins result s) (by result) sound.durable;
   }
     where
-      by : (r : Result (Unit {0}) BufferFault) → OnOk r ((t : Telling) → LosesOnly log.staged t → LosesOnly next.staged (opening chunks))
+      by : (r : Result (Unit {0}) BufferFault) → OnOk r ((t : JournalLog) → LosesOnly log.staged t → LosesOnly next.staged (new_generation chunks))
       by (Ok x) = λ t h. tt
       by (Err e) = tt
 
@@ -482,19 +482,19 @@ module _ {D : Type 0} (is_honest : D → Type 0) (history : D → History) (faul
 pub durable_same : {D : Type 0} (is_honest : D → Type 0) (history : D → History) (b : Held D) (c : State) → reopened c ≡ reopened b.chunks → IsDurable is_honest history b → IsDurable is_honest history (record b { chunks = c })
 durable_same is_honest history b c counts durable = record {
   honest = durable.honest;
-  going = λ going. (let k = durable.going going in record { telling = k.telling; holds = record { keeps = k.holds.keeps; means = k.holds.means ∙ sym counts }; loses = k.loses });
+  going = λ going. (let k = durable.going going in record { logged = k.logged; holds = record { keeps = k.holds.keeps; means = k.holds.means ∙ sym counts }; loses = k.loses });
   failed = λ fails. (let k = durable.failed fails in (
     k.0,
-    record { telling = k.1.telling; could = k.1.could; told = k.1.told; means = k.1.means ∙ sym counts; loses = k.1.loses; recovers = k.1.recovers; stray = k.1.stray },
+    record { logged = k.1.logged; could = k.1.could; told = k.1.told; means = k.1.means ∙ sym counts; loses = k.1.loses; recovers = k.1.recovers; stray = k.1.stray },
   ));
 }
 
 -- ---- a buffer that was just opened
 
-pub durable_new : {D : Type 0} (is_honest : D → Type 0) (history : D → History) (b : Held D) → b.failed ≡ false → is_honest b.dir → Holds b.journal b.chunks (now (history b.dir)) (opening b.chunks) → IsDurable is_honest history b
+pub durable_new : {D : Type 0} (is_honest : D → Type 0) (history : D → History) (b : Held D) → b.failed ≡ false → is_honest b.dir → Holds b.journal b.chunks (now (history b.dir)) (new_generation b.chunks) → IsDurable is_honest history b
 durable_new is_honest history b going honest holds = record {
   honest = honest;
-  going = λ _. record { telling = opening b.chunks; holds = holds; loses = tt };
+  going = λ _. record { logged = new_generation b.chunks; holds = holds; loses = tt };
   failed = λ fails. absurd (false≢true (sym going ∙ fails));
 }
 

@@ -6,7 +6,7 @@ use Rattle.buffer_state.specs.declared.limits.Limits.{Limits}
 use Rattle.buffer_state.specs.State.{State}
 use Rattle.buffer_state.specs.Steps.{settled, reopened}
 use Rattle.chunk_journal.specs.Records.{Record}
-use Rattle.journal_files.specs.Tellings.{Telling, state_of, begun, all_sure}
+use Rattle.journal_files.specs.JournalLogs.{JournalLog, state_of, begun, all_durable}
 use Rattle.journal_files.specs.Views.{OpenJournal}
 use Rattle.journal_files.specs.Disks.{Keeps}
 
@@ -22,19 +22,19 @@ pub record Held (D : Type 0) : Type 0 where
   pub start : D  -- the folder as the opening found it
 
 -- The disk has the journal, whole, and it means the chunks in memory, claimed ones counted as queued.
-pub record Holds (journal : OpenJournal) (chunks : State) (disk : Disk) (t : Telling) : Type 0 where
+pub record Holds (journal : OpenJournal) (chunks : State) (disk : Disk) (t : JournalLog) : Type 0 where
   pub keeps : Keeps journal disk t
   pub means : settled (state_of t) ≡ reopened chunks
 
 -- the disk has the journal of the buffer so
-abbrev pub HoldsNow : {D : Type 0} → (D → History) → Held D → Telling → Type 0
+abbrev pub HoldsNow : {D : Type 0} → (D → History) → Held D → JournalLog → Type 0
 HoldsNow history buffer t = Holds buffer.journal buffer.chunks (now (history buffer.dir)) t
 
 -- these steps, and one more where a call began one
-abbrev pub with_more : Option Record → Telling → Telling
+abbrev pub with_more : Option Record → JournalLog → JournalLog
 with_more None t = t
 with_more (Some item) t = begun item t
 
 -- after a sync each stop leaves all steps
-abbrev pub sure_if : Bool → Telling → Telling
-sure_if synced t = cond synced (all_sure t) t
+abbrev pub durable_if : Bool → JournalLog → JournalLog
+durable_if synced t = cond synced (all_durable t) t

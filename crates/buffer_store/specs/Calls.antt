@@ -4,7 +4,7 @@ use Rattle.disk_files.specs.Disk.{SameDisk}
 use Rattle.disk_files.specs.Moments.{History, LeavesOnly, now}
 use Rattle.chunk_journal.specs.Records.{Record}
 use Rattle.journal_files.specs.Folders.{journal_name}
-use Rattle.journal_files.specs.Tellings.{Telling, IsTelling, OpensWithin}
+use Rattle.journal_files.specs.JournalLogs.{JournalLog, IsJournalLog, OpensWithin}
 use Rattle.journal_files.specs.Disks.{Recovers, HasNoStray}
 use Rattle.journal_files.specs.Faults.{HasReason}
 use Rattle.buffer_store.specs.Buffers.{Held, HoldsNow, with_more}
@@ -37,12 +37,12 @@ pub record StaysWithin {D T : Type 0} (is_honest : D → Type 0) (history : D �
 
 -- What a call makes of what the journal tells, where it begins this step, or none. After `Ok` the journal tells what is answered. After `Fault` each stop leaves
 -- the steps told before, with the one begun or without it, and no stray generation. After any other refusal the journal tells what it told.
--- A stop at any moment of the call, whatever it answers, leaves a folder that opens to the state after some of these steps, all sure ones among them.
-pub record Begins {D T : Type 0} (history : D → History) (old new : Held D) (more : Option Record) (answered : Telling → Telling) (result : Result T BufferFault) : Type 0 where
-  pub done : (t : Telling) → HoldsNow history old t → OnOk result (HoldsNow history new (answered (with_more more t)))
-  pub refused : (t : Telling) → HoldsNow history old t → result ≢ Err BufferFault.Fault → OnErr result (HoldsNow history new t)
-  pub recovers : (t : Telling) → HoldsNow history old t → result ≡ Err BufferFault.Fault → Recovers old.journal.path (now (history new.dir)) (with_more more t)
-  pub could : (t : Telling) → HoldsNow history old t → result ≡ Err BufferFault.Fault → IsTelling (with_more more t)
-  pub stray : (t : Telling) → HoldsNow history old t → result ≡ Err BufferFault.Fault → HasNoStray old.journal.path (now (history new.dir))
-  pub moments : (t : Telling) → HoldsNow history old t → LeavesOnly (history old.dir) (history new.dir) (OpensWithin old.journal.path (with_more more t))
-  pub quiet : (t : Telling) → HoldsNow history old t → result ≢ Err BufferFault.Fault → OnErr result (LeavesOnly (history old.dir) (history new.dir) (OpensWithin old.journal.path t))
+-- A stop at any moment of the call, whatever it answers, leaves a folder that opens to the state after some of these steps, all durable ones among them.
+pub record Begins {D T : Type 0} (history : D → History) (old new : Held D) (more : Option Record) (answered : JournalLog → JournalLog) (result : Result T BufferFault) : Type 0 where
+  pub done : (t : JournalLog) → HoldsNow history old t → OnOk result (HoldsNow history new (answered (with_more more t)))
+  pub refused : (t : JournalLog) → HoldsNow history old t → result ≢ Err BufferFault.Fault → OnErr result (HoldsNow history new t)
+  pub recovers : (t : JournalLog) → HoldsNow history old t → result ≡ Err BufferFault.Fault → Recovers old.journal.path (now (history new.dir)) (with_more more t)
+  pub could : (t : JournalLog) → HoldsNow history old t → result ≡ Err BufferFault.Fault → IsJournalLog (with_more more t)
+  pub stray : (t : JournalLog) → HoldsNow history old t → result ≡ Err BufferFault.Fault → HasNoStray old.journal.path (now (history new.dir))
+  pub moments : (t : JournalLog) → HoldsNow history old t → LeavesOnly (history old.dir) (history new.dir) (OpensWithin old.journal.path (with_more more t))
+  pub quiet : (t : JournalLog) → HoldsNow history old t → result ≢ Err BufferFault.Fault → OnErr result (LeavesOnly (history old.dir) (history new.dir) (OpensWithin old.journal.path t))

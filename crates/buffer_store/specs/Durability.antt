@@ -8,7 +8,7 @@ use Rattle.buffer_state.specs.Steps.{settled, reopened}
 use Rattle.buffer_state.specs.declared.chunk.Stage.TheVariants.{Queued}
 use Rattle.chunk_journal.specs.Records.{Record, Seal, Append, Queue, Purge}
 use Rattle.journal_files.specs.Folders.{Opens}
-use Rattle.journal_files.specs.Tellings.{Telling, IsTelling, state_of, reopened_at}
+use Rattle.journal_files.specs.JournalLogs.{JournalLog, IsJournalLog, state_of, reopened_at}
 use Rattle.journal_files.specs.Views.{HasShortTags}
 use Rattle.journal_files.specs.Disks.{Recovers, HasNoStray}
 use Rattle.buffer_store.specs.Buffers.{Held, HoldsNow, with_more}
@@ -20,25 +20,25 @@ MayBeLost staged (Append serial tag entries) = staged ≡ true
 MayBeLost staged (Queue serial) = ⊥
 MayBeLost staged (Purge serial) = Unit {0}
 
--- each step told that isn't sure is one that a stop may lose
-abbrev pub LosesOnly : Bool → Telling → Type 0
-LosesOnly staged t = AllByRecursion (MayBeLost staged) (drop t.sure t.steps)
+-- each step told that isn't durable is one that a stop may lose
+abbrev pub LosesOnly : Bool → JournalLog → Type 0
+LosesOnly staged t = AllByRecursion (MayBeLost staged) (drop t.durable t.steps)
 
 -- The disk has the journal of the buffer, it means the chunks, and what a stop may lose of it is only what may be lost.
 pub record IsKept {D : Type 0} (history : D → History) (buffer : Held D) : Type 0 where
-  pub telling : Telling
-  pub holds : HoldsNow history buffer telling
-  pub loses : LosesOnly buffer.staged telling
+  pub logged : JournalLog
+  pub holds : HoldsNow history buffer logged
+  pub loses : LosesOnly buffer.staged logged
 
 -- The device failed the buffer in a call that had begun this step, or none: the steps told before it mean the chunks, claimed ones counted as queued.
 -- Each stop leaves those of them that can't be lost, with the one begun or without it. No stray generation is left, so that the folder can be opened at once.
 pub record IsLeft {D : Type 0} (history : D → History) (buffer : Held D) (more : Option Record) : Type 0 where
-  pub telling : Telling
-  pub could : IsTelling (with_more more telling)
-  pub told : IsTelling telling
-  pub means : settled (state_of telling) ≡ reopened buffer.chunks
-  pub loses : LosesOnly buffer.staged telling
-  pub recovers : Recovers buffer.journal.path (now (history buffer.dir)) (with_more more telling)
+  pub logged : JournalLog
+  pub could : IsJournalLog (with_more more logged)
+  pub told : IsJournalLog logged
+  pub means : settled (state_of logged) ≡ reopened buffer.chunks
+  pub loses : LosesOnly buffer.staged logged
+  pub recovers : Recovers buffer.journal.path (now (history buffer.dir)) (with_more more logged)
   pub stray : HasNoStray buffer.journal.path (now (history buffer.dir))
 
 -- The folder is honest; what the disk has of the buffer until the device fails it, and from then on.
@@ -57,8 +57,8 @@ pub record IsSound {D : Type 0} (is_honest : D → Type 0) (history : D → Hist
   pub durable : BeganWell is_honest history buffer → IsDurable is_honest history buffer
 
 -- the state after the steps that each stop leaves, as opening gives it
-abbrev pub surely : Telling → State
-surely t = reopened_at t t.sure
+abbrev pub durably : JournalLog → State
+durably t = reopened_at t t.durable
 
 -- The folder opens to a state whose next serial is above this one, and in which its chunk is queued with this content, or gone.
 pub record Lasts (path : List ℕ) (serial : ℕ) (chunk : Chunk) (folder : Folder) : Type 0 where
@@ -67,12 +67,12 @@ pub record Lasts (path : List ℕ) (serial : ℕ) (chunk : Chunk) (folder : Fold
   pub above : serial < state.next
   pub same : (chunk_at state serial ≡ Some (record chunk { stage = Queued })) ⊎ (chunk_at state serial ≡ None)
 
--- Each folder that a stop may leave opens so: what was queued for sure is the same or gone, and the next serial hasn't fallen.
-pub record KeepsQueued (path : List ℕ) (t : Telling) (folder : Folder) : Type 0 where
+-- Each folder that a stop may leave opens so: what was queued durably is the same or gone, and the next serial hasn't fallen.
+pub record KeepsQueued (path : List ℕ) (t : JournalLog) (folder : Folder) : Type 0 where
   pub state : State
   pub opens : Opens path folder state
-  pub next : (surely t).next ≤ state.next
-  pub queued : (serial : ℕ) (chunk : Chunk) → chunk_at (surely t) serial ≡ Some chunk → chunk.stage ≡ Queued
+  pub next : (durably t).next ≤ state.next
+  pub queued : (serial : ℕ) (chunk : Chunk) → chunk_at (durably t) serial ≡ Some chunk → chunk.stage ≡ Queued
       → (serial < state.next) × ((chunk_at state serial ≡ Some chunk) ⊎ (chunk_at state serial ≡ None))
 
 -- whatever a stop leaves opens to a state above this serial, with its chunk queued as it is, or gone

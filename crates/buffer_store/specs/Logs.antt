@@ -8,12 +8,12 @@ use Rattle.chunk_journal.specs.Records.{Record, Seal, Append, Queue, Purge}
 use Rattle.chunk_journal.specs.Meaning.{Allows}
 use Rattle.chunk_journal.specs.Places.{entries_at}
 use Rattle.journal_files.specs.Folders.{journal_name}
-use Rattle.journal_files.specs.Tellings.{Telling, IsTelling, OpensWithin, begun, all_sure, opening, state_of}
+use Rattle.journal_files.specs.JournalLogs.{JournalLog, IsJournalLog, OpensWithin, begun, all_durable, new_generation, state_of}
 use Rattle.journal_files.specs.Views.{OpenJournal, IsOpenIn}
 use Rattle.journal_files.specs.Disks.{Keeps, Recovers, HasNoStray}
 use Rattle.journal_files.specs.Faults.{HasReason}
 use Rattle.buffer_state.specs.State.{State}
-use Rattle.buffer_store.specs.Buffers.{Held, sure_if}
+use Rattle.buffer_store.specs.Buffers.{Held, durable_if}
 use Rattle.buffer_store.specs.declared.settings.Settings.{Settings}
 use Rattle.buffer_store.specs.Calls.{Flags}
 use Rattle.buffer_store.specs.declared.fault.BufferFault.{BufferFault}
@@ -51,7 +51,7 @@ is_append (Queue serial) = false
 is_append (Purge serial) = false
 
 -- the disk has the journal so
-abbrev pub KeepsNow : {D : Type 0} → (D → History) → Logged D → Telling → Type 0
+abbrev pub KeepsNow : {D : Type 0} → (D → History) → Logged D → JournalLog → Type 0
 KeepsNow history log t = Keeps log.journal (now (history log.dir)) t
 
 -- The bytes of the entries of this chunk are read. Nothing but time changes.
@@ -62,8 +62,8 @@ pub record Reads {D A : Type 0} (is_honest : D → Type 0) (history : D → Hist
   pub time : is_honest old.dir → Elapses (history old.dir) (history new.dir)
   pub same : is_honest old.dir → SameDisk (now (history new.dir)) (now (history old.dir))
   pub cause : HasReason (fault_count old.dir) (fault_count new.dir) result BufferFault.Fault
-  pub bytes : is_honest old.dir → (t : Telling) → KeepsNow history old t → IfOk result (λ bytes. bytes.items ≡ entries_at (state_of t) serial)
-  pub whole : is_honest old.dir → (t : Telling) → KeepsNow history old t → result ≢ Err BufferFault.Damaged
+  pub bytes : is_honest old.dir → (t : JournalLog) → KeepsNow history old t → IfOk result (λ bytes. bytes.items ≡ entries_at (state_of t) serial)
+  pub whole : is_honest old.dir → (t : JournalLog) → KeepsNow history old t → result ≢ Err BufferFault.Damaged
 
 -- One record more is told, and synced or not. The error is want of memory or the device's fault.
 pub record Writes {D T : Type 0} (is_honest : D → Type 0) (history : D → History) (fault_count : D → ℕ) (old new : Logged D) (item : Record) (synced : Bool) (result : Result T BufferFault) : Type 0 where
@@ -78,15 +78,15 @@ pub record Writes {D T : Type 0} (is_honest : D → Type 0) (history : D → His
   pub elsewhere : is_honest old.dir → (name : List ℕ) → name ≢ journal_name old.journal.path old.journal.number → now (history new.dir) name ≡ now (history old.dir) name
   pub untouched : is_honest old.dir → result ≢ Err BufferFault.Fault → OnErr result (SameDisk (now (history new.dir)) (now (history old.dir)))
   pub cause : HasReason (fault_count old.dir) (fault_count new.dir) result BufferFault.Fault
-  pub done : is_honest old.dir → (t : Telling) → KeepsNow history old t → Allows (state_of t) item → OnOk result (KeepsNow history new (sure_if synced (begun item t)))
-  pub refused : is_honest old.dir → (t : Telling) → KeepsNow history old t → result ≢ Err BufferFault.Fault → OnErr result (KeepsNow history new t)
-  pub recovers : is_honest old.dir → (t : Telling) → KeepsNow history old t → Allows (state_of t) item → result ≡ Err BufferFault.Fault
+  pub done : is_honest old.dir → (t : JournalLog) → KeepsNow history old t → Allows (state_of t) item → OnOk result (KeepsNow history new (durable_if synced (begun item t)))
+  pub refused : is_honest old.dir → (t : JournalLog) → KeepsNow history old t → result ≢ Err BufferFault.Fault → OnErr result (KeepsNow history new t)
+  pub recovers : is_honest old.dir → (t : JournalLog) → KeepsNow history old t → Allows (state_of t) item → result ≡ Err BufferFault.Fault
       → Recovers old.journal.path (now (history new.dir)) (begun item t)
-  pub could : is_honest old.dir → (t : Telling) → KeepsNow history old t → Allows (state_of t) item → result ≡ Err BufferFault.Fault → IsTelling (begun item t)
-  pub stray : is_honest old.dir → (t : Telling) → KeepsNow history old t → Allows (state_of t) item → result ≡ Err BufferFault.Fault → HasNoStray old.journal.path (now (history new.dir))
-  pub moments : is_honest old.dir → (t : Telling) → KeepsNow history old t → Allows (state_of t) item
+  pub could : is_honest old.dir → (t : JournalLog) → KeepsNow history old t → Allows (state_of t) item → result ≡ Err BufferFault.Fault → IsJournalLog (begun item t)
+  pub stray : is_honest old.dir → (t : JournalLog) → KeepsNow history old t → Allows (state_of t) item → result ≡ Err BufferFault.Fault → HasNoStray old.journal.path (now (history new.dir))
+  pub moments : is_honest old.dir → (t : JournalLog) → KeepsNow history old t → Allows (state_of t) item
       → LeavesOnly (history old.dir) (history new.dir) (OpensWithin old.journal.path (begun item t))
-  pub quiet : is_honest old.dir → (t : Telling) → KeepsNow history old t → result ≢ Err BufferFault.Fault
+  pub quiet : is_honest old.dir → (t : JournalLog) → KeepsNow history old t → result ≢ Err BufferFault.Fault
       → OnErr result (LeavesOnly (history old.dir) (history new.dir) (OpensWithin old.journal.path t))
 
 -- All that was told is synced. The error is the device's fault.
@@ -100,9 +100,9 @@ pub record Syncs {D T : Type 0} (is_honest : D → Type 0) (history : D → Hist
   pub honest : is_honest old.dir → is_honest new.dir
   pub elsewhere : is_honest old.dir → (name : List ℕ) → name ≢ journal_name old.journal.path old.journal.number → now (history new.dir) name ≡ now (history old.dir) name
   pub cause : HasReason (fault_count old.dir) (fault_count new.dir) result BufferFault.Fault
-  pub done : is_honest old.dir → (t : Telling) → KeepsNow history old t → OnOk result (KeepsNow history new (all_sure t))
-  pub failed : is_honest old.dir → (t : Telling) → KeepsNow history old t → OnErr result (KeepsNow history new t)
-  pub moments : is_honest old.dir → (t : Telling) → KeepsNow history old t → LeavesOnly (history old.dir) (history new.dir) (OpensWithin old.journal.path t)
+  pub done : is_honest old.dir → (t : JournalLog) → KeepsNow history old t → OnOk result (KeepsNow history new (all_durable t))
+  pub failed : is_honest old.dir → (t : JournalLog) → KeepsNow history old t → OnErr result (KeepsNow history new t)
+  pub moments : is_honest old.dir → (t : JournalLog) → KeepsNow history old t → LeavesOnly (history old.dir) (history new.dir) (OpensWithin old.journal.path t)
 
 -- The journal goes on in a new generation that tells these chunks.
 pub record Renews {D T : Type 0} (is_honest : D → Type 0) (history : D → History) (fault_count : D → ℕ) (old new : Logged D) (chunks : State) (result : Result T BufferFault) : Type 0 where
@@ -120,12 +120,12 @@ pub record Renews {D T : Type 0} (is_honest : D → Type 0) (history : D → His
   pub untouched : is_honest old.dir → result ≢ Err BufferFault.Fault → result ≢ Err BufferFault.Damaged → OnErr result (SameDisk (now (history new.dir)) (now (history old.dir)))
   pub cause : HasReason (fault_count old.dir) (fault_count new.dir) result BufferFault.Fault
   pub gone : is_honest old.dir → OnOk result (reads (now (history new.dir)) (journal_name old.journal.path old.journal.number) ≡ None)
-  pub starts : OnOk result (settled (state_of (opening chunks)) ≡ reopened chunks)
-  pub done : is_honest old.dir → (t : Telling) → KeepsNow history old t → settled (state_of t) ≡ reopened chunks → OnOk result (KeepsNow history new (opening chunks))
-  pub refused : is_honest old.dir → (t : Telling) → KeepsNow history old t → settled (state_of t) ≡ reopened chunks → result ≢ Err BufferFault.Fault → OnErr result (KeepsNow history new t)
-  pub recovers : is_honest old.dir → (t : Telling) → KeepsNow history old t → settled (state_of t) ≡ reopened chunks → result ≡ Err BufferFault.Fault
+  pub starts : OnOk result (settled (state_of (new_generation chunks)) ≡ reopened chunks)
+  pub done : is_honest old.dir → (t : JournalLog) → KeepsNow history old t → settled (state_of t) ≡ reopened chunks → OnOk result (KeepsNow history new (new_generation chunks))
+  pub refused : is_honest old.dir → (t : JournalLog) → KeepsNow history old t → settled (state_of t) ≡ reopened chunks → result ≢ Err BufferFault.Fault → OnErr result (KeepsNow history new t)
+  pub recovers : is_honest old.dir → (t : JournalLog) → KeepsNow history old t → settled (state_of t) ≡ reopened chunks → result ≡ Err BufferFault.Fault
       → Recovers old.journal.path (now (history new.dir)) t
-  pub stray : is_honest old.dir → (t : Telling) → KeepsNow history old t → HasNoStray old.journal.path (now (history new.dir))
-  pub moments : is_honest old.dir → (t : Telling) → KeepsNow history old t → settled (state_of t) ≡ reopened chunks
+  pub stray : is_honest old.dir → (t : JournalLog) → KeepsNow history old t → HasNoStray old.journal.path (now (history new.dir))
+  pub moments : is_honest old.dir → (t : JournalLog) → KeepsNow history old t → settled (state_of t) ≡ reopened chunks
       → LeavesOnly (history old.dir) (history new.dir) (OpensWithin old.journal.path t)
-  pub whole : is_honest old.dir → (t : Telling) → KeepsNow history old t → settled (state_of t) ≡ reopened chunks → result ≢ Err BufferFault.Damaged
+  pub whole : is_honest old.dir → (t : JournalLog) → KeepsNow history old t → settled (state_of t) ≡ reopened chunks → result ≢ Err BufferFault.Damaged

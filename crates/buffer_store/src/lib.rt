@@ -13,5 +13,5 @@ mod writing;
 
 pub use buffer::{Appended, Buffer};
 pub use fault::BufferFault;
-pub use laws::{queued_lasts, recovers_what_is_sure};
+pub use laws::{queued_lasts, recovers_what_is_durable};
 pub use settings::{RENEWED_PAST_IN_FILES, RENEWED_PAST_IN_MEMORY, Settings};

@@ -6,7 +6,7 @@ ghost use Rattle.disk_files.specs.Faults.{Rises};
 ghost use Rattle.disk_files.specs.Moments.{LeavesOnly, now};
 ghost use Rattle.buffer_state.specs.Steps.{reopened};
 ghost use Rattle.journal_files.specs.Folders.{Opens, IsDamagedFolder, IsNext, journal_name};
-ghost use Rattle.journal_files.specs.Tellings.{Telling, OpensWithin, opening};
+ghost use Rattle.journal_files.specs.JournalLogs.{JournalLog, OpensWithin, new_generation};
 ghost use Rattle.journal_files.specs.Views.{IsOpenIn, HasShortTags};
 ghost use Rattle.journal_files.specs.Disks.{Recovers, HasNoStray, HasNoneBelow};
 ghost use Rattle.buffer_store.specs.Buffers.{Holds};
@@ -38,7 +38,7 @@ impl<D: Dir, A: Allocator + Copy> Buffer<D, A> {
         ensures honest_back { D.is_honest dir → IfErr result (λ refused. D.is_honest refused.1) }
         ensures map { D.is_honest dir → IfOk result (λ buffer. Opens path.now (reads (now (D.history dir))) buffer.chunks) }
         ensures holds { D.is_honest dir → HasNoStray path.now (now (D.history dir))
-            → IfOk result (λ buffer. Holds buffer.journal buffer.chunks (now (D.history buffer.dir)) (opening buffer.chunks)) }
+            → IfOk result (λ buffer. Holds buffer.journal buffer.chunks (now (D.history buffer.dir)) (new_generation buffer.chunks)) }
         // No chunk is claimed, and the queue goes by rising serial.
         ensures unclaimed { IfOk result (λ buffer. reopened buffer.chunks ≡ buffer.chunks) }
         ensures settings { IfOk result (λ buffer. (buffer.limits ≡ settings.limits) × (buffer.renewed_past ≡ settings.renewed_past)) }
@@ -56,9 +56,9 @@ impl<D: Dir, A: Allocator + Copy> Buffer<D, A> {
         ensures unchanged { D.is_honest dir → IfErr result (λ refused. refused.0 ≢ BufferFault.Fault
             → SameDisk (now (D.history refused.1)) (now (D.history dir))) }
         // A stop at any moment of the call leaves a folder that opens to what one before the call could open to.
-        ensures moments { D.is_honest dir → HasNoStray path.now (now (D.history dir)) → (t : Telling) → Recovers path.now (now (D.history dir)) t
+        ensures moments { D.is_honest dir → HasNoStray path.now (now (D.history dir)) → (t : JournalLog) → Recovers path.now (now (D.history dir)) t
             → IfOk result (λ buffer. LeavesOnly (D.history dir) (D.history buffer.dir) (OpensWithin path.now t)) }
-        ensures moments_back { D.is_honest dir → HasNoStray path.now (now (D.history dir)) → (t : Telling) → Recovers path.now (now (D.history dir)) t
+        ensures moments_back { D.is_honest dir → HasNoStray path.now (now (D.history dir)) → (t : JournalLog) → Recovers path.now (now (D.history dir)) t
             → IfErr result (λ refused. LeavesOnly (D.history dir) (D.history refused.1) (OpensWithin path.now t)) }
         ensures stray_back { D.is_honest dir → HasNoStray path.now (now (D.history dir)) → IfErr result (λ refused. HasNoStray path.now (now (D.history refused.1))) }
         ensures alone { D.is_honest dir → IfOk result (λ buffer. HasNoneBelow path.now (now (D.history buffer.dir)) buffer.journal.number) }
@@ -91,7 +91,7 @@ fn opened<D: Dir, A: Allocator + Copy>(
     requires tags { HasShortTags chunks }
     requires honest { D.is_honest start.value → D.is_honest dir }
     requires holds { D.is_honest start.value → HasNoStray journal.path (now (D.history start.value))
-        → Holds journal chunks (now (D.history dir)) (opening chunks) }
+        → Holds journal chunks (now (D.history dir)) (new_generation chunks) }
     ensures { result ≡ record { dir = dir; journal = journal; chunks = chunks; limits = settings.limits; renewed_past = settings.renewed_past; failed = false; staged = false; start = start.value } }
 {
     let log = Log {

@@ -5,7 +5,7 @@ ghost use Rattle.disk_files.specs.Disk.{reads};
 ghost use Rattle.disk_files.specs.Moments.{now};
 ghost use Rattle.buffer_state.specs.State.{total_size};
 ghost use Rattle.journal_files.specs.Folders.{journal_name};
-ghost use Rattle.journal_files.specs.Tellings.{opening};
+ghost use Rattle.journal_files.specs.JournalLogs.{new_generation};
 ghost use Rattle.buffer_store.specs.Calls.{Stays, Begins};
 ghost use Rattle.buffer_store.specs.Durability.{BeganWell};
 ghost use Rattle.buffer_store.specs.declared.fault.BufferFault.{BufferFault};
@@ -39,7 +39,7 @@ impl<D: Dir, A: Allocator + Copy> Buffer<D, A> {
         ensures number { OnOk result (self.new.journal.number ≡ self.old.journal.number + 1) }
         ensures staged { OnOk result (self.new.staged ≡ false) }
         ensures rest { Stays D.is_honest D.history D.fault_count self.old self.new result }
-        ensures begins { D.is_honest self.old.dir → Begins D.history self.old self.new None (λ _. opening self.old.chunks) result }
+        ensures begins { D.is_honest self.old.dir → Begins D.history self.old self.new None (λ _. new_generation self.old.chunks) result }
         ensures gone { D.is_honest self.old.dir → OnOk result (reads (now (D.history self.new.dir)) (journal_name self.old.journal.path self.old.journal.number) ≡ None) }
         // Files of other names stay as they are.
         ensures elsewhere { D.is_honest self.old.dir → (name : List ℕ) → name ≢ journal_name self.old.journal.path self.old.journal.number

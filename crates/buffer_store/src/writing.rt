@@ -7,8 +7,8 @@ ghost use Rattle.buffer_state.specs.Steps.{planned, place_of, appended, queued_l
 ghost use Rattle.buffer_state.specs.declared.chunk.Stage.TheVariants.{Staged, Claimed};
 ghost use Rattle.buffer_state.specs.declared.limits.AppendFault.{AppendFault};
 ghost use Rattle.chunk_journal.specs.Records.{Append, Queue, Purge};
-ghost use Rattle.journal_files.specs.Tellings.{all_sure};
-ghost use Rattle.buffer_store.specs.Buffers.{sure_if};
+ghost use Rattle.journal_files.specs.JournalLogs.{all_durable};
+ghost use Rattle.buffer_store.specs.Buffers.{durable_if};
 ghost use Rattle.buffer_store.specs.Calls.{StaysWithin, Begins};
 ghost use Rattle.buffer_store.specs.Refusals.{of_plan};
 ghost use Rattle.buffer_store.specs.declared.fault.BufferFault.{BufferFault};
@@ -59,7 +59,7 @@ impl<D: Dir, A: Allocator + Copy> Buffer<D, A> {
         ensures staged { OnOk result (self.new.staged ≡ false) }
         ensures rest { StaysWithin D.is_honest D.history D.fault_count self.old self.new result }
         ensures begins { D.is_honest self.old.dir → Begins D.history self.old self.new
-            (Some (Append (place_of self.old.limits self.old.chunks tag.now entries.now) tag.now entries.now)) all_sure result }
+            (Some (Append (place_of self.old.limits self.old.chunks tag.now entries.now) tag.now entries.now)) all_durable result }
     {
         self.add(tag, entries, true)
     }
@@ -82,7 +82,7 @@ impl<D: Dir, A: Allocator + Copy> Buffer<D, A> {
         ensures staged { OnOk result (self.new.staged ≡ not synced) }
         ensures rest { StaysWithin D.is_honest D.history D.fault_count self.old self.new result }
         ensures begins { D.is_honest self.old.dir → Begins D.history self.old self.new
-            (Some (Append (place_of self.old.limits self.old.chunks tag.now entries.now) tag.now entries.now)) (sure_if synced) result }
+            (Some (Append (place_of self.old.limits self.old.chunks tag.now entries.now) tag.now entries.now)) (durable_if synced) result }
     {
         let serial = self.plan(tag, entries)?;
         add_entries(
@@ -106,7 +106,7 @@ impl<D: Dir, A: Allocator + Copy> Buffer<D, A> {
         ensures only { OnErr result ((result ≡ Err BufferFault.Failed) ⊎ (result ≡ Err BufferFault.Fault)) }
         ensures staged { OnOk result (self.new.staged ≡ false) }
         ensures rest { StaysWithin D.is_honest D.history D.fault_count self.old self.new result }
-        ensures begins { D.is_honest self.old.dir → Begins D.history self.old self.new None (sure_if self.old.staged) result }
+        ensures begins { D.is_honest self.old.dir → Begins D.history self.old self.new None (durable_if self.old.staged) result }
     {
         if self.log.has_failed() {
             return Err(BufferFault::Failed);
@@ -128,7 +128,7 @@ impl<D: Dir, A: Allocator + Copy> Buffer<D, A> {
             → OnErr result ((result ≡ Err BufferFault.Memory) ⊎ (result ≡ Err BufferFault.Fault)) }
         ensures staged { OnOk result (self.new.staged ≡ false) }
         ensures rest { StaysWithin D.is_honest D.history D.fault_count self.old self.new result }
-        ensures begins { D.is_honest self.old.dir → Begins D.history self.old self.new (Some (Queue serial)) all_sure result }
+        ensures begins { D.is_honest self.old.dir → Begins D.history self.old self.new (Some (Queue serial)) all_durable result }
     {
         if self.log.has_failed() {
             return Err(BufferFault::Failed);

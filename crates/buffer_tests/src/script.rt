@@ -19,7 +19,7 @@ pub const OPENING: u64 = 5;
 
 /// A call of a buffer, or a look at it. A tag has one byte, and each entry is the same.
 #[derive(Clone, Copy)]
-pub enum Step {
+pub enum Act {
     /// So many entries of this tag, which aren't synced.
     Stage(u8, usize),
     /// So many entries of this tag.
@@ -66,7 +66,7 @@ pub enum Answer {
 }
 
 /// A step, and its answer.
-pub type Row = (Step, Answer);
+pub type Row = (Act, Answer);
 
 // So many entries of three bytes.
 fn entries(alloc: Global, count: usize) -> Result<Entries<Global>, AllocError> {
@@ -184,26 +184,26 @@ fn sum<D: Dir>(buffer: &Buffer<D, Global>) -> Answer {
 }
 
 /// Takes the buffer through a step.
-pub fn take<D: Dir>(alloc: Global, buffer: &mut Buffer<D, Global>, step: Step) -> Answer {
+pub fn take<D: Dir>(alloc: Global, buffer: &mut Buffer<D, Global>, step: Act) -> Answer {
     match step {
-        Step::Stage(tag, count) => stage(alloc, buffer, tag, count),
-        Step::Append(tag, count) => append(alloc, buffer, tag, count),
-        Step::Sync => sync(buffer),
-        Step::Enqueue(serial) => enqueue(buffer, serial),
-        Step::Claim => claim(buffer),
-        Step::GiveBack(serial) => give_back(buffer, serial),
-        Step::Purge(serial) => purge(buffer, serial),
-        Step::DropOldest => drop_oldest(buffer),
-        Step::Renew => renew(buffer),
-        Step::Next => Answer::Serial(buffer.chunks().next_serial()),
-        Step::First => found(buffer.chunks().first()),
-        Step::Look(serial) => look(buffer, serial),
-        Step::Body(serial) => body(buffer, serial),
-        Step::Facts(serial) => facts(buffer, serial),
-        Step::Total => Answer::Bytes(buffer.chunks().total()),
-        Step::Sum => sum(buffer),
-        Step::HasStaged => Answer::Is(buffer.has_staged()),
-        Step::WantsRenewal => Answer::Is(buffer.wants_renewal()),
+        Act::Stage(tag, count) => stage(alloc, buffer, tag, count),
+        Act::Append(tag, count) => append(alloc, buffer, tag, count),
+        Act::Sync => sync(buffer),
+        Act::Enqueue(serial) => enqueue(buffer, serial),
+        Act::Claim => claim(buffer),
+        Act::GiveBack(serial) => give_back(buffer, serial),
+        Act::Purge(serial) => purge(buffer, serial),
+        Act::DropOldest => drop_oldest(buffer),
+        Act::Renew => renew(buffer),
+        Act::Next => Answer::Serial(buffer.chunks().next_serial()),
+        Act::First => found(buffer.chunks().first()),
+        Act::Look(serial) => look(buffer, serial),
+        Act::Body(serial) => body(buffer, serial),
+        Act::Facts(serial) => facts(buffer, serial),
+        Act::Total => Answer::Bytes(buffer.chunks().total()),
+        Act::Sum => sum(buffer),
+        Act::HasStaged => Answer::Is(buffer.has_staged()),
+        Act::WantsRenewal => Answer::Is(buffer.wants_renewal()),
     }
 }
 

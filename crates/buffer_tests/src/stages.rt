@@ -1,6 +1,6 @@
 //! Appends that are told and synced later, and what of them a stop leaves.
 
-use crate::script::{Answer, Failing, OPENING, Sitting, Step, WIDE, Went, sit_all};
+use crate::script::{Act, Answer, Failing, OPENING, Sitting, WIDE, Went, sit_all};
 use buffer_state::Stage;
 use buffer_store::BufferFault;
 use disk_files::Keep;
@@ -11,17 +11,17 @@ static CASES: [[Sitting; 2]; 6] = [
         Sitting {
             calls: Failing::Past(OPENING + 2),
             rows: &[
-                (Step::Stage(b'a', 1), Answer::Serial(0)),
-                (Step::Stage(b'a', 1), Answer::Serial(0)),
-                (Step::HasStaged, Answer::Is(true)),
+                (Act::Stage(b'a', 1), Answer::Serial(0)),
+                (Act::Stage(b'a', 1), Answer::Serial(0)),
+                (Act::HasStaged, Answer::Is(true)),
             ],
             keep: Keep::Least,
         },
         Sitting {
             calls: Failing::Never,
             rows: &[
-                (Step::Next, Answer::Serial(0)),
-                (Step::First, Answer::Nothing),
+                (Act::Next, Answer::Serial(0)),
+                (Act::First, Answer::Nothing),
             ],
             keep: Keep::Least,
         },
@@ -30,17 +30,17 @@ static CASES: [[Sitting; 2]; 6] = [
         Sitting {
             calls: Failing::Past(OPENING + 2),
             rows: &[
-                (Step::Stage(b'a', 1), Answer::Serial(0)),
-                (Step::Stage(b'a', 1), Answer::Serial(0)),
-                (Step::HasStaged, Answer::Is(true)),
+                (Act::Stage(b'a', 1), Answer::Serial(0)),
+                (Act::Stage(b'a', 1), Answer::Serial(0)),
+                (Act::HasStaged, Answer::Is(true)),
             ],
             keep: Keep::Greatest,
         },
         Sitting {
             calls: Failing::Never,
             rows: &[
-                (Step::Next, Answer::Serial(1)),
-                (Step::Look(0), Answer::At(Stage::Staged)),
+                (Act::Next, Answer::Serial(1)),
+                (Act::Look(0), Answer::At(Stage::Staged)),
             ],
             keep: Keep::Least,
         },
@@ -50,20 +50,20 @@ static CASES: [[Sitting; 2]; 6] = [
         Sitting {
             calls: Failing::Past(OPENING + 3),
             rows: &[
-                (Step::Stage(b'a', 1), Answer::Serial(0)),
-                (Step::Stage(b'a', 1), Answer::Serial(0)),
-                (Step::Sync, Answer::Done),
-                (Step::HasStaged, Answer::Is(false)),
-                (Step::Sync, Answer::Done),
+                (Act::Stage(b'a', 1), Answer::Serial(0)),
+                (Act::Stage(b'a', 1), Answer::Serial(0)),
+                (Act::Sync, Answer::Done),
+                (Act::HasStaged, Answer::Is(false)),
+                (Act::Sync, Answer::Done),
             ],
             keep: Keep::Least,
         },
         Sitting {
             calls: Failing::Never,
             rows: &[
-                (Step::Look(0), Answer::At(Stage::Staged)),
-                (Step::Body(0), Answer::Entries(2)),
-                (Step::Body(1), Answer::Refused(BufferFault::Gone)),
+                (Act::Look(0), Answer::At(Stage::Staged)),
+                (Act::Body(0), Answer::Entries(2)),
+                (Act::Body(1), Answer::Refused(BufferFault::Gone)),
             ],
             keep: Keep::Least,
         },
@@ -72,19 +72,19 @@ static CASES: [[Sitting; 2]; 6] = [
         Sitting {
             calls: Failing::Past(OPENING + 2),
             rows: &[
-                (Step::Stage(b'a', 1), Answer::Serial(0)),
-                (Step::Stage(b'a', 1), Answer::Serial(0)),
-                (Step::Sync, Answer::Refused(BufferFault::Fault)),
-                (Step::Sync, Answer::Refused(BufferFault::Failed)),
-                (Step::Stage(b'a', 1), Answer::Refused(BufferFault::Failed)),
-                (Step::Body(0), Answer::Refused(BufferFault::Failed)),
-                (Step::Facts(0), Answer::Facts(b'a', 2, 6)),
+                (Act::Stage(b'a', 1), Answer::Serial(0)),
+                (Act::Stage(b'a', 1), Answer::Serial(0)),
+                (Act::Sync, Answer::Refused(BufferFault::Fault)),
+                (Act::Sync, Answer::Refused(BufferFault::Failed)),
+                (Act::Stage(b'a', 1), Answer::Refused(BufferFault::Failed)),
+                (Act::Body(0), Answer::Refused(BufferFault::Failed)),
+                (Act::Facts(0), Answer::Facts(b'a', 2, 6)),
             ],
             keep: Keep::Least,
         },
         Sitting {
             calls: Failing::Never,
-            rows: &[(Step::Next, Answer::Serial(0))],
+            rows: &[(Act::Next, Answer::Serial(0))],
             keep: Keep::Least,
         },
     ],
@@ -92,19 +92,19 @@ static CASES: [[Sitting; 2]; 6] = [
         Sitting {
             calls: Failing::Never,
             rows: &[
-                (Step::Stage(b'a', 1), Answer::Serial(0)),
-                (Step::Stage(b'a', 1), Answer::Serial(0)),
-                (Step::Enqueue(0), Answer::Done),
-                (Step::Claim, Answer::Serial(0)),
-                (Step::Purge(0), Answer::Done),
+                (Act::Stage(b'a', 1), Answer::Serial(0)),
+                (Act::Stage(b'a', 1), Answer::Serial(0)),
+                (Act::Enqueue(0), Answer::Done),
+                (Act::Claim, Answer::Serial(0)),
+                (Act::Purge(0), Answer::Done),
             ],
             keep: Keep::Least,
         },
         Sitting {
             calls: Failing::Never,
             rows: &[
-                (Step::Look(0), Answer::At(Stage::Queued)),
-                (Step::Next, Answer::Serial(1)),
+                (Act::Look(0), Answer::At(Stage::Queued)),
+                (Act::Next, Answer::Serial(1)),
             ],
             keep: Keep::Least,
         },
@@ -113,19 +113,19 @@ static CASES: [[Sitting; 2]; 6] = [
         Sitting {
             calls: Failing::Never,
             rows: &[
-                (Step::Stage(b'a', 1), Answer::Serial(0)),
-                (Step::Stage(b'a', 1), Answer::Serial(0)),
-                (Step::Enqueue(0), Answer::Done),
-                (Step::Claim, Answer::Serial(0)),
-                (Step::Purge(0), Answer::Done),
+                (Act::Stage(b'a', 1), Answer::Serial(0)),
+                (Act::Stage(b'a', 1), Answer::Serial(0)),
+                (Act::Enqueue(0), Answer::Done),
+                (Act::Claim, Answer::Serial(0)),
+                (Act::Purge(0), Answer::Done),
             ],
             keep: Keep::Greatest,
         },
         Sitting {
             calls: Failing::Never,
             rows: &[
-                (Step::Look(0), Answer::Nothing),
-                (Step::Next, Answer::Serial(1)),
+                (Act::Look(0), Answer::Nothing),
+                (Act::Next, Answer::Serial(1)),
             ],
             keep: Keep::Least,
         },

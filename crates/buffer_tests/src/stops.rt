@@ -1,7 +1,7 @@
 //! A device that fails at each call of a script, and then each stop: every folder opens, and no claimed serial names other content.
 
 use crate::script::{
-    Answer, Failing, OPENING, Row, Sitting, Step, WIDE, Went, on_device, open, play, sit, sit_all,
+    Act, Answer, Failing, OPENING, Row, Sitting, WIDE, Went, on_device, open, play, sit, sit_all,
 };
 use buffer_state::Stage;
 use buffer_store::Buffer;
@@ -11,22 +11,22 @@ use std::alloc::Global;
 // Chunk 0 gets two entries, which are staged and synced; it is queued, claimed and purged. Chunk 1 is queued and claimed. The
 // journal is renewed with a claimed and a staged chunk; chunk 1 is given back and dropped, and others grow.
 static SCRIPT: [Row; 16] = [
-    (Step::Stage(b'a', 1), Answer::Serial(0)),
-    (Step::Stage(b'a', 1), Answer::Serial(0)),
-    (Step::Sync, Answer::Done),
-    (Step::Append(b'b', 1), Answer::Serial(1)),
-    (Step::Enqueue(0), Answer::Done),
-    (Step::Claim, Answer::Serial(0)),
-    (Step::Stage(b'c', 1), Answer::Serial(2)),
-    (Step::Enqueue(1), Answer::Done),
-    (Step::Claim, Answer::Serial(1)),
-    (Step::Purge(0), Answer::Done),
-    (Step::Renew, Answer::Done),
-    (Step::Stage(b'c', 1), Answer::Serial(2)),
-    (Step::GiveBack(1), Answer::Done),
-    (Step::DropOldest, Answer::Serial(1)),
-    (Step::Append(b'a', 1), Answer::Serial(3)),
-    (Step::Enqueue(2), Answer::Done),
+    (Act::Stage(b'a', 1), Answer::Serial(0)),
+    (Act::Stage(b'a', 1), Answer::Serial(0)),
+    (Act::Sync, Answer::Done),
+    (Act::Append(b'b', 1), Answer::Serial(1)),
+    (Act::Enqueue(0), Answer::Done),
+    (Act::Claim, Answer::Serial(0)),
+    (Act::Stage(b'c', 1), Answer::Serial(2)),
+    (Act::Enqueue(1), Answer::Done),
+    (Act::Claim, Answer::Serial(1)),
+    (Act::Purge(0), Answer::Done),
+    (Act::Renew, Answer::Done),
+    (Act::Stage(b'c', 1), Answer::Serial(2)),
+    (Act::GiveBack(1), Answer::Done),
+    (Act::DropOldest, Answer::Serial(1)),
+    (Act::Append(b'a', 1), Answer::Serial(3)),
+    (Act::Enqueue(2), Answer::Done),
 ];
 
 // A chunk that is claimed in this row, and how many bytes of entries it has.
@@ -159,7 +159,7 @@ fn reopened(passes: u64, rows: &'static [Row]) -> [Sitting; 2] {
     ]
 }
 
-static NEW: [Row; 1] = [(Step::Next, Answer::Serial(0))];
+static NEW: [Row; 1] = [(Act::Next, Answer::Serial(0))];
 
 #[test]
 fn a_new_folder_at_each_call(rt: HostRuntime) {
@@ -169,9 +169,9 @@ fn a_new_folder_at_each_call(rt: HostRuntime) {
     }
 }
 
-static STAGED: [Row; 1] = [(Step::Append(b'a', 1), Answer::Serial(0))];
+static STAGED: [Row; 1] = [(Act::Append(b'a', 1), Answer::Serial(0))];
 
-static KEPT: [Row; 1] = [(Step::Look(0), Answer::At(Stage::Staged))];
+static KEPT: [Row; 1] = [(Act::Look(0), Answer::At(Stage::Staged))];
 
 #[test]
 fn a_folder_with_a_chunk_at_each_call(rt: HostRuntime) {

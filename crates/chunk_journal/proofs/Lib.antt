@@ -5,7 +5,7 @@ pub mod Unique
 pub mod Cuts
 pub mod Standing
 pub mod Coming
-pub mod Telling
+pub mod ChunkRecords
 pub mod Answered
 pub mod Placing
 pub mod Ordering

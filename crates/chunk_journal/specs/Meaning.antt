@@ -106,12 +106,12 @@ queueing serial Queued = Queue serial ∷ []
 queueing serial Claimed = Queue serial ∷ []
 
 -- the records that tell a live chunk
-abbrev pub telling : Numbered → List Record
-telling numbered = Append numbered.0 numbered.1.tag numbered.1.entries ∷ queueing numbered.0 numbered.1.stage
+abbrev pub chunk_records : Numbered → List Record
+chunk_records numbered = Append numbered.0 numbered.1.tag numbered.1.entries ∷ queueing numbered.0 numbered.1.stage
 
 -- what a generation of these chunks begins with: the chunks by rising serial, and then one Seal
 abbrev pub beginning : List Numbered → ℕ → List Record
-beginning chunks next = flat_map telling chunks ++ Seal next ∷ []
+beginning chunks next = flat_map chunk_records chunks ++ Seal next ∷ []
 
 -- chunks that a generation can begin with: their serials rise from the least on and are all below the next, and none has too many bytes
 abbrev pub AreTold : ℕ → List Numbered → ℕ → Type 0

@@ -13,7 +13,7 @@ use Rattle.routed_tags.specs.Routed.{ComesTo}
 use Rattle.step_lines.specs.declared.step.Step.{Step}
 use Rattle.step_lines.specs.declared.step.Step.TheVariants as step
 use Rattle.kept_branches.specs.Branches.{EachKeeps}
-use Rattle.custody_steps.specs.World.{World, opening, with_buffer}
+use Rattle.custody_steps.specs.World.{World, initial_world, with_buffer}
 use Rattle.custody_steps.specs.Steps.{Allowed, effect, Steps, CanAppend, CanAcknowledge}
 use Rattle.custody_core.specs.Custody.{EachBranchKeeps}
 use Rattle.custody_core.proofs.Serials.{some_and, and_some}
@@ -152,7 +152,7 @@ module _ {A : Type 0} (net : Network A) (labelled : Labelling) (leads : LeadOn n
   run_each [] before after both is = rw is both
   run_each (next ∷ steps) before after both run = run_each steps (effect net before next) after (step_keeps net labelled leads before next both.0 run.1, step_each before next both.0 both.1 run.1) run.2
 
-  opening_each : KeptEach opening
+  opening_each : KeptEach initial_world
   opening_each = (
     opening_kept net labelled leads,
     record {
@@ -164,9 +164,9 @@ module _ {A : Type 0} (net : Network A) (labelled : Labelling) (leads : LeadOn n
   )
 
   -- Each branch keeps every event that was acknowledged to a client, after every list of steps.
-  pub each_branch : (steps : List (Step A)) (w : World) → Steps net opening steps w → EachBranchKeeps net w
+  pub each_branch : (steps : List (Step A)) (w : World) → Steps net initial_world steps w → EachBranchKeeps net w
   each_branch steps w run k d less =
-      let both = run_each steps opening w opening_each run in
+      let both = run_each steps initial_world w opening_each run in
       let told = get_or w.acknowledged k d in
       let c = some_and (slice_get net.clients told.client) _ (both.1.acknowledged told (All-contains_itself w.acknowledged k d less)) in
       and_some (slice_get net.clients told.client) (λ client. EachKeeps net w.buffers w.messages (address_of_client net client) told.event.tag told.event.entry) c.0 c.1

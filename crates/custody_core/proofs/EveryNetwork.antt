@@ -3,7 +3,7 @@ use Rattle.std.proofs.Common.{ℕ, ◌+◌, List, [], ◌∷◌, get_or, slice_g
 use Rattle.std.proofs.lemmas.List.Elements.{All-contains_itself}
 use Rattle.relay_net.specs.Network.{Network, address_of_client}
 use Rattle.custody_steps.specs.Held.{HeldAs}
-use Rattle.custody_steps.specs.World.{World, opening}
+use Rattle.custody_steps.specs.World.{World, initial_world}
 use Rattle.custody_steps.specs.Steps.{Allowed, effect, Steps}
 use Rattle.step_lines.specs.declared.step.Step.{Step}
 use Rattle.step_lines.specs.declared.step.Step.TheVariants as step
@@ -50,7 +50,7 @@ module _ {A : Type 0} (net : Network A) (labelled : Labelling) (leads : LeadOn n
   run_keeps [] before after kept is = rw is kept
   run_keeps (next ∷ steps) before after kept run = run_keeps steps (effect net before next) after (step_keeps before next kept run.1) run.2
 
-  pub opening_kept : IsKept net labelled opening
+  pub opening_kept : IsKept net labelled initial_world
   opening_kept = record {
     ranks = λ place buffer serial. 0;
     clock = 0;
@@ -64,9 +64,9 @@ module _ {A : Type 0} (net : Network A) (labelled : Labelling) (leads : LeadOn n
   }
 
   -- Every event that was acknowledged to a client is held after every list of steps.
-  pub nothing_lost : (steps : List (Step A)) (w : World) → Steps net opening steps w → NothingIsLost net w
+  pub nothing_lost : (steps : List (Step A)) (w : World) → Steps net initial_world steps w → NothingIsLost net w
   nothing_lost steps w run k d less =
-      let kept = run_keeps steps opening w opening_kept run in
+      let kept = run_keeps steps initial_world w opening_kept run in
       let told = get_or w.acknowledged k d in
       let safe = some_and (slice_get net.clients told.client) _ (kept.ranked.acknowledged told (All-contains_itself w.acknowledged k d less)) in
       and_some (slice_get net.clients told.client) (λ client. HeldAs net w (address_of_client net client) told.event) safe.0 safe.1 (safe_held net kept.ranks w 0 _ safe.2)

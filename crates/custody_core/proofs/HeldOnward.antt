@@ -4,7 +4,7 @@ use Rattle.message_book.specs.declared.sender.Sender.{Sender}
 use Rattle.message_book.specs.declared.sender.Sender.TheVariants as sender
 use Rattle.relay_net.specs.Network.{Network, address_of_client}
 use Rattle.custody_steps.specs.Steps.{Steps}
-use Rattle.custody_steps.specs.World.{World, opening}
+use Rattle.custody_steps.specs.World.{World, initial_world}
 use Rattle.step_lines.specs.declared.step.Step.{Step}
 use Rattle.custody_core.specs.Onward.{Hands, IsHeldFrom, AreHeldOnward, since}
 use Rattle.custody_core.proofs.Borne.{Origin, borne_routed}
@@ -36,9 +36,9 @@ module _ {A : Type 0} (net : Network A) (w : World) (ranks : Ranking) where
   ranks_so (sender.Chunk place buffer serial) origin safe = held_from _ origin safe
 
 -- After every list of steps all that was acknowledged is held so.
-pub held_onward : {A : Type 0} (net : Network A) (labelled : Labelling) (leads : LeadOn net labelled) (steps : List (Step A)) (w : World) → Steps net opening steps w → AreHeldOnward net w
+pub held_onward : {A : Type 0} (net : Network A) (labelled : Labelling) (leads : LeadOn net labelled) (steps : List (Step A)) (w : World) → Steps net initial_world steps w → AreHeldOnward net w
 held_onward net labelled leads steps w run =
-    let kept = run_keeps net labelled leads steps opening w (opening_kept net labelled leads) run in
+    let kept = run_keeps net labelled leads steps initial_world w (opening_kept net labelled leads) run in
     let ranks = kept.ranks in
     record {
       times = ranks;

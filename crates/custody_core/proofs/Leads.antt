@@ -13,7 +13,7 @@ use Rattle.relay_net.specs.declared.address.Entrance.{Entrance}
 use Rattle.relay_net.specs.declared.node.Client.{Client}
 use Rattle.route_graph.specs.Ways.{HaveTag, IsLeaf}
 use Rattle.loss_rules.specs.Labels.{FitsLabelWith, IsLabelledTag}
-use Rattle.loss_rules.specs.Rules.{AreRulesKept, IsLabelledClient}
+use Rattle.loss_rules.specs.Rules.{AreKeepingRulesKept, IsLabelledClient}
 use Rattle.loss_rules.specs.Sites.{BuffersAreDistinct}
 use Rattle.loss_rules.specs.declared.label.Label.{Label}
 use Rattle.loss_rules.specs.declared.label.Reach.{Reach}
@@ -30,7 +30,7 @@ fits_labelled labels place scope prefix pattern tag has fits =
     let one = fits.4.1 in
     (fits.0, fits.1, fits.2, fits.3, (fits.4.0, (one.0, one.1, one.2, one.3, subset one.4 (parts_of (entered_tag prefix tag)) (entered-tag prefix pattern tag has))))
 
-module _ {A : Type 0} (net : Network A) (labels : List (Label A)) (reaches : List (Reach A)) (safe : LabelledTagsAreSafe A) (distinct : BuffersAreDistinct net) (rules : AreRulesKept net labels reaches) where
+module _ {A : Type 0} (net : Network A) (labels : List (Label A)) (reaches : List (Reach A)) (safe : LabelledTagsAreSafe A) (distinct : BuffersAreDistinct net) (rules : AreKeepingRulesKept net labels reaches) where
   -- the tags of the labels
   abbrev pub labelled : Labelling
   labelled = λ at tag. IsLabelledTag labels at.relay at.scope tag

@@ -13,7 +13,7 @@ use Rattle.relay_net.specs.Ways.{HasLoop}
 use Rattle.routed_tags.specs.Routed.{SendsTo, Follows, sent}
 use Rattle.custody_store.specs.Buffers.{Event, Chunk, BufferState, with_chunk, events_of, started_again, without_oldest, appended_to}
 use Rattle.message_book.specs.Book.{Message, Delivery, Told, ended}
-use Rattle.custody_steps.specs.World.{World, opening, with_buffer}
+use Rattle.custody_steps.specs.World.{World, initial_world, with_buffer}
 use Rattle.custody_steps.specs.Steps.{Allowed, effect, Steps, CanBegin, CanAppend, tag_of, with_named, with_stored, with_delivery, forwarded_to, chunk_named}
 use Rattle.custody_core.specs.Custody.{IsClient, NothingIsMadeUp}
 use Rattle.message_book.specs.declared.sender.Sender.TheVariants as sender
@@ -319,7 +319,7 @@ run_honest : {A : Type 0} (net : Network A) (steps : List (Step A)) (before afte
 run_honest net [] before after is run = rw run is
 run_honest net (next ∷ steps) before after is run = run_honest net steps (effect net before next) after (step_honest net before next is run.1) run.2
 
-opening_honest : {A : Type 0} (net : Network A) → IsHonest net opening
+opening_honest : {A : Type 0} (net : Network A) → IsHonest net initial_world
 opening_honest net = record {
   messages = λ k m e. absurd (cc);
   deliveries = λ k d e. absurd (cc);
@@ -327,9 +327,9 @@ opening_honest net = record {
 }
 
 -- Whatever a sink holds after a list of steps a client sent: of every network.
-pub sourced : {A : Type 0} (net : Network A) (steps : List (Step A)) (w : World) → Steps net opening steps w → NothingIsMadeUp net w
+pub sourced : {A : Type 0} (net : Network A) (steps : List (Step A)) (w : World) → Steps net initial_world steps w → NothingIsMadeUp net w
 sourced net steps w run place buffer k d less =
-    let honest = run_honest net steps opening w (opening_honest net) run in
+    let honest = run_honest net steps initial_world w (opening_honest net) run in
     let from = (honest.buffers place buffer).sink _ (All-contains_itself (w.buffers place buffer).sink k d less) in
     let there = get-contains w.messages from.message from.number from.there in
     (there.0, from.message, there.1, there.2, record { client = from.client; tag = borne_routed net from.message.address from.message.tag place buffer _ from.borne; entry = from.among })

@@ -4,9 +4,9 @@ ghost use Rattle.std.specs.Prelude.{◌≡◌, List, IfOk, IfErr};
 ghost use Rattle.custody_core.specs.Custody.{EachBranchKeeps, NothingIsLost, NothingIsMadeUp};
 ghost use Rattle.custody_core.specs.Onward.{AreHeldOnward};
 ghost use Rattle.custody_steps.specs.Steps.{Steps, IsRefusedAt};
-ghost use Rattle.custody_steps.specs.World.{opening};
+ghost use Rattle.custody_steps.specs.World.{initial_world};
 ghost use Rattle.custody_steps.specs.WorldOf.{world_of, net_of};
-ghost use Rattle.loss_rules.specs.Rules.{AreRulesKept, EachOutputKeeps};
+ghost use Rattle.loss_rules.specs.Rules.{AreKeepingRulesKept, EachOutputKeeps};
 ghost use Rattle.loss_rules.specs.Sites.{BuffersAreDistinct};
 ghost use Rattle.loss_rules.specs.declared.label.Label.{Label};
 ghost use Rattle.loss_rules.specs.declared.label.Reach.{Reach};
@@ -33,11 +33,11 @@ pub fn run<'n, A: Allocator + Copy>(
     steps: &[Step<A>],
 ) -> Result<World<'n, A>, (usize, StepFault)>
     ensures net { IfOk result (λ w. net_of w ≡ net.now) }
-    ensures taken { IfOk result (λ w. Steps net.now opening steps.now (world_of w)) }
+    ensures taken { IfOk result (λ w. Steps net.now initial_world steps.now (world_of w)) }
     ensures refused { IfErr result (λ e. IsRefusedAt net.now steps.now e.0 e.1) }
-    ensures labelled_nothing_is_lost { (labels : List (Label A)) (reaches : List (Reach A)) → BuffersAreDistinct net.now → AreRulesKept net.now labels reaches → IfOk result (λ w. NothingIsLost net.now (world_of w)) }
-    ensures held_onward { (labels : List (Label A)) (reaches : List (Reach A)) → BuffersAreDistinct net.now → AreRulesKept net.now labels reaches → IfOk result (λ w. AreHeldOnward net.now (world_of w)) }
-    ensures each_branch_keeps { (labels : List (Label A)) (reaches : List (Reach A)) → BuffersAreDistinct net.now → AreRulesKept net.now labels reaches → EachOutputKeeps net.now reaches → IfOk result (λ w. EachBranchKeeps net.now (world_of w)) }
+    ensures labelled_nothing_is_lost { (labels : List (Label A)) (reaches : List (Reach A)) → BuffersAreDistinct net.now → AreKeepingRulesKept net.now labels reaches → IfOk result (λ w. NothingIsLost net.now (world_of w)) }
+    ensures held_onward { (labels : List (Label A)) (reaches : List (Reach A)) → BuffersAreDistinct net.now → AreKeepingRulesKept net.now labels reaches → IfOk result (λ w. AreHeldOnward net.now (world_of w)) }
+    ensures each_branch_keeps { (labels : List (Label A)) (reaches : List (Reach A)) → BuffersAreDistinct net.now → AreKeepingRulesKept net.now labels reaches → EachOutputKeeps net.now reaches → IfOk result (λ w. EachBranchKeeps net.now (world_of w)) }
     ensures nothing_is_made_up { IfOk result (λ w. NothingIsMadeUp net.now (world_of w)) }
 {
     let mut world = World::new(alloc, net);

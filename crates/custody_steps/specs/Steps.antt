@@ -20,7 +20,7 @@ use Rattle.step_lines.specs.declared.step.Step.{Step}
 use Rattle.step_lines.specs.declared.step.Step.TheVariants as step
 use Rattle.custody_steps.specs.declared.fault.StepFault.{StepFault}
 use Rattle.custody_steps.specs.declared.fault.StepFault.TheVariants as fault
-use Rattle.custody_steps.specs.World.{World, opening, with_buffer}
+use Rattle.custody_steps.specs.World.{World, initial_world, with_buffer}
 use Rattle.tag_pattern.specs.Parts.{most_tag_bytes}
 
 -- What a step names.
@@ -266,7 +266,7 @@ pub record IsRefusedAt {A : Type 0} (net : Network A) (steps : List (Step A)) (n
   pub steps_are : steps ≡ before ++ refused ∷ others
   pub number_is : number ≡ length before + 1
   pub world : World
-  pub taken : Steps net opening before world
+  pub taken : Steps net initial_world before world
   pub is_refused : IsRefused net world refused fault
 
 -- The reason is that these names aren't there, or else that this condition fails.

@@ -11,8 +11,8 @@ pub record World : Type 0 where
   pub acknowledged : List Told  -- the events that were acknowledged to clients, in that order
 
 -- before the first step
-abbrev pub opening : World
-opening = record { buffers = λ _ _. empty_buffer; messages = []; deliveries = []; acknowledged = [] }
+abbrev pub initial_world : World
+initial_world = record { buffers = λ _ _. empty_buffer; messages = []; deliveries = []; acknowledged = [] }
 
 -- the world with this buffer changed
 abbrev pub with_buffer : World → ℕ → ℕ → (BufferState → BufferState) → World

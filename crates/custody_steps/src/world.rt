@@ -41,13 +41,13 @@ impl<'n, A: Allocator + Copy> World<'n, A> {
     ghost use Rattle.custody_steps.specs.Branches.{IsKeptEveryAnswer, IsKeptSoAnswer, KeepsSo};
     ghost use Rattle.custody_steps.specs.Held.{Held, HeldAs, IsKeptAnswer};
     ghost use Rattle.custody_steps.specs.Steps.{Answers, Names, Allowed, IsRefused, chunk_named, effect, sink_named};
-    ghost use Rattle.custody_steps.specs.World.{opening};
+    ghost use Rattle.custody_steps.specs.World.{initial_world};
     ghost use Rattle.custody_steps.specs.WorldOf.{world_of, net_of};
 
     /// The network before the first step: nothing was sent, and all buffers and sinks are empty.
     pub fn new(alloc: A, net: &'n Net<A>) -> Self
         ensures net { net_of result ≡ net.now }
-        ensures opening { world_of result ≡ opening }
+        ensures opening { world_of result ≡ initial_world }
     {
         World {
             alloc,

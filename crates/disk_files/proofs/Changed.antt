@@ -5,7 +5,7 @@ use Rattle.std.specs.List.{position_from}
 use Rattle.std.proofs.lemmas.Option.{slice_get_read, slice_get_within}
 use Rattle.std.proofs.lemmas.Iterator.Adapters.{position_from-zero}
 use Rattle.std.proofs.lemmas.Bool.Decides.{eqb_tells}
-use Rattle.disk_files.specs.Disk.{File, Disk, fresh, SameDisk, Makes, Changes, reads, read_of}
+use Rattle.disk_files.specs.Disk.{File, Disk, new_file, SameDisk, Makes, Changes, reads, read_of}
 use Rattle.disk_files.specs.Entry.{Entry}
 use Rattle.disk_files.specs.Table.{disk_of, IsSound, name_of, room_of, ChangesAt}
 use Rattle.disk_files.specs.Past.{disk_then, history_of}
@@ -20,7 +20,7 @@ changes_same a a' b b' name how first second change q =
 
 pub makes_same : (a a' b b' : Disk) (name : List ℕ) → SameDisk a' a → SameDisk b' b → Makes name a b → Makes name a' b'
 makes_same a a' b b' name first second made =
-    (first name ∙ made.0, λ q. second q ∙ made.1 q ∙ sym (ap (cond (bytes_eq name q) (Some fresh)) (first q)))
+    (first name ∙ made.0, λ q. second q ∙ made.1 q ∙ sym (ap (cond (bytes_eq name q) (Some new_file)) (first q)))
 
 name_or : Option (List ℕ) → List ℕ
 name_or None = []
@@ -205,11 +205,11 @@ module _ (files mid more : List Entry) (e : Entry) (name : List ℕ) (mid_is : m
   none_named : disk_of files name ≡ None → disk_of files e.name ≡ None
   none_named none = ap (disk_of files) named ∙ none
 
-  pub sound_made : e.state ≡ fresh → IsSound files → disk_of files name ≡ None → IsSound more
+  pub sound_made : e.state ≡ new_file → IsSound files → disk_of files name ≡ None → IsSound more
   sound_made new sound none =
       subst IsSound (sym is_more) (sound_more files e sound (none_named none) (subst (λ s. s.synced ≤ length s.written) (sym new) (omega arith)))
 
-  pub now_made : (past past' : List (List Entry)) → e.state ≡ fresh → disk_of files name ≡ None → Makes name (now (history_of files past)) (now (history_of more past'))
+  pub now_made : (past past' : List (List Entry)) → e.state ≡ new_file → disk_of files name ≡ None → Makes name (now (history_of files past)) (now (history_of more past'))
   now_made past past' new none = makes_same _ _ _ _ name (now_is files past) (now_is more past') (
     none,
     λ q. ap (λ fs. disk_of fs q) is_more ∙ disk_more files e q (none_named none)

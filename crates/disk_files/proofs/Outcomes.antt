@@ -1,7 +1,7 @@
 -- The laws of what a stop may leave.
 use Rattle.std.proofs.Common.{◌≡◌, inl, inr, ⊎_elim, ℕ, ◌≤◌, false, List, ◌++◌, length, take, drop, append_assoc, Option, Some, None, option_map, refl, sym, ◌∙◌, ap, arith, length-take}
 use Rattle.std.proofs.lemmas.List.{take_all, take-append-le, take-append-drop}
-use Rattle.disk_files.specs.Disk.{File, Folder, fresh, grown, flushed, unlinked, kept_file, MayStay, StopLeaves, settled}
+use Rattle.disk_files.specs.Disk.{File, Folder, new_file, with_bytes, flushed, unlinked, kept_file, MayStay, StopLeaves, after_stop}
 
 -- a front of a list with a front of another behind it is a front of the two
 front_of : (w bytes : List ℕ) (n k : ℕ) (left : List ℕ) → k ≡ length left → take k (w ++ take n bytes) ≡ left → take k (w ++ bytes) ≡ left
@@ -10,11 +10,11 @@ front_of w bytes n k left len is =
     let within : k ≤ length (w ++ take n bytes) = omega (arith, len, ap length is, length-take k (w ++ take n bytes)) in
     ap (take k) whole ∙ take-append-le k (w ++ take n bytes) (drop n bytes) within ∙ is
 
-pub append_inside : (f : File) (bytes : List ℕ) (n : ℕ) (left : Option (List ℕ)) → f.synced ≤ length f.written → MayStay (Some (grown (take n bytes) f)) left → MayStay (Some (grown bytes f)) left
+pub append_inside : (f : File) (bytes : List ℕ) (n : ℕ) (left : Option (List ℕ)) → f.synced ≤ length f.written → MayStay (Some (with_bytes (take n bytes) f)) left → MayStay (Some (with_bytes bytes f)) left
 append_inside f bytes n None fits stays = stays
 append_inside f bytes n (Some left) fits stays = (stays.0, front_of f.written bytes n (length left) left refl stays.1)
 
-pub create_inside : (left : Option (List ℕ)) → MayStay None left → MayStay (Some fresh) left
+pub create_inside : (left : Option (List ℕ)) → MayStay None left → MayStay (Some new_file) left
 create_inside None stays = inr refl
 create_inside (Some left) stays = absurd (cc stays)
 
@@ -39,5 +39,5 @@ settles_at None left stays = stays
 settles_at (Some bytes) None stays = absurd (⊎_elim (λ gone. cc gone) (λ no. cc no) stays)
 settles_at (Some bytes) (Some left) stays = ap Some (sym stays.1 ∙ take_all (length left) bytes stays.0)
 
-pub settles : (folder left : Folder) → StopLeaves (settled folder) left → (name : List ℕ) → left name ≡ folder name
+pub settles : (folder left : Folder) → StopLeaves (after_stop folder) left → (name : List ℕ) → left name ≡ folder name
 settles folder left leaves name = settles_at (folder name) (left name) (leaves name)

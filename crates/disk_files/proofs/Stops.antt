@@ -1,7 +1,7 @@
 -- The stop of a folder in memory.
 use Rattle.std.proofs.Common.{◌≡◌, inl, inr, ℕ, zero, suc, ◌≤◌, cond, not, Bool, true, false, List, [], ◌∷◌, length, take, max, Option, Some, None, is_some, option_map, option_and_then, slice_get, slice_set, refl, sym, ◌∙◌, ap, subst, arith, length-take}
 use Rattle.std.specs.Str.{bytes_eq}
-use Rattle.disk_files.specs.Disk.{File, kept_file, unlinked, settled, SameDisk, MayStay, StopLeaves, reads, read_of}
+use Rattle.disk_files.specs.Disk.{File, kept_file, unlinked, after_stop, SameDisk, MayStay, StopLeaves, reads, read_of}
 use Rattle.disk_files.specs.Entry.{Entry}
 use Rattle.disk_files.specs.Table.{disk_of, IsSound, name_of, ChangesAt}
 use Rattle.disk_files.specs.Stopped.{stopped, cut_to, left_state, StoppedTo, those_there}
@@ -235,11 +235,11 @@ read_kept None = refl
 read_kept (Some bytes) = refl
 
 module _ (files new : List Entry) (past past' : List (List Entry)) (keep : Keep) (last : Option (List ℕ)) (sound : IsSound files)
-    (left : (name : List ℕ) → disk_of new name ≡ settled (left_of keep last (disk_of files)) name) where
-  left_now : (name : List ℕ) → now (history_of new past') name ≡ settled (left_of keep last (disk_of files)) name
+    (left : (name : List ℕ) → disk_of new name ≡ after_stop (left_of keep last (disk_of files)) name) where
+  left_now : (name : List ℕ) → now (history_of new past') name ≡ after_stop (left_of keep last (disk_of files)) name
   left_now name = now_is new past' name ∙ left name
 
-  pub stop_left : SameDisk (now (history_of new past')) (settled (left_of keep last (now (history_of files past))))
+  pub stop_left : SameDisk (now (history_of new past')) (after_stop (left_of keep last (now (history_of files past))))
   stop_left name = left_now name ∙ ap (λ s. option_map kept_file (option_and_then (left_bytes keep (is_named last name)) s)) (sym (now_is files past name))
 
   reads_left : (name : List ℕ) → reads (now (history_of new past')) name ≡ left_of keep last (disk_of files) name
@@ -250,10 +250,10 @@ module _ (files new : List Entry) (past past' : List (List Entry)) (keep : Keep)
       subst (λ s. MayStay s (reads (now (history_of new past')) name)) (sym (now_is files past name))
       (subst (MayStay (disk_of files name)) (sym (reads_left name)) (left_stays keep (is_named last name) (disk_of files name) (fits_at files sound name)))
 
-  pub stop_settled : SameDisk (now (history_of new past')) (settled (reads (now (history_of new past'))))
+  pub stop_settled : SameDisk (now (history_of new past')) (after_stop (reads (now (history_of new past'))))
   stop_settled name = left_now name ∙ ap (option_map kept_file) (sym (reads_left name))
 
 -- what is left, where the file written to last is told in another way
-pub left_known : (files after : List Entry) (keep : Keep) (last last' : Option ℕ) → last ≡ last' → SameDisk (disk_of after) (settled (left_of keep (name_at files last) (disk_of files)))
-    → SameDisk (disk_of after) (settled (left_of keep (name_at files last') (disk_of files)))
-left_known files after keep last last' same left = subst (λ l. SameDisk (disk_of after) (settled (left_of keep (name_at files l) (disk_of files)))) same left
+pub left_known : (files after : List Entry) (keep : Keep) (last last' : Option ℕ) → last ≡ last' → SameDisk (disk_of after) (after_stop (left_of keep (name_at files last) (disk_of files)))
+    → SameDisk (disk_of after) (after_stop (left_of keep (name_at files last') (disk_of files)))
+left_known files after keep last last' same left = subst (λ l. SameDisk (disk_of after) (after_stop (left_of keep (name_at files l) (disk_of files)))) same left

@@ -2,7 +2,7 @@
 use Rattle.std.proofs.Common.{◌≡◌, ℕ, zero, suc, ◌+◌, ◌==◌, Bool, true, false, cond, List, [], ◌∷◌, ◌++◌, length, Option, Some, None, option_map, slice_get, slice_set, refl, sym, ◌∙◌, ap, arith, length-append}
 use Rattle.std.specs.Option.{option_or}
 use Rattle.std.proofs.lemmas.Grind.{common_steps}
-use Rattle.disk_files.specs.Disk.{File, grown}
+use Rattle.disk_files.specs.Disk.{File, with_bytes}
 use Rattle.disk_files.specs.Entry.{Entry}
 use Rattle.disk_files.specs.Table.{ChangesAt}
 use Rattle.disk_files.specs.Written.{place_written, last_place}
@@ -87,11 +87,11 @@ apart_from : (n : ℕ) → (n == 0) ≡ false → n ≡ 0 → ⊥
 apart_from n is none = grind (arith, common_steps)
 
 -- after an append it is that file, unless nothing was appended
-pub last_grown : (files new : List Entry) (at : ℕ) (bytes : List ℕ) → ChangesAt at (grown bytes) files new → (past : List (List Entry)) (last mid after : Option ℕ) (past' : List (List Entry))
+pub last_grown : (files new : List Entry) (at : ℕ) (bytes : List ℕ) → ChangesAt at (with_bytes bytes) files new → (past : List (List Entry)) (last mid after : Option ℕ) (past' : List (List Entry))
     → last ≡ last_place files past → mid ≡ last → past' ≡ files ∷ past → after ≡ cond (length bytes == 0) mid (Some at) → after ≡ last_place new past'
 last_grown files new at bytes change past last mid after past' was same noted is =
     is ∙ by (length bytes == 0) refl ∙ ap (last_place new) (sym noted)
   where
     by : (b : Bool) → (length bytes == 0) ≡ b → cond b mid (Some at) ≡ last_place new (files ∷ past)
-    by true none = same ∙ was ∙ sym (last_kept files new at (grown bytes) change past (λ f. omega (arith, length-append f.written bytes, same_as (length bytes) none)))
-    by false some = sym (last_moved files new at (grown bytes) change past (λ f eq. apart_from (length bytes) some (omega (arith, length-append f.written bytes, eq))))
+    by true none = same ∙ was ∙ sym (last_kept files new at (with_bytes bytes) change past (λ f. omega (arith, length-append f.written bytes, same_as (length bytes) none)))
+    by false some = sym (last_moved files new at (with_bytes bytes) change past (λ f eq. apart_from (length bytes) some (omega (arith, length-append f.written bytes, eq))))

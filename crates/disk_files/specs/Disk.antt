@@ -19,12 +19,12 @@ abbrev pub Folder : Type 0
 Folder = List ℕ → Option (List ℕ)
 
 -- a file just made: it is empty, and not certainly on the disk
-abbrev pub fresh : File
-fresh = record { written = []; synced = 0; is_durable = false; is_removed = false }
+abbrev pub new_file : File
+new_file = record { written = []; synced = 0; is_durable = false; is_removed = false }
 
 -- the file with these bytes at its end
-abbrev pub grown : List ℕ → File → File
-grown bytes f = record f { written = f.written ++ bytes }
+abbrev pub with_bytes : List ℕ → File → File
+with_bytes bytes f = record f { written = f.written ++ bytes }
 
 -- the file after a sync: it is certainly on the disk, with all that was written
 abbrev pub flushed : File → File
@@ -44,7 +44,7 @@ SameDisk a b = (name : List ℕ) → a name ≡ b name
 
 -- a file of this name, of which there was none, was made, and nothing else changed
 abbrev pub Makes : List ℕ → Disk → Disk → Type 0
-Makes name before after = (before name ≡ None) × SameDisk after (with_file before name (Some fresh))
+Makes name before after = (before name ≡ None) × SameDisk after (with_file before name (Some new_file))
 
 -- the file of this name changed so, and nothing else did
 abbrev pub Changes : List ℕ → (File → File) → Disk → Disk → Type 0
@@ -75,5 +75,5 @@ abbrev pub kept_file : List ℕ → File
 kept_file bytes = record { written = bytes; synced = length bytes; is_durable = true; is_removed = false }
 
 -- the disk after a stop that left this folder: what is left counts as synced
-abbrev pub settled : Folder → Disk
-settled folder name = option_map kept_file (folder name)
+abbrev pub after_stop : Folder → Disk
+after_stop folder name = option_map kept_file (folder name)

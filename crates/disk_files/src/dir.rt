@@ -3,7 +3,7 @@
 ghost use Rattle.std.specs.Prelude.{◌≡◌, ◌≢◌, ◌⊎◌, ◌↔◌, ℕ, ◌+◌, ◌-◌, ◌≤◌, List, ◌++◌, length, take, drop, min, Bool, Option, Some, None, IsSome, IfOk, OnOk, OnErr, IsErrOf, Contains};
 ghost use Rattle.std.specs.List.{IsDistinct};
 ghost use Rattle.std.specs.Str.{bytes_eq};
-ghost use Rattle.disk_files.specs.Disk.{grown, flushed, unlinked, SameDisk, Makes, Changes, reads, StopLeaves};
+ghost use Rattle.disk_files.specs.Disk.{with_bytes, flushed, unlinked, SameDisk, Makes, Changes, reads, StopLeaves};
 ghost use Rattle.disk_files.specs.Moments.{History, Elapses, now};
 ghost use Rattle.disk_files.specs.Faults.{HasCause, FailsInTurn};
 ghost use Rattle.disk_files.specs.declared.dir.FileNo.{FileNo};
@@ -185,10 +185,10 @@ pub trait Dir {
         ensures honest { is_honest self.old → is_honest self.new }
         ensures time { is_honest self.old → Elapses (history self.old) (history self.new) }
         ensures ok { is_honest self.old → (name : List ℕ) → opened self.old file ≡ Some name
-            → OnOk result (Changes name (grown bytes.now) (now (history self.old)) (now (history self.new))) }
+            → OnOk result (Changes name (with_bytes bytes.now) (now (history self.old)) (now (history self.new))) }
         ensures err { is_honest self.old → (name : List ℕ) → opened self.old file ≡ Some name
             → OnErr result ((n : ℕ)
-            × Changes name (grown (take n bytes.now)) (now (history self.old)) (now (history self.new))) }
+            × Changes name (with_bytes (take n bytes.now)) (now (history self.old)) (now (history self.new))) }
         ensures opened { (other : FileNo) → opened self.new other ≡ opened self.old other }
         ensures room_left { bytes_left self.old file ≤ bytes_left self.new file + length bytes.now }
         ensures other_room { (other : FileNo) → other ≢ file

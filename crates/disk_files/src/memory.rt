@@ -1,7 +1,7 @@
 //! A folder in memory, which can be stopped at any moment.
 
 ghost use Rattle.std.specs.Prelude.{◌≡◌, ◌==◌, ℕ, List, Some, None, cond, ◌+◌, ◌-◌, ◌≤◌, ◌++◌, [], ◌∷◌, length, take, drop, min, IfOk, vec_len};
-ghost use Rattle.disk_files.specs.Disk.{SameDisk, reads, StopLeaves, settled};
+ghost use Rattle.disk_files.specs.Disk.{SameDisk, reads, StopLeaves, after_stop};
 ghost use Rattle.disk_files.specs.Moments.{now};
 ghost use Rattle.disk_files.specs.Stop.{left_of, name_at};
 ghost use Rattle.disk_files.specs.Stopped.{left_state};
@@ -49,9 +49,9 @@ impl<A: Allocator + Copy> MemoryDir<A> {
     pub fn stop(self, keep: Keep) -> MemoryDir<A>
         ensures honest { IsHonest self → IsHonest result }
         ensures left { IsHonest self
-            → SameDisk (disk result) (settled (left_of keep (last_written self) (disk self))) }
+            → SameDisk (disk result) (after_stop (left_of keep (last_written self) (disk self))) }
         ensures outcome { IsHonest self → StopLeaves (disk self) (reads (disk result)) }
-        ensures settled { IsHonest self → SameDisk (disk result) (settled (reads (disk result))) }
+        ensures settled { IsHonest self → SameDisk (disk result) (after_stop (reads (disk result))) }
     {
         let mut dir = self;
         dir.lose(keep);
@@ -62,7 +62,7 @@ impl<A: Allocator + Copy> MemoryDir<A> {
     fn lose(&mut self, keep: Keep)
         ensures sound { IsSound self.old.files.items → IsSound self.new.files.items }
         ensures left { IsSound self.old.files.items → SameDisk (disk_of self.new.files.items)
-            (settled (left_of keep (name_at self.old.files.items self.old.last) (disk_of self.old.files.items))) }
+            (after_stop (left_of keep (name_at self.old.files.items self.old.last) (disk_of self.old.files.items))) }
         ensures past { self.new.past ≡ [] }
         ensures last { self.new.last ≡ None }
     {

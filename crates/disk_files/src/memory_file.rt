@@ -2,7 +2,7 @@
 
 ghost use Rattle.std.specs.Prelude.{◌≡◌, ◌+◌, ◌≤◌, ◌<◌, false, not, List, ℕ, length, position, Some, None, IsSome, is_some, IfSome, IfNone, IfOk, OnOk, OnErr, slice_get, vec_len};
 ghost use Rattle.std.specs.Str.{bytes_eq};
-ghost use Rattle.disk_files.specs.Disk.{fresh, grown, flushed, unlinked, read_of, settled};
+ghost use Rattle.disk_files.specs.Disk.{new_file, with_bytes, flushed, unlinked, read_of, after_stop};
 ghost use Rattle.disk_files.specs.declared.keep.Keep.TheVariants.{Last};
 ghost use Rattle.disk_files.specs.Stop.{left_of, name_at};
 ghost use Rattle.disk_files.specs.Stopped.{stopped, cut_to, left_state, StoppedTo, those_there};
@@ -48,7 +48,7 @@ impl<A: Allocator> MemoryFile<A> {
     where
         A: Copy,
         ensures name { IfOk result (λ e. e.name ≡ name.now) }
-        ensures state { IfOk result (λ e. e.state ≡ fresh) }
+        ensures state { IfOk result (λ e. e.state ≡ new_file) }
         ensures room { IfOk result (λ e. room ≤ e.room) }
     {
         let mut bytes = Vec::new(alloc);
@@ -95,7 +95,7 @@ impl<A: Allocator> MemoryFile<A> {
         requires there { self.old.state.is_removed ≡ false }
         requires room { length bytes.now ≤ self.old.room }
         ensures name { self.new.name ≡ self.old.name }
-        ensures state { self.new.state ≡ grown bytes.now self.old.state }
+        ensures state { self.new.state ≡ with_bytes bytes.now self.old.state }
         ensures room { self.old.room ≤ self.new.room + length bytes.now }
     {
         if self.bytes.extend_from_slice(bytes).is_err() {
@@ -184,7 +184,7 @@ pub fn place_there<A: Allocator>(files: &Vec<MemoryFile<A>, A>, name: &[u8]) -> 
 pub fn grow_at<A: Allocator>(files: &mut Vec<MemoryFile<A>, A>, at: usize, bytes: &[u8])
     requires there { IsSome (name_of (slice_get files.old.items at)) }
     requires room { length bytes.now ≤ room_of (slice_get files.old.items at) }
-    ensures changed { ChangesAt at (grown bytes.now) files.old.items files.new.items }
+    ensures changed { ChangesAt at (with_bytes bytes.now) files.old.items files.new.items }
     ensures room { room_of (slice_get files.old.items at)
         ≤ room_of (slice_get files.new.items at) + length bytes.now }
 {
@@ -230,7 +230,7 @@ pub fn cut_at<A: Allocator>(files: &mut Vec<MemoryFile<A>, A>, at: usize, n: usi
 pub fn cut_last<A: Allocator>(files: &mut Vec<MemoryFile<A>, A>, last: Option<usize>, n: usize)
     ensures sound { IsSound files.old.items → IsSound files.new.items }
     ensures left { IsSound files.old.items → (name : List ℕ) → left_state false (disk_of files.new.items name)
-        ≡ settled (left_of (Last n) (name_at files.old.items last) (disk_of files.old.items)) name }
+        ≡ after_stop (left_of (Last n) (name_at files.old.items last) (disk_of files.old.items)) name }
 {
     let Some(at) = last else {
         return;

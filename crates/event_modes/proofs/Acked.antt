@@ -6,11 +6,11 @@ use Rattle.std.proofs.lemmas.List.{append-nil, length-append, length-drop, lengt
 use Rattle.msgpack_bytes.specs.declared.format.Kind.TheVariants as kind
 use Rattle.msgpack_bytes.specs.declared.format.Container.TheVariants as container
 use Rattle.msgpack_bytes.specs.Format.{shape_of}
-use Rattle.msgpack_bytes.specs.Item.{IsScalarHeader, IsContainerHeader, Spells, IsTextItem}
+use Rattle.msgpack_bytes.specs.Item.{IsScalarHeader, IsContainerHeader, Spells, IsItemWithin}
 use Rattle.msgpack_bytes.specs.Kinds.{IsText}
 use Rattle.msgpack_bytes.proofs.Slices.{slice_middle}
 use Rattle.msgpack_bytes.specs.Containers.{IsPart, Pair, pair_items, pair_bytes, IsMap}
-use Rattle.msgpack_bytes.specs.Names.{Lacks, IsLastValue}
+use Rattle.msgpack_bytes.specs.Names.{HasNoKey, IsLastValue}
 use Rattle.event_modes.specs.Options.{longest_chunk}
 use Rattle.event_modes.specs.Pairs.{pair_of}
 use Rattle.msgpack_bytes.specs.declared.answers.MsgFault.{MsgFault}
@@ -137,9 +137,9 @@ same_value item content value pairs m l a =
     let e = map_one a.pairs pairs item a.map m in
     subst (λ (v : List ℕ). IsText v content) (last_one (codes "ack") pairs a.value value (subst (λ (ps : List Pair). IsLastValue (codes "ack") ps a.value) e a.last) l) a.text
 
-pub no_value : (item content : List ℕ) (pairs : List Pair) → IsMap pairs item → Lacks (codes "ack") pairs → IsAcknowledgement item content → ⊥
+pub no_value : (item content : List ℕ) (pairs : List Pair) → IsMap pairs item → HasNoKey (codes "ack") pairs → IsAcknowledgement item content → ⊥
 no_value item content pairs m l a =
-    lacks_last (codes "ack") a.pairs a.value (subst (Lacks (codes "ack")) (map_one pairs a.pairs item m a.map) l) a.last
+    lacks_last (codes "ack") a.pairs a.value (subst (HasNoKey (codes "ack")) (map_one pairs a.pairs item m a.map) l) a.last
 
 -- ---- where an acknowledgement lies
 
@@ -147,12 +147,12 @@ take_whole : (item : List ℕ) → take (length item) item ≡ item
 take_whole item = take_all (length item) item (omega arith)
 
 -- the item itself, seen as the front of its bytes
-pub acknowledged_at : (item content value : List ℕ) (behind : ℕ) (pairs : List Pair) → IsTextItem item → IsMap pairs item → (l : IsLastValue (codes "ack") pairs value) → behind ≡ length (concat (pair_items l.after)) → IsText value content
+pub acknowledged_at : (item content value : List ℕ) (behind : ℕ) (pairs : List Pair) → IsItemWithin item → IsMap pairs item → (l : IsLastValue (codes "ack") pairs value) → behind ≡ length (concat (pair_items l.after)) → IsText value content
     → Spanned item content behind → IsAckAt item (length item - behind - length content) (length item - behind) (length item)
 acknowledged_at item content value behind pairs t m l b x s = record {
   fits = omega arith;
   is = record {
-    item = subst IsTextItem (sym (take_whole item)) t;
+    item = subst IsItemWithin (sym (take_whole item)) t;
     pairs = pairs;
     map = subst (IsMap pairs) (sym (take_whole item)) m;
     value = value;
@@ -178,7 +178,7 @@ at_front bytes item start end next le e a =
     record {
       fits = le;
       is = record {
-        item = subst IsTextItem f s.item;
+        item = subst IsItemWithin f s.item;
         pairs = s.pairs;
         map = subst (IsMap s.pairs) f s.map;
         value = s.value;
@@ -189,7 +189,7 @@ at_front bytes item start end next le e a =
       ends = a.ends ∙ n;
     }
 
-begins_ack : (bytes : List ℕ) (start end next : ℕ) → IsAckAt bytes start end next → Begins IsTextItem bytes
+begins_ack : (bytes : List ℕ) (start end next : ℕ) → IsAckAt bytes start end next → Begins IsItemWithin bytes
 begins_ack bytes start end next a = record { front = take next bytes; back = drop next bytes; is = a.is.item; whole = sym (take-append-drop next bytes) }
 
 same_place : (bytes : List ℕ) (s e n t f m : ℕ) → IsAckAt bytes s e n → IsAckAt bytes t f m → (s ≡ t) × (e ≡ f) × (n ≡ m)

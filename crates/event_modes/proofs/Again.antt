@@ -5,7 +5,7 @@ use Rattle.std.proofs.lemmas.List.{append-nil, length-append, nil_from_length}
 use Rattle.std.proofs.lemmas.Bool.{eqb-true}
 use Rattle.msgpack_bytes.specs.declared.format.Container.TheVariants as container
 use Rattle.msgpack_bytes.specs.Format.{shape_of}
-use Rattle.msgpack_bytes.specs.Item.{IsContainerHeader, IsTextItem}
+use Rattle.msgpack_bytes.specs.Item.{IsContainerHeader, IsItemWithin}
 use Rattle.event_modes.specs.declared.fault.ModeFault.{ModeFault}
 use Rattle.event_modes.specs.Entry.{stored_entry, IsEntry}
 use Rattle.event_modes.specs.Rows.{items_of, IsStored, AreStored, AreEntries, SomeEntries}
@@ -21,7 +21,7 @@ unfolding shape_of
 short_header h p = p.1
 
 -- an entry that begins as it is stored is stored so
-pub is_kept : (entry stored : List ℕ) → IsTextItem entry → get_or entry 0 0 ≡ 0x92 → IsEntry entry stored → IsStored entry
+pub is_kept : (entry stored : List ℕ) → IsItemWithin entry → get_or entry 0 0 ≡ 0x92 → IsEntry entry stored → IsStored entry
 is_kept entry stored t f i = kept i.array.header i.array.counted i.array.whole
   where
     kept : (h : List ℕ) → IsContainerHeader container.Array 2 h → entry ≡ h ++ concat (i.time ∷ i.fields ∷ []) → IsStored entry
@@ -36,7 +36,7 @@ is_kept entry stored t f i = kept i.array.header i.array.counted i.array.whole
 pub first_byte : (entry : List ℕ) → IsStored entry → get_or entry 0 0 ≡ 0x92
 first_byte entry s = ap (λ (x : List ℕ). get_or x 0 0) s.kept.is_stored
 
-pub some_byte : (entry : List ℕ) → IsTextItem entry → 0 < length entry
+pub some_byte : (entry : List ℕ) → IsItemWithin entry → 0 < length entry
 some_byte [] t = absurd (some_item (text_item [] t))
 some_byte (x ∷ entry) t = omega arith
 
@@ -109,7 +109,7 @@ none_more count bytes rest left c n z s =
     let o = first_other rest left (others_of count bytes rest left c s) n in
     let l = o.4 in omega arith
 
-pub none_else : (count : ℕ) (bytes rest entry behind : List ℕ) (left : ℕ) → Counting count bytes rest left → (rest ≡ [] → ⊥) → IsTextItem entry → rest ≡ entry ++ behind → (IsStored entry → ⊥) → SomeEntries count bytes → ⊥
+pub none_else : (count : ℕ) (bytes rest entry behind : List ℕ) (left : ℕ) → Counting count bytes rest left → (rest ≡ [] → ⊥) → IsItemWithin entry → rest ≡ entry ++ behind → (IsStored entry → ⊥) → SomeEntries count bytes → ⊥
 none_else count bytes rest entry behind left c n t e m s =
     let o = first_other rest left (others_of count bytes rest left c s) n in
     m (subst IsStored (same_front o.0 entry o.1 behind (text_item o.0 o.2.item) (text_item entry t) (sym o.3 ∙ e)) o.2)
@@ -128,5 +128,5 @@ none_left count bytes rest left c e s = none o.others o.each o.all o.whole
 -- there is one list of entries
 pub one_list : (count : ℕ) (bytes : List ℕ) (xs : List (List ℕ)) → AreEntries xs count bytes → AreStored count bytes × (items_of count bytes ≡ xs)
 one_list count bytes xs a =
-    let r = are_items count bytes xs (sym a.all) (sym a.whole) (all_map IsStored IsTextItem xs (λ x p. p.item) a.each) in
+    let r = are_items count bytes xs (sym a.all) (sym a.whole) (all_map IsStored IsItemWithin xs (λ x p. p.item) a.each) in
     (record { items = r.0; each = subst (AllByRecursion IsStored) (sym r.1) a.each }, r.1)

@@ -2,9 +2,9 @@
 use Rattle.std.proofs.Common.{ℕ, ◌≡◌, ◌+◌, ◌-◌, ◌≤◌, List, [], ◌++◌, length, take, drop, nat_lt, true, false, refl, ap, sym, subst, ◌∙◌, arith}
 use Rattle.std.proofs.lemmas.List.{take-append-drop, take-append-le, length-take-le, take_all, length-append}
 use Rattle.msgpack_bytes.specs.declared.answers.Scan.TheVariants as scan
-use Rattle.msgpack_bytes.specs.declared.answers.Taken.TheVariants as taken
+use Rattle.msgpack_bytes.specs.declared.answers.PieceScan.TheVariants as taken
 use Rattle.msgpack_bytes.specs.declared.answers.MsgFault.{MsgFault}
-use Rattle.msgpack_bytes.specs.Item.{IsTextItem, IsOpen}
+use Rattle.msgpack_bytes.specs.Item.{IsItemWithin, IsOpen}
 use Rattle.msgpack_bytes.specs.Answers.{IsScanned}
 use Rattle.msgpack_bytes.specs.Pieces.{Scanning, IsAfter, IsTaken}
 use Rattle.msgpack_bytes.proofs.Slices.{less, not_less}
@@ -59,7 +59,7 @@ module _ (ahead : Ahead) (unread rest : List ℕ) (g : IsGiven ahead unread) (is
         let within = g.within in
         let n : end - 0 ≡ end = omega arith in
         let same : take (end - 0) unread ≡ take end seen = ap (λ (k : ℕ). take k unread) n ∙ ap (take end) (sym all) ∙ take-append-le end seen rest (omega arith) in
-        absurd (not_open seen (record { front = take end seen; back = drop end seen; is = subst IsTextItem same s.2; whole = sym (take-append-drop end seen) }) g.still))
+        absurd (not_open seen (record { front = take end seen; back = drop end seen; is = subst IsItemWithin same s.2; whole = sym (take-append-drop end seen) }) g.still))
     | false ↦ λ e. not_less end ahead.given e
   ] refl
 

@@ -9,7 +9,7 @@ use Rattle.msgpack_bytes.specs.declared.format.Kind.TheVariants as kind
 use Rattle.msgpack_bytes.specs.declared.format.Container.{Container}
 use Rattle.msgpack_bytes.specs.declared.format.Container.TheVariants as container
 use Rattle.msgpack_bytes.specs.Format.{big_endian, items_in, shape_of}
-use Rattle.msgpack_bytes.specs.Item.{Sizes, IsScalarHeader, IsContainerHeader, IsScalar, Row, Item, longest, IsTextItem}
+use Rattle.msgpack_bytes.specs.Item.{Sizes, IsScalarHeader, IsContainerHeader, IsScalar, Row, Item, longest, IsItemWithin}
 use Rattle.msgpack_bytes.specs.Kinds.{IsText, Unsigned}
 use Rattle.msgpack_bytes.specs.Containers.{IsPart, IsArray}
 use Rattle.event_modes.specs.Entry.{IsEventTime, IsTime, IsRecord}
@@ -178,11 +178,11 @@ two_header : IsContainerHeader container.Array 2 (0x92 ∷ [])
 unfolding shape_of
 two_header = (refl, refl, refl)
 
-pub entry_is_stored : (entry event : List ℕ) → IsTextItem entry → entry ≡ 0x92 ∷ event → BeginsEvent event → IsStored entry
+pub entry_is_stored : (entry event : List ℕ) → IsItemWithin entry → entry ≡ 0x92 ∷ event → BeginsEvent event → IsStored entry
 entry_is_stored entry event t e v = parts r.0 r.1 r.2 r.3
   where
     r : (items : List (List ℕ)) × (2 ≡ length items) × AllByRecursion IsPart items × (event ≡ concat items)
-    r = row_items 2 event (container_parts container.Array 2 (0x92 ∷ []) event (subst IsTextItem e t) two_header)
+    r = row_items 2 event (container_parts container.Array 2 (0x92 ∷ []) event (subst IsItemWithin e t) two_header)
 
     parts : (items : List (List ℕ)) → 2 ≡ length items → AllByRecursion IsPart items → event ≡ concat items → IsStored entry
     parts [] n p w = absurd (omega arith)
@@ -196,7 +196,7 @@ three_header : IsContainerHeader container.Array 3 (0x93 ∷ [])
 unfolding shape_of
 three_header = (refl, refl, refl)
 
-pub one_event_is : (item tag event elements : List ℕ) → IsTextItem item → item ≡ 0x93 ∷ elements → BeginsStr elements tag event → BeginsEvent event → IsOneEvent item tag event
+pub one_event_is : (item tag event elements : List ℕ) → IsItemWithin item → item ≡ 0x93 ∷ elements → BeginsStr elements tag event → BeginsEvent event → IsOneEvent item tag event
 one_event_is item tag event elements t e s v = parts r.0 r.1 r.2 r.3
   where
     front : List ℕ
@@ -209,7 +209,7 @@ one_event_is item tag event elements t e s v = parts r.0 r.1 r.2 r.3
     spelled = e ∙ ap (λ (z : List ℕ). 0x93 ∷ z) s.whole
 
     r : (items : List (List ℕ)) × (3 ≡ length items) × AllByRecursion IsPart items × (inner ≡ concat items)
-    r = row_items 3 inner (container_parts container.Array 3 (0x93 ∷ []) inner (subst IsTextItem spelled t) three_header)
+    r = row_items 3 inner (container_parts container.Array 3 (0x93 ∷ []) inner (subst IsItemWithin spelled t) three_header)
 
     of : IsPart front → Event event → IsOneEvent item tag event
     of p x = record {

@@ -5,7 +5,7 @@ use Rattle.std.proofs.lemmas.List.{append-nil, length-append}
 use Rattle.std.proofs.lemmas.List.Elements.{AllZip-push}
 use Rattle.msgpack_bytes.specs.declared.format.Container.TheVariants as container
 use Rattle.msgpack_bytes.specs.Format.{shape_of}
-use Rattle.msgpack_bytes.specs.Item.{IsContainer, IsContainerHeader, Item, longest, IsTextItem}
+use Rattle.msgpack_bytes.specs.Item.{IsContainer, IsContainerHeader, Item, longest, IsItemWithin}
 use Rattle.event_modes.specs.declared.fault.ModeFault.{ModeFault}
 use Rattle.msgpack_bytes.specs.Containers.{IsPart, IsArray}
 use Rattle.event_modes.specs.Entry.{IsTime, IsRecord, stored_entry, IsEntry}
@@ -19,7 +19,7 @@ use Rattle.event_modes.proofs.Stored.{concat-push}
 
 -- ---- an event as it is stored
 
-pub part_text : (bytes : List ℕ) → IsPart bytes → length bytes ≤ longest → IsTextItem bytes
+pub part_text : (bytes : List ℕ) → IsPart bytes → length bytes ≤ longest → IsItemWithin bytes
 part_text bytes p l = record { item = (part_item bytes p).item; short = l }
 
 pair_header : IsContainerHeader container.Array 2 (0x92 ∷ [])
@@ -55,7 +55,7 @@ pub some_header : (c : _) (n : ℕ) (h : List ℕ) → IsContainerHeader c n h �
 some_header c n [] p = absurd p
 some_header c n (a ∷ h) p = omega arith
 
-pub entry_stored : (entry stored : List ℕ) → IsTextItem entry → IsEntry entry stored → IsStored stored
+pub entry_stored : (entry stored : List ℕ) → IsItemWithin entry → IsEntry entry stored → IsStored stored
 entry_stored entry stored t e =
     let h = some_header container.Array 2 e.array.header e.array.counted in
     let l = ap length e.array.whole in
@@ -84,9 +84,9 @@ all_behind : (P : List ℕ → Type 0) (xs ys : List (List ℕ)) → AllByRecurs
 all_behind P [] ys p = p
 all_behind P (x ∷ xs) ys p = all_behind P xs ys p.1
 
-pub forward_text : (array entry : List ℕ) (left others entries : List (List ℕ)) → IsTextItem array → Collected array left entries → left ≡ entry ∷ others → IsTextItem entry
+pub forward_text : (array entry : List ℕ) (left others entries : List (List ℕ)) → IsItemWithin array → Collected array left entries → left ≡ entry ∷ others → IsItemWithin entry
 forward_text array entry left others entries t c e =
-    let p : AllByRecursion IsTextItem (entry ∷ others) = subst (AllByRecursion IsTextItem) e (all_behind IsTextItem c.before left (element_texts (c.before ++ left) array t c.is_array)) in
+    let p : AllByRecursion IsItemWithin (entry ∷ others) = subst (AllByRecursion IsItemWithin) e (all_behind IsItemWithin c.before left (element_texts (c.before ++ left) array t c.is_array)) in
     p.0
 
 pub forward_more : (array entry stored : List ℕ) (left others entries : List (List ℕ)) → Collected array left entries → left ≡ entry ∷ others → IsEntry entry stored → Collected array others (entries ++ stored ∷ [])
@@ -108,17 +108,17 @@ forward_fault array entry left others entries fault c e f =
 
 pub record Packing (content rest : List ℕ) (entries : List (List ℕ)) : Type 0 where
   pub before : List (List ℕ)
-  pub texts : AllByRecursion IsTextItem before
+  pub texts : AllByRecursion IsItemWithin before
   pub each : AllZip IsEntry before entries
   pub whole : content ≡ concat before ++ rest
 
 pub packed_start : (content : List ℕ) (entries : List (List ℕ)) → entries ≡ [] → Packing content content entries
 packed_start content entries e = record { before = []; texts = tt; each = subst (AllZip IsEntry []) (sym e) tt; whole = refl }
 
-pub packed_more : (content rest entry behind stored : List ℕ) (entries : List (List ℕ)) → Packing content rest entries → IsTextItem entry → rest ≡ entry ++ behind → IsEntry entry stored → Packing content behind (entries ++ stored ∷ [])
+pub packed_more : (content rest entry behind stored : List ℕ) (entries : List (List ℕ)) → Packing content rest entries → IsItemWithin entry → rest ≡ entry ++ behind → IsEntry entry stored → Packing content behind (entries ++ stored ∷ [])
 packed_more content rest entry behind stored entries p t e i = record {
   before = p.before ++ entry ∷ [];
-  texts = all_with IsTextItem p.before entry p.texts t;
+  texts = all_with IsItemWithin p.before entry p.texts t;
   each = AllZip-push IsEntry p.before entries entry stored p.each i;
   whole = p.whole ∙ ap (λ (x : List ℕ). concat p.before ++ x) e ∙ sym (append_assoc (concat p.before) entry behind) ∙ ap (λ (x : List ℕ). x ++ behind) (sym (concat-push p.before entry));
 }
@@ -129,10 +129,10 @@ packed_end content rest entries p e = (p.before, p.texts, p.whole ∙ ap (λ (x 
 pub packed_torn : (content rest : List ℕ) (entries : List (List ℕ)) (fault : ModeFault) → Packing content rest entries → (rest ≡ [] → ⊥) → PackedEnd rest fault → CarriedFault (Packed content) fault
 packed_torn content rest entries fault p n f = (p.before, rest, p.texts, good_entries p.before entries p.each, p.whole, (n, inl f))
 
-pub packed_bad : (content rest entry behind : List ℕ) (entries : List (List ℕ)) (fault : ModeFault) → Packing content rest entries → (rest ≡ [] → ⊥) → IsTextItem entry → rest ≡ entry ++ behind → EntryFault fault entry → CarriedFault (Packed content) fault
+pub packed_bad : (content rest entry behind : List ℕ) (entries : List (List ℕ)) (fault : ModeFault) → Packing content rest entries → (rest ≡ [] → ⊥) → IsItemWithin entry → rest ≡ entry ++ behind → EntryFault fault entry → CarriedFault (Packed content) fault
 packed_bad content rest entry behind entries fault p n t e f = (p.before, rest, p.texts, good_entries p.before entries p.each, p.whole, (n, inr (entry, behind, t, f, e)))
 
 -- taking an item shortens what is left
-pub packed_shorter : (rest entry behind : List ℕ) → IsTextItem entry → rest ≡ entry ++ behind → length behind < length rest
+pub packed_shorter : (rest entry behind : List ℕ) → IsItemWithin entry → rest ≡ entry ++ behind → length behind < length rest
 packed_shorter rest [] behind t e = absurd (some_item (text_item [] t))
 packed_shorter rest (x ∷ entry) behind t e = let l = ap length e in omega (arith, length-append entry behind)

@@ -3,7 +3,7 @@ use Rattle.std.proofs.Common.{ℕ, zero, suc, ◌≡◌, ◌-◌, ◌*◌, ◌<�
 use Rattle.std.specs.Result.{result_unwrap_or}
 use Rattle.std.specs.List.{AllByRecursion, concat, flat_map}
 use Rattle.std.proofs.lemmas.List.{append-nil, length-append, take_at}
-use Rattle.msgpack_bytes.specs.Item.{IsTextItem}
+use Rattle.msgpack_bytes.specs.Item.{IsItemWithin}
 use Rattle.msgpack_bytes.specs.Answers.{Begins}
 use Rattle.msgpack_bytes.specs.Answers.{IsHead}
 use Rattle.msgpack_bytes.specs.declared.answers.Head.TheVariants as head
@@ -40,10 +40,10 @@ pub items_whole : (xs : List (List ℕ)) → AllByRecursion IsItem xs → items_
 items_whole xs p = ap (items_of (length xs)) (sym (append-nil (concat xs))) ∙ items_all xs [] p
 
 -- so many items are so many items
-pub are_items : (count : ℕ) (bytes : List ℕ) (xs : List (List ℕ)) → count ≡ length xs → bytes ≡ concat xs → AllByRecursion IsTextItem xs → AreItems count bytes × (items_of count bytes ≡ xs)
+pub are_items : (count : ℕ) (bytes : List ℕ) (xs : List (List ℕ)) → count ≡ length xs → bytes ≡ concat xs → AllByRecursion IsItemWithin xs → AreItems count bytes × (items_of count bytes ≡ xs)
 are_items count bytes xs n e p =
     let i : items_of count bytes ≡ xs = ap (λ (k : ℕ). items_of k bytes) n ∙ ap (items_of (length xs)) e ∙ items_whole xs (texts_items xs p) in
-    (record { each = subst (AllByRecursion IsTextItem) (sym i) p; whole = e ∙ ap concat (sym i) }, i)
+    (record { each = subst (AllByRecursion IsItemWithin) (sym i) p; whole = e ∙ ap concat (sym i) }, i)
 
 -- none
 pub no_items : (bytes : List ℕ) → items_of 0 bytes ≡ []
@@ -51,20 +51,20 @@ unfolding items_of
 no_items bytes = refl
 
 -- the first of some
-pub some_items : (count : ℕ) (bytes : List ℕ) → 0 < count → AreItems count bytes → Begins IsTextItem bytes
+pub some_items : (count : ℕ) (bytes : List ℕ) → 0 < count → AreItems count bytes → Begins IsItemWithin bytes
 some_items count bytes lt a = begins (items_of count bytes) (omega (arith, length-items count bytes)) a.each a.whole
   where
-    begins : (xs : List (List ℕ)) → 0 < length xs → AllByRecursion IsTextItem xs → bytes ≡ concat xs → Begins IsTextItem bytes
+    begins : (xs : List (List ℕ)) → 0 < length xs → AllByRecursion IsItemWithin xs → bytes ≡ concat xs → Begins IsItemWithin bytes
     begins [] l p e = absurd (omega arith)
     begins (x ∷ xs) l p e = record { front = x; back = concat xs; is = p.0; whole = e }
 
 -- one item is all that is there
-pub only_item : (count : ℕ) (bytes : List ℕ) → count ≡ 1 → AreItems count bytes → IsTextItem bytes
+pub only_item : (count : ℕ) (bytes : List ℕ) → count ≡ 1 → AreItems count bytes → IsItemWithin bytes
 only_item count bytes one a = only (items_of count bytes) (length-items count bytes ∙ one) a.each a.whole
   where
-    only : (xs : List (List ℕ)) → length xs ≡ 1 → AllByRecursion IsTextItem xs → bytes ≡ concat xs → IsTextItem bytes
+    only : (xs : List (List ℕ)) → length xs ≡ 1 → AllByRecursion IsItemWithin xs → bytes ≡ concat xs → IsItemWithin bytes
     only [] n p e = absurd (omega arith)
-    only (x ∷ []) n p e = subst IsTextItem (sym (e ∙ append-nil x)) p.0
+    only (x ∷ []) n p e = subst IsItemWithin (sym (e ∙ append-nil x)) p.0
     only (x ∷ y ∷ xs) n p e = absurd (omega arith)
 
 pub record Taken (count : ℕ) (bytes item others : List ℕ) : Type 0 where
@@ -72,13 +72,13 @@ pub record Taken (count : ℕ) (bytes item others : List ℕ) : Type 0 where
   pub left : AreItems (count - 1) others
 
 -- taking one leaves the others
-pub take_one : (count : ℕ) (bytes item others : List ℕ) → 0 < count → AreItems count bytes → IsTextItem item → bytes ≡ item ++ others → Taken count bytes item others
+pub take_one : (count : ℕ) (bytes item others : List ℕ) → 0 < count → AreItems count bytes → IsItemWithin item → bytes ≡ item ++ others → Taken count bytes item others
 take_one count bytes item others lt a t e = taken (items_of count bytes) refl
   where
     taken : (xs : List (List ℕ)) → items_of count bytes ≡ xs → Taken count bytes item others
     taken [] q = absurd (omega (arith, ap length q, length-items count bytes))
     taken (x ∷ xs) q =
-        let p : AllByRecursion IsTextItem (x ∷ xs) = subst (AllByRecursion IsTextItem) q a.each in
+        let p : AllByRecursion IsItemWithin (x ∷ xs) = subst (AllByRecursion IsItemWithin) q a.each in
         let w : item ++ others ≡ x ++ concat xs = sym e ∙ a.whole ∙ ap concat q in
         let f = same_front item x others (concat xs) (text_item item t) (text_item x p.0) w in
         let b = same_behind item x others (concat xs) (text_item item t) (text_item x p.0) w in
@@ -88,7 +88,7 @@ take_one count bytes item others lt a t e = taken (items_of count bytes) refl
         record { first = cc; left = r.0 }
 
 -- the elements of an array that is an item
-pub element_texts : (items : List (List ℕ)) (bytes : List ℕ) → IsTextItem bytes → IsArray items bytes → AllByRecursion IsTextItem items
+pub element_texts : (items : List (List ℕ)) (bytes : List ℕ) → IsItemWithin bytes → IsArray items bytes → AllByRecursion IsItemWithin items
 element_texts items bytes t a = parts_texts items a.each (omega (arith, t.short, ap length a.whole, length-append a.header (concat items)))
 
 pub pair_concat : (pairs : List Pair) → concat (pair_items pairs) ≡ flat_map pair_bytes pairs
@@ -103,27 +103,27 @@ pub length-pair_items : (pairs : List Pair) → length (pair_items pairs) ≡ 2 
 length-pair_items [] = refl
 length-pair_items (p ∷ pairs) = let h = length-pair_items pairs in omega arith
 
-pub pair_texts : (pairs : List Pair) (bytes : List ℕ) → IsTextItem bytes → IsMap pairs bytes → AllByRecursion IsTextItem (pair_items pairs)
+pub pair_texts : (pairs : List Pair) (bytes : List ℕ) → IsItemWithin bytes → IsMap pairs bytes → AllByRecursion IsItemWithin (pair_items pairs)
 pair_texts pairs bytes t a =
     parts_texts (pair_items pairs) (pair_parts pairs a.each) (omega (arith, t.short, ap length a.whole, length-append a.header (flat_map pair_bytes pairs), ap length (pair_concat pairs)))
 
 -- the bytes behind the header of an array are its items
-pub array_items : (items : List (List ℕ)) (bytes inner : List ℕ) (count : ℕ) → IsTextItem bytes → IsArray items bytes → count ≡ length items → inner ≡ concat items → AreItems count inner × (items_of count inner ≡ items)
+pub array_items : (items : List (List ℕ)) (bytes inner : List ℕ) (count : ℕ) → IsItemWithin bytes → IsArray items bytes → count ≡ length items → inner ≡ concat items → AreItems count inner × (items_of count inner ≡ items)
 array_items items bytes inner count t a n e = are_items count inner items n e (element_texts items bytes t a)
 
-pub map_items : (pairs : List Pair) (bytes inner : List ℕ) (count : ℕ) → IsTextItem bytes → IsMap pairs bytes → count ≡ length pairs → inner ≡ flat_map pair_bytes pairs → AreItems (2 * count) inner × (items_of (2 * count) inner ≡ pair_items pairs)
+pub map_items : (pairs : List Pair) (bytes inner : List ℕ) (count : ℕ) → IsItemWithin bytes → IsMap pairs bytes → count ≡ length pairs → inner ≡ flat_map pair_bytes pairs → AreItems (2 * count) inner × (items_of (2 * count) inner ≡ pair_items pairs)
 map_items pairs bytes inner count t a n e =
     are_items (2 * count) inner (pair_items pairs) (omega (arith, length-pair_items pairs)) (e ∙ sym (pair_concat pairs)) (pair_texts pairs bytes t a)
 
 -- what the head of an array says of the bytes behind it
-pub array_found : (item inner : List ℕ) (count next : ℕ) → IsTextItem item → IsHead item 0 (Some (head.Array count next)) → inner ≡ drop next item → AreItems count inner × IsArray (items_of count inner) item
+pub array_found : (item inner : List ℕ) (count next : ℕ) → IsItemWithin item → IsHead item 0 (Some (head.Array count next)) → inner ≡ drop next item → AreItems count inner × IsArray (items_of count inner) item
 array_found item inner count next t h e =
     let a = is_array item count next t h in
     let r = array_items a.0 item inner count t a.1 a.2 (e ∙ a.3) in
     (r.0, subst (λ (xs : List (List ℕ)). IsArray xs item) (sym r.1) a.1)
 
 -- and that of a map
-pub map_found : (item inner : List ℕ) (count next : ℕ) → IsTextItem item → IsHead item 0 (Some (head.Map count next)) → inner ≡ drop next item
+pub map_found : (item inner : List ℕ) (count next : ℕ) → IsItemWithin item → IsHead item 0 (Some (head.Map count next)) → inner ≡ drop next item
     → AreItems (2 * count) inner × ((pairs : List Pair) × IsMap pairs item × (items_of (2 * count) inner ≡ pair_items pairs))
 map_found item inner count next t h e =
     let a = is_map item count next t h in

@@ -1,7 +1,7 @@
 -- The places of a message, from its elements.
 use Rattle.std.proofs.Common.{ℕ, ◌≡◌, ◌+◌, ◌<◌, List, [], ◌∷◌, ◌++◌, length, ap, sym, subst, ◌⊎◌, inl, inr, Option, Some, None, arith}
 use Rattle.std.specs.Option.{option_to_list}
-use Rattle.msgpack_bytes.specs.Item.{longest, IsTextItem}
+use Rattle.msgpack_bytes.specs.Item.{longest, IsItemWithin}
 use Rattle.msgpack_bytes.specs.Kinds.{IsText}
 use Rattle.msgpack_bytes.specs.declared.format.Container.TheVariants as container
 use Rattle.std.specs.List.{AllByRecursion, concat}
@@ -13,7 +13,7 @@ use Rattle.event_modes.specs.Places.{IsBulk, IsNoBulk, CanCarry}
 use Rattle.event_modes.proofs.Begins.{array_one}
 use Rattle.event_modes.proofs.Counted.{element_texts}
 
-pub second_text : (a b : List ℕ) (rest : List (List ℕ)) (item : List ℕ) → IsTextItem item → IsArray (a ∷ b ∷ rest) item → IsTextItem b
+pub second_text : (a b : List ℕ) (rest : List (List ℕ)) (item : List ℕ) → IsItemWithin item → IsArray (a ∷ b ∷ rest) item → IsItemWithin b
 second_text a b rest item t p = (element_texts (a ∷ b ∷ rest) item t p).1.0
 
 -- where the second element carries no entries, two are no message
@@ -63,11 +63,11 @@ no_count item n frame f = none_laid_out frame.tag frame.carrier frame.option f.e
 -- ---- what stands in the places of an item
 
 pub record Whole (frame : Frame) : Type 0 where
-  pub tag : IsTextItem frame.tag
+  pub tag : IsItemWithin frame.tag
   pub carried : CanCarry frame.carrier
-  pub option : AllByRecursion IsTextItem (option_to_list frame.option)
+  pub option : AllByRecursion IsItemWithin (option_to_list frame.option)
 
-whole_laid_out : (bytes tag : List ℕ) (c : Carrier) (o : Option (List ℕ)) (es : List (List ℕ)) → IsTextItem bytes → IsArray es bytes → IsLaidOut tag c o es → IsTextItem tag × CanCarry c × AllByRecursion IsTextItem (option_to_list o)
+whole_laid_out : (bytes tag : List ℕ) (c : Carrier) (o : Option (List ℕ)) (es : List (List ℕ)) → IsItemWithin bytes → IsArray es bytes → IsLaidOut tag c o es → IsItemWithin tag × CanCarry c × AllByRecursion IsItemWithin (option_to_list o)
 whole_laid_out bytes tag (Single time fields) o es t a l =
     let b = subst (λ (xs : List (List ℕ)). IsArray xs bytes) l.0 a in
     let p = element_texts (tag ∷ time ∷ fields ∷ option_to_list o) bytes t b in
@@ -83,7 +83,7 @@ whole_laid_out bytes tag (Packed content) o es t a l =
     let p = element_texts (tag ∷ l.0 ∷ option_to_list o) bytes t (subst (λ (xs : List (List ℕ)). IsArray xs bytes) l.1 a) in
     (p.0, tt, p.1.1)
 
-pub whole_frame : (bytes : List ℕ) (frame : Frame) → IsTextItem bytes → IsFrame bytes frame → Whole frame
+pub whole_frame : (bytes : List ℕ) (frame : Frame) → IsItemWithin bytes → IsFrame bytes frame → Whole frame
 whole_frame bytes frame t f =
     let w = whole_laid_out bytes frame.tag frame.carrier frame.option f.elements t f.array f.laid_out in
     record { tag = w.0; carried = w.1; option = w.2 }

@@ -11,7 +11,7 @@ use Rattle.msgpack_bytes.specs.declared.format.Kind.TheVariants as kind
 use Rattle.msgpack_bytes.specs.declared.format.Container.{Container}
 use Rattle.msgpack_bytes.specs.declared.format.Container.TheVariants as container
 use Rattle.msgpack_bytes.specs.Format.{items_in, shape_of}
-use Rattle.msgpack_bytes.specs.Item.{Sizes, IsContainerHeader, IsScalar, Spells, Row, Item, IsTextItem}
+use Rattle.msgpack_bytes.specs.Item.{Sizes, IsContainerHeader, IsScalar, Spells, Row, Item, IsItemWithin}
 use Rattle.msgpack_bytes.specs.Kinds.{IsBool, IsArrayHeader, IsMapHeader, IsInteger, Positive, Negative, Unsigned, Signed}
 use Rattle.msgpack_bytes.specs.Answers.{IsHead}
 use Rattle.msgpack_bytes.proofs.Sound.{positive_shape, negative_shape}
@@ -55,7 +55,7 @@ one_family bytes h f p b = begins_one f (family h) bytes b (head_begins bytes h 
 
 -- ---- every item has a head
 
-pub has_head : (bytes : List ℕ) → IsTextItem bytes → IsHead bytes 0 None → ⊥
+pub has_head : (bytes : List ℕ) → IsItemWithin bytes → IsHead bytes 0 None → ⊥
 has_head bytes t none =
     elim (item_cases bytes (text_item bytes t)) [
       | inl s ↦ none.0 (record { front = bytes; back = []; is = s; whole = sym (append-nil bytes) })
@@ -90,7 +90,7 @@ same_container container.Map container.Array e = absurd (omega arith)
 same_container container.Map container.Map e = refl
 
 -- behind its header a container has so many parts
-pub container_parts : (c : Container) (n : ℕ) (h inner : List ℕ) → IsTextItem (h ++ inner) → IsContainerHeader c n h → Row (Item 63) (items_in c n) inner
+pub container_parts : (c : Container) (n : ℕ) (h inner : List ℕ) → IsItemWithin (h ++ inner) → IsContainerHeader c n h → Row (Item 63) (items_in c n) inner
 container_parts c n h inner t p =
     let b = begins_front (family_in c) (h ++ inner) h inner (header_begins c n h p) refl in
     elim (item_cases (h ++ inner) (text_item (h ++ inner) t)) [
@@ -106,15 +106,15 @@ container_parts c n h inner t p =
 -- ---- texts
 
 -- a part at the front that is a scalar is the whole of an item
-scalar_item : (front back : List ℕ) → IsScalar front → IsTextItem (front ++ back) → IsTextItem front
+scalar_item : (front back : List ℕ) → IsScalar front → IsItemWithin (front ++ back) → IsItemWithin front
 scalar_item front back s t = record { item = scalar_is_item front s; short = omega (arith, t.short, length-append front back) }
 
-scalar_all : (item front back : List ℕ) → IsTextItem item → IsScalar front → item ≡ front ++ back → front ≡ item
+scalar_all : (item front back : List ℕ) → IsItemWithin item → IsScalar front → item ≡ front ++ back → front ≡ item
 scalar_all item front back t s e =
-    let f = scalar_item front back s (subst IsTextItem e t) in
+    let f = scalar_item front back s (subst IsItemWithin e t) in
     same_front front item back [] (text_item front f) (text_item item t) (sym e ∙ sym (append-nil item))
 
-pub spells_all : (k : Kind) (item front back content : List ℕ) → IsTextItem item → Spells k front content → item ≡ front ++ back → Spells k item content
+pub spells_all : (k : Kind) (item front back content : List ℕ) → IsItemWithin item → Spells k front content → item ≡ front ++ back → Spells k item content
 spells_all k item front back content t s e =
     subst (λ (z : List ℕ). Spells k z content) (scalar_all item front back t (record { kind = k; content = content; spelled = s }) e) s
 
@@ -127,11 +127,11 @@ row_items (suc n) inner p =
     let r = row_items n p.1 p.3 in
     (p.0 ∷ r.0, ap suc r.1, (record { item = p.2 }, r.2), p.4 ∙ ap (λ (z : List ℕ). p.0 ++ z) r.3)
 
-pub is_array : (item : List ℕ) (count next : ℕ) → IsTextItem item → IsHead item 0 (Some (head.Array count next))
+pub is_array : (item : List ℕ) (count next : ℕ) → IsItemWithin item → IsHead item 0 (Some (head.Array count next))
     → (items : List (List ℕ)) × IsArray items item × (count ≡ length items) × (drop next item ≡ concat items)
 is_array item count next t p =
     let e = span_front item next in
-    let r = row_items count (drop next item) (container_parts container.Array count (slice_range item 0 next) (drop next item) (subst IsTextItem e t) p.2) in
+    let r = row_items count (drop next item) (container_parts container.Array count (slice_range item 0 next) (drop next item) (subst IsItemWithin e t) p.2) in
     let header : IsArrayHeader (length r.0) (slice_range item 0 next) = subst (λ (n : ℕ). IsArrayHeader n (slice_range item 0 next)) r.1 p.2 in
     (r.0, record { header = slice_range item 0 next; counted = header; each = r.2; whole = e ∙ ap (λ (z : List ℕ). slice_range item 0 next ++ z) r.3 }, r.1, r.3)
 
@@ -154,11 +154,11 @@ row_pairs (suc n) inner p =
       q.4 ∙ ap (λ (z : List ℕ). q.0 ++ z) (q.3.4 ∙ ap (λ (z : List ℕ). q.3.0 ++ z) r.3) ∙ sym (append_assoc q.0 q.3.0 (flat_map pair_bytes r.0)),
     )
 
-pub is_map : (item : List ℕ) (count next : ℕ) → IsTextItem item → IsHead item 0 (Some (head.Map count next))
+pub is_map : (item : List ℕ) (count next : ℕ) → IsItemWithin item → IsHead item 0 (Some (head.Map count next))
     → (pairs : List Pair) × IsMap pairs item × (count ≡ length pairs) × (drop next item ≡ flat_map pair_bytes pairs)
 is_map item count next t p =
     let e = span_front item next in
-    let r = row_pairs count (drop next item) (container_parts container.Map count (slice_range item 0 next) (drop next item) (subst IsTextItem e t) p.2) in
+    let r = row_pairs count (drop next item) (container_parts container.Map count (slice_range item 0 next) (drop next item) (subst IsItemWithin e t) p.2) in
     let header : IsMapHeader (length r.0) (slice_range item 0 next) = subst (λ (n : ℕ). IsMapHeader n (slice_range item 0 next)) r.1 p.2 in
     (r.0, record { header = slice_range item 0 next; counted = header; each = r.2; whole = e ∙ ap (λ (z : List ℕ). slice_range item 0 next ++ z) r.3 }, r.1, r.3)
 
@@ -176,7 +176,7 @@ integer_scalar front v (Negative byte le e m) =
 integer_scalar front v (Unsigned content s m) = record { kind = kind.Unsigned; content = content; spelled = s }
 integer_scalar front v (Signed content s m) = record { kind = kind.Signed; content = content; spelled = s }
 
-pub is_int : (item : List ℕ) (v : ℤ) → IsTextItem item → IsHead item 0 (Some (head.Int v)) → (seconds : ℤ) × IsInteger item seconds
+pub is_int : (item : List ℕ) (v : ℤ) → IsItemWithin item → IsHead item 0 (Some (head.Int v)) → (seconds : ℤ) × IsInteger item seconds
 is_int item v t p = (v, subst (λ (z : List ℕ). IsInteger z v) (scalar_all item p.front p.back t (integer_scalar p.front v p.is) p.whole) p.is)
 
 pub no_int : (item : List ℕ) (h : Head) → IsHead item 0 (Some h) → ((v : ℤ) → h ≡ head.Int v → ⊥) → (v : ℤ) → IsInteger item v → ⊥

@@ -3,24 +3,24 @@ use Rattle.std.proofs.Common.{ℕ, ◌≡◌, List, [], ◌∷◌, ◌++◌, ref
 use Rattle.std.specs.Prelude.{codes}
 use Rattle.msgpack_bytes.specs.Kinds.{IsNil}
 use Rattle.msgpack_bytes.specs.Containers.{Pair}
-use Rattle.msgpack_bytes.specs.Names.{IsNamed, Lacks, IsLastValue}
+use Rattle.msgpack_bytes.specs.Names.{IsNamed, HasNoKey, IsLastValue}
 use Rattle.msgpack_bytes.proofs.Walk.{lacks_at, lasts_one, last_one}
 use Rattle.event_modes.specs.Options.{AsksFor, IsOption}
 use Rattle.event_modes.specs.Pairs.{pair_of}
 use Rattle.event_modes.proofs.Begins.{map_one, no_map_nil}
 
-pub lacks_last : (name : List ℕ) (pairs : List Pair) (value : List ℕ) → Lacks name pairs → IsLastValue name pairs value → ⊥
+pub lacks_last : (name : List ℕ) (pairs : List Pair) (value : List ℕ) → HasNoKey name pairs → IsLastValue name pairs value → ⊥
 lacks_last name pairs value l last =
-    lacks_at name last.before (pair_of last.key value) last.after (subst (Lacks name) last.whole l) last.named
+    lacks_at name last.before (pair_of last.key value) last.after (subst (HasNoKey name) last.whole l) last.named
 
-afters_one : (name : List ℕ) (b c : List Pair) (p q : Pair) (d e : List Pair) → IsNamed name p → IsNamed name q → Lacks name d → Lacks name e → b ++ p ∷ d ≡ c ++ q ∷ e → d ≡ e
+afters_one : (name : List ℕ) (b c : List Pair) (p q : Pair) (d e : List Pair) → IsNamed name p → IsNamed name q → HasNoKey name d → HasNoKey name e → b ++ p ∷ d ≡ c ++ q ∷ e → d ≡ e
 afters_one name [] [] p q d e h k l m eq = cc
 afters_one name [] (x ∷ c) p q d e h k l m eq =
     let t : d ≡ c ++ q ∷ e = cc in
-    absurd (lacks_at name c q e (subst (Lacks name) t l) k)
+    absurd (lacks_at name c q e (subst (HasNoKey name) t l) k)
 afters_one name (x ∷ b) [] p q d e h k l m eq =
     let t : b ++ p ∷ d ≡ e = cc in
-    absurd (lacks_at name b p d (subst (Lacks name) (sym t) m) h)
+    absurd (lacks_at name b p d (subst (HasNoKey name) (sym t) m) h)
 afters_one name (x ∷ b) (y ∷ c) p q d e h k l m eq = afters_one name b c p q d e h k l m (cc)
 
 -- the last of a name, and what is behind it, are one

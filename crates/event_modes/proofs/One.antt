@@ -3,7 +3,7 @@ use Rattle.std.proofs.Common.{ℕ, ◌≡◌, List, [], ◌∷◌, ◌++◌, len
 use Rattle.std.proofs.lemmas.List.{append-nil, length-append}
 use Rattle.std.specs.Option.{option_to_list}
 use Rattle.std.specs.List.{AllZip}
-use Rattle.msgpack_bytes.specs.Item.{IsTextItem}
+use Rattle.msgpack_bytes.specs.Item.{IsItemWithin}
 use Rattle.msgpack_bytes.specs.Kinds.{IsText}
 use Rattle.msgpack_bytes.specs.Containers.{IsArray}
 use Rattle.event_modes.specs.Entry.{IsEntry}
@@ -140,9 +140,9 @@ same_arrival front one (Sent m) Heartbeat p q e = absurd (never_both one m (subs
 same_arrival front one Heartbeat (Sent n) p q e = absurd (never_both front n (subst (λ (z : List ℕ). IsMessage z n) (sym e) q) p)
 same_arrival front one Heartbeat Heartbeat p q e = refl
 
-pub arrival_text : (bytes : List ℕ) (a : Arrival) → IsArrival bytes a → IsTextItem bytes
+pub arrival_text : (bytes : List ℕ) (a : Arrival) → IsArrival bytes a → IsItemWithin bytes
 arrival_text bytes (Sent m) p = p.item
-arrival_text bytes Heartbeat p = subst IsTextItem (sym p) nil_item
+arrival_text bytes Heartbeat p = subst IsItemWithin (sym p) nil_item
 
 arrival_item : (bytes : List ℕ) (a : Arrival) → IsArrival bytes a → IsItem bytes
 arrival_item bytes a p = text_item bytes (arrival_text bytes a p)

@@ -5,7 +5,7 @@ use Rattle.std.specs.List.{AllByRecursion, concat}
 use Rattle.std.proofs.lemmas.List.{take-append-drop, length-append, length-take-le}
 use Rattle.msgpack_bytes.specs.declared.answers.MsgFault.{MsgFault}
 use Rattle.msgpack_bytes.specs.declared.answers.Scan.TheVariants as scan
-use Rattle.msgpack_bytes.specs.Item.{IsTextItem, IsOpen}
+use Rattle.msgpack_bytes.specs.Item.{IsItemWithin, IsOpen}
 use Rattle.msgpack_bytes.specs.Kinds.{IsNil, IsText}
 use Rattle.msgpack_bytes.specs.Fault.{IsFaulty}
 use Rattle.msgpack_bytes.specs.Answers.{Begins}
@@ -34,7 +34,7 @@ pub open_faultless : (bytes : List ℕ) (f : MsgFault) → IsOpen bytes → IsFa
 open_faultless bytes f o p = p.closed (record {
   more = p.rest ++ o.more;
   some = omega (arith, o.some, length-append p.rest o.more);
-  ends = subst IsTextItem (ap (λ (z : List ℕ). z ++ o.more) p.whole ∙ append_assoc p.shortest p.rest o.more) o.ends;
+  ends = subst IsItemWithin (ap (λ (z : List ℕ). z ++ o.more) p.whole ∙ append_assoc p.shortest p.rest o.more) o.ends;
   unended = p.unended;
 })
 
@@ -155,7 +155,7 @@ end_one rest (Bytes m) Compressed p q = absurd q
 end_one rest (Bytes m) BadOption p q = absurd q
 
 -- where packed bytes end so, they begin with no item
-pub no_begin : (rest : List ℕ) (f : ModeFault) → PackedEnd rest f → Begins IsTextItem rest → ⊥
+pub no_begin : (rest : List ℕ) (f : ModeFault) → PackedEnd rest f → Begins IsItemWithin rest → ⊥
 no_begin rest TornPacked p b = not_open rest b p
 no_begin rest (Bytes m) p b = not_faulty m rest b p
 no_begin rest NotAMessage p b = p
@@ -169,8 +169,8 @@ no_begin rest BadOption p b = p
 packed_one : (rest : List ℕ) (f g : ModeFault) → PackedFault f rest → PackedFault g rest → f ≡ g
 packed_one rest f g p q = cases p.1 q.1
   where
-    cases : PackedEnd rest f ⊎ ((item : List ℕ) × (more : List ℕ) × IsTextItem item × EntryFault f item × (rest ≡ item ++ more))
-        → PackedEnd rest g ⊎ ((item : List ℕ) × (more : List ℕ) × IsTextItem item × EntryFault g item × (rest ≡ item ++ more)) → f ≡ g
+    cases : PackedEnd rest f ⊎ ((item : List ℕ) × (more : List ℕ) × IsItemWithin item × EntryFault f item × (rest ≡ item ++ more))
+        → PackedEnd rest g ⊎ ((item : List ℕ) × (more : List ℕ) × IsItemWithin item × EntryFault g item × (rest ≡ item ++ more)) → f ≡ g
     cases (inl a) (inl b) = end_one rest f g a b
     cases (inl a) (inr b) = absurd (no_begin rest f a (record { front = b.0; back = b.1; is = b.2; whole = b.4 }))
     cases (inr a) (inl b) = absurd (no_begin rest g b (record { front = a.0; back = a.1; is = a.2; whole = a.4 }))
@@ -179,16 +179,16 @@ packed_one rest f g p q = cases p.1 q.1
         entry_one b.0 f g (subst (EntryFault f) e a.3) b.3
 
 -- what begins with a good entry has no fault there
-good_front : (rest entry more : List ℕ) (f : ModeFault) → IsTextItem entry → IsGoodEntry entry → rest ≡ entry ++ more → PackedFault f rest → ⊥
+good_front : (rest entry more : List ℕ) (f : ModeFault) → IsItemWithin entry → IsGoodEntry entry → rest ≡ entry ++ more → PackedFault f rest → ⊥
 good_front rest entry more f t g e p = cases p.1
   where
-    cases : PackedEnd rest f ⊎ ((item : List ℕ) × (behind : List ℕ) × IsTextItem item × EntryFault f item × (rest ≡ item ++ behind)) → ⊥
+    cases : PackedEnd rest f ⊎ ((item : List ℕ) × (behind : List ℕ) × IsItemWithin item × EntryFault f item × (rest ≡ item ++ behind)) → ⊥
     cases (inl a) = no_begin rest f a (record { front = entry; back = more; is = t; whole = e })
     cases (inr a) =
         let s = same_front a.0 entry a.1 more (text_item a.0 a.2) (text_item entry t) (sym a.4 ∙ e) in
         good_entry f entry g (subst (EntryFault f) s a.3)
 
-packed_rest : (xs ys : List (List ℕ)) (r s : List ℕ) (f g : ModeFault) → AllByRecursion IsTextItem xs → AllByRecursion IsGoodEntry xs → AllByRecursion IsTextItem ys → AllByRecursion IsGoodEntry ys
+packed_rest : (xs ys : List (List ℕ)) (r s : List ℕ) (f g : ModeFault) → AllByRecursion IsItemWithin xs → AllByRecursion IsGoodEntry xs → AllByRecursion IsItemWithin ys → AllByRecursion IsGoodEntry ys
     → concat xs ++ r ≡ concat ys ++ s → PackedFault f r → PackedFault g s → r ≡ s
 packed_rest [] [] r s f g t a u b e p q = e
 packed_rest [] (y ∷ ys) r s f g t a u b e p q = absurd (good_front r y (concat ys ++ s) f u.0 b.0 (e ∙ append_assoc y (concat ys) s) p)
@@ -198,7 +198,7 @@ packed_rest (x ∷ xs) (y ∷ ys) r s f g t a u b e p q =
     packed_rest xs ys r s f g t.1 a.1 u.1 b.1 (same_behind x y (concat xs ++ r) (concat ys ++ s) (text_item x t.0) (text_item y u.0) d) p q
 
 -- all of the content is good entries, or there is a fault behind some
-packed_good : (xs ys : List (List ℕ)) (r : List ℕ) (f : ModeFault) → AllByRecursion IsTextItem xs → AllByRecursion IsGoodEntry xs → AllByRecursion IsTextItem ys → concat xs ≡ concat ys ++ r → PackedFault f r → ⊥
+packed_good : (xs ys : List (List ℕ)) (r : List ℕ) (f : ModeFault) → AllByRecursion IsItemWithin xs → AllByRecursion IsGoodEntry xs → AllByRecursion IsItemWithin ys → concat xs ≡ concat ys ++ r → PackedFault f r → ⊥
 packed_good [] [] r f t g u e p = p.0 (sym e)
 packed_good [] (y ∷ ys) r f t g u e p = some_item (subst IsItem (front_nil y (concat ys ++ r) (sym (e ∙ append_assoc y (concat ys) r))) (text_item y u.0))
 packed_good (x ∷ xs) [] r f t g u e p = good_front r x (concat xs) f t.0 g.0 (sym e) p
@@ -330,18 +330,18 @@ nil_faultless bytes f n (inr p) = no_array_nil p.1.elements bytes p.1.array n
 
 -- ---- answers
 
-begins_message : (bytes : List ℕ) (n : ℕ) (parts : Parts) → IsMessage (take n bytes) parts → Begins IsTextItem bytes
+begins_message : (bytes : List ℕ) (n : ℕ) (parts : Parts) → IsMessage (take n bytes) parts → Begins IsItemWithin bytes
 begins_message bytes n parts m = record { front = take n bytes; back = drop n bytes; is = m.item; whole = sym (take-append-drop n bytes) }
 
-begins_nil : (bytes rest : List ℕ) → bytes ≡ 0xc0 ∷ rest → Begins IsTextItem bytes
+begins_nil : (bytes rest : List ℕ) → bytes ≡ 0xc0 ∷ rest → Begins IsItemWithin bytes
 begins_nil bytes rest e = record { front = 0xc0 ∷ []; back = rest; is = nil_item; whole = e }
 
 -- two fronts that are items are one
-one_front : (bytes : List ℕ) (a b : Begins IsTextItem bytes) → a.front ≡ b.front
+one_front : (bytes : List ℕ) (a b : Begins IsItemWithin bytes) → a.front ≡ b.front
 one_front bytes a b = same_front a.front b.front a.back b.back (text_item a.front a.is) (text_item b.front b.is) (sym a.whole ∙ b.whole)
 
 -- a fault of bytes that begin with an item is one of the item
-fault_of_item : (bytes : List ℕ) (f : ModeFault) (b : Begins IsTextItem bytes) → StreamFault bytes f → ItemFault b.front f
+fault_of_item : (bytes : List ℕ) (f : ModeFault) (b : Begins IsItemWithin bytes) → StreamFault bytes f → ItemFault b.front f
 fault_of_item bytes f b (inl p) = absurd (not_faulty p.0 bytes b p.2)
 fault_of_item bytes f b (inr p) =
     subst (λ (z : List ℕ). ItemFault z f) (one_front bytes (record { front = p.0; back = p.1; is = p.2; whole = p.4 }) b) p.3

@@ -4,7 +4,7 @@ use Rattle.std.specs.List.{AllByRecursion, concat}
 use Rattle.std.proofs.lemmas.List.{append_cancel_right, length-append}
 use Rattle.msgpack_bytes.specs.declared.format.Kind.TheVariants as kind
 use Rattle.msgpack_bytes.specs.Format.{shape_of}
-use Rattle.msgpack_bytes.specs.Item.{IsScalarHeader, IsContainerHeader, IsScalar, IsContainer, Row, Item, deepest, longest, IsTextItem}
+use Rattle.msgpack_bytes.specs.Item.{IsScalarHeader, IsContainerHeader, IsScalar, IsContainer, Row, Item, deepest, longest, IsItemWithin}
 use Rattle.msgpack_bytes.specs.Run.{run}
 use Rattle.msgpack_bytes.proofs.Items.{item_read}
 use Rattle.msgpack_bytes.specs.Containers.{IsPart}
@@ -63,17 +63,17 @@ all_map P Q (x ∷ xs) f p = (f x p.0, all_map P Q xs f p.1)
 pub part_item : (bytes : List ℕ) → IsPart bytes → IsItem bytes
 part_item bytes p = record { item = deeper 63 bytes p.item }
 
-pub text_item : (bytes : List ℕ) → IsTextItem bytes → IsItem bytes
+pub text_item : (bytes : List ℕ) → IsItemWithin bytes → IsItem bytes
 text_item bytes t = record { item = t.item }
 
 pub parts_items : (xs : List (List ℕ)) → AllByRecursion IsPart xs → AllByRecursion IsItem xs
 parts_items xs p = all_map IsPart IsItem xs part_item p
 
-pub texts_items : (xs : List (List ℕ)) → AllByRecursion IsTextItem xs → AllByRecursion IsItem xs
-texts_items xs p = all_map IsTextItem IsItem xs text_item p
+pub texts_items : (xs : List (List ℕ)) → AllByRecursion IsItemWithin xs → AllByRecursion IsItem xs
+texts_items xs p = all_map IsItemWithin IsItem xs text_item p
 
 -- parts of what is not too long
-pub parts_texts : (xs : List (List ℕ)) → AllByRecursion IsPart xs → length (concat xs) ≤ longest → AllByRecursion IsTextItem xs
+pub parts_texts : (xs : List (List ℕ)) → AllByRecursion IsPart xs → length (concat xs) ≤ longest → AllByRecursion IsItemWithin xs
 parts_texts [] p l = tt
 parts_texts (x ∷ xs) p l =
     (record { item = (part_item x p.0).item; short = omega (arith, length-append x (concat xs)) }, parts_texts xs p.1 (omega (arith, length-append x (concat xs))))
@@ -90,7 +90,7 @@ some_item p = elim (item_cases [] p) [
 ]
 
 -- nil is an item
-pub nil_item : IsTextItem (0xc0 ∷ [])
+pub nil_item : IsItemWithin (0xc0 ∷ [])
 unfolding shape_of
 nil_item = record {
   item = scalar_is_item (0xc0 ∷ []) (record { kind = kind.Nil; content = []; spelled = record { header = 0xc0 ∷ []; sized = (refl, refl, refl); whole = refl } });

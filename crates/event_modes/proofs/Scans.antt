@@ -4,7 +4,7 @@ use Rattle.std.proofs.lemmas.List.{append-nil, length-append}
 use Rattle.msgpack_bytes.specs.declared.answers.MsgFault.{MsgFault}
 use Rattle.msgpack_bytes.specs.declared.answers.Scan.{Scan}
 use Rattle.msgpack_bytes.specs.declared.answers.Scan.TheVariants as scan
-use Rattle.msgpack_bytes.specs.Item.{IsTextItem, IsOpen}
+use Rattle.msgpack_bytes.specs.Item.{IsItemWithin, IsOpen}
 use Rattle.msgpack_bytes.specs.Fault.{IsFaulty}
 use Rattle.msgpack_bytes.specs.Answers.{Begins, IsScanned}
 use Rattle.event_modes.proofs.Parting.{same_behind, text_item}
@@ -20,14 +20,14 @@ parts (c ∷ a) (d ∷ b) x y e =
     elim (parts a b x y t) [ inl p ↦ inl (p.0, p.1, (let q = p.2 in cc)) | inr p ↦ inr (p.0, (let q = p.1 in cc)) ]
 
 -- bytes that begin with an item are not open
-pub not_open : (bytes : List ℕ) → Begins IsTextItem bytes → IsOpen bytes → ⊥
+pub not_open : (bytes : List ℕ) → Begins IsItemWithin bytes → IsOpen bytes → ⊥
 not_open bytes b o =
     let m : b.front ++ (b.back ++ o.more) ≡ (bytes ++ o.more) ++ [] = sym (append_assoc b.front b.back o.more) ∙ ap (λ (z : List ℕ). z ++ o.more) (sym b.whole) ∙ sym (append-nil (bytes ++ o.more)) in
     let l = ap length (same_behind b.front (bytes ++ o.more) (b.back ++ o.more) [] (text_item b.front b.is) (text_item (bytes ++ o.more) o.ends) m) in
     absurd (omega (arith, o.some, length-append b.back o.more))
 
 -- and there is no fault in them
-pub not_faulty : (fault : MsgFault) (bytes : List ℕ) → Begins IsTextItem bytes → IsFaulty fault bytes → ⊥
+pub not_faulty : (fault : MsgFault) (bytes : List ℕ) → Begins IsItemWithin bytes → IsFaulty fault bytes → ⊥
 not_faulty fault bytes b f =
     elim (parts b.front f.shortest b.back f.rest (sym b.whole ∙ f.whole)) [
       | inl p ↦ (f.before b.front p.1 p.0 p.2).unended b.is
@@ -35,10 +35,10 @@ not_faulty fault bytes b f =
     ]
   where
     longer : (more : List ℕ) → b.front ≡ f.shortest ++ more → ⊥
-    longer [] e = f.unended (subst IsTextItem (e ∙ append-nil f.shortest) b.is)
-    longer (x ∷ more) e = f.closed (record { more = x ∷ more; some = omega arith; ends = subst IsTextItem e b.is; unended = f.unended })
+    longer [] e = f.unended (subst IsItemWithin (e ∙ append-nil f.shortest) b.is)
+    longer (x ∷ more) e = f.closed (record { more = x ∷ more; some = omega arith; ends = subst IsItemWithin e b.is; unended = f.unended })
 
-pub always_ends : (bytes : List ℕ) (r : Scan) → Begins IsTextItem bytes → IsScanned bytes 0 r → ((end : ℕ) → r ≡ scan.End end → ⊥) → ⊥
+pub always_ends : (bytes : List ℕ) (r : Scan) → Begins IsItemWithin bytes → IsScanned bytes 0 r → ((end : ℕ) → r ≡ scan.End end → ⊥) → ⊥
 always_ends bytes (scan.End end) b s none = none end refl
 always_ends bytes scan.Need b s none = not_open bytes b s
 always_ends bytes (scan.Bad fault) b s none = not_faulty fault bytes b s

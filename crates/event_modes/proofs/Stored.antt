@@ -2,7 +2,7 @@
 use Rattle.std.proofs.Common.{ℕ, refl, ◌≡◌, ◌+◌, ◌≤◌, List, [], ◌∷◌, ◌++◌, length, ap, sym, subst, ◌∙◌, arith, append_assoc}
 use Rattle.std.specs.List.{AllByRecursion, concat}
 use Rattle.std.proofs.lemmas.List.{append-nil, length-append}
-use Rattle.msgpack_bytes.specs.Item.{IsTextItem}
+use Rattle.msgpack_bytes.specs.Item.{IsItemWithin}
 use Rattle.event_modes.specs.Rows.{items_of, IsStored, AreStored}
 use Rattle.msgpack_bytes.proofs.Walk.{all_with}
 use Rattle.event_modes.proofs.Counted.{no_items, length-items, are_items}
@@ -11,7 +11,7 @@ pub none_stored : (bytes : List ℕ) → bytes ≡ [] → AreStored 0 bytes
 none_stored bytes e =
     let n = no_items bytes in
     record {
-      items = record { each = subst (AllByRecursion IsTextItem) (sym n) tt; whole = e ∙ ap concat (sym n) };
+      items = record { each = subst (AllByRecursion IsItemWithin) (sym n) tt; whole = e ∙ ap concat (sym n) };
       each = subst (AllByRecursion IsStored) (sym n) tt;
     }
 
@@ -28,7 +28,7 @@ push_stored count bytes entry a s =
     let xs : List (List ℕ) = items_of count bytes in
     let n : count + 1 ≡ length (xs ++ entry ∷ []) = omega (arith, length-append xs (entry ∷ []), length-items count bytes) in
     let e : bytes ++ entry ≡ concat (xs ++ entry ∷ []) = ap (λ (z : List ℕ). z ++ entry) a.items.whole ∙ sym (concat-push xs entry) in
-    let r = are_items (count + 1) (bytes ++ entry) (xs ++ entry ∷ []) n e (all_with IsTextItem xs entry a.items.each s.item) in
+    let r = are_items (count + 1) (bytes ++ entry) (xs ++ entry ∷ []) n e (all_with IsItemWithin xs entry a.items.each s.item) in
     record {
       stored = record { items = r.0; each = subst (AllByRecursion IsStored) (sym r.1) (all_with IsStored xs entry a.each s) };
       last = r.1;
@@ -71,7 +71,7 @@ join_stored m n a b p q =
     let ys : List (List ℕ) = items_of n b in
     let k : m + n ≡ length (xs ++ ys) = omega (arith, length-append xs ys, length-items m a, length-items n b) in
     let e : a ++ b ≡ concat (xs ++ ys) = ap (λ (z : List ℕ). z ++ b) p.items.whole ∙ ap (λ (z : List ℕ). concat xs ++ z) q.items.whole ∙ sym (concat-append xs ys) in
-    let r = are_items (m + n) (a ++ b) (xs ++ ys) k e (all_append IsTextItem xs ys p.items.each q.items.each) in
+    let r = are_items (m + n) (a ++ b) (xs ++ ys) k e (all_append IsItemWithin xs ys p.items.each q.items.each) in
     record {
       stored = record { items = r.0; each = subst (AllByRecursion IsStored) (sym r.1) (all_append IsStored xs ys p.each q.each) };
       list = r.1;

@@ -5,11 +5,11 @@ use Rattle.std.proofs.lemmas.List.{append-nil, length-append}
 use Rattle.std.specs.Prelude.{MatchOption}
 use Rattle.event_modes.specs.declared.option.LastValue.{LastValue}
 use Rattle.event_modes.specs.Lasts.{IsLast}
-use Rattle.msgpack_bytes.specs.Item.{IsTextItem}
+use Rattle.msgpack_bytes.specs.Item.{IsItemWithin}
 use Rattle.msgpack_bytes.specs.Kinds.{IsText}
 use Rattle.event_modes.specs.declared.fault.ModeFault.{ModeFault}
 use Rattle.msgpack_bytes.specs.Containers.{Pair, pair_items}
-use Rattle.msgpack_bytes.specs.Names.{IsNamed, Lacks, IsLastValue}
+use Rattle.msgpack_bytes.specs.Names.{IsNamed, HasNoKey, IsLastValue}
 use Rattle.event_modes.specs.Options.{IsFit}
 use Rattle.event_modes.specs.Pairs.{ArePairs, pair_of}
 use Rattle.event_modes.specs.Faults.{FirstBad, PairFault}
@@ -35,7 +35,7 @@ pub record Walk (all left : List (List ℕ)) : Type 0 where
   pub after : List Pair
   pub whole : all ≡ pair_items (before ++ after)
   pub rest : left ≡ pair_items after
-  pub texts : AllByRecursion IsTextItem left
+  pub texts : AllByRecursion IsItemWithin left
 
 pub start : (all : List (List ℕ)) → ArePairs all → Walk all all
 start all a = record { before = []; after = a.pairs; whole = a.whole; rest = a.whole; texts = a.texts }
@@ -64,7 +64,7 @@ next all left walk key value others e = on walk.after walk.rest walk.whole refl
         let v : value ≡ p.value = cc in
         let o : others ≡ pair_items ps = cc in
         let same = same_pair (pair_of key value) p k v in
-        let t : AllByRecursion IsTextItem (key ∷ value ∷ others) = subst (AllByRecursion IsTextItem) e walk.texts in
+        let t : AllByRecursion IsItemWithin (key ∷ value ∷ others) = subst (AllByRecursion IsItemWithin) e walk.texts in
         let a : walk.before ++ p ∷ ps ≡ (walk.before ++ pair_of key value ∷ []) ++ ps = ap (λ (x : Pair). walk.before ++ x ∷ ps) (sym same) ∙ sym (append_assoc walk.before (pair_of key value ∷ []) ps) in
         record {
           walk_on = record { before = walk.before ++ pair_of key value ∷ []; after = ps; whole = w ∙ ap pair_items a; rest = o; texts = t.1.1 };
@@ -98,7 +98,7 @@ fit_more all left walk key value others n fit p = subst (AllByRecursion IsFit) (
 
 -- what was found among the pairs so far, with how many bytes stand behind it
 abbrev pub LastSoFar : List ℕ → List Pair → List (List ℕ) → Option LastValue → Type 0
-LastSoFar name pairs left None = Lacks name pairs
+LastSoFar name pairs left None = HasNoKey name pairs
 LastSoFar name pairs left (Some found) = (l : IsLastValue name pairs found.value.now) × (found.behind ≡ length (concat (pair_items l.after)) + length (concat left))
 
 pub last_here : (name : List ℕ) (before : List Pair) (key : List ℕ) (found : LastValue) (others : List (List ℕ)) → IsText key name → found.behind ≡ length (concat others)
@@ -170,14 +170,14 @@ sought_on name all left key value others middle last x e f t =
     let n = next all left x.walk key value others d in
     record { walk = n.walk_on; found = subst (λ (ps : List Pair). LastSoFar name ps others last) (sym n.before) (last_before name x.walk.before key value left others last t d x.found) }
 
-pub sought_end : (name : List ℕ) (all left : List (List ℕ)) (pairs : List Pair) (last : Option LastValue) → Sought name all left last → left ≡ [] → all ≡ pair_items pairs → MatchOption last (Lacks name pairs) (IsLast name pairs)
-sought_end name all left pairs None x e a = subst (Lacks name) (walked all left x.walk pairs e a) x.found
+pub sought_end : (name : List ℕ) (all left : List (List ℕ)) (pairs : List Pair) (last : Option LastValue) → Sought name all left last → left ≡ [] → all ≡ pair_items pairs → MatchOption last (HasNoKey name pairs) (IsLast name pairs)
+sought_end name all left pairs None x e a = subst (HasNoKey name) (walked all left x.walk pairs e a) x.found
 sought_end name all left pairs (Some v) x e a =
     subst (λ (ps : List Pair). IsLast name ps v) (walked all left x.walk pairs e a)
     (record { last = x.found.0; behind = (let b = x.found.1 in let m = ap (λ (z : List (List ℕ)). length (concat z)) e in omega arith) })
 
 -- the texts at the front
-pub two_texts : (all left : List (List ℕ)) (key value : List ℕ) (others middle : List (List ℕ)) → Walk all left → left ≡ key ∷ middle → middle ≡ value ∷ others → IsTextItem key × IsTextItem value
+pub two_texts : (all left : List (List ℕ)) (key value : List ℕ) (others middle : List (List ℕ)) → Walk all left → left ≡ key ∷ middle → middle ≡ value ∷ others → IsItemWithin key × IsItemWithin value
 two_texts all left key value others middle w e f =
-    let t : AllByRecursion IsTextItem (key ∷ value ∷ others) = subst (AllByRecursion IsTextItem) (e ∙ ap (λ (z : List (List ℕ)). key ∷ z) f) w.texts in
+    let t : AllByRecursion IsItemWithin (key ∷ value ∷ others) = subst (AllByRecursion IsItemWithin) (e ∙ ap (λ (z : List (List ℕ)). key ∷ z) f) w.texts in
     (t.0, t.1.0)

@@ -5,7 +5,7 @@ use Rattle.std.specs.List.{AllByRecursion, AllZip, concat}
 use Rattle.std.proofs.lemmas.List.{append-nil, length-append}
 use Rattle.msgpack_bytes.specs.declared.format.Kind.TheVariants as kind
 use Rattle.msgpack_bytes.specs.declared.format.Container.TheVariants as container
-use Rattle.msgpack_bytes.specs.Item.{IsScalar, IsContainer, Item, longest, IsTextItem}
+use Rattle.msgpack_bytes.specs.Item.{IsScalar, IsContainer, Item, longest, IsItemWithin}
 use Rattle.msgpack_bytes.specs.Kinds.{IsStr, IsBin, IsText, IsArrayHeader, IsMapHeader}
 use Rattle.msgpack_bytes.specs.Spelling.{uint_of, str_header_of, str_of, bin_of, array_header_of, map_header_of}
 use Rattle.msgpack_bytes.proofs.Shortest.{str_spelled, bin_spelled, array_spelled, map_spelled, uint_spelled}
@@ -149,7 +149,7 @@ whole_message h t b o tag entries ack m s c w st lt l =
         laid_out = (b, refl, inr c);
       };
       tag = (inl s, lt);
-      entries = (entries, all_map IsStored IsTextItem entries (λ x p. p.item) st, refl, same_entries entries st);
+      entries = (entries, all_map IsStored IsItemWithin entries (λ x p. p.item) st, refl, same_entries entries st);
       ack = w.asks;
     }
 

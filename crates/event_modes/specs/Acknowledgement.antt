@@ -1,13 +1,13 @@
 -- Acknowledgements (Forward Protocol Specification v1, "Response").
 use Rattle.std.specs.Prelude.{ℕ, List, ◌∷◌, codes}
-use Rattle.msgpack_bytes.specs.Item.{IsTextItem}
+use Rattle.msgpack_bytes.specs.Item.{IsItemWithin}
 use Rattle.msgpack_bytes.specs.Kinds.{IsText}
 use Rattle.msgpack_bytes.specs.Containers.{Pair, IsMap}
 use Rattle.msgpack_bytes.specs.Names.{IsLastValue}
 
 -- the item acknowledges the chunk with this content, however the two spell it: a map whose last "ack" is a str or bin
 pub record IsAcknowledgement (bytes content : List ℕ) : Type 0 where
-  pub item : IsTextItem bytes
+  pub item : IsItemWithin bytes
   pub pairs : List Pair
   pub map : IsMap pairs bytes
   pub value : List ℕ

@@ -1,7 +1,7 @@
 -- What is read as an acknowledgement.
 use Rattle.std.specs.Prelude.{ℕ, ◌≡◌, ◌≤◌, ◌+◌, List, ◌++◌, length, take, slice_range}
 use Rattle.std.specs.List.{concat}
-use Rattle.msgpack_bytes.specs.Item.{IsTextItem, IsOpen}
+use Rattle.msgpack_bytes.specs.Item.{IsItemWithin, IsOpen}
 use Rattle.msgpack_bytes.specs.Fault.{IsFaulty}
 use Rattle.event_modes.specs.declared.acks.AckRead.{AckRead}
 use Rattle.event_modes.specs.declared.acks.AckRead.TheVariants as ack
@@ -21,7 +21,7 @@ pub record IsAckAt (bytes : List ℕ) (start end next : ℕ) : Type 0 where
 pub record AcknowledgesNothing (bytes : List ℕ) : Type 0 where
   pub item : List ℕ
   pub more : List ℕ
-  pub is_item : IsTextItem item
+  pub is_item : IsItemWithin item
   pub none : (content : List ℕ) → IsAcknowledgement item content → ⊥
   pub whole : bytes ≡ item ++ more
 

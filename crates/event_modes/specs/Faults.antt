@@ -2,7 +2,7 @@
 use Rattle.std.specs.Prelude.{ℕ, ◌≡◌, ◌≢◌, ◌⊎◌, List, [], ◌∷◌, ◌++◌, Option, Some, None, codes}
 use Rattle.std.specs.List.{AllByRecursion, concat}
 use Rattle.msgpack_bytes.specs.declared.answers.MsgFault.{MsgFault}
-use Rattle.msgpack_bytes.specs.Item.{IsTextItem, IsOpen}
+use Rattle.msgpack_bytes.specs.Item.{IsItemWithin, IsOpen}
 use Rattle.msgpack_bytes.specs.Kinds.{IsNil}
 use Rattle.msgpack_bytes.specs.Fault.{IsFaulty}
 use Rattle.event_modes.specs.declared.fault.ModeFault.{ModeFault}
@@ -46,14 +46,14 @@ PackedEnd rest _ = ⊥
 -- what stands behind the last good entry of a PackedForward message's entries
 abbrev pub PackedFault : ModeFault → List ℕ → Type 0
 PackedFault fault rest = (rest ≢ []) × (PackedEnd rest fault
-    ⊎ ((item : List ℕ) × (more : List ℕ) × IsTextItem item × EntryFault fault item × (rest ≡ item ++ more)))
+    ⊎ ((item : List ℕ) × (more : List ℕ) × IsItemWithin item × EntryFault fault item × (rest ≡ item ++ more)))
 
 -- the first bad entry; only packed entries can be torn or no items at all
 abbrev pub CarriedFault : Carrier → ModeFault → Type 0
 CarriedFault (Single time fields) fault = EventFault time fields fault
 CarriedFault (Forward array) fault = (items : List (List ℕ)) × IsArray items array × FirstBad IsGoodEntry (EntryFault fault) items
 CarriedFault (Packed content) fault = (items : List (List ℕ)) × (rest : List ℕ)
-    × AllByRecursion IsTextItem items × AllByRecursion IsGoodEntry items × (content ≡ concat items ++ rest) × PackedFault fault rest
+    × AllByRecursion IsItemWithin items × AllByRecursion IsGoodEntry items × (content ≡ concat items ++ rest) × PackedFault fault rest
 
 -- what is wrong with one pair of an option
 abbrev pub PairFault : ModeFault → Pair → Type 0
@@ -83,4 +83,4 @@ ItemFault bytes fault =
 -- what keeps the bytes from beginning with a message or a nil, however they go on
 abbrev pub StreamFault : List ℕ → ModeFault → Type 0
 StreamFault bytes fault = ((why : MsgFault) × (fault ≡ Bytes why) × IsFaulty why bytes)
-    ⊎ ((item : List ℕ) × (more : List ℕ) × IsTextItem item × ItemFault item fault × (bytes ≡ item ++ more))
+    ⊎ ((item : List ℕ) × (more : List ℕ) × IsItemWithin item × ItemFault item fault × (bytes ≡ item ++ more))

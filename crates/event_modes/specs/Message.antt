@@ -2,7 +2,7 @@
 use Rattle.std.specs.Prelude.{ℕ, ◌≡◌, ◌≤◌, List, [], ◌∷◌, length, Option}
 use Rattle.std.specs.Option.{option_to_list}
 use Rattle.std.specs.List.{AllByRecursion, AllZip, concat}
-use Rattle.msgpack_bytes.specs.Item.{IsTextItem}
+use Rattle.msgpack_bytes.specs.Item.{IsItemWithin}
 use Rattle.msgpack_bytes.specs.Kinds.{IsText}
 use Rattle.msgpack_bytes.specs.Containers.{IsArray}
 use Rattle.event_modes.specs.Entry.{IsTime, IsRecord, stored_entry, IsEntry}
@@ -55,11 +55,11 @@ abbrev pub Carries : Carrier → List (List ℕ) → Type 0
 Carries (Single time fields) entries = IsTime time × IsRecord fields × (entries ≡ stored_entry time fields ∷ [])
 Carries (Forward array) entries = (items : List (List ℕ)) × IsArray items array × AllZip IsEntry items entries
 Carries (Packed content) entries =
-    (items : List (List ℕ)) × AllByRecursion IsTextItem items × (content ≡ concat items) × AllZip IsEntry items entries
+    (items : List (List ℕ)) × AllByRecursion IsItemWithin items × (content ≡ concat items) × AllZip IsEntry items entries
 
 -- the item is a message that says this
 pub record IsMessage (bytes : List ℕ) (parts : Parts) : Type 0 where
-  pub item : IsTextItem bytes
+  pub item : IsItemWithin bytes
   pub frame : Frame
   pub framed : IsFrame bytes frame
   pub tag : IsTag frame.tag parts.tag

@@ -3,7 +3,7 @@ use Rattle.std.specs.Prelude.{ℕ, ◌≡◌, ◌≤◌, ◌⊎◌, List, length
 use Rattle.std.specs.List.{AllByRecursion}
 use Rattle.msgpack_bytes.specs.Kinds.{IsNil, IsText}
 use Rattle.msgpack_bytes.specs.Containers.{Pair, IsMap}
-use Rattle.msgpack_bytes.specs.Names.{IsNamed, Lacks, IsLastValue}
+use Rattle.msgpack_bytes.specs.Names.{IsNamed, HasNoKey, IsLastValue}
 
 -- the most bytes of a chunk's item, its header among them
 abbrev pub longest_chunk : ℕ
@@ -24,7 +24,7 @@ pub record IsFit (pair : Pair) : Type 0 where
 
 -- the item that an acknowledgement has to repeat: the last "chunk", unless that is nil or there is none
 abbrev pub AsksFor : List Pair → Option (List ℕ) → Type 0
-AsksFor pairs None = Lacks (codes "chunk") pairs ⊎ ((value : List ℕ) × IsLastValue (codes "chunk") pairs value × IsNil value)
+AsksFor pairs None = HasNoKey (codes "chunk") pairs ⊎ ((value : List ℕ) × IsLastValue (codes "chunk") pairs value × IsNil value)
 AsksFor pairs (Some item) = IsLastValue (codes "chunk") pairs item × (IsNil item → ⊥)
 
 -- what the last element of a message asks for, if there is one; nil is no option

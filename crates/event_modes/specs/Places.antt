@@ -1,6 +1,6 @@
 -- What stands where in a message, as slices of it.
 use Rattle.std.specs.Prelude.{ℕ, ◌≡◌, ◌+◌, ◌<◌, List, [], ◌∷◌, length, option_map, Result, Ok, Err}
-use Rattle.msgpack_bytes.specs.Item.{longest, IsTextItem}
+use Rattle.msgpack_bytes.specs.Item.{longest, IsItemWithin}
 use Rattle.msgpack_bytes.specs.Kinds.{IsText}
 use Rattle.event_modes.specs.declared.fault.ModeFault.{ModeFault}
 use Rattle.event_modes.specs.declared.fault.FeedError.{FeedError}
@@ -42,7 +42,7 @@ IsNoBulk second = ((items : List (List ℕ)) → IsArray items second → ⊥) �
 -- a carrier that lies in an item
 abbrev pub CanCarry : Carrier → Type 0
 CanCarry (Single time fields) = IsPart time × IsPart fields × (length time + length fields < longest)
-CanCarry (Forward array) = IsTextItem array × ((items : List (List ℕ)) × IsArray items array)
+CanCarry (Forward array) = IsItemWithin array × ((items : List (List ℕ)) × IsArray items array)
 CanCarry (Packed content) = Unit {0}
 
 -- what was found, or the fault; where memory ran out nothing is said

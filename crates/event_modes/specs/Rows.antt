@@ -2,7 +2,7 @@
 use Rattle.std.specs.Prelude.{ℕ, zero, suc, ◌≡◌, ◌-◌, List, [], ◌∷◌, ◌++◌, length, take}
 use Rattle.std.specs.Result.{result_unwrap_or}
 use Rattle.std.specs.List.{AllByRecursion, concat}
-use Rattle.msgpack_bytes.specs.Item.{deepest, IsTextItem}
+use Rattle.msgpack_bytes.specs.Item.{deepest, IsItemWithin}
 use Rattle.msgpack_bytes.specs.Run.{run}
 use Rattle.event_modes.specs.Entry.{IsEntry}
 
@@ -18,12 +18,12 @@ items_of (suc count) bytes =
 
 -- the bytes are so many items
 pub record AreItems (count : ℕ) (bytes : List ℕ) : Type 0 where
-  pub each : AllByRecursion IsTextItem (items_of count bytes)
+  pub each : AllByRecursion IsItemWithin (items_of count bytes)
   pub whole : bytes ≡ concat (items_of count bytes)
 
 -- an entry as it is stored is spelled as it is stored
 pub record IsStored (entry : List ℕ) : Type 0 where
-  pub item : IsTextItem entry
+  pub item : IsItemWithin entry
   pub kept : IsEntry entry entry
 
 -- the bytes are so many stored entries

@@ -1,6 +1,6 @@
 -- What comes on a connection (Forward Protocol Specification v1, "Message Modes"): messages and heartbeats one after another.
 use Rattle.std.specs.Prelude.{ℕ, ◌≡◌, ◌⊎◌, List, [], ◌∷◌, ◌++◌}
-use Rattle.msgpack_bytes.specs.Item.{IsTextItem, IsOpen}
+use Rattle.msgpack_bytes.specs.Item.{IsItemWithin, IsOpen}
 use Rattle.msgpack_bytes.specs.Kinds.{IsNil}
 use Rattle.event_modes.specs.Message.{Parts, IsMessage}
 
@@ -18,14 +18,14 @@ IsArrival bytes Heartbeat = IsNil bytes
 pub record BeginsOtherwise (bytes : List ℕ) : Type 0 where
   pub item : List ℕ
   pub more : List ℕ
-  pub is_item : IsTextItem item
+  pub is_item : IsItemWithin item
   pub neither : (arrival : Arrival) → IsArrival item arrival → ⊥
   pub whole : bytes ≡ item ++ more
 
 -- no item begins with the bytes, and they begin with none
 pub record IsLost (bytes : List ℕ) : Type 0 where
-  pub begins_none : (more : List ℕ) → IsTextItem (bytes ++ more) → ⊥
-  pub has_none : (front back : List ℕ) → bytes ≡ front ++ back → IsTextItem front → ⊥
+  pub begins_none : (more : List ℕ) → IsItemWithin (bytes ++ more) → ⊥
+  pub has_none : (front back : List ℕ) → bytes ≡ front ++ back → IsItemWithin front → ⊥
 
 -- where the messages end: with nothing, with the beginning of an item, or with a fault
 abbrev pub IsRest : List ℕ → Type 0

@@ -1,7 +1,7 @@
 //! Acknowledgements (Forward Protocol Specification v1, "Response").
 
 ghost use Rattle.std.specs.Prelude.{◌≡◌, ◌≤◌, ◌<◌, ◌+◌, ◌++◌, ℕ, List, length, vec_len, vec_capacity, MatchOption, OnOk, OnErr};
-ghost use Rattle.msgpack_bytes.specs.Item.{IsTextItem};
+ghost use Rattle.msgpack_bytes.specs.Item.{IsItemWithin};
 ghost use Rattle.msgpack_bytes.specs.Kinds.{IsText};
 ghost use Rattle.event_modes.specs.declared.acks.AckRead.{AckRead};
 ghost use Rattle.event_modes.specs.Options.{longest_chunk};
@@ -11,7 +11,7 @@ ghost use Rattle.event_modes.specs.Acks.{IsAckAt, AnswersAck};
 use crate::fault::ModeFault;
 use crate::item::map_of;
 use crate::option::last_value;
-use msgpack_bytes::{Scan, scan, text_of};
+use msgpack_bytes::{Scan, scan, str_or_bin};
 use std::alloc::{AllocError, Allocator};
 
 /// A map of one, and the str "ack".
@@ -74,12 +74,12 @@ fn read_front(bytes: &[u8]) -> AckRead
 
 // Where the content of the chunk lies that the item acknowledges.
 fn acknowledged(item: &[u8]) -> Option<(usize, usize)>
-    requires { IsTextItem item.now }
+    requires { IsItemWithin item.now }
     ensures { MatchOption result ((content : List ℕ) → IsAcknowledgement item.now content → ⊥)
         (λ found. IsAckAt item.now found.0 found.1 (length item.now)) }
 {
     let last = last_value(map_of(item)?, b"ack")?;
-    let content = text_of(last.value)?;
+    let content = str_or_bin(last.value)?;
     let end = item.len() - last.behind;
     Some((end - content.len(), end))
 }

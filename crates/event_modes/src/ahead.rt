@@ -4,7 +4,7 @@ ghost use Rattle.std.specs.Prelude.{ℕ, List, ◌≡◌};
 ghost use Rattle.msgpack_bytes.specs.Answers.{IsScanned};
 ghost use Rattle.event_modes.specs.Ahead.{IsGiven};
 
-use msgpack_bytes::{Scan, Scanner, Taken, item_end};
+use msgpack_bytes::{PieceScan, Scan, Scanner, item_end};
 
 /// A scan of unread bytes, of which more can come: it goes on where it stopped. An item that is whole at the first scan
 /// takes no scanner; the bytes of one that isn't are given to it then, so each byte is looked at twice at most.
@@ -57,16 +57,16 @@ impl Ahead {
         ensures given { IsGiven self.new unread.now }
     {
         match self.scanner.take(unread.split_at(self.given).1) {
-            Taken::End(n) => {
+            PieceScan::End(n) => {
                 let end = self.given + n;
                 *self = Ahead::new();
                 Scan::End(end)
             }
-            Taken::Need => {
+            PieceScan::Need => {
                 self.given = unread.len();
                 Scan::Need
             }
-            Taken::Bad(fault) => {
+            PieceScan::Bad(fault) => {
                 *self = Ahead::new();
                 Scan::Bad(fault)
             }

@@ -1,7 +1,7 @@
 //! The events that a message carries, as they are stored.
 
 ghost use Rattle.std.specs.Prelude.{◌≡◌, ◌++◌, ◌⊎◌, ℕ, List, MatchResult, IsTrue, ◌↔◌};
-ghost use Rattle.msgpack_bytes.specs.Item.{IsTextItem};
+ghost use Rattle.msgpack_bytes.specs.Item.{IsItemWithin};
 ghost use Rattle.msgpack_bytes.specs.Containers.{IsArray};
 ghost use Rattle.event_modes.specs.Message.{Carrier, Single, Forward, Packed, Carries};
 ghost use Rattle.event_modes.specs.Faults.{CarriedFault, EntryFault, PackedEnd};
@@ -68,7 +68,7 @@ fn packed<A: Allocator>(alloc: A, content: &[u8]) -> Result<Entries<A>, FeedErro
 
 // Adds the event of an entry, as it is stored.
 fn add<A: Allocator>(entries: &mut Entries<A>, entry: &[u8]) -> Result<(), FeedError>
-    requires { IsTextItem entry.now }
+    requires { IsItemWithin entry.now }
     ensures { Finds (λ _. IsAdded entry.now entries.old entries.new) (λ fault. EntryFault fault entry.now) result }
 {
     if is_usual_entry(entry) {
@@ -82,7 +82,7 @@ fn add<A: Allocator>(entries: &mut Entries<A>, entry: &[u8]) -> Result<(), FeedE
 
 // The next of packed entries, and what is behind it. Nesting is counted anew for each.
 fn packed_entry(rest: &[u8]) -> Result<(&[u8], &[u8]), ModeFault>
-    ensures { MatchResult result (λ found. IsTextItem found.0.now × (rest.now ≡ found.0.now ++ found.1.now)) (PackedEnd rest.now) }
+    ensures { MatchResult result (λ found. IsItemWithin found.0.now × (rest.now ≡ found.0.now ++ found.1.now)) (PackedEnd rest.now) }
 {
     match scan(rest, 0) {
         Scan::End(end) => Ok(rest.split_at(end)),
@@ -114,7 +114,7 @@ pub fn are_stored(bytes: &[u8], count: usize) -> bool
 }
 
 fn is_stored(entry: &[u8]) -> bool
-    requires { IsTextItem entry.now }
+    requires { IsItemWithin entry.now }
     ensures { IsTrue result ↔ IsStored entry.now }
 {
     entry[0] == ENTRY_HEADER && entry_of(entry).is_ok()

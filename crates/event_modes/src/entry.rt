@@ -1,7 +1,7 @@
 //! One event, from its time and its record.
 
 ghost use Rattle.std.specs.Prelude.{◌≡◌, ℕ, List, [], ◌∷◌, MatchResult, MatchOption, IfOk};
-ghost use Rattle.msgpack_bytes.specs.Item.{IsTextItem};
+ghost use Rattle.msgpack_bytes.specs.Item.{IsItemWithin};
 ghost use Rattle.msgpack_bytes.specs.Containers.{IsArray};
 ghost use Rattle.event_modes.specs.Entry.{IsTime, IsRecord, IsEntry, stored_entry};
 ghost use Rattle.event_modes.specs.Faults.{EventFault, EntryFault};
@@ -21,8 +21,8 @@ pub struct Event<'a> {
 
 /// The event of this time and this record.
 pub fn event_of<'a>(time: &'a [u8], fields: &'a [u8]) -> Result<Event<'a>, ModeFault>
-    requires time { IsTextItem time.now }
-    requires fields { IsTextItem fields.now }
+    requires time { IsItemWithin time.now }
+    requires fields { IsItemWithin fields.now }
     ensures same { IfOk result (λ event. (event.time.now ≡ time.now) × (event.fields.now ≡ fields.now)) }
     ensures event { MatchResult result (λ event. IsTime time.now × IsRecord fields.now) (EventFault time.now fields.now) }
 {
@@ -37,7 +37,7 @@ pub fn event_of<'a>(time: &'a [u8], fields: &'a [u8]) -> Result<Event<'a>, ModeF
 
 /// The event of an entry.
 pub fn entry_of(entry: &[u8]) -> Result<Event<'_>, ModeFault>
-    requires { IsTextItem entry.now }
+    requires { IsItemWithin entry.now }
     ensures { MatchResult result (λ event. IsEntry entry.now (stored_entry event.time.now event.fields.now)) (λ fault. EntryFault fault entry.now) }
 {
     let Some((time, fields)) = pair_of(entry) else {
@@ -48,9 +48,9 @@ pub fn entry_of(entry: &[u8]) -> Result<Event<'_>, ModeFault>
 
 // The elements of an array of two.
 fn pair_of(entry: &[u8]) -> Option<(&[u8], &[u8])>
-    requires { IsTextItem entry.now }
+    requires { IsItemWithin entry.now }
     ensures { MatchOption result ((time fields : List ℕ) → IsArray (time ∷ fields ∷ []) entry.now → ⊥)
-        (λ found. IsArray (found.0.now ∷ found.1.now ∷ []) entry.now × IsTextItem found.0.now × IsTextItem found.1.now) }
+        (λ found. IsArray (found.0.now ∷ found.1.now ∷ []) entry.now × IsItemWithin found.0.now × IsItemWithin found.1.now) }
 {
     let mut items = array_of(entry)?;
     let time = items.next()?;

@@ -1,7 +1,7 @@
 //! The parts of an item, as slices of it.
 
 ghost use Rattle.std.specs.Prelude.{◌≡◌, ◌↔◌, ℕ, ℤ, List, MatchOption, IsTrue};
-ghost use Rattle.msgpack_bytes.specs.Item.{IsTextItem};
+ghost use Rattle.msgpack_bytes.specs.Item.{IsItemWithin};
 ghost use Rattle.msgpack_bytes.specs.Kinds.{IsNil, IsInteger};
 ghost use Rattle.msgpack_bytes.specs.Containers.{Pair, pair_items, IsArray, IsMap};
 ghost use Rattle.event_modes.specs.Pairs.{ArePairs};
@@ -12,7 +12,7 @@ use msgpack_bytes::{Head, head};
 
 /// The items of an array.
 pub fn array_of(item: &[u8]) -> Option<Items<'_>>
-    requires { IsTextItem item.now }
+    requires { IsItemWithin item.now }
     ensures { MatchOption result ((items : List (List ℕ)) → IsArray items item.now → ⊥) (λ items. IsArray items item.now) }
 {
     match head(item, 0)? {
@@ -23,7 +23,7 @@ pub fn array_of(item: &[u8]) -> Option<Items<'_>>
 
 /// The keys and values of a map, one after another.
 pub fn map_of(item: &[u8]) -> Option<Items<'_>>
-    requires { IsTextItem item.now }
+    requires { IsItemWithin item.now }
     ensures { MatchOption result ((pairs : List Pair) → IsMap pairs item.now → ⊥)
         (λ items. (pairs : List Pair) × IsMap pairs item.now × (items ≡ pair_items pairs) × ArePairs items) }
 {
@@ -42,14 +42,14 @@ pub fn is_nil(item: &[u8]) -> bool
 
 /// An integer or an EventTime, whose ext has one of two headers.
 pub fn is_time(item: &[u8]) -> bool
-    requires { IsTextItem item.now }
+    requires { IsItemWithin item.now }
     ensures { IsTrue result ↔ IsTime item.now }
 {
     is_event_time(item) || is_integer(item)
 }
 
 fn is_integer(item: &[u8]) -> bool
-    requires { IsTextItem item.now }
+    requires { IsItemWithin item.now }
     ensures { IsTrue result ↔ ((seconds : ℤ) × IsInteger item.now seconds) }
 {
     match head(item, 0) {
@@ -70,7 +70,7 @@ fn is_event_time(item: &[u8]) -> bool
 
 /// Whether the item is a record.
 pub fn is_record(item: &[u8]) -> bool
-    requires { IsTextItem item.now }
+    requires { IsItemWithin item.now }
     ensures { IsTrue result ↔ IsRecord item.now }
 {
     map_of(item).is_some()

@@ -2,7 +2,7 @@
 
 ghost use Rattle.std.specs.Prelude.{◌≡◌, ◌<◌, ◌++◌, length};
 ghost use Rattle.std.specs.List.{concat};
-ghost use Rattle.msgpack_bytes.specs.Item.{IsTextItem};
+ghost use Rattle.msgpack_bytes.specs.Item.{IsItemWithin};
 ghost use Rattle.event_modes.specs.Rows.{items_of, AreItems};
 
 use msgpack_bytes::{Scan, scan};
@@ -12,7 +12,7 @@ use std::marker::Model;
 fn first_item(bytes: &[u8], count: usize) -> (&[u8], &[u8])
     requires some { 0 < count }
     requires items { AreItems count bytes.now }
-    ensures item { IsTextItem result.0.now }
+    ensures item { IsItemWithin result.0.now }
     ensures whole { bytes.now ≡ result.0.now ++ result.1.now }
 {
     if count == 1 {

@@ -1,13 +1,13 @@
 //! The places of a message, and what stands there, as slices of it.
 
 ghost use Rattle.std.specs.Prelude.{◌≡◌, ◌<◌, ◌⊎◌, ℕ, List, [], ◌∷◌, length, MatchOption};
-ghost use Rattle.msgpack_bytes.specs.Item.{IsTextItem};
+ghost use Rattle.msgpack_bytes.specs.Item.{IsItemWithin};
 ghost use Rattle.msgpack_bytes.specs.Containers.{IsArray};
 ghost use Rattle.event_modes.specs.Message.{Frame, IsFrame};
 ghost use Rattle.event_modes.specs.Places.{elements_list, carrier_of, frame_of, IsBulk, IsNoBulk};
 
 use crate::item::array_of;
-use msgpack_bytes::text_of;
+use msgpack_bytes::str_or_bin;
 
 /// What carries the events of a message.
 #[derive(Clone, Copy)]
@@ -34,7 +34,7 @@ pub enum Elements<'a> {
 }
 
 fn elements_of(item: &[u8]) -> Option<Elements<'_>>
-    requires { IsTextItem item.now }
+    requires { IsItemWithin item.now }
     ensures { MatchOption result ((items : List (List ℕ)) → IsArray items item.now → (length items < 2) ⊎ (4 < length items))
         (λ found. IsArray (elements_list found) item.now) }
 {
@@ -55,18 +55,18 @@ fn elements_of(item: &[u8]) -> Option<Elements<'_>>
 
 // The second element alone decides the mode.
 fn bulk_of(second: &[u8]) -> Option<Carried<'_>>
-    requires { IsTextItem second.now }
+    requires { IsItemWithin second.now }
     ensures { MatchOption result (IsNoBulk second.now) (λ carried. IsBulk second.now (carrier_of carried)) }
 {
     if array_of(second).is_some() {
         return Some(Carried::Forward(second));
     }
-    Some(Carried::Packed(text_of(second)?))
+    Some(Carried::Packed(str_or_bin(second)?))
 }
 
 /// The places of the mode that the item is of, if it is of one.
 pub fn places_of(item: &[u8]) -> Option<Places<'_>>
-    requires { IsTextItem item.now }
+    requires { IsItemWithin item.now }
     ensures { MatchOption result ((frame : Frame) → IsFrame item.now frame → ⊥) (λ places. IsFrame item.now (frame_of places)) }
 {
     match elements_of(item)? {

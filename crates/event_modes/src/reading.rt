@@ -1,7 +1,7 @@
 //! The message or the heartbeat that bytes begin with, or why there is none.
 
 ghost use Rattle.std.specs.Prelude.{◌≡◌, ◌∷◌, ℕ, List, option_map, IfOk, MatchResult};
-ghost use Rattle.msgpack_bytes.specs.Item.{IsTextItem};
+ghost use Rattle.msgpack_bytes.specs.Item.{IsItemWithin};
 ghost use Rattle.msgpack_bytes.specs.Answers.{IsScanned};
 ghost use Rattle.msgpack_bytes.specs.Kinds.{IsNil};
 ghost use Rattle.event_modes.specs.Entry.{entry_header};
@@ -22,7 +22,7 @@ use crate::message::{Entries, Message, Read};
 use crate::option::ack_of;
 use crate::places::places_of;
 use crate::usual::{Usual, usual_of};
-use msgpack_bytes::{Scan, scan, text_of};
+use msgpack_bytes::{Scan, scan, str_or_bin};
 use std::alloc::{AllocError, Allocator};
 
 /// How many bytes a tag has at most. A message with a longer one is refused.
@@ -69,7 +69,7 @@ fn read_scanned<A: Allocator + Copy>(
 }
 
 fn read_item<A: Allocator + Copy>(alloc: A, item: &[u8]) -> Result<Read<A>, AllocError>
-    requires { IsTextItem item.now }
+    requires { IsItemWithin item.now }
     ensures { IfOk result (λ found. AnswersItem item.now (answer_of found)) }
 {
     if is_nil(item) {
@@ -83,7 +83,7 @@ fn read_item<A: Allocator + Copy>(alloc: A, item: &[u8]) -> Result<Read<A>, Allo
 }
 
 fn message_of<A: Allocator + Copy>(alloc: A, item: &[u8]) -> Result<Message<A>, FeedError>
-    requires item { IsTextItem item.now }
+    requires item { IsItemWithin item.now }
     requires some { IsNil item.now → ⊥ }
     ensures { Finds (λ found. IsMessage item.now (meaning found)) (ItemFault item.now) result }
 {
@@ -107,7 +107,7 @@ fn copied<A: Allocator + Copy>(alloc: A, usual: Usual<'_>) -> Result<Message<A>,
 
 // The message, by a walk over its elements.
 fn walked<A: Allocator + Copy>(alloc: A, item: &[u8]) -> Result<Message<A>, FeedError>
-    requires item { IsTextItem item.now }
+    requires item { IsItemWithin item.now }
     requires some { IsNil item.now → ⊥ }
     ensures { Finds (λ found. IsMessage item.now (meaning found)) (ItemFault item.now) result }
 {
@@ -125,11 +125,11 @@ fn walked<A: Allocator + Copy>(alloc: A, item: &[u8]) -> Result<Message<A>, Feed
 }
 
 fn tag_of(tag: &[u8]) -> Result<&[u8], ModeFault>
-    requires { IsTextItem tag.now }
+    requires { IsItemWithin tag.now }
     ensures { MatchResult result (λ content. IsTag tag.now content.now)
         (λ fault. (fault ≡ ModeFault.BadTag) × ((content : List ℕ) → IsTag tag.now content → ⊥)) }
 {
-    let Some(content) = text_of(tag) else {
+    let Some(content) = str_or_bin(tag) else {
         return Err(ModeFault::BadTag);
     };
     if content.len() > LONGEST_TAG {

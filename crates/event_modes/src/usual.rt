@@ -1,7 +1,7 @@
 //! Messages of one event and entries that are spelled as clients usually do, told by a few bytes.
 
 ghost use Rattle.std.specs.Prelude.{◌≡◌, ◌++◌, ◌≤◌, length, drop, IfSome, IsTrue};
-ghost use Rattle.msgpack_bytes.specs.Item.{IsTextItem};
+ghost use Rattle.msgpack_bytes.specs.Item.{IsItemWithin};
 ghost use Rattle.event_modes.specs.Rows.{IsStored};
 ghost use Rattle.event_modes.specs.Usual.{BeginsStr, BeginsMap, BeginsEvent, IsOneEvent};
 
@@ -18,7 +18,7 @@ pub struct Usual<'a> {
 
 /// What the message says, where its parts are spelled as clients usually do. Any other item is for the walk over its elements.
 pub fn usual_of(item: &[u8]) -> Option<Usual<'_>>
-    requires { IsTextItem item.now }
+    requires { IsItemWithin item.now }
     ensures { IfSome result (λ usual. IsOneEvent item.now usual.tag.now usual.event.now) }
 {
     if item[0] != 0x93 {
@@ -36,7 +36,7 @@ pub fn usual_of(item: &[u8]) -> Option<Usual<'_>>
 /// Whether an entry is spelled as it is stored, and its time and record begin as clients usually spell them.
 /// Any other entry is for the walk over its elements.
 pub fn is_usual_entry(entry: &[u8]) -> bool
-    requires { IsTextItem entry.now }
+    requires { IsItemWithin entry.now }
     ensures { IsTrue result → IsStored entry.now }
 {
     if entry[0] != ENTRY_HEADER {

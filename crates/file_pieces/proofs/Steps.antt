@@ -3,7 +3,7 @@ use Rattle.std.proofs.Common.{◌≡◌, ℕ, ◌+◌, ◌≤◌, Bool, true, fa
 use Rattle.std.specs.Prelude.{◌≢◌, ◌-◌, ◌<◌, IsErrOf, IsSome, min, drop, get_or, sum_by}
 use Rattle.std.specs.List.{flat_map}
 use Rattle.std.specs.Str.{bytes_eq}
-use Rattle.disk_files.specs.Disk.{File, Disk, Folder, SameDisk, Changes, grown, with_file, read_of}
+use Rattle.disk_files.specs.Disk.{File, Disk, Folder, SameDisk, Changes, with_bytes, with_file, read_of}
 use Rattle.disk_files.specs.Moments.{History, now, Elapses, LeavesOnly}
 use Rattle.disk_files.specs.Faults.{HasCause}
 use Rattle.disk_files.specs.declared.dir.FileNo.{FileNo}
@@ -42,35 +42,35 @@ always_err (Err e) is = is
 
 -- ---- what is added to a file in two steps
 
-twice : (b c : List ℕ) (o : Option File) → option_map (grown c) (option_map (grown b) o) ≡ option_map (grown (b ++ c)) o
+twice : (b c : List ℕ) (o : Option File) → option_map (with_bytes c) (option_map (with_bytes b) o) ≡ option_map (with_bytes (b ++ c)) o
 twice b c None = refl
 twice b c (Some f) = ap (λ (w : List ℕ). Some (record f { written = w })) (append_assoc f.written b c)
 
-pub grown_twice : (name b c : List ℕ) (old mid new : Disk) → Changes name (grown b) old mid → Changes name (grown c) mid new → Changes name (grown (b ++ c)) old new
+pub grown_twice : (name b c : List ℕ) (old mid new : Disk) → Changes name (with_bytes b) old mid → Changes name (with_bytes c) mid new → Changes name (with_bytes (b ++ c)) old new
 grown_twice name b c old mid new first second =
-    subst (λ (o : Option File). SameDisk new (with_file old name o)) (twice b c (old name)) (follows old mid new name (option_map (grown b) (old name)) (grown c) first second)
+    subst (λ (o : Option File). SameDisk new (with_file old name o)) (twice b c (old name)) (follows old mid new name (option_map (with_bytes b) (old name)) (with_bytes c) first second)
 
-pub partly_behind : (name b c : List ℕ) (old mid new : Disk) → Changes name (grown b) old mid → Partly name c mid new → Partly name (b ++ c) old new
+pub partly_behind : (name b c : List ℕ) (old mid new : Disk) → Changes name (with_bytes b) old mid → Partly name c mid new → Partly name (b ++ c) old new
 partly_behind name b c old mid new first second = record {
   len = length b + second.len;
-  grew = subst (λ (l : List ℕ). Changes name (grown l) old new) (sym (take_past b c second.len)) (grown_twice name b (take second.len c) old mid new first second.grew);
+  grew = subst (λ (l : List ℕ). Changes name (with_bytes l) old new) (sym (take_past b c second.len)) (grown_twice name b (take second.len c) old mid new first second.grew);
 }
 
 pub partly_more : (name b c : List ℕ) (old new : Disk) → Partly name b old new → Partly name (b ++ c) old new
 partly_more name b c old new part = record {
   len = min part.len (length b);
-  grew = subst (λ (l : List ℕ). Changes name (grown l) old new) (sym (take_within b c part.len)) part.grew;
+  grew = subst (λ (l : List ℕ). Changes name (with_bytes l) old new) (sym (take_within b c part.len)) part.grew;
 }
 
 own_file : (disk : Disk) (name q : List ℕ) (b : Bool) → bytes_eq name q ≡ b → cond b (disk name) (disk q) ≡ disk q
 own_file disk name q true is = ap disk (same_name name q is)
 own_file disk name q false is = refl
 
-none_more : (o : Option File) → option_map (grown []) o ≡ o
+none_more : (o : Option File) → option_map (with_bytes []) o ≡ o
 none_more None = refl
 none_more (Some f) = ap (λ (w : List ℕ). Some (record f { written = w })) (append-nil f.written)
 
-pub grown_none : (name : List ℕ) (old new : Disk) → SameDisk new old → Changes name (grown []) old new
+pub grown_none : (name : List ℕ) (old new : Disk) → SameDisk new old → Changes name (with_bytes []) old new
 grown_none name old new same q = same q ∙ sym (own_file old name q (bytes_eq name q) refl) ∙ ap (λ (o : Option File). cond (bytes_eq name q) o (old q)) (sym (none_more (old name)))
 
 pub partly_none : (name b : List ℕ) (old new : Disk) → SameDisk new old → Partly name b old new
@@ -79,8 +79,8 @@ partly_none name b old new same = record { len = 0; grew = grown_none name old n
 left_by : (P Q : Disk → Type 0) → ((d : Disk) → P d → Q d) → (folder : Folder) → IsLeftOf P folder → IsLeftOf Q folder
 left_by P Q less folder left = record { disk = left.disk; so = less left.disk left.so; stays = left.stays }
 
-pub partly_all : (name bytes : List ℕ) (old new : Disk) → Changes name (grown bytes) old new → Partly name bytes old new
-partly_all name bytes old new changes = record { len = length bytes; grew = subst (λ (l : List ℕ). Changes name (grown l) old new) (sym (take_all (length bytes) bytes (omega arith))) changes }
+pub partly_all : (name bytes : List ℕ) (old new : Disk) → Changes name (with_bytes bytes) old new → Partly name bytes old new
+partly_all name bytes old new changes = record { len = length bytes; grew = subst (λ (l : List ℕ). Changes name (with_bytes l) old new) (sym (take_all (length bytes) bytes (omega arith))) changes }
 
 -- ---- calls
 
@@ -103,7 +103,7 @@ answered_err : (X : Type 0) (r : Result (Unit {0}) DirError) → OnErr r X → O
 answered_err X (Ok x) is = tt
 answered_err X (Err e) is = is
 
-partly_of : (r : Result (Unit {0}) DirError) (bytes name : List ℕ) (old new : Disk) → OnErr r ((n : ℕ) × Changes name (grown (take n bytes)) old new) → OnErr r (Partly name bytes old new)
+partly_of : (r : Result (Unit {0}) DirError) (bytes name : List ℕ) (old new : Disk) → OnErr r ((n : ℕ) × Changes name (with_bytes (take n bytes)) old new) → OnErr r (Partly name bytes old new)
 partly_of (Ok x) bytes name old new is = tt
 partly_of (Err e) bytes name old new is = record { len = is.0; grew = is.1 }
 
@@ -171,7 +171,7 @@ module _ {D : Type 0} (is_honest : D → Type 0) (history : D → History) (open
     cause = adds.cause;
     elsewhere = adds.elsewhere;
     grows = adds.grows;
-    ok = λ h source name seen c v. (let both = same h source name seen c v in subst (λ (b : List ℕ). OnOk r (Changes name (grown b) (now (history old)) (now (history new)))) both.1 (adds.ok h source name seen c both.0));
+    ok = λ h source name seen c v. (let both = same h source name seen c v in subst (λ (b : List ℕ). OnOk r (Changes name (with_bytes b) (now (history old)) (now (history new)))) both.1 (adds.ok h source name seen c both.0));
     err = λ h source name seen c v. (let both = same h source name seen c v in subst (λ (b : List ℕ). OnErr r (Partly name b (now (history old)) (now (history new)))) both.1 (adds.err h source name seen c both.0));
     moments = λ h source name seen c v. (let both = same h source name seen c v in subst (λ (b : List ℕ). LeavesOnly (history old) (history new) (IsLeftOf (Partly name b (now (history old))))) both.1 (adds.moments h source name seen c both.0));
     whole = λ h source name seen c v short. adds.whole h source name seen c (same h source name seen c v).0 short;
@@ -217,8 +217,8 @@ module _ {D : Type 0} (is_honest : D → Type 0) (history : D → History) (open
   -- bytes that are given are added
   pub adds_given : (r : Result (Unit {0}) DirError) (bytes : List ℕ) (old new : D) → (is_honest old → is_honest new) → ((other : FileNo) → opened new other ≡ opened old other) → bytes_left old to ≤ bytes_left new to + length bytes
       → HasCause (fault_count old) (fault_count new) r → OnErr r (r ≡ Err dir.Fault) → (is_honest old → Elapses (history old) (history new))
-      → (is_honest old → (name : List ℕ) → opened old to ≡ Some name → OnOk r (Changes name (grown bytes) (now (history old)) (now (history new))))
-      → (is_honest old → (name : List ℕ) → opened old to ≡ Some name → OnErr r ((n : ℕ) × Changes name (grown (take n bytes)) (now (history old)) (now (history new))))
+      → (is_honest old → (name : List ℕ) → opened old to ≡ Some name → OnOk r (Changes name (with_bytes bytes) (now (history old)) (now (history new))))
+      → (is_honest old → (name : List ℕ) → opened old to ≡ Some name → OnErr r ((n : ℕ) × Changes name (with_bytes (take n bytes)) (now (history old)) (now (history new))))
       → Adds is_honest history opened bytes_left fault_count from to (length bytes) HasAny (λ _. bytes) old new (answer_of r)
   adds_given r bytes old new honest stays_open room cause only time ok err = record {
     honest = honest;

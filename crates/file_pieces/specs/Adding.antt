@@ -1,6 +1,6 @@
 -- What a call does that adds bytes to a file, some of which another file has.
 use Rattle.std.specs.Prelude.{ℕ, ◌≡◌, ◌≢◌, ◌+◌, ◌≤◌, List, take, Option, Some, option_map, Result, OnOk, OnErr, IsErrOf}
-use Rattle.disk_files.specs.Disk.{Disk, Folder, StopLeaves, Changes, grown, with_file, SameDisk, reads}
+use Rattle.disk_files.specs.Disk.{Disk, Folder, StopLeaves, Changes, with_bytes, with_file, SameDisk, reads}
 use Rattle.disk_files.specs.Moments.{History, LeavesOnly, now}
 use Rattle.disk_files.specs.Faults.{Rises}
 use Rattle.disk_files.specs.declared.dir.FileNo.{FileNo}
@@ -10,7 +10,7 @@ use Rattle.file_pieces.specs.declared.error.PieceError.TheVariants.{Fault, Short
 -- what is left of an append
 pub record Partly (name bytes : List ℕ) (before after : Disk) : Type 0 where
   pub len : ℕ
-  pub grew : SameDisk after (with_file before name (option_map (grown (take len bytes)) (before name)))
+  pub grew : SameDisk after (with_file before name (option_map (with_bytes (take len bytes)) (before name)))
 
 -- a stop may leave this folder of a disk that is so
 pub record IsLeftOf (IsSo : Disk → Type 0) (folder : Folder) : Type 0 where
@@ -39,7 +39,7 @@ pub record HasPieceCause {T : Type 0} (before after : ℕ) (result : Result T Pi
 -- some bytes were added
 pub record Grows (name : List ℕ) (before after : Disk) : Type 0 where
   pub bytes : List ℕ
-  pub grew : Changes name (grown bytes) before after
+  pub grew : Changes name (with_bytes bytes) before after
 
 -- The call adds these bytes, which may be some of the source's, where the source has what is asked of it; or, after an error, a beginning of them. At no moment
 -- does a stop leave anything else. Files of other names stay as they are, and each open file stays open.
@@ -52,7 +52,7 @@ pub record Adds {D T : Type 0} (is_honest : D → Type 0) (history : D → Histo
   pub elsewhere : is_honest old → (name other : List ℕ) → opened old to ≡ Some name → other ≢ name → now (history new) other ≡ now (history old) other
   pub grows : is_honest old → (name : List ℕ) → opened old to ≡ Some name → Grows name (now (history old)) (now (history new))
   pub ok : is_honest old → (source name seen : List ℕ) → Copies (opened old) (now (history old)) from to source name seen → Has seen
-      → OnOk result (Changes name (grown (bytes seen)) (now (history old)) (now (history new)))
+      → OnOk result (Changes name (with_bytes (bytes seen)) (now (history old)) (now (history new)))
   pub err : is_honest old → (source name seen : List ℕ) → Copies (opened old) (now (history old)) from to source name seen → Has seen
       → OnErr result (Partly name (bytes seen) (now (history old)) (now (history new)))
   pub moments : is_honest old → (source name seen : List ℕ) → Copies (opened old) (now (history old)) from to source name seen → Has seen

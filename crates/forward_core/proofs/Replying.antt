@@ -4,7 +4,7 @@ use Rattle.std.specs.List.{AllByRecursion, concat}
 use Rattle.std.proofs.lemmas.List.{take-append-drop, drop-drop, length-drop, length-take-le, append-nil}
 use Rattle.msgpack_bytes.specs.declared.answers.Scan.TheVariants.{End}
 use Rattle.msgpack_bytes.specs.Answers.{IsScanned}
-use Rattle.msgpack_bytes.specs.Item.{IsTextItem, IsOpen}
+use Rattle.msgpack_bytes.specs.Item.{IsItemWithin, IsOpen}
 use Rattle.event_modes.specs.declared.chunk_id.ChunkId.{ChunkId}
 use Rattle.event_modes.specs.ChunkIds.{chunk_text}
 use Rattle.event_modes.specs.Acknowledgement.{IsAcknowledgement}
@@ -42,11 +42,11 @@ pub record Front (bytes : List ℕ) (n end : ℕ) : Type 0 where
   pub some : 0 < end
   pub within : n + end ≤ length bytes
 
-some_bytes : (item : List ℕ) → IsTextItem item → 0 < length item
+some_bytes : (item : List ℕ) → IsItemWithin item → 0 < length item
 some_bytes [] p = absurd (some_item (text_item [] p))
 some_bytes (x ∷ item) p = omega arith
 
-pub front_at : (bytes : List ℕ) (n end : ℕ) → n ≤ length bytes → end ≤ length (drop n bytes) → IsTextItem (take end (drop n bytes)) → Front bytes n end
+pub front_at : (bytes : List ℕ) (n end : ℕ) → n ≤ length bytes → end ≤ length (drop n bytes) → IsItemWithin (take end (drop n bytes)) → Front bytes n end
 front_at bytes n end w e p = record {
   whole = sym (take-append-drop end (drop n bytes)) ∙ ap (λ (z : List ℕ). take end (drop n bytes) ++ z) (drop-drop end n bytes);
   some = subst (λ (k : ℕ). 0 < k) (length-take-le end (drop n bytes) e) (some_bytes (take end (drop n bytes)) p);
@@ -100,11 +100,11 @@ pub fewer_left : (bytes : List ℕ) (n end : ℕ) → Front bytes n end → leng
 fewer_left bytes n end f = let s = f.some in let w = f.within in omega arith
 
 -- bytes with an item behind them begin with no reply, where the item is none
-pub other_item : (bytes : List ℕ) (n end : ℕ) → Front bytes n end → IsTextItem (take end (drop n bytes)) → IsOther (take end (drop n bytes)) → IsNoReply (drop n bytes)
+pub other_item : (bytes : List ℕ) (n end : ℕ) → Front bytes n end → IsItemWithin (take end (drop n bytes)) → IsOther (take end (drop n bytes)) → IsNoReply (drop n bytes)
 other_item bytes n end f i o = inr (take end (drop n bytes), drop (n + end) bytes, i, o, f.whole)
 
 -- what is read of an item that acknowledges nothing
-pub no_ack : (item content : List ℕ) (fault : ModeFault) → IsTextItem item → AckFault item fault → IsAcknowledgement item content → ⊥
+pub no_ack : (item content : List ℕ) (fault : ModeFault) → IsItemWithin item → AckFault item fault → IsAcknowledgement item content → ⊥
 no_ack item content NotAMessage i p a =
     let e : item ≡ p.item = same_front item p.item [] p.more (text_item item i) (text_item p.item p.is_item) (append-nil item ∙ p.whole) in
     p.none content (subst (λ (z : List ℕ). IsAcknowledgement z content) e a)
@@ -118,7 +118,7 @@ no_ack item content Compressed i p a = p
 no_ack item content BadOption i p a = p
 
 -- an acknowledgement at the front of an item is all of it
-pub some_ack : (item : List ℕ) (start end next : ℕ) → IsTextItem item → IsAckAt item start end next → (content : List ℕ) × IsAcknowledgement item content
+pub some_ack : (item : List ℕ) (start end next : ℕ) → IsItemWithin item → IsAckAt item start end next → (content : List ℕ) × IsAcknowledgement item content
 some_ack item start end next i p =
     let front = take next item in
     let e : front ≡ item = same_front front item (drop next item) [] (text_item front p.is.item) (text_item item i) (take-append-drop next item ∙ sym (append-nil item)) in
@@ -126,8 +126,8 @@ some_ack item start end next i p =
 
 -- the item that a scan found
 pub front_scanned : (bytes rest : List ℕ) (n end : ℕ) → n ≤ length bytes → rest ≡ drop n bytes → IsScanned rest 0 (End end)
-    → Front bytes n end × IsTextItem (take end (drop n bytes))
+    → Front bytes n end × IsItemWithin (take end (drop n bytes))
 front_scanned bytes rest n end w r s =
     let e : slice_range rest 0 end ≡ take end rest = grind arith in
-    let item : IsTextItem (take end (drop n bytes)) = subst (λ (z : List ℕ). IsTextItem (take end z)) r (subst IsTextItem e s.2) in
+    let item : IsItemWithin (take end (drop n bytes)) = subst (λ (z : List ℕ). IsItemWithin (take end z)) r (subst IsItemWithin e s.2) in
     (front_at bytes n end w (subst (λ (z : List ℕ). end ≤ length z) r s.1) item, item)

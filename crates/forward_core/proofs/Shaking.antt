@@ -8,7 +8,7 @@ use Rattle.auth_handshake.specs.declared.answers.HeloError.TheVariants.{Memory, 
 use Rattle.auth_handshake.specs.Ends.{ClientEnd}
 use Rattle.event_modes.specs.declared.chunk_id.ChunkId.{ChunkId}
 use Rattle.forward_core.specs.declared.fault.SessionFault.TheVariants.{Handshake}
-use Rattle.forward_core.specs.declared.meeting.Met.TheVariants.{Taken, Refused}
+use Rattle.forward_core.specs.declared.client_handshake.Met.TheVariants.{Taken, Refused}
 use Rattle.forward_core.specs.declared.client.Phase.{Phase}
 use Rattle.forward_core.specs.declared.client.Phase.TheVariants.{Shaking}
 use Rattle.forward_core.specs.Client.{ClientPhase, AwaitsHelo, AwaitsPong, Ended, ClientState, Said, Fails, Listens, IsHeard, ReadsHelo, ReadsPong, MeetsHelo, MeetsPong, awaited, phase_if, phase_of, greeted}

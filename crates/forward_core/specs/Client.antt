@@ -2,7 +2,7 @@
 use Rattle.std.specs.Prelude.{ℕ, ◌≡◌, ◌≤◌, ◌⊎◌, List, [], ◌++◌, length, take, drop, Option, Some, None, Bool, true, false, Ok, Err, IsSome, if◌then◌else◌}
 use Rattle.std.specs.List.{AllByRecursion, concat}
 use Rattle.msgpack_bytes.specs.declared.answers.MsgFault.{MsgFault}
-use Rattle.msgpack_bytes.specs.Item.{IsTextItem, IsOpen}
+use Rattle.msgpack_bytes.specs.Item.{IsItemWithin, IsOpen}
 use Rattle.msgpack_bytes.specs.Kinds.{IsNil}
 use Rattle.msgpack_bytes.specs.Fault.{IsFaulty}
 use Rattle.auth_handshake.specs.declared.answers.HandshakeFault.{HandshakeFault}
@@ -21,8 +21,8 @@ use Rattle.forward_core.specs.declared.replies.Reply.{Reply}
 use Rattle.forward_core.specs.declared.replies.Reply.TheVariants as reply
 use Rattle.forward_core.specs.declared.replies.Heard.{Heard}
 use Rattle.forward_core.specs.declared.replies.Heard.TheVariants as heard
-use Rattle.forward_core.specs.declared.meeting.Met.{Met}
-use Rattle.forward_core.specs.declared.meeting.Met.TheVariants as met
+use Rattle.forward_core.specs.declared.client_handshake.Met.{Met}
+use Rattle.forward_core.specs.declared.client_handshake.Met.TheVariants as met
 use Rattle.forward_core.specs.declared.client.Phase.{Phase}
 use Rattle.forward_core.specs.declared.client.Phase.TheVariants as phase
 use Rattle.forward_core.specs.Handshakes.{IsShown}
@@ -43,9 +43,9 @@ pub record ClientState : Type 0 where
   pub outgoing : List ℕ
 
 -- a session that begins: with security a HELO has to come first
-abbrev pub opening : Option Security → (salt : List ℕ) → ClientState
-opening None salt = record { phase = Ready; held = []; outgoing = [] }
-opening (Some security) salt = record {
+abbrev pub initial_client : Option Security → (salt : List ℕ) → ClientState
+initial_client None salt = record { phase = Ready; held = []; outgoing = [] }
+initial_client (Some security) salt = record {
   phase = AwaitsHelo (record { host = security.self_hostname.now; key = security.shared_key.now; salt = salt; nonce = None });
   held = [];
   outgoing = [];
@@ -80,7 +80,7 @@ IsOther item = (IsNil item → ⊥) × ((content : List ℕ) → IsAcknowledgeme
 -- no item begins so, or the one that does is neither a heartbeat nor an acknowledgement
 abbrev pub IsNoReply : List ℕ → Type 0
 IsNoReply bytes = ((why : MsgFault) × IsFaulty why bytes)
-    ⊎ ((item : List ℕ) × (more : List ℕ) × IsTextItem item × IsOther item × (bytes ≡ item ++ more))
+    ⊎ ((item : List ℕ) × (more : List ℕ) × IsItemWithin item × IsOther item × (bytes ≡ item ++ more))
 
 -- what comes of the first item that isn't passed over: the acknowledgement that is awaited is taken off and is evidence of this chunk;
 -- of what is no reply nothing is taken, and the session is over

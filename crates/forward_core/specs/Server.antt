@@ -9,9 +9,9 @@ use Rattle.auth_handshake.specs.Written.{helo_bytes}
 use Rattle.event_modes.specs.declared.fault.ModeFault.{ModeFault}
 use Rattle.event_modes.specs.Message.{Parts}
 use Rattle.forward_core.specs.declared.fault.SessionFault.TheVariants.{BadStream, Handshake}
-use Rattle.forward_core.specs.declared.taken.Stage.{Stage}
-use Rattle.forward_core.specs.declared.taken.Stage.TheVariants as stage
-use Rattle.forward_core.specs.declared.taken.Taken.{Taken}
+use Rattle.forward_core.specs.declared.taken.Standing.{Standing}
+use Rattle.forward_core.specs.declared.taken.Standing.TheVariants as stage
+use Rattle.forward_core.specs.declared.taken.TakenItem.{TakenItem}
 use Rattle.forward_core.specs.declared.security.Security.{Security}
 use Rattle.forward_core.specs.declared.server.Phase.{Phase}
 use Rattle.forward_core.specs.declared.server.Phase.TheVariants as phase
@@ -111,14 +111,14 @@ after session out = record {
 }
 
 -- a session with nothing but what is to be sent
-abbrev pub fresh : ServerPhase → List ℕ → ServerState
-fresh phase outgoing = record { phase = phase; held = []; outgoing = outgoing; asked = []; taken = [] }
+abbrev pub idle_server : ServerPhase → List ℕ → ServerState
+idle_server phase outgoing = record { phase = phase; held = []; outgoing = outgoing; asked = []; taken = [] }
 
 -- a session that begins: with security the HELO is to be sent, and a PING has to come first
-abbrev pub opening : Option Security → (nonce : List ℕ) → ServerState
-opening None nonce = fresh Opened []
-opening (Some security) nonce =
-    fresh (Awaiting (record { host = security.self_hostname.now; key = security.shared_key.now; nonce = nonce })) (helo_bytes nonce)
+abbrev pub initial_server : Option Security → (nonce : List ℕ) → ServerState
+initial_server None nonce = idle_server Opened []
+initial_server (Some security) nonce =
+    idle_server (Awaiting (record { host = security.self_hostname.now; key = security.shared_key.now; nonce = nonce })) (helo_bytes nonce)
 
 -- where a session stands, without where it lies in memory
 abbrev pub phase_of : {A : Type 0} → Phase A → ServerPhase
@@ -132,13 +132,13 @@ IsAskedIn asked (Delivers parts) = Contains asked (asked_of parts)
 IsAskedIn asked (Closes fault) = Unit {0}
 
 -- where a session stands after a step of its code
-abbrev pub phase_at : ServerPhase → Stage → ServerPhase
+abbrev pub phase_at : ServerPhase → Standing → ServerPhase
 phase_at before stage.Same = before
 phase_at before stage.Open = Opened
 phase_at before stage.Closed = Over
 
 -- what the code found, without where it lies in memory
-abbrev pub outcome_of : {A : Type 0} → ServerPhase → List ℕ → Taken A → Outcome
+abbrev pub outcome_of : {A : Type 0} → ServerPhase → List ℕ → TakenItem A → Outcome
 outcome_of before bytes taken = record {
   phase = phase_at before taken.stage;
   rest = drop taken.len bytes;

@@ -8,10 +8,10 @@ ghost use Rattle.event_modes.specs.ChunkIds.{chunk_text};
 ghost use Rattle.event_modes.specs.Message.{longest_tag};
 ghost use Rattle.event_modes.specs.Packed.{packed_message};
 ghost use Rattle.forward_core.specs.Handshakes.{IsHosted};
-ghost use Rattle.forward_core.specs.Client.{AwaitsHelo, AwaitsPong, ClientReads, Ended, HasNonce, HasSent, Listens, Ready, ReadsAll, ReadsHelo, ReadsPong, awaited, named, opening, phase_if, phase_of, said};
+ghost use Rattle.forward_core.specs.Client.{AwaitsHelo, AwaitsPong, ClientReads, Ended, HasNonce, HasSent, Listens, Ready, ReadsAll, ReadsHelo, ReadsPong, awaited, named, initial_client, phase_if, phase_of, said};
 
+use crate::client_handshake::{Met, take_helo, take_pong};
 use crate::fault::SessionFault;
-use crate::meeting::{Met, take_helo, take_pong};
 use crate::outbox::Outbox;
 use crate::replies::{Heard, listen_to};
 use crate::security::Security;
@@ -90,7 +90,7 @@ impl<A: Allocator + Copy> ClientSession<A> {
         salt: [u8; 16],
     ) -> Result<ClientSession<A>, AllocError>
         requires { IsHosted security }
-        ensures { IfOk result (λ session. session ≡ opening security.entry salt) }
+        ensures { IfOk result (λ session. session ≡ initial_client security.entry salt) }
     {
         let phase = match security {
             Some(security) => Phase::Shaking(Client::new(

@@ -2,17 +2,17 @@
 #![tactic(auto)]
 
 mod client;
+mod client_handshake;
 mod demand;
 mod fault;
 mod first;
-mod greeting;
-mod meeting;
 mod messages;
 mod outbox;
 mod past;
 mod replies;
 mod security;
 mod server;
+mod server_handshake;
 mod taken;
 mod unread;
 

@@ -4,7 +4,7 @@ ghost use Rattle.std.specs.Prelude.{◌≤◌, length, IfOk};
 ghost use Rattle.forward_core.specs.Server.{ServerPhase, ReadsOn, outcome_of};
 
 use crate::fault::SessionFault;
-use crate::taken::{Stage, Taken};
+use crate::taken::{Standing, TakenItem};
 use event_modes::{Read, read};
 use std::alloc::{AllocError, Allocator};
 
@@ -14,13 +14,13 @@ pub fn take_messages<A: Allocator + Copy>(
     alloc: A,
     sends: Vec<u8, A>,
     bytes: &[u8],
-) -> Result<Taken<A>, AllocError>
+) -> Result<TakenItem<A>, AllocError>
     // Where the session stood before doesn't matter.
     ensures reads { IfOk result (λ taken. (before : ServerPhase)
         → ReadsOn sends.items bytes.now (outcome_of before bytes.now taken)) }
     ensures len { IfOk result (λ taken. taken.len ≤ length bytes.now) }
 {
-    let mut taken = Taken::new(alloc, Stage::Open, sends);
+    let mut taken = TakenItem::new(alloc, Standing::Open, sends);
     'items: loop {
         match read(alloc, bytes.split_at(taken.len).1)? {
             Read::Message(message, n) => {

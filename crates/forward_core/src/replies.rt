@@ -1,7 +1,7 @@
 //! What a client hears from the server.
 
 ghost use Rattle.std.specs.Prelude.{◌≡◌, ◌↔◌, ℕ, List, Some, IsTrue, MatchOption};
-ghost use Rattle.msgpack_bytes.specs.Item.{IsTextItem};
+ghost use Rattle.msgpack_bytes.specs.Item.{IsItemWithin};
 ghost use Rattle.msgpack_bytes.specs.Kinds.{IsNil};
 ghost use Rattle.event_modes.specs.declared.chunk_id.ChunkId.{ChunkId};
 ghost use Rattle.event_modes.specs.ChunkIds.{chunk_text};
@@ -55,7 +55,7 @@ pub fn listen_to<A: Allocator>(chunk: Option<ChunkId>, bytes: &[u8]) -> (usize, 
 }
 
 fn reply_of<A: Allocator>(chunk: Option<ChunkId>, item: &[u8]) -> Reply<A>
-    requires { IsTextItem item.now }
+    requires { IsItemWithin item.now }
     ensures { IsReply chunk item.now result }
 {
     if is_nil(item) {
@@ -93,7 +93,7 @@ fn awaited_of<A: Allocator>(chunk: Option<ChunkId>, item: &[u8]) -> Option<Evide
 
 // Whether the item acknowledges any chunk.
 fn is_acknowledgement(item: &[u8]) -> bool
-    requires { IsTextItem item.now }
+    requires { IsItemWithin item.now }
     ensures right { IsTrue result → (content : List ℕ) × IsAcknowledgement item.now content }
     ensures only { (content : List ℕ) → IsAcknowledgement item.now content → IsTrue result }
 {

@@ -5,16 +5,16 @@ ghost use Rattle.msgpack_bytes.specs.Item.{IsOpen};
 ghost use Rattle.ack_receipt.specs.Reservations.{Answer};
 ghost use Rattle.forward_core.specs.Demands.{wanted};
 ghost use Rattle.forward_core.specs.Handshakes.{IsHosted};
-ghost use Rattle.forward_core.specs.Server.{IsAskedIn, Outcome, Over, ServerReads, after, fresh, opening, outcome_of, phase_at, phase_of};
+ghost use Rattle.forward_core.specs.Server.{IsAskedIn, Outcome, Over, ServerReads, after, idle_server, initial_server, outcome_of, phase_at, phase_of};
 
 use crate::demand::Demand;
 use crate::fault::{SessionError, SessionFault};
-use crate::greeting::take_ping;
 use crate::messages::take_messages;
 use crate::outbox::Outbox;
 use crate::past::{AskedSoFar, TakenSoFar};
 use crate::security::Security;
-use crate::taken::{Stage, Taken};
+use crate::server_handshake::take_ping;
+use crate::taken::{Standing, TakenItem};
 use crate::unread::Unread;
 use ack_receipt::Reserved;
 use auth_handshake::Server;
@@ -33,13 +33,13 @@ enum Phase<A: Allocator> {
 }
 
 impl<A: Allocator> Phase<A> {
-    fn move_to(&mut self, stage: Stage)
+    fn move_to(&mut self, stage: Standing)
         ensures { phase_of self.new ≡ phase_at (phase_of self.old) stage }
     {
         match stage {
-            Stage::Same => {}
-            Stage::Open => *self = Phase::Open,
-            Stage::Closed => *self = Phase::Closed,
+            Standing::Same => {}
+            Standing::Open => *self = Phase::Open,
+            Standing::Closed => *self = Phase::Closed,
         }
     }
 }
@@ -83,7 +83,7 @@ impl<A: Allocator + Copy> ServerSession<A> {
         nonce: [u8; 16],
     ) -> Result<ServerSession<A>, AllocError>
         requires { IsHosted security }
-        ensures { IfOk result (λ session. session ≡ opening security.entry nonce) }
+        ensures { IfOk result (λ session. session ≡ initial_server security.entry nonce) }
     {
         match security {
             Some(security) => ServerSession::secured(alloc, security, nonce),
@@ -97,7 +97,7 @@ impl<A: Allocator + Copy> ServerSession<A> {
         nonce: [u8; 16],
     ) -> Result<ServerSession<A>, AllocError>
         requires { IsHosted (Some security) }
-        ensures { IfOk result (λ session. session ≡ opening (Some security.entry) nonce) }
+        ensures { IfOk result (λ session. session ≡ initial_server (Some security.entry) nonce) }
     {
         let server = Server::new(alloc, security.self_hostname, security.shared_key, nonce)?;
         let mut helo = Vec::new(alloc);
@@ -108,7 +108,7 @@ impl<A: Allocator + Copy> ServerSession<A> {
     }
 
     fn begin(alloc: A, phase: Phase<A>, outgoing: Outbox<A>) -> ServerSession<A>
-        ensures { result ≡ fresh (phase_of phase) outgoing }
+        ensures { result ≡ idle_server (phase_of phase) outgoing }
     {
         ServerSession {
             phase,
@@ -183,7 +183,7 @@ impl<A: Allocator + Copy> ServerSession<A> {
     }
 
     // What the bytes that are held come to.
-    fn read_all(&self) -> Result<Taken<A>, AllocError>
+    fn read_all(&self) -> Result<TakenItem<A>, AllocError>
         requires { self.now.phase ≡ Over → ⊥ }
         ensures reads { IfOk result (λ taken.
             ServerReads self.now.phase self.now.held (outcome_of self.now.phase self.now.held taken)) }

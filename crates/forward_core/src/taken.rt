@@ -2,7 +2,7 @@
 
 ghost use Rattle.std.specs.Prelude.{◌≡◌, ◌++◌, ◌∷◌, [], map, OnOk};
 ghost use Rattle.event_modes.specs.Reading.{meaning};
-ghost use Rattle.forward_core.specs.declared.taken.Stage.TheVariants.{Closed};
+ghost use Rattle.forward_core.specs.declared.taken.Standing.TheVariants.{Closed};
 ghost use Rattle.forward_core.specs.Demands.{Closes, Delivers, wanted};
 
 use crate::demand::Demand;
@@ -12,7 +12,7 @@ use std::alloc::{AllocError, Allocator};
 
 /// Where a session stands after them.
 #[derive(Clone, Copy)]
-pub enum Stage {
+pub enum Standing {
     /// Where it stood before.
     Same,
     /// Messages may come.
@@ -23,8 +23,8 @@ pub enum Stage {
 
 /// What the bytes at hand come to.
 #[derive(Drop)]
-pub struct Taken<A: Allocator> {
-    pub stage: Stage,
+pub struct TakenItem<A: Allocator> {
+    pub stage: Standing,
     /// How many of them were read.
     pub len: usize,
     /// What is to be sent.
@@ -32,15 +32,15 @@ pub struct Taken<A: Allocator> {
     pub demands: Vec<Demand<A>, A>,
 }
 
-impl<A: Allocator + Copy> Taken<A> {
+impl<A: Allocator + Copy> TakenItem<A> {
     /// Nothing was read, and this is to be sent.
-    pub fn new(alloc: A, stage: Stage, sends: Vec<u8, A>) -> Self
+    pub fn new(alloc: A, stage: Standing, sends: Vec<u8, A>) -> Self
         ensures stage { result.stage ≡ stage }
         ensures len { result.len ≡ 0 }
         ensures sends { result.sends ≡ sends }
         ensures demands { result.demands.items ≡ [] }
     {
-        Taken {
+        TakenItem {
             stage,
             len: 0,
             sends,
@@ -69,7 +69,7 @@ impl<A: Allocator + Copy> Taken<A> {
         ensures sends { self.new.sends ≡ self.old.sends }
     {
         self.demands.push(Demand::Close(fault))?;
-        self.stage = Stage::Closed;
+        self.stage = Standing::Closed;
         Ok(())
     }
 }

@@ -5,7 +5,7 @@ ghost use Rattle.msgpack_bytes.specs.Item.{IsOpen};
 ghost use Rattle.msgpack_bytes.specs.Pieces.{IsAfter};
 
 use event_modes::drop_front;
-use msgpack_bytes::{Scanner, Taken};
+use msgpack_bytes::{PieceScan, Scanner};
 use std::alloc::{AllocError, Allocator};
 use std::marker::Model;
 
@@ -48,7 +48,7 @@ impl<A: Allocator> Unread<A> {
     {
         self.bytes.extend_from_slice(piece)?;
         match self.scanner.take(piece) {
-            Taken::Need => Ok(true),
+            PieceScan::Need => Ok(true),
             _ => Ok(false),
         }
     }

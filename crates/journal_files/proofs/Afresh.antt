@@ -8,7 +8,7 @@ use Rattle.disk_files.proofs.Moments.{joined}
 use Rattle.buffer_state.specs.State.{State}
 use Rattle.chunk_journal.specs.Places.{Spots}
 use Rattle.journal_files.specs.Folders.{journal_name}
-use Rattle.journal_files.specs.Tellings.{Telling, OpensWithin}
+use Rattle.journal_files.specs.JournalLogs.{JournalLog, OpensWithin}
 use Rattle.journal_files.specs.Disks.{Recovers, HasNoneFrom, HasNoStray}
 use Rattle.journal_files.specs.Found.{IsFound, FindsSource}
 use Rattle.journal_files.specs.Sources.{HasSource}
@@ -45,7 +45,7 @@ module _ {opened : FileNo → Option (List ℕ)} {first mid : Disk} {path : List
   stray_still stray = same_stray path first mid on.same stray
 
 -- a stop while the new generation is begun, once the folder was looked at twice
-pub beginning : (path : List ℕ) (t : Telling) (old near mid new : History) → Recovers path (now old) t → Elapses old near → SameDisk (now near) (now old) → Elapses near mid → SameDisk (now mid) (now near)
+pub beginning : (path : List ℕ) (t : JournalLog) (old near mid new : History) → Recovers path (now old) t → Elapses old near → SameDisk (now near) (now old) → Elapses near mid → SameDisk (now mid) (now near)
     → (Recovers path (now mid) t → LeavesOnly mid new (OpensWithin path t)) → LeavesOnly old new (OpensWithin path t)
 beginning path t old near mid new before near_time near_same mid_time mid_same moments =
     joined old mid new (OpensWithin path t) (looked path t old near mid before near_time near_same mid_time mid_same)

@@ -7,7 +7,7 @@ use Rattle.chunk_journal.specs.Journal.{IsJournal, journal_bytes, within}
 use Rattle.chunk_journal.specs.Meaning.{Leads, IsReplayed, EndsUnsealed, after_all}
 use Rattle.chunk_journal.proofs.Answered.{cuts_before, cuts_behind}
 use Rattle.chunk_journal.proofs.Cuts.{cut_whole}
-use Rattle.journal_files.specs.Tellings.{Telling, records_of, sure_records, state_at_seal, state_of, reopened_at, IsTelling}
+use Rattle.journal_files.specs.JournalLogs.{JournalLog, records_of, durable_records, state_at_seal, state_of, reopened_at, IsJournalLog}
 
 -- ---- how many records
 
@@ -35,15 +35,15 @@ within_front (item ∷ front) back n le =
 
 -- ---- a cut
 
--- the bytes are a journal of a telling's generation with so many of its steps
-pub record IsCut (t : Telling) (bytes : List ℕ) : Type 0 where
+-- the bytes are a journal of a log's generation with so many of its steps
+pub record IsCut (t : JournalLog) (bytes : List ℕ) : Type 0 where
   pub steps : ℕ
   pub begun : steps ≤ length t.steps
   pub used : ℕ
   pub means : IsReplayed bytes (reopened_at t steps) used
 
--- what a telling's records lead to
-abbrev pub leads_of : (t : Telling) → IsTelling t → Leads (records_of t) (state_of t)
+-- what a log's records lead to
+abbrev pub leads_of : (t : JournalLog) → IsJournalLog t → Leads (records_of t) (state_of t)
 leads_of t is = record {
   told = t.told;
   next = t.next;
@@ -55,17 +55,17 @@ leads_of t is = record {
   here = refl;
 }
 
-journal_of : (t : Telling) → IsTelling t → IsJournal (journal_bytes (records_of t)) (records_of t) []
+journal_of : (t : JournalLog) → IsJournalLog t → IsJournal (journal_bytes (records_of t)) (records_of t) []
 journal_of t is = record {
   begins = record { each = is.records; whole = sym (append-nil (journal_bytes (records_of t))) };
   torn = inl (omega arith);
 }
 
-length_of : (t : Telling) → length (records_of t) ≡ length t.told + 1 + length t.steps
+length_of : (t : JournalLog) → length (records_of t) ≡ length t.told + 1 + length t.steps
 length_of t = omega (arith, length-append t.told (Seal t.next ∷ t.steps))
 
 -- with so many records, the Seal among them
-sealed_with : (t : Telling) → IsTelling t → (bytes : List ℕ) (j : ℕ) (end : List ℕ) → IsJournal bytes (take j (records_of t)) end → j ≤ length (records_of t) → length t.told < j
+sealed_with : (t : JournalLog) → IsJournalLog t → (bytes : List ℕ) (j : ℕ) (end : List ℕ) → IsJournal bytes (take j (records_of t)) end → j ≤ length (records_of t) → length t.told < j
     → (c : IsCut t bytes) × (j ≡ length t.told + 1 + c.steps)
 sealed_with t is bytes j end journal most more =
     let k = j - (length t.told + 1) in
@@ -90,7 +90,7 @@ sealed_with t is bytes j end journal most more =
     )
 
 -- a beginning of a generation's bytes ends before the Seal, or means what it means after some of the steps
-pub cut : (t : Telling) → IsTelling t → (n : ℕ) → EndsUnsealed (take n (journal_bytes (records_of t))) ⊎ IsCut t (take n (journal_bytes (records_of t)))
+pub cut : (t : JournalLog) → IsJournalLog t → (n : ℕ) → EndsUnsealed (take n (journal_bytes (records_of t))) ⊎ IsCut t (take n (journal_bytes (records_of t)))
 cut t is n =
     let c = cut_whole (journal_bytes (records_of t)) (records_of t) [] n (journal_of t is) in
     let j = within (records_of t) n in
@@ -104,22 +104,22 @@ cut t is n =
       })
     ]
 
--- where the sure records are whole, the sure steps are among those
-pub record IsSureCut (t : Telling) (bytes : List ℕ) : Type 0 where
+-- where the durable records are whole, the durable steps are among those
+pub record IsDurableCut (t : JournalLog) (bytes : List ℕ) : Type 0 where
   pub cut : IsCut t bytes
-  pub enough : t.sure ≤ cut.steps
+  pub enough : t.durable ≤ cut.steps
 
-split_sure : (t : Telling) → sure_records t ++ drop t.sure t.steps ≡ records_of t
-split_sure t = append_assoc t.told (Seal t.next ∷ take t.sure t.steps) (drop t.sure t.steps)
-    ∙ ap (λ (z : List Record). t.told ++ Seal t.next ∷ z) (take-append-drop t.sure t.steps)
+split_durable : (t : JournalLog) → durable_records t ++ drop t.durable t.steps ≡ records_of t
+split_durable t = append_assoc t.told (Seal t.next ∷ take t.durable t.steps) (drop t.durable t.steps)
+    ∙ ap (λ (z : List Record). t.told ++ Seal t.next ∷ z) (take-append-drop t.durable t.steps)
 
-length_sure : (t : Telling) → t.sure ≤ length t.steps → length (sure_records t) ≡ length t.told + 1 + t.sure
-length_sure t le = omega (arith, le, length-append t.told (Seal t.next ∷ take t.sure t.steps), length-take t.sure t.steps)
+length_durable : (t : JournalLog) → t.durable ≤ length t.steps → length (durable_records t) ≡ length t.told + 1 + t.durable
+length_durable t le = omega (arith, le, length-append t.told (Seal t.next ∷ take t.durable t.steps), length-take t.durable t.steps)
 
-pub sure_cut : (t : Telling) → IsTelling t → (n : ℕ) → length (journal_bytes (sure_records t)) ≤ n → IsSureCut t (take n (journal_bytes (records_of t)))
-sure_cut t is n le =
+pub durable_cut : (t : JournalLog) → IsJournalLog t → (n : ℕ) → length (journal_bytes (durable_records t)) ≤ n → IsDurableCut t (take n (journal_bytes (records_of t)))
+durable_cut t is n le =
     let c = cut_whole (journal_bytes (records_of t)) (records_of t) [] n (journal_of t is) in
     let j = within (records_of t) n in
-    let least : length (sure_records t) ≤ j = subst (λ (z : List Record). length (sure_records t) ≤ within z n) (split_sure t) (within_front (sure_records t) (drop t.sure t.steps) n le) in
-    let s = sealed_with t is (take n (journal_bytes (records_of t))) j c.0 c.1 (within_most (records_of t) n) (omega (arith, least, length_sure t is.few)) in
-    record { cut = s.0; enough = omega (arith, least, length_sure t is.few, s.1) }
+    let least : length (durable_records t) ≤ j = subst (λ (z : List Record). length (durable_records t) ≤ within z n) (split_durable t) (within_front (durable_records t) (drop t.durable t.steps) n le) in
+    let s = sealed_with t is (take n (journal_bytes (records_of t))) j c.0 c.1 (within_most (records_of t) n) (omega (arith, least, length_durable t is.few)) in
+    record { cut = s.0; enough = omega (arith, least, length_durable t is.few, s.1) }

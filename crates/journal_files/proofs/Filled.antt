@@ -2,7 +2,7 @@
 use Rattle.std.proofs.Common.{◌≡◌, ⊎_elim, ℕ, ◌+◌, ◌≤◌, List, [], length, Option, Some, None, Result, Ok, Err, OnOk, OnErr, refl, sym, ap, subst, ◌∙◌, arith, inr}
 use Rattle.std.specs.Prelude.{IsSome, IsOk, IsErrOf}
 use Rattle.std.proofs.lemmas.List.{take_all}
-use Rattle.disk_files.specs.Disk.{Disk, Makes, fresh, grown, SameDisk, with_file, read_of}
+use Rattle.disk_files.specs.Disk.{Disk, Makes, new_file, with_bytes, SameDisk, with_file, read_of}
 use Rattle.disk_files.specs.Moments.{History, now, LeavesOnly}
 use Rattle.disk_files.specs.Faults.{HasCause}
 use Rattle.disk_files.specs.declared.dir.FileNo.{FileNo}
@@ -80,7 +80,7 @@ empty name old mid makes = record { none = makes.0; made = makes.1 }
 some_of : (name bytes : List ℕ) (old new : Disk) → HasNew name bytes old new → IsUnfinished name bytes old new
 some_of name bytes old new has = inr (record {
   len = length bytes;
-  new = record { none = has.none; made = subst (λ (b : List ℕ). SameDisk new (with_file old name (Some (grown b fresh)))) (sym (take_all (length bytes) bytes (omega arith))) has.made };
+  new = record { none = has.none; made = subst (λ (b : List ℕ). SameDisk new (with_file old name (Some (with_bytes b new_file)))) (sym (take_all (length bytes) bytes (omega arith))) has.made };
 })
 
 module _ {A D T : Type 0} (honest : D → Type 0) (history : D → History) (opened : D → FileNo → Option (List ℕ)) (bytes_left : D → FileNo → ℕ) (fault_count : D → ℕ) (to : FileNo) (pieces : List (Piece A)) (name : List ℕ)
@@ -111,7 +111,7 @@ module _ {A D T : Type 0} (honest : D → Type 0) (history : D → History) (ope
     fill_any None fills = subst (λ (d : D). HasAnyNew name (now (history old)) (now (history d))) (sym fills.0) (record { bytes = []; new = empty name (now (history old)) (now (history mid)) makes })
     fill_any (Some file) fills =
         let grows = fills.grows h name named in
-        record { bytes = grows.bytes; new = record { none = makes.0; made = follows (now (history old)) (now (history mid)) (now (history new)) name (Some fresh) (grown grows.bytes) makes.1 grows.grew } }
+        record { bytes = grows.bytes; new = record { none = makes.0; made = follows (now (history old)) (now (history mid)) (now (history new)) name (Some new_file) (with_bytes grows.bytes) makes.1 grows.grew } }
 
     pub fill_some : (from : Option FileNo) → Fills honest history opened bytes_left fault_count from to pieces mid new result → IsAnyUnfinished name (now (history old)) (now (history new))
     fill_some from fills =
@@ -128,7 +128,7 @@ module _ {A D T : Type 0} (honest : D → Type 0) (history : D → History) (ope
       fill_ok (Some file) fills can =
           on_ok result (fills.ok h can.other.source name can.seen (copies (opened old) (opened mid) (now (history old)) (now (history mid)) name file to can.seen others named makes can.other) can.within)
           (λ changes. subst (λ (b : List ℕ). HasNew name b (now (history old)) (now (history new))) can.come
-          (record { none = makes.0; made = follows (now (history old)) (now (history mid)) (now (history new)) name (Some fresh) (grown (pieces_bytes can.seen pieces)) makes.1 changes }))
+          (record { none = makes.0; made = follows (now (history old)) (now (history mid)) (now (history new)) name (Some new_file) (with_bytes (pieces_bytes can.seen pieces)) makes.1 changes }))
 
       begun : (seen : List ℕ) (disk : Disk) → pieces_bytes seen pieces ≡ bytes → Partly name (pieces_bytes seen pieces) (now (history mid)) disk → IsUnfinished name bytes (now (history old)) disk
       begun seen disk come part =

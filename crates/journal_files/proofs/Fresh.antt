@@ -6,7 +6,7 @@ use Rattle.std.specs.BTreeMap.{BTreeMap, get}
 use Rattle.disk_files.specs.declared.dir.FileNo.{FileNo}
 use Rattle.disk_files.specs.Disk.{File, Disk, Folder, SameDisk, read_of, reads}
 use Rattle.journal_files.specs.Folders.{journal_name, IsNext}
-use Rattle.journal_files.specs.Tellings.{Telling}
+use Rattle.journal_files.specs.JournalLogs.{JournalLog}
 use Rattle.journal_files.specs.Views.{OpenJournal}
 use Rattle.journal_files.specs.Disks.{Keeps, HasNoneFrom, HasNoStray}
 use Rattle.journal_files.specs.Found.{IsFound}
@@ -29,7 +29,7 @@ none_above path disk mid greatest number is found stray same n from below =
 pub is_above : (path : List ℕ) (number n : ℕ) → number ≤ n → n < 2 ^ 32 → IsAbove path number (journal_name path n)
 is_above path number n from below m lt e = let same = same_number path n m below (omega (arith, lt, from, below)) e in omega (arith, same, lt, from)
 
-pub keeps_alone : (path : List ℕ) (number : ℕ) (journal : OpenJournal) (mid new : Disk) (t : Telling) → journal.path ≡ path → journal.number ≡ number → Keeps journal mid t
+pub keeps_alone : (path : List ℕ) (number : ℕ) (journal : OpenJournal) (mid new : Disk) (t : JournalLog) → journal.path ≡ path → journal.number ≡ number → Keeps journal mid t
     → ((name : List ℕ) → IsAbove path number name → new name ≡ mid name) → Keeps journal new t
 keeps_alone path number journal mid new t path_is number_is keeps elsewhere =
     kept_above journal mid new t keeps

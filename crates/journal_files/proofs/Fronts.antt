@@ -9,7 +9,7 @@ use Rattle.buffer_state.specs.declared.chunk.Stage.TheVariants.{Queued, Claimed}
 use Rattle.buffer_state.specs.State.{Chunk, size}
 use Rattle.chunk_journal.specs.Records.{Record, Append, Queue, record_bytes, IsRecord}
 use Rattle.chunk_journal.specs.Journal.{journal_bytes}
-use Rattle.chunk_journal.specs.Meaning.{telling, queueing}
+use Rattle.chunk_journal.specs.Meaning.{chunk_records, queueing}
 use Rattle.file_pieces.specs.Pieces.{AreWithin, CanTake, piece_bytes, pieces_bytes}
 use Rattle.file_pieces.specs.declared.piece.Piece.{Piece}
 use Rattle.chunk_journal.proofs.Frames.{append_length}
@@ -71,15 +71,15 @@ two_lengths : (len mid end : ℕ) (one two : List ℕ) → mid ≡ len + length 
 two_lengths len mid end one two first second = omega (arith, first, second, length-append one (two ++ []), length-append {A = ℕ} two [])
 
 module _ (serial : ℕ) (chunk : Chunk) (queued : queueing serial chunk.stage ≡ Queue serial ∷ []) where
-  pub queued_bytes : (old mid new : List ℕ) → mid ≡ old ++ record_bytes (Append serial chunk.tag chunk.entries) → new ≡ mid ++ record_bytes (Queue serial) → new ≡ old ++ journal_bytes (telling (serial, chunk))
+  pub queued_bytes : (old mid new : List ℕ) → mid ≡ old ++ record_bytes (Append serial chunk.tag chunk.entries) → new ≡ mid ++ record_bytes (Queue serial) → new ≡ old ++ journal_bytes (chunk_records (serial, chunk))
   queued_bytes old mid new first second =
       subst (λ (q : List Record). new ≡ old ++ journal_bytes (Append serial chunk.tag chunk.entries ∷ q)) (sym queued)
       (two_bytes old mid new (record_bytes (Append serial chunk.tag chunk.entries)) (record_bytes (Queue serial)) first second)
 
-  pub queued_length : (len mid end : ℕ) → mid ≡ len + length (record_bytes (Append serial chunk.tag chunk.entries)) → end ≡ mid + length (record_bytes (Queue serial)) → end ≡ len + length (journal_bytes (telling (serial, chunk)))
+  pub queued_length : (len mid end : ℕ) → mid ≡ len + length (record_bytes (Append serial chunk.tag chunk.entries)) → end ≡ mid + length (record_bytes (Queue serial)) → end ≡ len + length (journal_bytes (chunk_records (serial, chunk)))
   queued_length len mid end first second =
       subst (λ (q : List Record). end ≡ len + length (journal_bytes (Append serial chunk.tag chunk.entries ∷ q))) (sym queued)
       (two_lengths len mid end (record_bytes (Append serial chunk.tag chunk.entries)) (record_bytes (Queue serial)) first second)
 
-  pub queued_records : IsRecord (Append serial chunk.tag chunk.entries) → IsRecord (Queue serial) → AllByRecursion IsRecord (telling (serial, chunk))
+  pub queued_records : IsRecord (Append serial chunk.tag chunk.entries) → IsRecord (Queue serial) → AllByRecursion IsRecord (chunk_records (serial, chunk))
   queued_records one two = (one, subst (AllByRecursion IsRecord) (sym queued) (two, tt))

@@ -8,7 +8,7 @@ use Rattle.buffer_state.specs.State.{State}
 use Rattle.buffer_state.specs.Steps.{settled, reopened}
 use Rattle.chunk_journal.specs.Places.{Spots}
 use Rattle.journal_files.specs.Folders.{journal_name}
-use Rattle.journal_files.specs.Tellings.{Telling, IsOfSome, OpensWithin, state_of}
+use Rattle.journal_files.specs.JournalLogs.{JournalLog, IsOfSome, OpensWithin, state_of}
 use Rattle.journal_files.specs.Views.{OpenJournal, IsOpenIn}
 use Rattle.journal_files.specs.Disks.{Keeps, Recovers, HasNoneFrom, HasNoStray}
 use Rattle.journal_files.specs.Sources.{HasSource}
@@ -41,7 +41,7 @@ module _ {opened : FileNo → Option (List ℕ)} {journal : OpenJournal} {path :
   pub still : (opened_now : FileNo → Option (List ℕ)) → ((other : FileNo) → IsSome (opened other) → opened_now other ≡ opened other) → opened_now file ≡ Some (journal_name journal.path journal.number)
   still opened_now others = others file (is_some_name _ _ on.named) ∙ on.named
 
-  module _ {old : Disk} {t : Telling} (keeps : Keeps journal old t) where
+  module _ {old : Disk} {t : JournalLog} (keeps : Keeps journal old t) where
     pub none : HasNoneFrom path old number
     none = none_from journal old t keeps path number on.path_is on.number_is
 
@@ -57,4 +57,4 @@ module _ {opened : FileNo → Option (List ℕ)} {journal : OpenJournal} {path :
         → LeavesOnly before after (OpensWithin journal.path t)
     beginning s means before after moments =
         subst (λ (p : List ℕ). LeavesOnly before after (OpensWithin p t)) on.path_is
-        (moments (recovers_at journal old t keeps path number on.path_is on.number_is) none (of_all t s keeps.telling means) (source s means))
+        (moments (recovers_at journal old t keeps path number on.path_is on.number_is) none (of_all t s keeps.logged means) (source s means))

@@ -5,7 +5,7 @@ use Rattle.disk_files.specs.Moments.{History, now, Elapses, LeavesOnly}
 use Rattle.disk_files.proofs.Moments.{started, rests, joined, weaker, leaves_same}
 use Rattle.buffer_state.specs.State.{State}
 use Rattle.buffer_state.specs.Steps.{settled, reopened}
-use Rattle.journal_files.specs.Tellings.{Telling, state_of, opening as opened_with, IsOfSome, OpensWithin}
+use Rattle.journal_files.specs.JournalLogs.{JournalLog, state_of, new_generation as opened_with, IsOfSome, OpensWithin}
 use Rattle.journal_files.specs.Views.{OpenJournal}
 use Rattle.journal_files.specs.Disks.{Keeps, Recovers, HasNoStray}
 use Rattle.file_pieces.specs.Adding.{IsLeftOf}
@@ -15,15 +15,15 @@ use Rattle.journal_files.proofs.Fresh.{keeps_alone}
 use Rattle.journal_files.proofs.Recovery.{recovers}
 use Rattle.journal_files.proofs.Strays.{kept_no_stray}
 
-pub recovers_same : (path : List ℕ) (t : Telling) (old new : Disk) → SameDisk new old → Recovers path old t → Recovers path new t
+pub recovers_same : (path : List ℕ) (t : JournalLog) (old new : Disk) → SameDisk new old → Recovers path old t → Recovers path new t
 recovers_same path t old new same before folder leaves = before folder (leaves_same new old folder same leaves)
 
 -- a call that leaves the disk as it was
-pub quiet : (path : List ℕ) (t : Telling) (old new : History) → Recovers path (now old) t → Elapses old new → SameDisk (now new) (now old) → LeavesOnly old new (OpensWithin path t)
+pub quiet : (path : List ℕ) (t : JournalLog) (old new : History) → Recovers path (now old) t → Elapses old new → SameDisk (now new) (now old) → LeavesOnly old new (OpensWithin path t)
 quiet path t old new before time same = rests old old new (OpensWithin path t) (started old (OpensWithin path t) before) time same
 
 -- two such calls, one after another
-pub looked : (path : List ℕ) (t : Telling) (old mid new : History) → Recovers path (now old) t → Elapses old mid → SameDisk (now mid) (now old) → Elapses mid new → SameDisk (now new) (now mid) → LeavesOnly old new (OpensWithin path t)
+pub looked : (path : List ℕ) (t : JournalLog) (old mid new : History) → Recovers path (now old) t → Elapses old mid → SameDisk (now mid) (now old) → Elapses mid new → SameDisk (now new) (now mid) → LeavesOnly old new (OpensWithin path t)
 looked path t old mid new before mid_time mid_same new_time new_same = rests old mid new (OpensWithin path t) (quiet path t old mid before mid_time mid_same) new_time new_same
 
 -- the older generations are removed
@@ -34,11 +34,11 @@ module _ (path : List ℕ) (number : ℕ) (journal : OpenJournal) (mid : Disk) (
   pub no_stray_still : (new : Disk) → ChangesBelow path number mid new → HasNoStray path new
   no_stray_still new below = subst (λ (p : List ℕ). HasNoStray p new) path_is (kept_no_stray journal new (opened_with s) (keeps_still new below))
 
-  pub opens_still : (t : Telling) → settled (state_of (opened_with s)) ≡ reopened s → IsOfSome t (reopened s) → (new : Disk) → ChangesBelow path number mid new → Recovers path new t
+  pub opens_still : (t : JournalLog) → settled (state_of (opened_with s)) ≡ reopened s → IsOfSome t (reopened s) → (new : Disk) → ChangesBelow path number mid new → Recovers path new t
   opens_still t leads m new below folder leaves =
       renewed path t s folder leads m (subst (λ (p : List ℕ). OpensWithin p (opened_with s) folder) path_is (recovers journal new (opened_with s) (keeps_still new below) folder leaves))
 
-  pub removed_so : (t : Telling) → settled (state_of (opened_with s)) ≡ reopened s → IsOfSome t (reopened s) → (old here new : History) → now here ≡ mid → LeavesOnly old here (OpensWithin path t)
+  pub removed_so : (t : JournalLog) → settled (state_of (opened_with s)) ≡ reopened s → IsOfSome t (reopened s) → (old here new : History) → now here ≡ mid → LeavesOnly old here (OpensWithin path t)
       → LeavesOnly here new (IsLeftOf (ChangesBelow path number mid)) → LeavesOnly old new (OpensWithin path t)
   removed_so t leads m old here new is so_far removing =
       joined old here new (OpensWithin path t) so_far

@@ -12,7 +12,7 @@ use Rattle.chunk_journal.specs.Laws.{PlacesFollow, LeadsInOrder}
 use Rattle.chunk_journal.proofs.Standing.{after_more}
 use Rattle.journal_files.specs.Fronts.{front_within}
 use Rattle.journal_files.specs.Placings.{placing_of, MovesBy}
-use Rattle.journal_files.specs.Tellings.{Telling, records_of, state_at_seal, state_of, IsTelling, begun}
+use Rattle.journal_files.specs.JournalLogs.{JournalLog, records_of, state_at_seal, state_of, IsJournalLog, begun}
 use Rattle.journal_files.proofs.Cuts.{leads_of}
 
 -- ---- a record's entries end where it ends
@@ -56,7 +56,7 @@ moves_so (Append serial tag entries) end old new moves = moves
 moves_so (Queue serial) end old new moves = moves
 moves_so (Purge serial) end old new moves = moves
 
-pub placed_begun : (follow : PlacesFollow) (order : LeadsInOrder) (t : Telling) (item : Record) (old new : Spots) (end : ℕ) → IsTelling t
+pub placed_begun : (follow : PlacesFollow) (order : LeadsInOrder) (t : JournalLog) (item : Record) (old new : Spots) (end : ℕ) → IsJournalLog t
     → journal_bytes (records_of (begun item t)) ≡ journal_bytes (records_of t) ++ record_bytes item → end ≡ length (journal_bytes (records_of t)) + length (record_bytes item)
     → MovesPlaces item end old new → ArePlaced (journal_bytes (records_of t)) old (state_of t) → ArePlaced (journal_bytes (records_of (begun item t))) new (state_of (begun item t))
 placed_begun follow order t item old new end is bytes end_is moves placed =

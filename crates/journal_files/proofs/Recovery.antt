@@ -3,10 +3,10 @@ use Rattle.std.proofs.Common.{◌≡◌, ⊎_elim, ℕ, ◌<◌, ◌≤◌, ◌^
 use Rattle.disk_files.specs.Disk.{File, Disk, Folder, MayStay}
 use Rattle.chunk_journal.specs.Journal.{journal_bytes}
 use Rattle.journal_files.specs.Folders.{journal_name, IsPassedOver, PassesAbove}
-use Rattle.journal_files.specs.Tellings.{Telling, records_of, OpensWithin}
+use Rattle.journal_files.specs.JournalLogs.{JournalLog, records_of, OpensWithin}
 use Rattle.journal_files.specs.Views.{OpenJournal}
 use Rattle.journal_files.specs.Disks.{Keeps, Recovers}
-use Rattle.journal_files.proofs.Cuts.{IsSureCut, sure_cut}
+use Rattle.journal_files.proofs.Cuts.{IsDurableCut, durable_cut}
 
 -- the file of a journal on a disk
 abbrev pub file_with : List ℕ → ℕ → File
@@ -27,8 +27,8 @@ pub passed_none : (left : Option (List ℕ)) → MayStay None left → IsPassedO
 passed_none left stays = subst IsPassedOver (sym stays) tt
 
 -- a sealed generation above which nothing counts
-pub opens_cut : (path : List ℕ) (folder : Folder) (number : ℕ) (t : Telling) (bytes : List ℕ) → 1 ≤ number → number < 2 ^ 32 → folder (journal_name path number) ≡ Some bytes
-    → PassesAbove path folder number → IsSureCut t bytes → OpensWithin path t folder
+pub opens_cut : (path : List ℕ) (folder : Folder) (number : ℕ) (t : JournalLog) (bytes : List ℕ) → 1 ≤ number → number < 2 ^ 32 → folder (journal_name path number) ≡ Some bytes
+    → PassesAbove path folder number → IsDurableCut t bytes → OpensWithin path t folder
 opens_cut path folder number t bytes first last there above c = record {
   steps = c.cut.steps;
   enough = c.enough;
@@ -42,11 +42,11 @@ opens_cut path folder number t bytes first last there above c = record {
   });
 }
 
-pub recovers : (journal : OpenJournal) (disk : Disk) (t : Telling) → Keeps journal disk t → Recovers journal.path disk t
+pub recovers : (journal : OpenJournal) (disk : Disk) (t : JournalLog) → Keeps journal disk t → Recovers journal.path disk t
 recovers journal disk t keeps folder leaves =
     let name = journal_name journal.path journal.number in
     let written = journal_bytes (records_of t) in
     let left = left_of written keeps.synced (folder name) (subst (λ (f : Option File). MayStay f (folder name)) keeps.there (leaves name)) in
     opens_cut journal.path folder journal.number t (take left.len written) keeps.first keeps.last left.is
     (λ n above below. passed_none (folder (journal_name journal.path n)) (subst (λ (f : Option File). MayStay f (folder (journal_name journal.path n))) (keeps.newest n above below) (leaves (journal_name journal.path n))))
-    (sure_cut t keeps.telling left.len (omega (arith, keeps.holds, left.enough)))
+    (durable_cut t keeps.logged left.len (omega (arith, keeps.holds, left.enough)))

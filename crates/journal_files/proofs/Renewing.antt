@@ -10,7 +10,7 @@ use Rattle.disk_files.proofs.Moments.{here, elsewhere, goes_on}
 use Rattle.buffer_state.specs.State.{State}
 use Rattle.buffer_state.specs.Steps.{settled, reopened}
 use Rattle.journal_files.specs.Folders.{journal_name}
-use Rattle.journal_files.specs.Tellings.{Telling, state_of, opening, IsOfSome, OpensWithin}
+use Rattle.journal_files.specs.JournalLogs.{JournalLog, state_of, new_generation, IsOfSome, OpensWithin}
 use Rattle.journal_files.specs.Views.{OpenJournal, IsOpenIn}
 use Rattle.journal_files.specs.Disks.{Keeps, Recovers, HasNoneFrom, HasNoStray}
 use Rattle.journal_files.proofs.Names.{same_number, numbers_apart}
@@ -20,7 +20,7 @@ use Rattle.journal_files.proofs.Beginning.{kept_above, renewed}
 use Rattle.journal_files.proofs.Strays.{kept_no_stray}
 
 -- what the older generation gives to begin with
-module _ (journal : OpenJournal) (old : Disk) (t : Telling) (keeps : Keeps journal old t) (path : List ℕ) (number : ℕ) (path_is : path ≡ journal.path) (number_is : number ≡ journal.number + 1) where
+module _ (journal : OpenJournal) (old : Disk) (t : JournalLog) (keeps : Keeps journal old t) (path : List ℕ) (number : ℕ) (path_is : path ≡ journal.path) (number_is : number ≡ journal.number + 1) where
   pub none_from : HasNoneFrom path old number
   none_from n from below = ap (λ (p : List ℕ). old (journal_name p n)) path_is ∙ keeps.newest n (omega (arith, from, number_is)) below
 
@@ -37,17 +37,17 @@ module _ (journal next : OpenJournal) (mid new : Disk) (path_is : next.path ≡ 
       subst (λ (p : List ℕ). bytes_eq (journal_name journal.path journal.number) (journal_name p n) ≡ false) (sym path_is)
       (numbers_apart journal.path journal.number n last below (λ e. omega (arith, e, from, number_is)))
 
-  pub still_keeps : (s : State) → Keeps next mid (opening s) → SameDisk new mid ⊎ Changes (journal_name journal.path journal.number) unlinked mid new → Keeps next new (opening s)
+  pub still_keeps : (s : State) → Keeps next mid (new_generation s) → SameDisk new mid ⊎ Changes (journal_name journal.path journal.number) unlinked mid new → Keeps next new (new_generation s)
   still_keeps s keeps removed =
-      kept_above next mid new (opening s) keeps
+      kept_above next mid new (new_generation s) keeps
       (λ n from below. ⊎_elim (λ same. same (journal_name next.path n))
       (λ changes. elsewhere mid new (journal_name journal.path journal.number) (journal_name next.path n) _ changes (stays_apart n from below)) removed)
 
-  pub still_recovers : (t : Telling) (s : State) → settled (state_of (opening s)) ≡ reopened s → IsOfSome t (reopened s) → Keeps next mid (opening s)
+  pub still_recovers : (t : JournalLog) (s : State) → settled (state_of (new_generation s)) ≡ reopened s → IsOfSome t (reopened s) → Keeps next mid (new_generation s)
       → SameDisk new mid ⊎ Changes (journal_name journal.path journal.number) unlinked mid new → Recovers journal.path new t
   still_recovers t s leads m begun removed folder leaves =
-      let w = recovers next new (opening s) (still_keeps s begun removed) folder leaves in
-      renewed journal.path t s folder leads m (subst (λ (p : List ℕ). OpensWithin p (opening s) folder) path_is w)
+      let w = recovers next new (new_generation s) (still_keeps s begun removed) folder leaves in
+      renewed journal.path t s folder leads m (subst (λ (p : List ℕ). OpensWithin p (new_generation s) folder) path_is w)
 
 -- the two files are two open files
 pub two_files : (opened : FileNo → Option (List ℕ)) (journal next : OpenJournal) → next.path ≡ journal.path → next.number ≡ journal.number + 1 → next.number < 2 ^ 32
@@ -70,7 +70,7 @@ pub removed_gone : (name : List ℕ) (old new : Disk) → Changes name unlinked 
 removed_gone name old new changes = ap read_of (here old new name _ changes) ∙ unlinked_gone (old name)
 
 -- a removal at each of its moments
-pub removing : {T E : Type 0} (path : List ℕ) (t : Telling) (name : List ℕ) (old mid new : History) (result : Result T E) → LeavesOnly old mid (OpensWithin path t) → Elapses mid new
+pub removing : {T E : Type 0} (path : List ℕ) (t : JournalLog) (name : List ℕ) (old mid new : History) (result : Result T E) → LeavesOnly old mid (OpensWithin path t) → Elapses mid new
     → ((disk : Disk) → SameDisk disk (now mid) ⊎ Changes name unlinked (now mid) disk → Recovers path disk t)
     → OnOk result (Changes name unlinked (now mid) (now new)) → OnErr result (SameDisk (now new) (now mid) ⊎ Changes name unlinked (now mid) (now new)) → LeavesOnly old new (OpensWithin path t)
 removing path t name old mid new result so_far time still ok err =

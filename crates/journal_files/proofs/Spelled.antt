@@ -17,18 +17,18 @@ use Rattle.buffer_state.specs.Steps.{greatest_size}
 use Rattle.buffer_state.specs.Slots.{Slot, Slots, slot_size, chunks_in, AreBelow}
 use Rattle.chunk_journal.specs.Records.{Record, Seal, Append, Queue, record_bytes, IsRecord}
 use Rattle.chunk_journal.specs.Journal.{journal_bytes}
-use Rattle.chunk_journal.specs.Meaning.{Tells, IsUnsealed, after_all, telling, queueing, AreTold}
+use Rattle.chunk_journal.specs.Meaning.{Tells, IsUnsealed, after_all, chunk_records, queueing, AreTold}
 use Rattle.chunk_journal.specs.Places.{Spots, LieAt, ArePlaced, AddsPlace, MovesPlaces, entries_at, extent_before, places_at}
 use Rattle.chunk_journal.specs.Laws.{PlacesFollow, TellsInOrder}
 use Rattle.chunk_journal.proofs.Answered.{each_front}
 use Rattle.chunk_journal.proofs.Coming.{journal_push}
 use Rattle.chunk_journal.proofs.Standing.{after_more}
-use Rattle.chunk_journal.proofs.Telling.{told_so}
+use Rattle.chunk_journal.proofs.ChunkRecords.{told_so}
 use Rattle.buffer_state.proofs.Rooms.{less as less_of}
 use Rattle.buffer_state.proofs.Serials.{at_itself, at_below}
 use Rattle.file_pieces.specs.Pieces.{AreWithin, pieces_bytes}
 use Rattle.file_pieces.specs.declared.piece.Piece.{Piece}
-use Rattle.journal_files.specs.Tellings.{records_of, state_of, opening}
+use Rattle.journal_files.specs.JournalLogs.{records_of, state_of, new_generation}
 use Rattle.journal_files.proofs.Placed.{ends_so}
 use Rattle.journal_files.proofs.Tags.{Short}
 
@@ -77,16 +77,16 @@ module _ (follow : PlacesFollow) (order : TellsInOrder) where
   placed_queue done serial Claimed spots unsealed placed = placed_one done (Queue serial) spots spots unsealed placed (λ other. refl)
 
   -- the records of one more chunk
-  pub placed_chunk : (done : List Record) (serial : ℕ) (chunk : Chunk) (old new : Spots) → IsUnsealed (done ++ telling (serial, chunk)) → ArePlaced (journal_bytes done) old (after_all empty done)
+  pub placed_chunk : (done : List Record) (serial : ℕ) (chunk : Chunk) (old new : Spots) → IsUnsealed (done ++ chunk_records (serial, chunk)) → ArePlaced (journal_bytes done) old (after_all empty done)
       → AddsPlace serial (extent_before (length (journal_bytes done ++ record_bytes (Append serial chunk.tag chunk.entries))) (size chunk.entries)) old new
-      → ArePlaced (journal_bytes (done ++ telling (serial, chunk))) new (after_all empty (done ++ telling (serial, chunk)))
+      → ArePlaced (journal_bytes (done ++ chunk_records (serial, chunk))) new (after_all empty (done ++ chunk_records (serial, chunk)))
   placed_chunk done serial chunk old new unsealed placed adds =
       let item = Append serial chunk.tag chunk.entries in
-      let apart : (done ++ item ∷ []) ++ queueing serial chunk.stage ≡ done ++ telling (serial, chunk) = append_assoc done (item ∷ []) (queueing serial chunk.stage) in
+      let apart : (done ++ item ∷ []) ++ queueing serial chunk.stage ≡ done ++ chunk_records (serial, chunk) = append_assoc done (item ∷ []) (queueing serial chunk.stage) in
       let first = subst IsUnsealed (sym apart) unsealed in
       subst (λ (r : List Record). ArePlaced (journal_bytes r) new (after_all empty r)) apart
       (placed_queue (done ++ item ∷ []) serial chunk.stage new (each_front Tells empty (done ++ item ∷ []) (queueing serial chunk.stage) first)
-      (placed_one done item old new (each_front Tells empty done (telling (serial, chunk)) unsealed) placed adds))
+      (placed_one done item old new (each_front Tells empty done (chunk_records (serial, chunk)) unsealed) placed adds))
 
 -- ---- each chunk is found under its serial
 
@@ -129,8 +129,8 @@ pub record StillTold {A : Type 0} (pieces : List (Piece A)) (len : ℕ) (from sp
   pub len_so_far : len ≡ length (journal_bytes done)
   pub placed : ArePlaced (journal_bytes done) spots (after_all empty done)
   pub records : AllByRecursion IsRecord done
-  pub all : done ++ flat_map telling (chunks_in rest) ≡ flat_map telling s.chunks
-  pub unsealed : IsUnsealed (flat_map telling s.chunks)
+  pub all : done ++ flat_map chunk_records (chunks_in rest) ≡ flat_map chunk_records s.chunks
+  pub unsealed : IsUnsealed (flat_map chunk_records s.chunks)
   pub short : Short (chunks_in rest)
   pub small : All (λ slot. slot_size slot ≤ greatest_size) (values_of rest)
   pub found : AllByRecursion (HasEntries s) (chunks_in rest)
@@ -151,7 +151,7 @@ starts pieces len from spots slots s nothing zero none is told below short small
   len_so_far = zero;
   placed = subst (λ (z : Spots). ArePlaced [] z empty) (sym none) nothing_placed;
   records = tt;
-  all = ap (flat_map telling) is;
+  all = ap (flat_map chunk_records) is;
   unsealed = (told_so s.chunks s.next told below).each;
   short = subst Short (sym is) short;
   small = small;
@@ -160,19 +160,19 @@ starts pieces len from spots slots s nothing zero none is told below short small
 
 -- what telling a chunk did
 pub record TellsChunk {A : Type 0} (old new : List (Piece A)) (len end : ℕ) (from spots behind : Spots) (serial : ℕ) (chunk : Chunk) : Type 0 where
-  pub bytes : (seen : List ℕ) → LieAt seen (places_at from serial) (concat chunk.entries) → pieces_bytes seen new ≡ pieces_bytes seen old ++ journal_bytes (telling (serial, chunk))
+  pub bytes : (seen : List ℕ) → LieAt seen (places_at from serial) (concat chunk.entries) → pieces_bytes seen new ≡ pieces_bytes seen old ++ journal_bytes (chunk_records (serial, chunk))
   pub within : (seen : List ℕ) → length seen < 2 ^ 64 → LieAt seen (places_at from serial) (concat chunk.entries) → AreWithin seen old → AreWithin seen new
-  pub len_is : end ≡ len + length (journal_bytes (telling (serial, chunk)))
+  pub len_is : end ≡ len + length (journal_bytes (chunk_records (serial, chunk)))
   pub places : AddsPlace serial (extent_before (len + length (record_bytes (Append serial chunk.tag chunk.entries))) (size chunk.entries)) spots behind
-  pub records : AllByRecursion IsRecord (telling (serial, chunk))
+  pub records : AllByRecursion IsRecord (chunk_records (serial, chunk))
 
 module _ (follow : PlacesFollow) (order : TellsInOrder) {A : Type 0} (old new : List (Piece A)) (len end : ℕ) (from spots behind : Spots) (serial : ℕ) (slot : Slot) (s : State) where
   goes_first : (rest : Slots) → StillTold old len from spots ((serial, slot) ∷ rest) s → TellsChunk old new len end from spots behind serial slot.chunk → StillTold new end from behind rest s
   goes_first rest so_far tells =
-      let more = telling (serial, slot.chunk) in
+      let more = chunk_records (serial, slot.chunk) in
       let one = record_bytes (Append serial slot.chunk.tag slot.chunk.entries) in
       let joined : journal_bytes (so_far.done ++ more) ≡ journal_bytes so_far.done ++ journal_bytes more = flat_map-append record_bytes so_far.done more in
-      let all : (so_far.done ++ more) ++ flat_map telling (chunks_in rest) ≡ flat_map telling s.chunks = append_assoc so_far.done more (flat_map telling (chunks_in rest)) ∙ so_far.all in
+      let all : (so_far.done ++ more) ++ flat_map chunk_records (chunks_in rest) ≡ flat_map chunk_records s.chunks = append_assoc so_far.done more (flat_map chunk_records (chunks_in rest)) ∙ so_far.all in
       let at : len + length one ≡ length (journal_bytes so_far.done ++ one) = ap (λ (n : ℕ). n + length one) so_far.len_so_far ∙ sym (length-append (journal_bytes so_far.done) one) in
       record {
         done = so_far.done ++ more;
@@ -180,7 +180,7 @@ module _ (follow : PlacesFollow) (order : TellsInOrder) {A : Type 0} (old new : 
             ∙ ap (λ (z : List ℕ). z ++ journal_bytes more) (so_far.bytes_so_far seen fits are) ∙ sym joined;
         within = λ seen fits are. tells.within seen fits (subst (LieAt seen (places_at from serial)) so_far.found.0 (are serial)) (so_far.within seen fits are);
         len_so_far = tells.len_is ∙ ap (λ (n : ℕ). n + length (journal_bytes more)) so_far.len_so_far ∙ sym (length-append (journal_bytes so_far.done) (journal_bytes more)) ∙ ap length (sym joined);
-        placed = placed_chunk follow order so_far.done serial slot.chunk spots behind (each_front Tells empty (so_far.done ++ more) (flat_map telling (chunks_in rest)) (subst IsUnsealed (sym all) so_far.unsealed)) so_far.placed
+        placed = placed_chunk follow order so_far.done serial slot.chunk spots behind (each_front Tells empty (so_far.done ++ more) (flat_map chunk_records (chunks_in rest)) (subst IsUnsealed (sym all) so_far.unsealed)) so_far.placed
             (subst (λ (n : ℕ). AddsPlace serial (extent_before n (size slot.chunk.entries)) spots behind) at tells.places);
         records = both so_far.done more so_far.records tells.records;
         all = all;
@@ -195,16 +195,16 @@ module _ (follow : PlacesFollow) (order : TellsInOrder) {A : Type 0} (old new : 
 
 -- all is told
 module _ {A : Type 0} (pieces : List (Piece A)) (len : ℕ) (from spots : Spots) (rest : Slots) (s : State) (so_far : StillTold pieces len from spots rest s) (none : rest ≡ []) where
-  done_is : so_far.done ≡ flat_map telling s.chunks
-  done_is = sym (append-nil so_far.done) ∙ ap (λ (z : Slots). so_far.done ++ flat_map telling (chunks_in z)) (sym none) ∙ so_far.all
+  done_is : so_far.done ≡ flat_map chunk_records s.chunks
+  done_is = sym (append-nil so_far.done) ∙ ap (λ (z : Slots). so_far.done ++ flat_map chunk_records (chunks_in z)) (sym none) ∙ so_far.all
 
   -- and then sealed
-  pub told_places : PlacesFollow → TellsInOrder → ArePlaced (journal_bytes (records_of (opening s))) spots (state_of (opening s))
+  pub told_places : PlacesFollow → TellsInOrder → ArePlaced (journal_bytes (records_of (new_generation s))) spots (state_of (new_generation s))
   told_places follow order =
-      let told = flat_map telling s.chunks in
+      let told = flat_map chunk_records s.chunks in
       let seen = journal_bytes told in
       let placed : ArePlaced seen spots (after_all empty told) = subst (λ (r : List Record). ArePlaced (journal_bytes r) spots (after_all empty r)) done_is so_far.placed in
-      subst (λ (b : List ℕ). ArePlaced b spots (state_of (opening s))) (sym (journal_push told (Seal s.next)))
+      subst (λ (b : List ℕ). ArePlaced b spots (state_of (new_generation s))) (sym (journal_push told (Seal s.next)))
       (follow seen (record_bytes (Seal s.next)) spots spots (after_all empty told) (Seal s.next) 0 (order told so_far.unsealed) placed tt (λ serial. refl))
 
 -- the next chunk has few bytes

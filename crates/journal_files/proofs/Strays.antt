@@ -2,10 +2,10 @@
 use Rattle.std.proofs.Common.{◌≡◌, ℕ, ◌<◌, ◌≤◌, ◌^◌, List, Option, Some, None, option_map, refl, sym, ap, subst, ◌∙◌, arith, inl, inr}
 use Rattle.std.specs.Prelude.{IsSome}
 use Rattle.std.proofs.lemmas.Bool.{cases_lt}
-use Rattle.disk_files.specs.Disk.{File, Disk, Folder, SameDisk, Changes, grown, kept_file, settled, read_of, reads}
+use Rattle.disk_files.specs.Disk.{File, Disk, Folder, SameDisk, Changes, with_bytes, kept_file, after_stop, read_of, reads}
 use Rattle.disk_files.proofs.Moments.{here, elsewhere}
 use Rattle.journal_files.specs.Folders.{journal_name}
-use Rattle.journal_files.specs.Tellings.{Telling}
+use Rattle.journal_files.specs.JournalLogs.{JournalLog}
 use Rattle.journal_files.specs.Views.{OpenJournal}
 use Rattle.journal_files.specs.Disks.{Keeps, HasNoneFrom, HasNoStray}
 use Rattle.journal_files.specs.Pieces.{IsUnfinished}
@@ -31,7 +31,7 @@ highest_reads path disk number last there above n from below some = record {
   there = there;
 }
 
-pub kept_no_stray : (journal : OpenJournal) (disk : Disk) (t : Telling) → Keeps journal disk t → HasNoStray journal.path disk
+pub kept_no_stray : (journal : OpenJournal) (disk : Disk) (t : JournalLog) → Keeps journal disk t → HasNoStray journal.path disk
 kept_no_stray journal disk t keeps =
     highest_reads journal.path disk journal.number keeps.last (subst (λ (o : Option File). IsSome (read_of o)) (sym keeps.there) refl) keeps.newest
 
@@ -39,7 +39,7 @@ left_reads : (left : Option (List ℕ)) → IsSome (option_map kept_file left) �
 left_reads None some = absurd (cc some)
 left_reads (Some bytes) some = refl
 
-pub left_no_stray : (path : List ℕ) (folder : Folder) → HasNoStray path (settled folder)
+pub left_no_stray : (path : List ℕ) (folder : Folder) → HasNoStray path (after_stop folder)
 left_no_stray path folder n from below some = record {
   number = n;
   above = omega arith;
@@ -58,10 +58,10 @@ same_stray path old new same stray n from below some =
     }
 
 -- more was told, whole or not
-pub grown_no_stray : (journal : OpenJournal) (old new : Disk) (t : Telling) (bytes : List ℕ) → Keeps journal old t → Changes (journal_name journal.path journal.number) (grown bytes) old new → HasNoStray journal.path new
+pub grown_no_stray : (journal : OpenJournal) (old new : Disk) (t : JournalLog) (bytes : List ℕ) → Keeps journal old t → Changes (journal_name journal.path journal.number) (with_bytes bytes) old new → HasNoStray journal.path new
 grown_no_stray journal old new t bytes keeps changes =
     let name = journal_name journal.path journal.number in
-    let at = here old new name _ changes ∙ ap (option_map (grown bytes)) keeps.there in
+    let at = here old new name _ changes ∙ ap (option_map (with_bytes bytes)) keeps.there in
     highest_reads journal.path new journal.number keeps.last (subst (λ (o : Option File). IsSome (read_of o)) (sym at) refl)
     (λ n above below. elsewhere old new name (journal_name journal.path n) _ changes (numbers_apart journal.path journal.number n keeps.last below (λ e. omega (arith, e, above))) ∙ keeps.newest n above below)
 

@@ -6,11 +6,11 @@ use Rattle.chunk_journal.specs.Journal.{journal_bytes}
 use Rattle.chunk_journal.specs.Places.{IsWithin, bytes_at, places_at, entries_at}
 use Rattle.chunk_journal.specs.declared.places.Extent.{Extent}
 use Rattle.journal_files.specs.Folders.{journal_name}
-use Rattle.journal_files.specs.Tellings.{Telling, records_of, state_of}
+use Rattle.journal_files.specs.JournalLogs.{JournalLog, records_of, state_of}
 use Rattle.journal_files.specs.Views.{OpenJournal}
 use Rattle.journal_files.specs.Disks.{Keeps}
 
-module _ (journal : OpenJournal) (disk : Disk) (t : Telling) (keeps : Keeps journal disk t) where
+module _ (journal : OpenJournal) (disk : Disk) (t : JournalLog) (keeps : Keeps journal disk t) where
   pub reads_told : reads disk (journal_name journal.path journal.number) ≡ Some (journal_bytes (records_of t))
   reads_told = ap read_of keeps.there
 

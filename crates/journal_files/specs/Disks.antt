@@ -4,27 +4,27 @@ use Rattle.disk_files.specs.Disk.{Disk, Folder, StopLeaves, reads}
 use Rattle.chunk_journal.specs.Journal.{journal_bytes}
 use Rattle.chunk_journal.specs.Places.{ArePlaced}
 use Rattle.journal_files.specs.Folders.{journal_name}
-use Rattle.journal_files.specs.Tellings.{Telling, records_of, sure_records, state_of, IsTelling, OpensWithin}
+use Rattle.journal_files.specs.JournalLogs.{JournalLog, records_of, durable_records, state_of, IsJournalLog, OpensWithin}
 use Rattle.journal_files.specs.Views.{OpenJournal}
 
 -- The disk has the journal, whole: the file of its generation has the records that it told and nothing else, a stop leaves this file
--- with the chunks, the Seal and the sure steps at least, and no greater generation was ever begun.
+-- with the chunks, the Seal and the durable steps at least, and no greater generation was ever begun.
 -- The journal knows how many bytes these are, and where among them the entries of each live chunk lie.
-pub record Keeps (journal : OpenJournal) (disk : Disk) (t : Telling) : Type 0 where
-  pub telling : IsTelling t
+pub record Keeps (journal : OpenJournal) (disk : Disk) (t : JournalLog) : Type 0 where
+  pub logged : IsJournalLog t
   pub first : 1 ≤ journal.number
   pub last : journal.number < 2 ^ 32
   pub synced : ℕ
   pub there : disk (journal_name journal.path journal.number)
       ≡ Some (record { written = journal_bytes (records_of t); synced = synced; is_durable = true; is_removed = false })
-  pub holds : length (journal_bytes (sure_records t)) ≤ synced
+  pub holds : length (journal_bytes (durable_records t)) ≤ synced
   pub fits : synced ≤ length (journal_bytes (records_of t))
   pub counted : journal.len ≡ length (journal_bytes (records_of t))
   pub newest : (n : ℕ) → journal.number < n → n < 2 ^ 32 → disk (journal_name journal.path n) ≡ None
   pub placed : ArePlaced (journal_bytes (records_of t)) journal.places (state_of t)
 
--- Each folder that a stop may leave now opens to the state after some of the steps, all sure ones among them.
-abbrev pub Recovers : List ℕ → Disk → Telling → Type 0
+-- Each folder that a stop may leave now opens to the state after some of the steps, all durable ones among them.
+abbrev pub Recovers : List ℕ → Disk → JournalLog → Type 0
 Recovers path disk t = (folder : Folder) → StopLeaves disk folder → OpensWithin path t folder
 
 -- no generation from this one on was ever begun

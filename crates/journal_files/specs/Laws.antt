@@ -1,23 +1,23 @@
 -- What holds of journals on a disk, apart from any call.
 use Rattle.std.specs.Prelude.{ℕ, ◌≡◌, List}
-use Rattle.disk_files.specs.Disk.{Disk, Folder, settled}
+use Rattle.disk_files.specs.Disk.{Disk, Folder, after_stop}
 use Rattle.buffer_state.specs.State.{State}
 use Rattle.journal_files.specs.Folders.{Opens, IsDamagedFolder}
-use Rattle.journal_files.specs.Tellings.{Telling}
+use Rattle.journal_files.specs.JournalLogs.{JournalLog}
 use Rattle.journal_files.specs.Views.{OpenJournal}
 use Rattle.journal_files.specs.Disks.{Keeps, Recovers, HasNoStray}
 
--- Recovery: whatever a stop leaves of a journal opens to the state after some of its steps, all sure ones among them.
+-- Recovery: whatever a stop leaves of a journal opens to the state after some of its steps, all durable ones among them.
 abbrev pub RecoversAll : Type 0
-RecoversAll = (journal : OpenJournal) (disk : Disk) (t : Telling) → Keeps journal disk t → Recovers journal.path disk t
+RecoversAll = (journal : OpenJournal) (disk : Disk) (t : JournalLog) → Keeps journal disk t → Recovers journal.path disk t
 
 -- where the disk has a journal whole, no generation that was ever begun is above all that read
 abbrev pub KeepsNoStray : Type 0
-KeepsNoStray = (journal : OpenJournal) (disk : Disk) (t : Telling) → Keeps journal disk t → HasNoStray journal.path disk
+KeepsNoStray = (journal : OpenJournal) (disk : Disk) (t : JournalLog) → Keeps journal disk t → HasNoStray journal.path disk
 
 -- nor is one after a stop
 abbrev pub LeavesNoStray : Type 0
-LeavesNoStray = (path : List ℕ) (folder : Folder) → HasNoStray path (settled folder)
+LeavesNoStray = (path : List ℕ) (folder : Folder) → HasNoStray path (after_stop folder)
 
 -- a folder opens one way
 abbrev pub OpensOneWay : Type 0

@@ -1,5 +1,5 @@
 pub mod Folders
-pub mod Tellings
+pub mod JournalLogs
 pub mod Disks
 pub mod Placings
 pub mod Views

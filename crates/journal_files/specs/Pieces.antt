@@ -2,7 +2,7 @@
 use Rattle.std.specs.Prelude.{ℕ, ◌≡◌, ◌≢◌, ◌⊎◌, ◌<◌, List, take, Option, None, Some, IsSome}
 use Rattle.std.specs.Ordering.{nat_cmp}
 use Rattle.std.specs.BTreeMap.{BTreeMap, get}
-use Rattle.disk_files.specs.Disk.{Disk, File, Changes, fresh, grown, flushed, with_file, SameDisk, reads}
+use Rattle.disk_files.specs.Disk.{Disk, File, Changes, new_file, with_bytes, flushed, with_file, SameDisk, reads}
 use Rattle.disk_files.specs.declared.dir.FileNo.{FileNo}
 use Rattle.file_pieces.specs.Adding.{Partly}
 use Rattle.journal_files.specs.Folders.{journal_name}
@@ -10,7 +10,7 @@ use Rattle.journal_files.specs.Folders.{journal_name}
 -- a new file of this name has these bytes, of which nothing is certainly on the disk
 pub record HasNew (name bytes : List ℕ) (before after : Disk) : Type 0 where
   pub none : before name ≡ None
-  pub made : SameDisk after (with_file before name (Some (grown bytes fresh)))
+  pub made : SameDisk after (with_file before name (Some (with_bytes bytes new_file)))
 
 -- a new file of this name has a beginning of these bytes
 pub record HasSome (name bytes : List ℕ) (before after : Disk) : Type 0 where
@@ -23,7 +23,7 @@ IsUnfinished name bytes before after = SameDisk after before ⊎ HasSome name by
 
 -- these bytes were added, and synced with all before them
 abbrev pub sealed : List ℕ → File → File
-sealed bytes f = flushed (grown bytes f)
+sealed bytes f = flushed (with_bytes bytes f)
 
 -- nothing changed yet, or some of these bytes were added, or all of them and they are synced with all before them
 abbrev pub IsSealing : List ℕ → List ℕ → Disk → Disk → Type 0

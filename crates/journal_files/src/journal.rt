@@ -10,7 +10,7 @@ ghost use Rattle.chunk_journal.specs.Records.{Record as Step, body_of, longest_b
 ghost use Rattle.chunk_journal.specs.Meaning.{Allows};
 ghost use Rattle.chunk_journal.specs.Places.{SamePlaces, entries_at};
 ghost use Rattle.chunk_journal.specs.Spelled.{record_of, HasShortTag};
-ghost use Rattle.journal_files.specs.Tellings.{Telling, begun, all_sure, opening, state_of, OpensWithin};
+ghost use Rattle.journal_files.specs.JournalLogs.{JournalLog, begun, all_durable, new_generation, state_of, OpensWithin};
 ghost use Rattle.journal_files.specs.Views.{IsOpenIn, IsReady, HasShortTags};
 ghost use Rattle.journal_files.specs.Folders.{journal_name};
 ghost use Rattle.journal_files.specs.Disks.{Keeps, Recovers, HasNoStray};
@@ -76,12 +76,12 @@ impl<A: Allocator> Journal<A> {
     pub fn sync<D: Dir>(&self, dir: &mut D) -> Result<(), DirError>
         requires open { IsOpenIn self.now (D.opened dir.old) }
         ensures honest { D.is_honest dir.old → D.is_honest dir.new }
-        ensures ok { D.is_honest dir.old → (t : Telling) → Keeps self.now (now (D.history dir.old)) t
-            → OnOk result (Keeps self.now (now (D.history dir.new)) (all_sure t)) }
-        ensures err { D.is_honest dir.old → (t : Telling) → Keeps self.now (now (D.history dir.old)) t
+        ensures ok { D.is_honest dir.old → (t : JournalLog) → Keeps self.now (now (D.history dir.old)) t
+            → OnOk result (Keeps self.now (now (D.history dir.new)) (all_durable t)) }
+        ensures err { D.is_honest dir.old → (t : JournalLog) → Keeps self.now (now (D.history dir.old)) t
             → OnErr result (Keeps self.now (now (D.history dir.new)) t) }
         // A stop at any moment of the call leaves a folder that opens so.
-        ensures moments { D.is_honest dir.old → (t : Telling) → Keeps self.now (now (D.history dir.old)) t
+        ensures moments { D.is_honest dir.old → (t : JournalLog) → Keeps self.now (now (D.history dir.old)) t
             → LeavesOnly (D.history dir.old) (D.history dir.new) (OpensWithin self.now.path t) }
         // Files of other names stay as they are.
         ensures elsewhere { D.is_honest dir.old → (name : List ℕ) → name ≢ journal_name self.now.path self.now.number
@@ -112,7 +112,7 @@ impl<A: Allocator + Copy> Journal<A> {
         ensures room { OnOk result (length self.new.ready ≤ D.bytes_left dir.new self.new.file) }
         ensures rest { self.new ≡ record self.old { ready = self.new.ready; places = self.new.places; placing = self.new.placing } }
         ensures places { SamePlaces self.old.places self.new.places }
-        ensures keeps { D.is_honest dir.old → (t : Telling) → Keeps self.old (now (D.history dir.old)) t → Keeps self.new (now (D.history dir.new)) t }
+        ensures keeps { D.is_honest dir.old → (t : JournalLog) → Keeps self.old (now (D.history dir.old)) t → Keeps self.new (now (D.history dir.new)) t }
         ensures honest { D.is_honest dir.old → D.is_honest dir.new }
         ensures time { D.is_honest dir.old → Elapses (D.history dir.old) (D.history dir.new) }
         ensures same { D.is_honest dir.old → SameDisk (now (D.history dir.new)) (now (D.history dir.old)) }
@@ -152,15 +152,15 @@ impl<A: Allocator + Copy> Journal<A> {
         requires room { length self.old.ready ≤ D.bytes_left dir.old self.old.file }
         ensures journal { self.new ≡ record self.old { len = self.old.len + length self.old.ready; ready = []; places = self.new.places; placing = Stays } }
         ensures honest { D.is_honest dir.old → D.is_honest dir.new }
-        ensures ok { D.is_honest dir.old → (t : Telling) (item : Step) → Keeps self.old (now (D.history dir.old)) t
+        ensures ok { D.is_honest dir.old → (t : JournalLog) (item : Step) → Keeps self.old (now (D.history dir.old)) t
             → IsReady self.old item → Allows (state_of t) item
             → OnOk result (Keeps self.new (now (D.history dir.new)) (begun item t)) }
-        ensures err { D.is_honest dir.old → (t : Telling) (item : Step) → Keeps self.old (now (D.history dir.old)) t
+        ensures err { D.is_honest dir.old → (t : JournalLog) (item : Step) → Keeps self.old (now (D.history dir.old)) t
             → IsReady self.old item → Allows (state_of t) item
             → OnErr result (Recovers self.old.path (now (D.history dir.new)) (begun item t)) }
-        ensures stray { D.is_honest dir.old → (t : Telling) → Keeps self.old (now (D.history dir.old)) t → HasNoStray self.old.path (now (D.history dir.new)) }
+        ensures stray { D.is_honest dir.old → (t : JournalLog) → Keeps self.old (now (D.history dir.old)) t → HasNoStray self.old.path (now (D.history dir.new)) }
         // A stop at any moment of the call leaves a folder that opens so.
-        ensures moments { D.is_honest dir.old → (t : Telling) (item : Step) → Keeps self.old (now (D.history dir.old)) t
+        ensures moments { D.is_honest dir.old → (t : JournalLog) (item : Step) → Keeps self.old (now (D.history dir.old)) t
             → IsReady self.old item → Allows (state_of t) item
             → LeavesOnly (D.history dir.old) (D.history dir.new) (OpensWithin self.old.path (begun item t)) }
         // Files of other names stay as they are.
@@ -190,9 +190,9 @@ impl<A: Allocator + Copy> Journal<A> {
         ensures time { D.is_honest dir.old → Elapses (D.history dir.old) (D.history dir.new) }
         ensures same { D.is_honest dir.old → SameDisk (now (D.history dir.new)) (now (D.history dir.old)) }
         ensures opened { (other : FileNo) → D.opened dir.new other ≡ D.opened dir.old other }
-        ensures bytes { D.is_honest dir.old → (t : Telling) → Keeps self.now (now (D.history dir.old)) t
+        ensures bytes { D.is_honest dir.old → (t : JournalLog) → Keeps self.now (now (D.history dir.old)) t
             → IfOk result (λ bytes. bytes.items ≡ entries_at (state_of t) serial) }
-        ensures whole { D.is_honest dir.old → (t : Telling) → Keeps self.now (now (D.history dir.old)) t → result ≢ Err ReadError.Short }
+        ensures whole { D.is_honest dir.old → (t : JournalLog) → Keeps self.now (now (D.history dir.old)) t → result ≢ Err ReadError.Short }
         ensures cause { HasReason (D.fault_count dir.old) (D.fault_count dir.new) result ReadError.Fault }
     {
         read_extents(alloc, dir, self.file, self.places.at(serial))
@@ -208,22 +208,22 @@ impl<A: Allocator + Copy> Journal<A> {
         requires open { IsOpenIn self.old (D.opened dir.old) }
         requires tags { HasShortTags chunks.now }
         ensures honest { D.is_honest dir.old → D.is_honest dir.new }
-        ensures ok { D.is_honest dir.old → (t : Telling) → Keeps self.old (now (D.history dir.old)) t
+        ensures ok { D.is_honest dir.old → (t : JournalLog) → Keeps self.old (now (D.history dir.old)) t
             → settled (state_of t) ≡ reopened chunks.now
-            → OnOk result (Keeps self.new (now (D.history dir.new)) (opening chunks.now)) }
-        ensures whole { D.is_honest dir.old → (t : Telling) → Keeps self.old (now (D.history dir.old)) t
+            → OnOk result (Keeps self.new (now (D.history dir.new)) (new_generation chunks.now)) }
+        ensures whole { D.is_honest dir.old → (t : JournalLog) → Keeps self.old (now (D.history dir.old)) t
             → settled (state_of t) ≡ reopened chunks.now → result ≢ Err RenewError.Short }
-        ensures state { OnOk result (settled (state_of (opening chunks.now)) ≡ reopened chunks.now) }
-        ensures fault { D.is_honest dir.old → (t : Telling) → Keeps self.old (now (D.history dir.old)) t
+        ensures state { OnOk result (settled (state_of (new_generation chunks.now)) ≡ reopened chunks.now) }
+        ensures fault { D.is_honest dir.old → (t : JournalLog) → Keeps self.old (now (D.history dir.old)) t
             → settled (state_of t) ≡ reopened chunks.now
             → (result ≡ Err RenewError.Fault) → Recovers self.old.path (now (D.history dir.new)) t }
         // A stop at any moment of the call leaves a folder that opens so.
-        ensures moments { D.is_honest dir.old → (t : Telling) → Keeps self.old (now (D.history dir.old)) t
+        ensures moments { D.is_honest dir.old → (t : JournalLog) → Keeps self.old (now (D.history dir.old)) t
             → settled (state_of t) ≡ reopened chunks.now
             → LeavesOnly (D.history dir.old) (D.history dir.new) (OpensWithin self.old.path t) }
-        ensures stray { D.is_honest dir.old → (t : Telling) → Keeps self.old (now (D.history dir.old)) t → HasNoStray self.old.path (now (D.history dir.new)) }
+        ensures stray { D.is_honest dir.old → (t : JournalLog) → Keeps self.old (now (D.history dir.old)) t → HasNoStray self.old.path (now (D.history dir.new)) }
         ensures gone { D.is_honest dir.old → OnOk result (reads (now (D.history dir.new)) (journal_name self.old.path self.old.number) ≡ None) }
-        ensures memory { D.is_honest dir.old → (t : Telling) → Keeps self.old (now (D.history dir.old)) t
+        ensures memory { D.is_honest dir.old → (t : JournalLog) → Keeps self.old (now (D.history dir.old)) t
             → (result ≡ Err RenewError.Memory) → Keeps self.new (now (D.history dir.new)) t }
         ensures last { (result ≡ Err RenewError.LastGeneration) ↔ (2 ^ 32 ≤ self.old.number + 1) }
         ensures unchanged { (result ≡ Err RenewError.LastGeneration) → D.is_honest dir.old → SameDisk (now (D.history dir.new)) (now (D.history dir.old)) }

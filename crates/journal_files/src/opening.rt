@@ -7,7 +7,7 @@ ghost use Rattle.disk_files.specs.Disk.{SameDisk, reads};
 ghost use Rattle.disk_files.specs.Moments.{Elapses, LeavesOnly, now};
 ghost use Rattle.buffer_state.specs.Steps.{settled, reopened};
 ghost use Rattle.journal_files.specs.Folders.{journal_name, Opens, IsDamagedFolder, IsNext};
-ghost use Rattle.journal_files.specs.Tellings.{Telling, OpensWithin, opening, state_of};
+ghost use Rattle.journal_files.specs.JournalLogs.{JournalLog, OpensWithin, new_generation, state_of};
 ghost use Rattle.journal_files.specs.Views.{IsOpenIn, HasShortTags};
 ghost use Rattle.journal_files.specs.Disks.{Keeps, Recovers, HasNoStray, HasNoneBelow};
 ghost use Rattle.journal_files.specs.Faults.{HasReason};
@@ -49,10 +49,10 @@ impl<A: Allocator + Copy> Journal<A> {
         ensures state { D.is_honest dir.old
             → IfOk result (λ opened. Opens path.now (reads (now (D.history dir.old))) opened.chunks) }
         ensures keeps { D.is_honest dir.old → HasNoStray path.now (now (D.history dir.old))
-            → IfOk result (λ opened. Keeps opened.journal (now (D.history dir.new)) (opening opened.chunks)) }
+            → IfOk result (λ opened. Keeps opened.journal (now (D.history dir.new)) (new_generation opened.chunks)) }
         // No chunk is claimed, and the queue goes by rising serial.
         ensures unclaimed { IfOk result (λ opened. reopened opened.chunks ≡ opened.chunks) }
-        ensures starts { IfOk result (λ opened. settled (state_of (opening opened.chunks)) ≡ reopened opened.chunks) }
+        ensures starts { IfOk result (λ opened. settled (state_of (new_generation opened.chunks)) ≡ reopened opened.chunks) }
         ensures tags { IfOk result (λ opened. HasShortTags opened.chunks) }
         ensures next { D.is_honest dir.old → IfOk result (λ opened. IsNext path.now (reads (now (D.history dir.old))) opened.journal.number) }
         ensures path { IfOk result (λ opened. opened.journal.path ≡ path.now) }
@@ -71,7 +71,7 @@ impl<A: Allocator + Copy> Journal<A> {
             → OnErr result (SameDisk (now (D.history dir.new)) (now (D.history dir.old))) }
         // A stop at any moment of the call, whatever it answers, leaves a folder that opens to what one before the call could open to.
         ensures moments { D.is_honest dir.old → HasNoStray path.now (now (D.history dir.old))
-            → (t : Telling) → Recovers path.now (now (D.history dir.old)) t
+            → (t : JournalLog) → Recovers path.now (now (D.history dir.old)) t
             → LeavesOnly (D.history dir.old) (D.history dir.new) (OpensWithin path.now t) }
         ensures stray { D.is_honest dir.old → HasNoStray path.now (now (D.history dir.old)) → HasNoStray path.now (now (D.history dir.new)) }
         ensures alone { D.is_honest dir.old → IfOk result (λ opened. HasNoneBelow path.now (now (D.history dir.new)) opened.journal.number) }

@@ -8,7 +8,7 @@ ghost use Rattle.disk_files.specs.declared.dir.FileNo.{FileNo};
 ghost use Rattle.buffer_state.specs.Steps.{settled, reopened};
 ghost use Rattle.numbered_files.specs.Names.{file_name};
 ghost use Rattle.journal_files.specs.Folders.{journal_name};
-ghost use Rattle.journal_files.specs.Tellings.{Telling, IsOfSome, OpensWithin, opening, state_of};
+ghost use Rattle.journal_files.specs.JournalLogs.{JournalLog, IsOfSome, OpensWithin, new_generation, state_of};
 ghost use Rattle.journal_files.specs.Views.{IsOpenIn, HasShortTags};
 ghost use Rattle.journal_files.specs.Disks.{Keeps, Recovers, HasNoneFrom, HasNoStray};
 ghost use Rattle.file_pieces.specs.Adding.{IsLeftOf, Partly};
@@ -58,9 +58,9 @@ pub(crate) fn begin<A: Allocator + Copy, D: Dir>(
     ensures honest { D.is_honest dir.old → D.is_honest dir.new }
     ensures ok { D.is_honest dir.old → HasNoneFrom path.now (now (D.history dir.old)) number
         → HasSource (D.opened dir.old) (now (D.history dir.old)) (journal_name path.now number) from places.now chunks.now
-        → IfOk result (λ journal. Keeps journal (now (D.history dir.new)) (opening chunks.now)) }
+        → IfOk result (λ journal. Keeps journal (now (D.history dir.new)) (new_generation chunks.now)) }
     // A stop at any moment of the call leaves a folder that opens so.
-    ensures moments { D.is_honest dir.old → (t : Telling) → Recovers path.now (now (D.history dir.old)) t
+    ensures moments { D.is_honest dir.old → (t : JournalLog) → Recovers path.now (now (D.history dir.old)) t
         → HasNoneFrom path.now (now (D.history dir.old)) number → IsOfSome t (reopened chunks.now)
         → HasSource (D.opened dir.old) (now (D.history dir.old)) (journal_name path.now number) from places.now chunks.now
         → LeavesOnly (D.history dir.old) (D.history dir.new) (OpensWithin path.now t) }
@@ -70,7 +70,7 @@ pub(crate) fn begin<A: Allocator + Copy, D: Dir>(
         → HasSource (D.opened dir.old) (now (D.history dir.old)) (journal_name path.now number) from places.now chunks.now
         → IsErrOf result BeginError.Short → ⊥ }
     ensures there { D.is_honest dir.old → OnOk result (IsSome (reads (now (D.history dir.new)) (journal_name path.now number))) }
-    ensures state { OnOk result (settled (state_of (opening chunks.now)) ≡ reopened chunks.now) }
+    ensures state { OnOk result (settled (state_of (new_generation chunks.now)) ≡ reopened chunks.now) }
     ensures memory { D.is_honest dir.old → IsErrOf result BeginError.Memory
         → SameDisk (now (D.history dir.new)) (now (D.history dir.old)) }
     ensures elsewhere { D.is_honest dir.old → (name : List ℕ) → name ≢ journal_name path.now number

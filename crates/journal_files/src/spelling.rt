@@ -8,11 +8,11 @@ ghost use Rattle.buffer_state.specs.State.{size};
 ghost use Rattle.buffer_state.specs.Steps.{greatest_size};
 ghost use Rattle.chunk_journal.specs.Records.{Seal, Append, Queue, record_bytes, IsRecord};
 ghost use Rattle.chunk_journal.specs.Journal.{journal_bytes};
-ghost use Rattle.chunk_journal.specs.Meaning.{telling, AreTold};
+ghost use Rattle.chunk_journal.specs.Meaning.{chunk_records, AreTold};
 ghost use Rattle.chunk_journal.specs.Places.{ArePlaced, AddsPlace, IsWithin, LieAt, bytes_at, extent_before, places_at};
 ghost use Rattle.file_pieces.specs.Pieces.{AreWithin, pieces_bytes};
 ghost use Rattle.journal_files.specs.Fronts.{front_within};
-ghost use Rattle.journal_files.specs.Tellings.{opening, records_of, state_of};
+ghost use Rattle.journal_files.specs.JournalLogs.{new_generation, records_of, state_of};
 ghost use Rattle.journal_files.specs.Views.{HasShortTags};
 
 use crate::placing::last_extent;
@@ -44,13 +44,13 @@ pub(crate) fn tell_chunks<'a, A: Allocator + Copy>(
 ) -> Result<Told<'a, A>, AllocError>
     requires { HasShortTags chunks.now }
     ensures bytes { IfOk result (λ told. (seen : List ℕ) → length seen < 2 ^ 64 → ArePlaced seen from.now chunks.now
-        → pieces_bytes seen told.pieces.items ≡ journal_bytes (flat_map telling chunks.now.chunks)) }
+        → pieces_bytes seen told.pieces.items ≡ journal_bytes (flat_map chunk_records chunks.now.chunks)) }
     ensures within { IfOk result (λ told. (seen : List ℕ) → length seen < 2 ^ 64 → ArePlaced seen from.now chunks.now
         → AreWithin seen told.pieces.items) }
-    ensures len { IfOk result (λ told. told.len ≡ length (journal_bytes (flat_map telling chunks.now.chunks))) }
+    ensures len { IfOk result (λ told. told.len ≡ length (journal_bytes (flat_map chunk_records chunks.now.chunks))) }
     // The places hold good behind the Seal too.
-    ensures places { IfOk result (λ told. ArePlaced (journal_bytes (records_of (opening chunks.now))) told.places (state_of (opening chunks.now))) }
-    ensures records { OnOk result (AllByRecursion IsRecord (flat_map telling chunks.now.chunks)) }
+    ensures places { IfOk result (λ told. ArePlaced (journal_bytes (records_of (new_generation chunks.now))) told.places (state_of (new_generation chunks.now))) }
+    ensures records { OnOk result (AllByRecursion IsRecord (flat_map chunk_records chunks.now.chunks)) }
     ensures told { AreTold 0 chunks.now.chunks chunks.now.next }
     ensures seal { IfOk result (λ told. told.seal.items ≡ record_bytes (Seal chunks.now.next)) }
     ensures next { IsRecord (Seal chunks.now.next) }
@@ -87,14 +87,14 @@ fn tell_chunk<'a, A: Allocator + Copy>(
     requires tag { length chunk.now.chunk.tag ≤ longest_tag }
     requires small { size chunk.now.chunk.entries ≤ greatest_size }
     ensures bytes { OnOk result ((seen : List ℕ) → LieAt seen (places_at from.now serial) (concat chunk.now.chunk.entries)
-        → pieces_bytes seen pieces.new.items ≡ pieces_bytes seen pieces.old.items ++ journal_bytes (telling (serial, chunk.now.chunk))) }
+        → pieces_bytes seen pieces.new.items ≡ pieces_bytes seen pieces.old.items ++ journal_bytes (chunk_records (serial, chunk.now.chunk))) }
     ensures within { OnOk result ((seen : List ℕ) → length seen < 2 ^ 64 → LieAt seen (places_at from.now serial) (concat chunk.now.chunk.entries)
         → AreWithin seen pieces.old.items → AreWithin seen pieces.new.items) }
-    ensures len { IfOk result (λ end. end ≡ len + length (journal_bytes (telling (serial, chunk.now.chunk)))) }
+    ensures len { IfOk result (λ end. end ≡ len + length (journal_bytes (chunk_records (serial, chunk.now.chunk)))) }
     ensures places { OnOk result (AddsPlace serial
         (extent_before (len + length (record_bytes (Append serial chunk.now.chunk.tag chunk.now.chunk.entries))) (size chunk.now.chunk.entries))
         places.old places.new) }
-    ensures records { OnOk result (AllByRecursion IsRecord (telling (serial, chunk.now.chunk))) }
+    ensures records { OnOk result (AllByRecursion IsRecord (chunk_records (serial, chunk.now.chunk))) }
 {
     let end = tell_entries(alloc, pieces, places, len, serial, chunk, from)?;
     match chunk.stage() {

@@ -7,15 +7,15 @@ use Rattle.std.proofs.lemmas.List.Elements.{All-nil, All-push, All-head, All-res
 use Rattle.ack_receipt.specs.Reservations.{Asked, Answer, Reservation, answer_to}
 use Rattle.forward_core.specs.declared.security.Security.{Security}
 use Rattle.forward_core.specs.Demands.{asked_in}
-use Rattle.forward_core.specs.Server.{ServerState, Outcome, after, opening}
-use Rattle.loop_core.specs.Leaves.{Entry, GoesTo}
+use Rattle.forward_core.specs.Server.{ServerState, Outcome, after, initial_server}
+use Rattle.loop_core.specs.Leaves.{Entry, IsRoutedTo}
 use Rattle.loop_core.specs.Waits.{Awaited, Waits}
 use Rattle.loop_core.specs.Collecting.{IsAnswerTo}
 use Rattle.loop_core.specs.Peers.{IsOwed, IsEarned, IsFaithful}
 
 -- a connection that was opened
 pub opened : (entry : Entry) (security : Option Security) (nonce : List ℕ)
-    → IsFaithful entry (opening security nonce).asked (opening security nonce).taken []
+    → IsFaithful entry (initial_server security nonce).asked (initial_server security nonce).taken []
 opened entry None nonce = record { owed = All-nil (IsOwed entry []); earned = All-nil (IsEarned entry) }
 opened entry (Some security) nonce = record { owed = All-nil (IsOwed entry []); earned = All-nil (IsEarned entry) }
 
@@ -42,17 +42,17 @@ waits_too entry asked taken waits w f o = record {
 
 -- an answer names the tag and the buffers that its delivery had
 filled_earned : (entry : Entry) (asked : Asked) (tag : List ℕ) (leaves : List Leaf) (bytes : List ℕ) (o : Option Answer)
-    → IsSomeAnd o (λ answer. (answer.bytes ≡ bytes) × (answer.tag ≡ tag) × (answer.leaves ≡ leaves)) → GoesTo entry asked tag leaves
-    → IsSomeAnd o (λ answer. GoesTo entry asked answer.tag answer.leaves)
+    → IsSomeAnd o (λ answer. (answer.bytes ≡ bytes) × (answer.tag ≡ tag) × (answer.leaves ≡ leaves)) → IsRoutedTo entry asked tag leaves
+    → IsSomeAnd o (λ answer. IsRoutedTo entry asked answer.tag answer.leaves)
 filled_earned entry asked tag leaves bytes None s l = s
 filled_earned entry asked tag leaves bytes (Some answer) s l =
-    subst (λ (ls : List Leaf). GoesTo entry asked answer.tag ls) (sym s.2) (subst (λ (t : List ℕ). GoesTo entry asked t leaves) (sym s.1) l)
+    subst (λ (ls : List Leaf). IsRoutedTo entry asked answer.tag ls) (sym s.2) (subst (λ (t : List ℕ). IsRoutedTo entry asked t leaves) (sym s.1) l)
 
 pub answer_earned : (entry : Entry) (asked : List Asked) (w : Waits) (reserved : Reservation)
     → IsOwed entry asked w → IsAnswerTo w.awaited reserved → IsEarned entry reserved
 answer_earned entry asked w reserved o a = record {
   goes = filled_earned entry reserved.asked w.awaited.tag w.awaited.leaves (answer_to w.awaited.asked.ack) reserved.filled a.1
-      (subst (λ (x : Asked). GoesTo entry x w.awaited.tag w.awaited.leaves) (sym a.0) o.goes);
+      (subst (λ (x : Asked). IsRoutedTo entry x w.awaited.tag w.awaited.leaves) (sym a.0) o.goes);
 }
 
 pub answer_demanded : (entry : Entry) (asked : List Asked) (w : Waits) (reserved : Reservation)
@@ -63,7 +63,7 @@ answer_demanded entry asked w reserved o a = subst (Contains asked) (sym a.0) o.
 pub still_owed : (entry : Entry) (asked : List Asked) (old new : Waits) → new.awaited ≡ old.awaited → IsOwed entry asked old → IsOwed entry asked new
 still_owed entry asked old new e o = record {
   demanded = subst (λ (a : Awaited). Contains asked a.asked) (sym e) o.demanded;
-  goes = subst (λ (a : Awaited). GoesTo entry a.asked a.tag a.leaves) (sym e) o.goes;
+  goes = subst (λ (a : Awaited). IsRoutedTo entry a.asked a.tag a.leaves) (sym e) o.goes;
 }
 
 -- the session took an answer

@@ -8,7 +8,7 @@ use Rattle.tag_pattern.specs.Prefixes.{entered_tag}
 use Rattle.relay_conf.specs.declared.output.BufferNo.{BufferNo}
 use Rattle.route_graph.specs.Ways.{IsLoop}
 use Rattle.route_graph.specs.Listing.{AreFirstReached, numbers_of}
-use Rattle.loop_core.specs.Leaves.{Entry, leaf_of, GoesTo}
+use Rattle.loop_core.specs.Leaves.{Entry, leaf_of, IsRoutedTo}
 use Rattle.loop_core.specs.Waits.{HasEntries}
 
 -- what holds of all that is found holds of what else is said of it
@@ -26,15 +26,15 @@ some_entries (suc n) count e f = omega arith
 pub leaves_for : (entry : Entry) (asked : Asked) (tag : List ℕ) (buffers : List BufferNo) (named : List ℕ) (leaves : List Leaf)
     → 0 < asked.count → tag ≡ entered_tag entry.prefix asked.tag
     → (IsLoop entry.table tag entry.scope → ⊥) × AreFirstReached entry.table tag entry.scope (numbers_of buffers)
-    → named ≡ tag → leaves ≡ map (leaf_of entry.number) buffers → GoesTo entry asked named leaves
-leaves_for entry asked tag buffers named leaves n e w t l = subst (λ (x : List ℕ). GoesTo entry asked x leaves) (sym t) (record {
+    → named ≡ tag → leaves ≡ map (leaf_of entry.number) buffers → IsRoutedTo entry asked named leaves
+leaves_for entry asked tag buffers named leaves n e w t l = subst (λ (x : List ℕ). IsRoutedTo entry asked x leaves) (sym t) (record {
   entered = e;
   reached = inr (n, (w.0, (buffers, w.1, l)));
 })
 
 -- a message without entries goes nowhere
 pub nowhere_for : (entry : Entry) (asked : Asked) (tag : List ℕ) (leaves : List Leaf) → asked.count ≡ 0 → tag ≡ entered_tag entry.prefix asked.tag
-    → leaves ≡ [] → GoesTo entry asked tag leaves
+    → leaves ≡ [] → IsRoutedTo entry asked tag leaves
 nowhere_for entry asked tag leaves n e l = record { entered = e; reached = inl (n, l) }
 
 -- a delivery that goes somewhere has entries

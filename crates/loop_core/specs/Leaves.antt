@@ -30,6 +30,6 @@ AreLeavesFor entry asked tag leaves = ((asked.count ≡ 0) × (leaves ≡ []))
     ⊎ ((0 < asked.count) × AreLeavesOf entry tag leaves)
 
 -- The message is stored under its tag as it enters at the source, in the buffers that have to store it.
-pub record GoesTo (entry : Entry) (asked : Asked) (tag : List ℕ) (leaves : List Leaf) : Type 0 where
+pub record IsRoutedTo (entry : Entry) (asked : Asked) (tag : List ℕ) (leaves : List Leaf) : Type 0 where
   pub entered : tag ≡ entered_tag entry.prefix asked.tag
   pub reached : AreLeavesFor entry asked tag leaves

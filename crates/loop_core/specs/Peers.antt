@@ -2,7 +2,7 @@
 use Rattle.std.specs.Prelude.{List, All, Contains, IsSomeAnd}
 use Rattle.ack_receipt.specs.Reservations.{Asked, Reservation}
 use Rattle.forward_core.specs.Server.{ServerState}
-use Rattle.loop_core.specs.Leaves.{Entry, GoesTo}
+use Rattle.loop_core.specs.Leaves.{Entry, IsRoutedTo}
 use Rattle.loop_core.specs.Waits.{Waits}
 
 -- the connection's source, its session, and the deliveries that wait
@@ -14,11 +14,11 @@ pub record PeerState : Type 0 where
 -- the delivery is of a message that was demanded, and goes where that has to go
 pub record IsOwed (entry : Entry) (asked : List Asked) (waits : Waits) : Type 0 where
   pub demanded : Contains asked waits.awaited.asked
-  pub goes : GoesTo entry waits.awaited.asked waits.awaited.tag waits.awaited.leaves
+  pub goes : IsRoutedTo entry waits.awaited.asked waits.awaited.tag waits.awaited.leaves
 
 -- the answer names the tag and the buffers that its message had to be stored under and in
 pub record IsEarned (entry : Entry) (reserved : Reservation) : Type 0 where
-  pub goes : IsSomeAnd reserved.filled (λ answer. GoesTo entry reserved.asked answer.tag answer.leaves)
+  pub goes : IsSomeAnd reserved.filled (λ answer. IsRoutedTo entry reserved.asked answer.tag answer.leaves)
 
 -- what a connection keeps of the messages that were demanded, the answers that were taken and the deliveries that wait
 pub record IsFaithful (entry : Entry) (asked : List Asked) (taken : List Reservation) (waits : List Waits) : Type 0 where

@@ -5,7 +5,7 @@ ghost use Rattle.std.specs.Arc.{arc_value};
 ghost use Rattle.ack_receipt.specs.Reservations.{asked_of};
 ghost use Rattle.event_modes.specs.Reading.{meaning};
 ghost use Rattle.tag_pattern.specs.Prefixes.{entered_tag};
-ghost use Rattle.loop_core.specs.Leaves.{GoesTo, leaf_of};
+ghost use Rattle.loop_core.specs.Leaves.{IsRoutedTo, leaf_of};
 
 use ack_receipt::Leaf;
 use event_modes::Message;
@@ -78,7 +78,7 @@ impl<A: Allocator + Copy> Inlet<A> {
         alloc: A,
         message: &Message<B>,
     ) -> Result<Option<Branches<A>>, AllocError>
-        ensures leaves { IfOk result (λ found. IfSome found (λ branches. GoesTo self.now (asked_of (meaning message.now)) branches.tag branches.leaves.items)) }
+        ensures leaves { IfOk result (λ found. IfSome found (λ branches. IsRoutedTo self.now (asked_of (meaning message.now)) branches.tag branches.leaves.items)) }
         ensures buffers { IfOk result (λ found. IfSome found (λ branches. (0 < length message.now.entries) ⊎ (branches.buffers.items ≡ []))) }
     {
         let Some(tag) = self.entered(alloc, &message.tag)? else {

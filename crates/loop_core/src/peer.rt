@@ -7,7 +7,7 @@ ghost use Rattle.loop_core.specs.Peers.{IsEarned, IsFaithful, IsOwed};
 ghost use Rattle.std.specs.Arc.{arc_value};
 ghost use Rattle.forward_core.specs.Handshakes.{IsHosted};
 ghost use Rattle.forward_core.specs.Demands.{wanted};
-ghost use Rattle.forward_core.specs.Server.{IsAskedIn, opening};
+ghost use Rattle.forward_core.specs.Server.{IsAskedIn, initial_server};
 
 use crate::fault::LoopFault;
 use crate::inlet::{Branches, Inlet};
@@ -53,7 +53,7 @@ impl<A: Allocator + Copy> Peer<A> {
         nonce: [u8; 16],
     ) -> Result<Peer<A>, AllocError>
         requires { IsHosted security }
-        ensures { IfOk result (λ peer. peer ≡ record { entry = arc_value inlet.now; session = opening security.entry nonce; waits = [] }) }
+        ensures { IfOk result (λ peer. peer ≡ record { entry = arc_value inlet.now; session = initial_server security.entry nonce; waits = [] }) }
     {
         let session = ServerSession::open(alloc, security, nonce)?;
         let inlet = Arc::try_clone(inlet)?;

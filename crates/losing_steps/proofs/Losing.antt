@@ -7,7 +7,7 @@ use Rattle.std.proofs.lemmas.Option.{slice_get_cases, slice_get_within}
 use Rattle.custody_core.specs.Custody.{IsKeptAs}
 use Rattle.custody_core.proofs.Lists.{contains-get, get-contains}
 use Rattle.custody_steps.specs.Steps.{Allowed, IsRefusedAt, Names, Steps, effect}
-use Rattle.custody_steps.specs.World.{World, opening}
+use Rattle.custody_steps.specs.World.{World, initial_world}
 use Rattle.custody_steps.specs.declared.fault.StepFault.{StepFault}
 use Rattle.custody_steps.specs.declared.fault.StepFault.TheVariants as fault
 use Rattle.loss_rules.specs.declared.label.Duty.{Duty}
@@ -61,11 +61,11 @@ steps_same net before [] a b one other = one ∙ sym other
 steps_same net before (first ∷ steps) a b one other = steps_same net (effect net before first) steps a b one.2 other.2
 
 -- steps that are taken lose an event where one is lost then
-pub loses_where_lost : {A : Type 0} (asked : Duty) (net : Network A) (steps : List (Step A)) (w : World) (is_so : Bool) → Steps net opening steps w
+pub loses_where_lost : {A : Type 0} (asked : Duty) (net : Network A) (steps : List (Step A)) (w : World) (is_so : Bool) → Steps net initial_world steps w
     → (IsTrue is_so ↔ HasLost asked net w) → IsTrue is_so ↔ Loses asked net steps
 loses_where_lost asked net steps w is_so taken lost = (
   λ y. record { world = w; taken = taken; lost = lost.0 y },
-  λ loses. lost.1 (subst (HasLost asked net) (steps_same net opening steps loses.world w loses.taken taken) loses.lost),
+  λ loses. lost.1 (subst (HasLost asked net) (steps_same net initial_world steps loses.world w loses.taken taken) loses.lost),
 )
 
 -- of steps that are taken the next one after some names what is there, and is allowed
@@ -78,9 +78,9 @@ next_taken net from (first ∷ steps) at next others after taken here = next_tak
 pub refused_loses_none : {A : Type 0} (asked : Duty) (net : Network A) (steps : List (Step A)) (number : ℕ) (why : StepFault) → IsRefusedAt net steps number why
     → ¬ (why ≡ fault.Memory) → ¬ (Loses asked net steps)
 refused_loses_none asked net steps number fault.NoSuch refused named loses =
-    let taken = subst (λ s. Steps net opening s loses.world) refused.steps_are loses.taken in
-    refused.is_refused (next_taken net opening refused.before refused.world refused.refused refused.others loses.world taken refused.taken).0
+    let taken = subst (λ s. Steps net initial_world s loses.world) refused.steps_are loses.taken in
+    refused.is_refused (next_taken net initial_world refused.before refused.world refused.refused refused.others loses.world taken refused.taken).0
 refused_loses_none asked net steps number fault.NotAllowed refused named loses =
-    let taken = subst (λ s. Steps net opening s loses.world) refused.steps_are loses.taken in
-    refused.is_refused.1 (next_taken net opening refused.before refused.world refused.refused refused.others loses.world taken refused.taken).1
+    let taken = subst (λ s. Steps net initial_world s loses.world) refused.steps_are loses.taken in
+    refused.is_refused.1 (next_taken net initial_world refused.before refused.world refused.refused refused.others loses.world taken refused.taken).1
 refused_loses_none asked net steps number fault.Memory refused named loses = named refl

@@ -2,7 +2,7 @@
 use Rattle.std.specs.Prelude.{ℕ, List, Contains}
 use Rattle.custody_core.specs.Custody.{IsKeptAs}
 use Rattle.custody_steps.specs.Steps.{Steps}
-use Rattle.custody_steps.specs.World.{World, opening}
+use Rattle.custody_steps.specs.World.{World, initial_world}
 use Rattle.loss_rules.specs.declared.label.Duty.{Duty}
 use Rattle.message_book.specs.Book.{Told}
 use Rattle.relay_net.specs.Network.{Network}
@@ -19,7 +19,7 @@ pub record HasLost {A : Type 0} (asked : Duty) (net : Network A) (w : World) : T
 -- The network takes each of the steps, from before its first one, and has lost an acknowledged event then.
 pub record Loses {A : Type 0} (asked : Duty) (net : Network A) (steps : List (Step A)) : Type 0 where
   pub world : World
-  pub taken : Steps net opening steps world
+  pub taken : Steps net initial_world steps world
   pub lost : HasLost asked net world
 
 -- The lines of the text say such steps.

@@ -4,7 +4,7 @@ use Rattle.std.specs.Prelude.{◌⊎◌}
 use Rattle.std.proofs.Common.{inl, inr}
 use Rattle.std.proofs.lemmas.Bool.{cases_lt}
 use Rattle.loss_rules.specs.Breaks.{Subject, IsKept, IsAnswer, rule_number}
-use Rattle.loss_rules.specs.Rules.{AreRulesKept, KeepsOrRelabels, AllKeepOrRelabel, DoesDuty, EachOutputKeeps}
+use Rattle.loss_rules.specs.Rules.{AreKeepingRulesKept, KeepsOrRelabels, AllKeepOrRelabel, DoesDuty, EachOutputKeeps}
 use Rattle.loss_rules.specs.declared.answer.Answer.{Answer}
 use Rattle.loss_rules.specs.declared.answer.Answer.TheVariants as answer
 use Rattle.relay_net.specs.Network.{Network}
@@ -78,7 +78,7 @@ each_keeps s answer.Yes each is every = λ place scope r found at reached. does_
 each_keeps s (answer.No broken at) answered is every = absurd (cc)
 
 -- a yes means that the rules hold that keep events
-pub rules_kept : {A : Type 0} (s : Subject A) (found : Answer) → IsAnswer s found → found ≡ answer.Yes → AreRulesKept s.net s.labels s.reaches
+pub rules_kept : {A : Type 0} (s : Subject A) (found : Answer) → IsAnswer s found → found ≡ answer.Yes → AreKeepingRulesKept s.net s.labels s.reaches
 rules_kept s answer.Yes each is = record {
   servers = each rule.ServersAreSources;
   clients = each rule.ClientsAreLabelled;

@@ -15,7 +15,7 @@ use Rattle.route_graph.specs.declared.hop.Hop.{Hop}
 use Rattle.route_graph.proofs.Members.{cons-cases, nil-none}
 use Rattle.route_graph.proofs.WalkLaws.{leads-on}
 use Rattle.loss_rules.specs.Labels.{IsLabelledTag, IsReachedTag}
-use Rattle.loss_rules.specs.Rules.{AreRulesKept, GoesOn, KeepsOrRelabels, AllKeepOrRelabel, EachOutputKeeps}
+use Rattle.loss_rules.specs.Rules.{AreKeepingRulesKept, GoesOn, KeepsOrRelabels, AllKeepOrRelabel, EachOutputKeeps}
 use Rattle.loss_rules.specs.Sites.{rule_at, output_in_rule, BuffersAreDistinct, RelabelsTo}
 use Rattle.loss_rules.specs.declared.label.Label.{Label}
 use Rattle.loss_rules.specs.declared.label.Reach.{Reach}
@@ -60,7 +60,7 @@ each-output (Some r) output found e all = All-contains (λ found. Keeps found �
 
 -- ---- the way, under the rules
 
-module _ {A : Type 0} (net : Network A) (labels : List (Label A)) (reaches : List (Reach A)) (distinct : BuffersAreDistinct net) (kept : AreRulesKept net labels reaches) (place : ℕ) (tag : List ℕ) where
+module _ {A : Type 0} (net : Network A) (labels : List (Label A)) (reaches : List (Reach A)) (distinct : BuffersAreDistinct net) (kept : AreKeepingRulesKept net labels reaches) (place : ℕ) (tag : List ℕ) where
   some-first : (scope : ℕ) → IsLabelledTag labels place scope tag → (rule : ℕ) × IsFirstTaker net place scope tag rule
   some-first scope labelled = pattern-taken net reaches place scope tag (label-pattern net labels reaches kept.labels_matched kept.covered place scope tag labelled)
 
@@ -219,10 +219,10 @@ module _ {A : Type 0} (net : Network A) (labels : List (Label A)) (reaches : Lis
       }
 
 -- under the rules each tag of a label has a safe way from the label's scope
-pub labelled_safe : {A : Type 0} (net : Network A) (labels : List (Label A)) (reaches : List (Reach A)) → BuffersAreDistinct net → AreRulesKept net labels reaches → (place scope : ℕ) (tag : List ℕ) → IsLabelledTag labels place scope tag → IsSafeWay net labels reaches place scope tag
+pub labelled_safe : {A : Type 0} (net : Network A) (labels : List (Label A)) (reaches : List (Reach A)) → BuffersAreDistinct net → AreKeepingRulesKept net labels reaches → (place scope : ℕ) (tag : List ℕ) → IsLabelledTag labels place scope tag → IsSafeWay net labels reaches place scope tag
 labelled_safe net labels reaches distinct kept place scope tag labelled = safe-way net labels reaches distinct kept place tag scope labelled
 
 -- where each output of each reached match keeps or is a relabel besides, each leaf of the way keeps
-pub labelled_kept : {A : Type 0} (net : Network A) (labels : List (Label A)) (reaches : List (Reach A)) → BuffersAreDistinct net → AreRulesKept net labels reaches → EachOutputKeeps net reaches
+pub labelled_kept : {A : Type 0} (net : Network A) (labels : List (Label A)) (reaches : List (Reach A)) → BuffersAreDistinct net → AreKeepingRulesKept net labels reaches → EachOutputKeeps net reaches
     → (place scope : ℕ) (tag : List ℕ) → IsLabelledTag labels place scope tag → (buffer : ℕ) → IsLeaf (table_at net place) tag scope buffer → IsSomeAnd (output_at net place buffer) Keeps
 labelled_kept net labels reaches distinct kept each place scope tag labelled buffer leaf = leaf-keeps net labels reaches distinct kept place tag each leaf labelled

@@ -196,7 +196,7 @@ abbrev pub NoRelabelCycle : {A : Type 0} → Network A → List (Reach A) → Ty
 NoRelabelCycle net reaches = EachOutput net (λ place scope rule output found. IsOnNoCycle net reaches place scope rule found)
 
 -- The rules that keep events: all but those on what is distinct, which serve that no two relays, buffers or sinks are taken for one.
-pub record AreRulesKept {A : Type 0} (net : Network A) (labels : List (Label A)) (reaches : List (Reach A)) : Type 0 where
+pub record AreKeepingRulesKept {A : Type 0} (net : Network A) (labels : List (Label A)) (reaches : List (Reach A)) : Type 0 where
   pub servers : ServersAreSources net
   pub clients : ClientsAreLabelled net labels
   pub labels_matched : LabelsAreMatched net labels

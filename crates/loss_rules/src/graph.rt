@@ -11,7 +11,7 @@ use crate::fitting::is_reached;
 use crate::relabel::{Relabel, as_relabel};
 use crate::requirement::earlier;
 use crate::site::{Site, matches_at, scope_count};
-use crate::visit::Visit;
+use crate::visit::ScopeSearch;
 use relay_conf::Output;
 use relay_net::Net;
 use std::alloc::{AllocError, Allocator};
@@ -142,7 +142,7 @@ impl<A: Allocator + Copy> RelabelGraph<A> {
         requires { last < length self.now }
         ensures { IfOk result (λ found. IsTrue found ↔ Chain (Leads self.now) start last) }
     {
-        let mut visit = Visit::begin(*self.scopes.allocator(), self.scopes.len(), start)?;
+        let mut visit = ScopeSearch::begin(*self.scopes.allocator(), self.scopes.len(), start)?;
         while let Some(scope) = visit.next() {
             if !visit.is_marked(scope) {
                 visit.mark(scope);

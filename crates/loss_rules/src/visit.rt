@@ -8,12 +8,12 @@ use std::alloc::{AllocError, Allocator};
 
 /// A search: which scopes were gone through, and those still to come, the next one last.
 #[derive(Drop)]
-pub(crate) struct Visit<A: Allocator> {
+pub(crate) struct ScopeSearch<A: Allocator> {
     marks: Vec<bool, A>,
     ahead: Vec<usize, A>,
 }
 
-impl<A: Allocator> Visit<A> {
+impl<A: Allocator> ScopeSearch<A> {
     /// Takes the next scope off those to come, if there is one.
     pub fn next(&mut self) -> Option<usize>
         ensures marks { self.new.marks.items ≡ self.old.marks.items }
@@ -52,15 +52,15 @@ impl<A: Allocator> Visit<A> {
     }
 }
 
-impl<A: Allocator + Copy> Visit<A> {
+impl<A: Allocator + Copy> ScopeSearch<A> {
     /// The search from this scope, of so many in all.
-    pub fn begin(alloc: A, scopes: usize, start: usize) -> Result<Visit<A>, AllocError>
+    pub fn begin(alloc: A, scopes: usize, start: usize) -> Result<ScopeSearch<A>, AllocError>
         ensures marks { IfOk result (λ visit. visit.marks.items ≡ replicate scopes false) }
         ensures ahead { IfOk result (λ visit. visit.ahead.items ≡ start ∷ []) }
     {
         let mut ahead = Vec::new(alloc);
         ahead.push(start)?;
-        Ok(Visit {
+        Ok(ScopeSearch {
             marks: vec![in alloc; false; scopes]?,
             ahead,
         })

@@ -1,7 +1,7 @@
 //! MessagePack items: vectors from outside, printed text, and that the calls succeed, which no clause says.
 
 use msgpack_bytes::{
-    Head, MsgFault, Scan, Scanner, Taken, head, put_array, put_bin, put_bool, put_map, put_str,
+    Head, MsgFault, PieceScan, Scan, Scanner, head, put_array, put_bin, put_bool, put_map, put_str,
     put_uint, scan,
 };
 use std::test::Fail;
@@ -63,9 +63,9 @@ fn scans(rt: HostRuntime) {
 }
 
 // What a scanner answers to the last of these pieces.
-fn last_of(pieces: &[&[u8]]) -> Taken {
+fn last_of(pieces: &[&[u8]]) -> PieceScan {
     let mut scanner = Scanner::new();
-    let mut last = Taken::Need;
+    let mut last = PieceScan::Need;
     for piece in pieces {
         last = scanner.take(piece);
     }
@@ -73,26 +73,29 @@ fn last_of(pieces: &[&[u8]]) -> Taken {
 }
 
 // Pieces, and what the last is answered by.
-static PIECES: [(&[&[u8]], Taken); 14] = [
-    (&[b""], Taken::Need),
-    (&[b"", b"\xc0\xc0"], Taken::End(1)),
-    (&[b"\xc0", b"\xc0"], Taken::End(0)),
-    (&[b"\xc1"], Taken::Bad(MsgFault::Reserved)),
-    (&[b"\xc1", b"\x90"], Taken::Bad(MsgFault::Reserved)),
-    (&[b"\xdd"], Taken::Need),
-    (&[b"\xdd", b"\xff"], Taken::Bad(MsgFault::TooLong)),
-    (&[b"\xda\x00", b"\x03ab", b"c\xc1"], Taken::End(1)),
-    (&[b"\x92\xa1", b"", b"k\xa3", b"abcd"], Taken::End(3)),
+static PIECES: [(&[&[u8]], PieceScan); 14] = [
+    (&[b""], PieceScan::Need),
+    (&[b"", b"\xc0\xc0"], PieceScan::End(1)),
+    (&[b"\xc0", b"\xc0"], PieceScan::End(0)),
+    (&[b"\xc1"], PieceScan::Bad(MsgFault::Reserved)),
+    (&[b"\xc1", b"\x90"], PieceScan::Bad(MsgFault::Reserved)),
+    (&[b"\xdd"], PieceScan::Need),
+    (&[b"\xdd", b"\xff"], PieceScan::Bad(MsgFault::TooLong)),
+    (&[b"\xda\x00", b"\x03ab", b"c\xc1"], PieceScan::End(1)),
+    (&[b"\x92\xa1", b"", b"k\xa3", b"abcd"], PieceScan::End(3)),
     (
         &[b"\xdc\x00", b"\x01", b"\xc1"],
-        Taken::Bad(MsgFault::Reserved),
+        PieceScan::Bad(MsgFault::Reserved),
     ),
-    (&[b"\xc6\x00\x00", b"\x00", b"\x02a", b"bc"], Taken::End(1)),
-    (&[b"\x92\xc0", b"\xc0", b"\xc1"], Taken::End(0)),
-    (&[b"\xdf\x00\x7f\xff", b"\xfd"], Taken::Need),
+    (
+        &[b"\xc6\x00\x00", b"\x00", b"\x02a", b"bc"],
+        PieceScan::End(1),
+    ),
+    (&[b"\x92\xc0", b"\xc0", b"\xc1"], PieceScan::End(0)),
+    (&[b"\xdf\x00\x7f\xff", b"\xfd"], PieceScan::Need),
     (
         &[b"\xdf\x00\x7f\xff", b"\xfe"],
-        Taken::Bad(MsgFault::TooLong),
+        PieceScan::Bad(MsgFault::TooLong),
     ),
 ];
 
@@ -104,21 +107,21 @@ fn scans_in_pieces(rt: HostRuntime) {
 }
 
 // What a scanner answers to bytes that come one by one: how many times more is asked for, and the answer then.
-fn one_by_one(bytes: &[u8]) -> (usize, Taken) {
+fn one_by_one(bytes: &[u8]) -> (usize, PieceScan) {
     let mut scanner = Scanner::new();
     for (i, byte) in bytes.iter().enumerate() {
         let answer = scanner.take(&[*byte]);
-        if answer != Taken::Need {
+        if answer != PieceScan::Need {
             return (i, answer);
         }
     }
-    (bytes.len(), Taken::Need)
+    (bytes.len(), PieceScan::Need)
 }
 
 #[test]
 fn scans_byte_by_byte(rt: HostRuntime) {
     let message = b"\x93\xa3app\xce\x00\x00\x00\x01\x81\xa1k\xa1v";
-    assert_eq!(rt; one_by_one(message), (14, Taken::End(1)));
+    assert_eq!(rt; one_by_one(message), (14, PieceScan::End(1)));
 }
 
 // So many arrays of one item, one in another, and then these bytes.

@@ -3,10 +3,10 @@ use Rattle.std.proofs.Common.{ℕ, zero, suc, ◌≡◌, ◌≢◌, ◌+◌, ◌
 use Rattle.std.proofs.lemmas.List.{get_or-set_other, get_or_append_left, get_or-append_right}
 use Rattle.msgpack_bytes.specs.declared.format.Shape.{Shape}
 use Rattle.msgpack_bytes.specs.declared.format.Shape.TheVariants.{Fixed, Sized, Holds, Counted, Never}
-use Rattle.msgpack_bytes.specs.declared.format.Step.{Step}
+use Rattle.msgpack_bytes.specs.declared.format.ScanStep.{ScanStep}
 use Rattle.msgpack_bytes.specs.Format.{items_in, shape_of}
 use Rattle.msgpack_bytes.specs.Run.{number}
-use Rattle.msgpack_bytes.specs.declared.format.Step.TheVariants as step
+use Rattle.msgpack_bytes.specs.declared.format.ScanStep.TheVariants as step
 use Rattle.msgpack_bytes.specs.declared.format.Told.{Told}
 use Rattle.msgpack_bytes.specs.declared.format.Told.TheVariants as told
 use Rattle.msgpack_bytes.specs.Steps.{BeginsSame, told_by, told_of, step_by, step_of, step_told}
@@ -37,14 +37,14 @@ step_by_told may_open (Counted container width) left rest = refl
 step_by_told may_open Never left rest = refl
 
 -- the step of bytes, from what their first ones tell
-pub step_as_told : (may_open : Bool) (bytes : List ℕ) (left : ℕ) (known : Told) (answer : Step) → 0 < length bytes → left ≡ length bytes - 1 → known ≡ told_of bytes → answer ≡ step_told may_open known left → answer ≡ step_of may_open bytes
+pub step_as_told : (may_open : Bool) (bytes : List ℕ) (left : ℕ) (known : Told) (answer : ScanStep) → 0 < length bytes → left ≡ length bytes - 1 → known ≡ told_of bytes → answer ≡ step_told may_open known left → answer ≡ step_of may_open bytes
 step_as_told may_open [] left known answer some size k e = absurd (omega arith)
 step_as_told may_open (first ∷ rest) left known answer some size k e =
     let same : left ≡ length rest = omega arith in
     e ∙ ap (λ (t : Told). step_told may_open t left) k ∙ step_by_told may_open (shape_of first) left rest ∙ ap (λ (n : ℕ). step_by may_open (shape_of first) n rest) same
 
 -- the step of bytes of which the first five are known
-pub step_of_front : (may_open : Bool) (front all : List ℕ) (len : ℕ) (known : Told) (answer : Step) → 0 < length front → 0 < len → length all ≡ len → BeginsSame 5 front all
+pub step_of_front : (may_open : Bool) (front all : List ℕ) (len : ℕ) (known : Told) (answer : ScanStep) → 0 < length front → 0 < len → length all ≡ len → BeginsSame 5 front all
     → known ≡ told_of front → answer ≡ step_told may_open known (len - 1) → answer ≡ step_of may_open all
 step_of_front may_open [] all len known answer five some size b k e = absurd (omega arith)
 step_of_front may_open (byte ∷ bytes) [] len known answer five some size b k e = absurd (omega arith)

@@ -8,7 +8,7 @@ use Rattle.msgpack_bytes.specs.declared.answers.Head.TheVariants as head
 use Rattle.msgpack_bytes.specs.declared.answers.Scan.TheVariants as scan
 use Rattle.msgpack_bytes.specs.declared.format.Kind.{Kind}
 use Rattle.msgpack_bytes.specs.declared.format.Container.{Container}
-use Rattle.msgpack_bytes.specs.Item.{IsScalarHeader, IsContainerHeader, Spells, IsTextItem}
+use Rattle.msgpack_bytes.specs.Item.{IsScalarHeader, IsContainerHeader, Spells, IsItemWithin}
 use Rattle.msgpack_bytes.specs.Kinds.{IsBool, IsArrayHeader, IsMapHeader}
 use Rattle.msgpack_bytes.specs.Answers.{IsScanned, IsHead}
 
@@ -102,10 +102,10 @@ one_array m s n t h = (cc, cc)
 
 -- ---- whole items
 
-pub item_ends : (bytes front back : List ℕ) → IsTextItem front → bytes ≡ front ++ back → IsScanned bytes 0 (scan.End (length front))
+pub item_ends : (bytes front back : List ℕ) → IsItemWithin front → bytes ≡ front ++ back → IsScanned bytes 0 (scan.End (length front))
 item_ends bytes front back p e =
     let le = ap length e in
-    (omega arith, omega (arith, length-append front back), subst IsTextItem (sym (ap (λ (b : List ℕ). slice_range b 0 (length front)) e ∙ front_cut front back)) p)
+    (omega arith, omega (arith, length-append front back), subst IsItemWithin (sym (ap (λ (b : List ℕ). slice_range b 0 (length front)) e ∙ front_cut front back)) p)
 
 pub one_end : (m n : ℕ) → scan.End m ≡ scan.End n → m ≡ n
 one_end m n h = cc

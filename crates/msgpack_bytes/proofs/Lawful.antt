@@ -2,7 +2,7 @@
 use Rattle.std.proofs.Common.{ℕ, zero, suc, ◌≡◌, ◌<◌, ◌≤◌, true, false, nat_lt, List, [], ◌∷◌, ◌++◌, length, replicate, refl, ap, sym, ◌∙◌, Ok, Err, arith, inl, inr, append-nil, append_assoc, length-append}
 use Rattle.std.proofs.lemmas.List.{length-replicate}
 use Rattle.msgpack_bytes.specs.Format.{items_in}
-use Rattle.msgpack_bytes.specs.Item.{Row, Item, longest, deepest, IsTextItem, IsOpen}
+use Rattle.msgpack_bytes.specs.Item.{Row, Item, longest, deepest, IsItemWithin, IsOpen}
 use Rattle.msgpack_bytes.specs.Fault.{EndsReserved, EndsTooDeep}
 use Rattle.msgpack_bytes.specs.Laws.{IsPrefixFree, HasOneFront, HasParts, HasTextParts, IsItemDeeper, IsOpenForZeros, IsLongOnly, IsItemRead, IsOpenRead, IsReservedRead, IsDeepRead}
 use Rattle.msgpack_bytes.specs.Run.{Missing, Reserved, Deep, run}
@@ -54,7 +54,7 @@ parts depth n container header inner h i =
     let same : inner ≡ r.front = r.whole ∙ append-nil r.front in
     rw same r.is
 
-row_text : (n : ℕ) (bytes : List ℕ) → length bytes ≤ longest → Row (Item 63) n bytes → Row IsTextItem n bytes
+row_text : (n : ℕ) (bytes : List ℕ) → length bytes ≤ longest → Row (Item 63) n bytes → Row IsItemWithin n bytes
 row_text zero bytes h r = r
 row_text (suc n) bytes h r =
     let l = length-append r.0 r.1 in
@@ -142,7 +142,7 @@ goes_on bytes before not_reserved not_deep =
       | Err Deep ↦ λ e. absurd (not_deep (ends_deep bytes before e))
     ] refl
 
-unlimited : (bytes more : List ℕ) → (IsTextItem bytes → ⊥) → (IsOpen bytes → ⊥) → IsTextItem (bytes ++ more) → ⊥
+unlimited : (bytes more : List ℕ) → (IsItemWithin bytes → ⊥) → (IsOpen bytes → ⊥) → IsItemWithin (bytes ++ more) → ⊥
 unlimited bytes [] unended closed i = unended (let same = append-nil bytes in rw same at i)
 unlimited bytes (byte ∷ more) unended closed i = closed (record { more = byte ∷ more; some = omega arith; ends = i; unended = unended })
 

@@ -1,7 +1,7 @@
 -- Open lists are those in which bytes are missing, within the limit.
 use Rattle.std.proofs.Common.{ℕ, zero, suc, ◌≡◌, ◌+◌, ◌<◌, ◌≤◌, List, [], ◌∷◌, ◌++◌, length, replicate, true, false, nat_lt, refl, ap, sym, ◌∙◌, Ok, Err, arith, length-append, append_assoc, append-nil}
 use Rattle.std.proofs.lemmas.List.{length-replicate}
-use Rattle.msgpack_bytes.specs.Item.{Item, longest, deepest, IsTextItem, IsOpen}
+use Rattle.msgpack_bytes.specs.Item.{Item, longest, deepest, IsItemWithin, IsOpen}
 use Rattle.msgpack_bytes.specs.Run.{Missing, Reserved, Deep, run}
 use Rattle.msgpack_bytes.proofs.Slices.{less, not_less}
 use Rattle.msgpack_bytes.proofs.Runs.{run_steady}
@@ -154,5 +154,5 @@ beyond_closed bytes b o =
     let y = b.least in
     omega arith
 
-pub beyond_unended : (bytes : List ℕ) → Beyond bytes → IsTextItem bytes → ⊥
+pub beyond_unended : (bytes : List ℕ) → Beyond bytes → IsItemWithin bytes → ⊥
 beyond_unended bytes b t = let f = sym b.missing ∙ item_all deepest bytes t.item in cc

@@ -4,7 +4,7 @@ use Rattle.msgpack_bytes.specs.declared.answers.Scan.{Scan}
 use Rattle.msgpack_bytes.specs.declared.answers.Scan.TheVariants.{End, Need, Bad}
 use Rattle.msgpack_bytes.specs.declared.answers.MsgFault.{MsgFault}
 use Rattle.msgpack_bytes.specs.declared.answers.MsgFault.TheVariants as fault
-use Rattle.msgpack_bytes.specs.Item.{deepest, IsTextItem, IsOpen}
+use Rattle.msgpack_bytes.specs.Item.{deepest, IsItemWithin, IsOpen}
 use Rattle.msgpack_bytes.specs.Fault.{Awaits, EndsReserved, EndsTooDeep, EndsIn, IsFaulty}
 use Rattle.msgpack_bytes.specs.Answers.{IsScanned}
 use Rattle.msgpack_bytes.specs.Run.{Stop, Reserved, Deep, run}
@@ -45,7 +45,7 @@ deep_last front last w e =
       | inr s ↦ record { front = t.front; byte = t.byte; begins = begins; container = t.is.1; whole = s }
     ]
 
-stopped_unended : (bytes : List ℕ) (stop : Stop) → run deepest bytes ≡ Err stop → IsTextItem bytes → ⊥
+stopped_unended : (bytes : List ℕ) (stop : Stop) → run deepest bytes ≡ Err stop → IsItemWithin bytes → ⊥
 stopped_unended bytes stop e t = let f = sym e ∙ item_all deepest bytes t.item in cc
 
 -- the faults, where a list that is open goes on by one byte
@@ -95,7 +95,7 @@ compare_fronts (p ∷ a) (q ∷ b) x y e =
     ]
 
 -- two items in front of one list are the same
-pub one_end : (a b x y : List ℕ) → IsTextItem a → IsTextItem b → a ++ x ≡ b ++ y → x ≡ y
+pub one_end : (a b x y : List ℕ) → IsItemWithin a → IsItemWithin b → a ++ x ≡ b ++ y → x ≡ y
 one_end a b x y i j e =
     let f = item_read deepest a x i.item in
     let g = item_read deepest b y j.item in
@@ -103,13 +103,13 @@ one_end a b x y i j e =
     let k = sym h ∙ g in
     cc
 
-item_shortest : (fault : MsgFault) (bytes item back : List ℕ) → (f : IsFaulty fault bytes) → IsTextItem item → item ≡ f.shortest ++ back → ⊥
+item_shortest : (fault : MsgFault) (bytes item back : List ℕ) → (f : IsFaulty fault bytes) → IsItemWithin item → item ≡ f.shortest ++ back → ⊥
 item_shortest fault bytes item [] f i e = f.unended (let same : item ≡ f.shortest = e ∙ append-nil f.shortest in rw same at i)
 item_shortest fault bytes item (byte ∷ back) f i e =
     f.closed (record { more = byte ∷ back; some = omega arith; ends = rw e at i; unended = f.unended })
 
 -- what begins with a text item has no fault
-item_faultless : (fault : MsgFault) (item rest bytes : List ℕ) → IsTextItem item → bytes ≡ item ++ rest → IsFaulty fault bytes → ⊥
+item_faultless : (fault : MsgFault) (item rest bytes : List ℕ) → IsItemWithin item → bytes ≡ item ++ rest → IsFaulty fault bytes → ⊥
 item_faultless fault item rest bytes i e f =
     elim (compare_fronts f.shortest item f.rest rest (sym f.whole ∙ e)) [
       | inl t ↦ item_shortest fault bytes item t.0 f i t.1
@@ -145,7 +145,7 @@ one_fault f g bytes a b =
       | inr t ↦ absurd (b.closed (a.before b.shortest t.1 t.0 t.2))
     ]
 
-item_closed : (item rest bytes : List ℕ) → IsTextItem item → bytes ≡ item ++ rest → IsOpen bytes → ⊥
+item_closed : (item rest bytes : List ℕ) → IsItemWithin item → bytes ≡ item ++ rest → IsOpen bytes → ⊥
 item_closed item rest bytes i e o =
     let here : IsOpen (item ++ rest) = rw e at o in
     let w = open_missing (item ++ rest) here in

@@ -17,7 +17,7 @@ use Rattle.msgpack_bytes.specs.Kinds.{IsNil, IsBool, IsInteger, IsExt}
 use Rattle.msgpack_bytes.specs.Kinds.{Positive, Negative, Unsigned, Signed}
 use Rattle.msgpack_bytes.specs.Answers.{Begins, IsSomeHeader, IsHead}
 use Rattle.msgpack_bytes.specs.Run.{number}
-use Rattle.msgpack_bytes.specs.Reads.{IsFit, IsFixedFit, IsSizedFit, scalar_head, container_head, some_scalar, some_container, head_by, head_at}
+use Rattle.msgpack_bytes.specs.Reads.{IsFitShape, IsFixedFit, IsSizedFit, scalar_head, container_head, some_scalar, some_container, head_by, head_at}
 use Rattle.msgpack_bytes.proofs.Slices.{less_true, not_less, slice_length, slice_then, slice_first, slice_cons}
 use Rattle.msgpack_bytes.proofs.Reading.{Found, found, found_container, number_take}
 
@@ -244,7 +244,7 @@ module _ (bytes : List ℕ) (at first : ℕ) (lt : at < length bytes) (e : drop 
   unfolding head_at
   computed = rw e refl
 
-  by_shape : (s : Shape) → shape_of first ≡ s → IsFit first s → Right s
+  by_shape : (s : Shape) → shape_of first ≡ s → IsFitShape first s → Right s
   by_shape (Fixed k size) q fit =
       elim (nat_lt (length rest) size) as (λ b. nat_lt (length rest) size ≡ b → IsHead bytes at (some_scalar k first bytes (cond b None (Some (record { start = at + 1; end = at + 1 + size }))))) [
         | true ↦ λ t. none_right bytes at (computed ∙ rw (q, t) refl)
@@ -267,11 +267,11 @@ module _ (bytes : List ℕ) (at first : ℕ) (lt : at < length bytes) (e : drop 
   by_shape Never q fit = none_right bytes at (computed ∙ rw q refl)
 
   -- what is computed is right
-  pub computed_right : IsFit first (shape_of first) → IsHead bytes at (head_by (shape_of first) first bytes (at + 1) rest)
+  pub computed_right : IsFitShape first (shape_of first) → IsHead bytes at (head_by (shape_of first) first bytes (at + 1) rest)
   computed_right fit = by_shape (shape_of first) refl fit
 
   -- and nothing else is
-  pub computed_only : IsFit first (shape_of first) → (other : Option Head) → IsHead bytes at other → other ≡ head_by (shape_of first) first bytes (at + 1) rest
+  pub computed_only : IsFitShape first (shape_of first) → (other : Option Head) → IsHead bytes at other → other ≡ head_by (shape_of first) first bytes (at + 1) rest
   computed_only fit (Some h) r = only_some bytes at h r ∙ computed
   computed_only fit None r =
       elim (head_by (shape_of first) first bytes (at + 1) rest) as (λ found. head_by (shape_of first) first bytes (at + 1) rest ≡ found → None ≡ found) [

@@ -2,21 +2,21 @@
 use Rattle.std.proofs.Common.{ℕ, zero, suc, ◌≡◌, ◌+◌, ◌-◌, ◌<◌, ◌≤◌, true, false, nat_lt, nat_le, List, [], ◌++◌, length, take, drop, slice_range, slice_index, slice_set, replicate, refl, ap, sym, subst, ◌∙◌, arith, append_assoc, length-append, length-drop, Option, Some, None, ◌↔◌}
 use Rattle.std.proofs.lemmas.List.{drop-drop, drop_at, take-append-le, take-append-drop, drop-append-le}
 use Rattle.msgpack_bytes.specs.declared.answers.Scan.TheVariants as scan
-use Rattle.msgpack_bytes.specs.declared.answers.Taken.{Taken}
-use Rattle.msgpack_bytes.specs.declared.answers.Taken.TheVariants as taken
+use Rattle.msgpack_bytes.specs.declared.answers.PieceScan.{PieceScan}
+use Rattle.msgpack_bytes.specs.declared.answers.PieceScan.TheVariants as taken
 use Rattle.msgpack_bytes.specs.declared.answers.MsgFault.{MsgFault}
 use Rattle.msgpack_bytes.specs.declared.answers.MsgFault.TheVariants as fault
-use Rattle.msgpack_bytes.specs.declared.format.Step.{Step}
-use Rattle.msgpack_bytes.specs.declared.format.Step.TheVariants as step
+use Rattle.msgpack_bytes.specs.declared.format.ScanStep.{ScanStep}
+use Rattle.msgpack_bytes.specs.declared.format.ScanStep.TheVariants as step
 use Rattle.msgpack_bytes.specs.declared.scanner.Place.{Place}
 use Rattle.msgpack_bytes.specs.declared.scanner.Went.{Went}
 use Rattle.msgpack_bytes.specs.declared.scanner.Went.TheVariants.{Ended, Bad, Cut}
-use Rattle.msgpack_bytes.specs.Item.{longest, IsTextItem, IsOpen}
+use Rattle.msgpack_bytes.specs.Item.{longest, IsItemWithin, IsOpen}
 use Rattle.msgpack_bytes.specs.Fault.{IsFaulty}
 use Rattle.msgpack_bytes.specs.Answers.{IsScanned}
 use Rattle.msgpack_bytes.specs.Run.{front_of}
 use Rattle.msgpack_bytes.specs.Steps.{BeginsSame, IsNext, step_of}
-use Rattle.msgpack_bytes.specs.Pieces.{Reads, counted_from, IsTaken, Scanning, State, IsCutShort, IsBegun, IsAfter, IsAfterBy}
+use Rattle.msgpack_bytes.specs.Pieces.{Reads, counted_from, IsTaken, Scanning, State, LacksBytes, IsBegun, IsAfter, IsAfterBy}
 use Rattle.msgpack_bytes.specs.Going.{Stands, Goes}
 use Rattle.msgpack_bytes.proofs.Slices.{less, not_less}
 use Rattle.msgpack_bytes.proofs.Opened.{missing_some, open_missing}
@@ -39,7 +39,7 @@ drop_on seen piece done at e =
     ap (λ (n : ℕ). drop n (seen ++ piece)) e ∙ sym (drop-drop at (length seen) (seen ++ piece)) ∙ ap (drop at) (drop_at seen piece (length seen) refl)
 
 -- what is a part of an item without more bytes is whole only behind its end
-whole_later : (part more : List ℕ) (size : ℕ) → IsCutShort part → IsWhole size (part ++ more) → length part < size
+whole_later : (part more : List ℕ) (size : ℕ) → LacksBytes part → IsWhole size (part ++ more) → length part < size
 whole_later part more size p w =
     elim (nat_lt (length part) size) as (λ b. nat_lt (length part) size ≡ b → length part < size) [
       | true ↦ λ e. less (length part) size e
@@ -49,7 +49,7 @@ whole_later part more size p w =
           absurd (let f = sym p.1 ∙ sym (ap front_of same) ∙ all in cc))
     ] refl
 
-opening_later : (part more : List ℕ) (size items : ℕ) → IsCutShort part → IsOpening size items (part ++ more) → length part < size
+opening_later : (part more : List ℕ) (size items : ℕ) → LacksBytes part → IsOpening size items (part ++ more) → length part < size
 opening_later part more size items p w =
     elim (nat_lt (length part) size) as (λ b. nat_lt (length part) size ≡ b → length part < size) [
       | true ↦ λ e. less (length part) size e
@@ -127,7 +127,7 @@ module _ (seen piece front missing : List ℕ) (levels room came at : ℕ) (s : 
 
   module _ (some : 0 < levels) (top : 0 < slice_index missing (levels - 1)) where
     -- what `next_step` says
-    abbrev Told : Step → Type 0
+    abbrev Told : ScanStep → Type 0
     Told turn = (all : List ℕ) → IsNext front came piece at all → turn ≡ step_of (nat_le levels 64) all
 
     abbrev left : List ℕ
@@ -201,7 +201,7 @@ begun_stands s seen piece front b fill =
       cut = λ some. record { first = refl; begins = rw (drop-append-le b.done seen piece (omega arith)) filled; part = b.part some };
     }
 
-abbrev pub scanning : List ℕ → Place → List ℕ → Option Taken → Scanning
+abbrev pub scanning : List ℕ → Place → List ℕ → Option PieceScan → Scanning
 scanning missing place front over = record { missing = missing; place = place; front = front; over = over }
 
 -- nothing was seen yet
@@ -221,11 +221,11 @@ zeros_begin (suc (suc (suc (suc (suc k))))) h = absurd (omega arith)
 -- ---- what a piece is answered
 
 -- the only answer that is right
-one_taken : (seen piece : List ℕ) (a b : Taken) → IsTaken seen piece a → IsTaken seen piece b → a ≡ b
+one_taken : (seen piece : List ℕ) (a b : PieceScan) → IsTaken seen piece a → IsTaken seen piece b → a ≡ b
 one_taken seen piece a b p q = p.2 ∙ ap (counted_from (length seen)) (one_answer (seen ++ piece) 0 p.0 q.0 p.1 q.1) ∙ sym q.2
 
 -- for whatever bytes were seen before, the answer is right, and the scanner has then seen the piece too
-abbrev pub Tells : Scanning → Scanning → List ℕ → Taken → Type 0
+abbrev pub Tells : Scanning → Scanning → List ℕ → PieceScan → Type 0
 Tells old new piece answer = (seen : List ℕ) → IsAfter old seen → IsTaken seen piece answer × IsAfter new (seen ++ piece)
 
 need_taken : (seen piece : List ℕ) → IsTaken seen piece taken.Need → IsOpen (seen ++ piece)
@@ -233,14 +233,14 @@ need_taken seen piece (scan.End end, s, e) = absurd (cc)
 need_taken seen piece (scan.Need, s, e) = s
 need_taken seen piece (scan.Bad fault, s, e) = absurd (cc)
 
-module _ (view old new : Scanning) (piece : List ℕ) (answer : Taken) (same : view ≡ old) (t : Tells view new piece answer) where
+module _ (view old new : Scanning) (piece : List ℕ) (answer : PieceScan) (same : view ≡ old) (t : Tells view new piece answer) where
   abbrev told_of : (seen : List ℕ) → IsAfter old seen → IsTaken seen piece answer × IsAfter new (seen ++ piece)
   told_of seen a = t seen (subst (λ (s : Scanning). IsAfter s seen) (sym same) a)
 
   right_of : (seen : List ℕ) → IsAfter old seen → IsTaken seen piece answer
   right_of seen a = (told_of seen a).0
 
-  only_of : (seen : List ℕ) → IsAfter old seen → (other : Taken) → IsTaken seen piece other → other ≡ answer
+  only_of : (seen : List ℕ) → IsAfter old seen → (other : PieceScan) → IsTaken seen piece other → other ≡ answer
   only_of seen a other o = one_taken seen piece other answer o (right_of seen a)
 
   after_of : (seen : List ℕ) → IsAfter old seen → IsAfter new (seen ++ piece)
@@ -256,7 +256,7 @@ module _ (view old new : Scanning) (piece : List ℕ) (answer : Taken) (same : v
   abbrev pub Clauses : Type 0
   Clauses = record {
     right : (seen : List ℕ) → IsAfter old seen → IsTaken seen piece answer;
-    only : (seen : List ℕ) → IsAfter old seen → (other : Taken) → IsTaken seen piece other → other ≡ answer;
+    only : (seen : List ℕ) → IsAfter old seen → (other : PieceScan) → IsTaken seen piece other → other ≡ answer;
     after : (seen : List ℕ) → IsAfter old seen → IsAfter new (seen ++ piece);
     need : (seen : List ℕ) → IsAfter old seen → (answer ≡ taken.Need) ↔ IsOpen (seen ++ piece);
   }
@@ -274,7 +274,7 @@ scanned_more : (bytes more : List ℕ) (end : ℕ) → IsScanned bytes 0 (scan.E
 scanned_more bytes more end s =
     let within = s.1 in
     let all = length-append bytes more in
-    (s.0, omega arith, subst IsTextItem (sym (take-append-le (end - 0) bytes more (omega arith))) s.2)
+    (s.0, omega arith, subst IsItemWithin (sym (take-append-le (end - 0) bytes more (omega arith))) s.2)
 
 faulty_more : (fault : MsgFault) (bytes more : List ℕ) → IsFaulty fault bytes → IsFaulty fault (bytes ++ more)
 faulty_more fault bytes more f = record {
@@ -287,7 +287,7 @@ faulty_more fault bytes more f = record {
   ends = f.ends;
 }
 
-over_tells : (s : Scanning) (piece : List ℕ) (answer : Taken) (seen : List ℕ) → IsAfterBy (Some answer) s seen → IsTaken seen piece answer × IsAfterBy (Some answer) s (seen ++ piece)
+over_tells : (s : Scanning) (piece : List ℕ) (answer : PieceScan) (seen : List ℕ) → IsAfterBy (Some answer) s seen → IsTaken seen piece answer × IsAfterBy (Some answer) s (seen ++ piece)
 over_tells s piece (taken.End n) seen a =
     let within = a.1.1.1 in
     let more = scanned_more seen piece a.1.0 a.1.1 in
@@ -296,14 +296,14 @@ over_tells s piece (taken.End n) seen a =
 over_tells s piece taken.Need seen a = absurd a
 over_tells s piece (taken.Bad fault) seen a = let more = faulty_more fault seen piece a in ((scan.Bad fault, more, refl), more)
 
-tells_over : (s : Scanning) (piece : List ℕ) (answer : Taken) → s.over ≡ Some answer → Tells s s piece answer
+tells_over : (s : Scanning) (piece : List ℕ) (answer : PieceScan) → s.over ≡ Some answer → Tells s s piece answer
 unfolding IsAfter
 tells_over s piece answer e = λ seen a. (
-    let t = over_tells s piece answer seen (subst (λ (o : Option Taken). IsAfterBy o s seen) e a) in
-    (t.0, subst (λ (o : Option Taken). IsAfterBy o s (seen ++ piece)) (sym e) t.1)
+    let t = over_tells s piece answer seen (subst (λ (o : Option PieceScan). IsAfterBy o s seen) e a) in
+    (t.0, subst (λ (o : Option PieceScan). IsAfterBy o s (seen ++ piece)) (sym e) t.1)
     )
 
-pub tells_kept : (view old : Scanning) (piece : List ℕ) (answer : Taken) → view ≡ old → view.over ≡ Some answer → Tells view old piece answer
+pub tells_kept : (view old : Scanning) (piece : List ℕ) (answer : PieceScan) → view ≡ old → view.over ≡ Some answer → Tells view old piece answer
 tells_kept view old piece answer same e = λ seen a. (let t = tells_over view piece answer e seen a in (t.0, subst (λ (s : Scanning). IsAfter s (seen ++ piece)) same t.1))
 
 -- ---- and before
@@ -319,7 +319,7 @@ goes_from s piece front missing went fill goes = λ seen b. goes seen (begun_sta
 
 pub begun_of : (s : Scanning) (seen : List ℕ) → s.over ≡ None → IsAfter s seen → IsBegun s seen
 unfolding IsAfter
-begun_of s seen e a = subst (λ (o : Option Taken). IsAfterBy o s seen) e a
+begun_of s seen e a = subst (λ (o : Option PieceScan). IsAfterBy o s seen) e a
 
 pub stands_some : (s : Scanning) (piece front : List ℕ) → s.over ≡ None → (seen : List ℕ) × IsAfter s seen → ((part : List ℕ) → length part ≡ s.place.came → BeginsSame 5 s.front part → BeginsSame 5 front (part ++ piece))
     → (seen : List ℕ) × Stands seen piece front s.missing s.place 0
@@ -329,14 +329,14 @@ pub tells_ended : (s new : Scanning) (piece front missing : List ℕ) (n : ℕ) 
 unfolding IsAfter
 tells_ended s new piece front missing n none over goes = λ seen a. (
     let g = goes seen (begun_of s seen none a) in
-    ((scan.End g.0, g.1, ap taken.End g.2), subst (λ (o : Option Taken). IsAfterBy o new (seen ++ piece)) (sym over) (refl, (g.0, g.1)))
+    ((scan.End g.0, g.1, ap taken.End g.2), subst (λ (o : Option PieceScan). IsAfterBy o new (seen ++ piece)) (sym over) (refl, (g.0, g.1)))
     )
 
 pub tells_bad : (s new : Scanning) (piece front missing : List ℕ) (fault : MsgFault) → s.over ≡ None → new.over ≡ Some (taken.Bad fault) → GoesFrom s piece front missing (Bad fault) → Tells s new piece (taken.Bad fault)
 unfolding IsAfter
 tells_bad s new piece front missing fault none over goes = λ seen a. (
     let g = goes seen (begun_of s seen none a) in
-    ((scan.Bad fault, g, refl), subst (λ (o : Option Taken). IsAfterBy o new (seen ++ piece)) (sym over) g)
+    ((scan.Bad fault, g, refl), subst (λ (o : Option PieceScan). IsAfterBy o new (seen ++ piece)) (sym over) g)
     )
 
 -- a scan that is cut stays within the piece, and within the limit
@@ -375,5 +375,5 @@ module _ (s new : Scanning) (piece front missing rest : List ℕ) (place : Place
   tells_cut none still = λ seen a. (
       let b = begun_of s seen none a in
       let g = goes seen b in
-      ((scan.Need, g.2, refl), subst (λ (o : Option Taken). IsAfterBy o new (seen ++ piece)) (sym still) (cut_begun seen b))
+      ((scan.Need, g.2, refl), subst (λ (o : Option PieceScan). IsAfterBy o new (seen ++ piece)) (sym still) (cut_begun seen b))
       )

@@ -3,7 +3,7 @@ use Rattle.std.proofs.Common.{ℕ, suc, ◌≡◌, ◌+◌, ◌-◌, ◌<◌, �
 use Rattle.msgpack_bytes.specs.declared.answers.Scan.{Scan}
 use Rattle.msgpack_bytes.specs.declared.answers.Scan.TheVariants.{End, Need, Bad}
 use Rattle.msgpack_bytes.specs.declared.answers.MsgFault.TheVariants as fault
-use Rattle.msgpack_bytes.specs.declared.format.Step.TheVariants as step
+use Rattle.msgpack_bytes.specs.declared.format.ScanStep.TheVariants as step
 use Rattle.msgpack_bytes.specs.Item.{longest}
 use Rattle.msgpack_bytes.specs.Answers.{IsScanned}
 use Rattle.msgpack_bytes.proofs.Slices.{slice_rest, slice_on, slice_length, at_most, not_at_most}

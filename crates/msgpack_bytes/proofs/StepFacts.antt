@@ -3,8 +3,8 @@ use Rattle.std.proofs.Common.{ℕ, zero, suc, ◌≡◌, ◌+◌, ◌-◌, ◌<�
 use Rattle.std.proofs.lemmas.List.{take_at}
 use Rattle.msgpack_bytes.specs.declared.format.Shape.{Shape}
 use Rattle.msgpack_bytes.specs.declared.format.Shape.TheVariants.{Fixed, Sized, Holds, Counted, Never}
-use Rattle.msgpack_bytes.specs.declared.format.Step.{Step}
-use Rattle.msgpack_bytes.specs.declared.format.Step.TheVariants as step
+use Rattle.msgpack_bytes.specs.declared.format.ScanStep.{ScanStep}
+use Rattle.msgpack_bytes.specs.declared.format.ScanStep.TheVariants as step
 use Rattle.msgpack_bytes.specs.Format.{items_in, shape_of}
 use Rattle.msgpack_bytes.specs.Fault.{IsOfContainer}
 use Rattle.msgpack_bytes.specs.Run.{Whole, Opens, Lacks, Missing, front_of, behind_first, content, counted, number, none, behind, flat, run}
@@ -43,7 +43,7 @@ pub record BeginsWrong (bytes : List ℕ) : Type 0 where
   pub whole : bytes ≡ first ∷ rest
   pub never : shape_of first ≡ Never
 
-abbrev pub Says : Bool → Step → List ℕ → Type 0
+abbrev pub Says : Bool → ScanStep → List ℕ → Type 0
 Says may_open (step.Whole size) bytes = IsWhole size bytes
 Says may_open (step.Opens items size) bytes = IsOpening size items bytes × (may_open ≡ true)
 Says may_open (step.Lacks size) bytes = IsLacking may_open size bytes
@@ -137,5 +137,5 @@ unfolding run
 run_lacks depth n bytes e = rw e refl
 
 -- the same of the step that was computed
-pub told : (may_open : Bool) (bytes : List ℕ) (s : Step) → s ≡ step_of may_open bytes → Says may_open s bytes
+pub told : (may_open : Bool) (bytes : List ℕ) (s : ScanStep) → s ≡ step_of may_open bytes → Says may_open s bytes
 told may_open bytes s e = rw e (step_says may_open bytes)

@@ -2,7 +2,7 @@
 use Rattle.std.proofs.Common.{ℕ, zero, suc, ◌≡◌, ◌+◌, ◌-◌, ◌<◌, ◌≤◌, Bool, true, false, List, [], ◌∷◌, ◌++◌, length, take, drop, slice_index, slice_set, refl, ap, sym, ◌∙◌, Ok, Err, arith, append_assoc, append-nil, length-append}
 use Rattle.std.proofs.lemmas.List.{length-take-le, take-append-drop}
 use Rattle.msgpack_bytes.specs.declared.answers.MsgFault.TheVariants as fault
-use Rattle.msgpack_bytes.specs.Item.{longest, deepest, IsTextItem}
+use Rattle.msgpack_bytes.specs.Item.{longest, deepest, IsItemWithin}
 use Rattle.msgpack_bytes.specs.Fault.{IsFaulty}
 use Rattle.msgpack_bytes.specs.Run.{Missing, Reserved, Deep, then_, many, run}
 use Rattle.msgpack_bytes.proofs.Items.{all_item, run_container}
@@ -35,7 +35,7 @@ overlong front more missing depth levels (suc n) w reads e some long =
     shortest_beyond front more w (record { n = owed missing levels; missing = owing (front ++ more) missing depth levels n reads e; least = omega arith })
 
 -- where nothing is owed any more, an item has ended
-pub ended : (front missing : List ℕ) (depth levels : ℕ) → Reads front missing depth levels → owed missing levels ≡ 0 → length front ≤ longest → IsTextItem front
+pub ended : (front missing : List ℕ) (depth levels : ℕ) → Reads front missing depth levels → owed missing levels ≡ 0 → length front ≤ longest → IsItemWithin front
 ended front missing depth levels reads e short = record { item = all_item deepest front (none_owing front missing depth levels reads e); short = short }
 
 module _ (front rest missing : List ℕ) (depth levels room k : ℕ) (reads : Reads front missing depth levels) (size : length missing ≡ 65) (innermost : levels ≡ suc k) (level : depth + levels ≡ 65)

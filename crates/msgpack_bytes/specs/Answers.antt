@@ -5,13 +5,13 @@ use Rattle.msgpack_bytes.specs.declared.answers.Scan.TheVariants.{End, Need, Bad
 use Rattle.msgpack_bytes.specs.declared.answers.Head.{Head}
 use Rattle.msgpack_bytes.specs.declared.answers.Head.TheVariants as head
 use Rattle.msgpack_bytes.specs.declared.format.Container.{Container}
-use Rattle.msgpack_bytes.specs.Item.{IsScalar, IsContainerHeader, IsTextItem, IsOpen}
+use Rattle.msgpack_bytes.specs.Item.{IsScalar, IsContainerHeader, IsItemWithin, IsOpen}
 use Rattle.msgpack_bytes.specs.Kinds.{IsNil, IsBool, IsInteger, IsFloat, IsStr, IsBin, IsExt, IsArrayHeader, IsMapHeader}
 use Rattle.msgpack_bytes.specs.Fault.{IsFaulty}
 
 -- where the item at `at` ends
 abbrev pub IsScanned : List ℕ → ℕ → Scan → Type 0
-IsScanned bytes at (End end) = (at ≤ end) × (end ≤ length bytes) × IsTextItem (slice_range bytes at end)
+IsScanned bytes at (End end) = (at ≤ end) × (end ≤ length bytes) × IsItemWithin (slice_range bytes at end)
 IsScanned bytes at Need = IsOpen (drop at bytes)
 IsScanned bytes at (Bad fault) = IsFaulty fault (drop at bytes)
 

@@ -6,7 +6,7 @@ use Rattle.msgpack_bytes.specs.declared.format.Container.{Container}
 use Rattle.msgpack_bytes.specs.declared.format.Shape.{Shape}
 use Rattle.msgpack_bytes.specs.declared.format.Shape.TheVariants.{Fixed, Sized, Holds, Counted, Never}
 use Rattle.msgpack_bytes.specs.Format.{items_in, shape_of}
-use Rattle.msgpack_bytes.specs.Item.{IsContainerHeader, Row, Item, deepest, IsTextItem, IsOpen}
+use Rattle.msgpack_bytes.specs.Item.{IsContainerHeader, Row, Item, deepest, IsItemWithin, IsOpen}
 
 -- the bytes of a container so far: its header, fewer whole items than it has, and a part of the next
 pub record IsWithin (part rest : List ℕ → Type 0) (bytes : List ℕ) : Type 0 where
@@ -62,7 +62,7 @@ pub record IsFaulty (fault : MsgFault) (bytes : List ℕ) : Type 0 where
   pub shortest : List ℕ
   pub rest : List ℕ
   pub whole : bytes ≡ shortest ++ rest
-  pub unended : IsTextItem shortest → ⊥
+  pub unended : IsItemWithin shortest → ⊥
   pub closed : IsOpen shortest → ⊥
   pub before : (front more : List ℕ) (byte : ℕ) → shortest ≡ front ++ byte ∷ more → IsOpen front
   pub ends : EndsIn fault shortest

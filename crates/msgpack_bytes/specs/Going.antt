@@ -7,13 +7,13 @@ use Rattle.msgpack_bytes.specs.declared.scanner.Went.TheVariants.{Ended, Bad, Cu
 use Rattle.msgpack_bytes.specs.Item.{longest}
 use Rattle.msgpack_bytes.specs.Answers.{IsScanned}
 use Rattle.msgpack_bytes.specs.Steps.{BeginsSame}
-use Rattle.msgpack_bytes.specs.Pieces.{State, IsCutShort}
+use Rattle.msgpack_bytes.specs.Pieces.{State, LacksBytes}
 
 -- the item that was cut goes on in this piece
 pub record IsCut (seen piece front : List ℕ) (done at : ℕ) : Type 0 where
   pub first : at ≡ 0
   pub begins : BeginsSame 5 front (drop done (seen ++ piece))
-  pub part : IsCutShort (drop done seen)
+  pub part : LacksBytes (drop done seen)
 
 -- a scan stands at this byte of the piece, and where an item was cut, at the first
 pub record Stands (seen piece front missing : List ℕ) (place : Place) (at : ℕ) : Type 0 where
@@ -29,4 +29,4 @@ abbrev pub Goes : List ℕ → List ℕ → List ℕ → List ℕ → Went → T
 Goes seen piece front missing (Ended n) = (end : ℕ) × IsScanned (seen ++ piece) 0 (scan.End end) × (n ≡ end - length seen)
 Goes seen piece front missing (Bad fault) = IsScanned (seen ++ piece) 0 (scan.Bad fault)
 Goes seen piece front missing (Cut place at) =
-    (stands : Stands seen piece front missing place at) × IsCutShort (drop stands.done (seen ++ piece)) × IsScanned (seen ++ piece) 0 scan.Need
+    (stands : Stands seen piece front missing place at) × LacksBytes (drop stands.done (seen ++ piece)) × IsScanned (seen ++ piece) 0 scan.Need

@@ -74,7 +74,7 @@ abbrev pub deepest : ℕ
 deepest = 64
 
 -- an item within both limits
-pub record IsTextItem (bytes : List ℕ) : Type 0 where
+pub record IsItemWithin (bytes : List ℕ) : Type 0 where
   pub item : Item deepest bytes
   pub short : length bytes ≤ longest
 
@@ -82,5 +82,5 @@ pub record IsTextItem (bytes : List ℕ) : Type 0 where
 pub record IsOpen (bytes : List ℕ) : Type 0 where
   pub more : List ℕ
   pub some : 0 < length more
-  pub ends : IsTextItem (bytes ++ more)
-  pub unended : IsTextItem bytes → ⊥
+  pub ends : IsItemWithin (bytes ++ more)
+  pub unended : IsItemWithin bytes → ⊥

@@ -3,17 +3,17 @@ use Rattle.std.specs.Prelude.{ℕ, suc, ◌≡◌, ◌+◌, ◌<◌, ◌≤◌, 
 use Rattle.msgpack_bytes.specs.declared.answers.MsgFault.TheVariants.{TooLong}
 use Rattle.msgpack_bytes.specs.declared.format.Container.{Container}
 use Rattle.msgpack_bytes.specs.Format.{items_in}
-use Rattle.msgpack_bytes.specs.Item.{IsContainerHeader, Row, Item, longest, deepest, IsTextItem, IsOpen}
+use Rattle.msgpack_bytes.specs.Item.{IsContainerHeader, Row, Item, longest, deepest, IsItemWithin, IsOpen}
 use Rattle.msgpack_bytes.specs.Fault.{EndsReserved, EndsTooDeep, IsFaulty}
 use Rattle.msgpack_bytes.specs.Run.{Missing, Reserved, Deep, run}
 
 -- no text item is a proper beginning of another
 abbrev pub IsPrefixFree : Type 0
-IsPrefixFree = (item more : List ℕ) → IsTextItem item → IsTextItem (item ++ more) → more ≡ []
+IsPrefixFree = (item more : List ℕ) → IsItemWithin item → IsItemWithin (item ++ more) → more ≡ []
 
 -- so bytes begin with one text item at most
 abbrev pub HasOneFront : Type 0
-HasOneFront = (a b x y : List ℕ) → IsTextItem a → IsTextItem b → a ++ x ≡ b ++ y → (a ≡ b) × (x ≡ y)
+HasOneFront = (a b x y : List ℕ) → IsItemWithin a → IsItemWithin b → a ++ x ≡ b ++ y → (a ≡ b) × (x ≡ y)
 
 -- the parts of a container nest one less deep
 abbrev pub HasParts : Type 0
@@ -23,7 +23,7 @@ HasParts =
 -- the parts of a text item are text items
 abbrev pub HasTextParts : Type 0
 HasTextParts =
-    (n : ℕ) (container : Container) (header inner : List ℕ) → IsContainerHeader container n header → IsTextItem (header ++ inner) → Row IsTextItem (items_in container n) inner
+    (n : ℕ) (container : Container) (header inner : List ℕ) → IsContainerHeader container n header → IsItemWithin (header ++ inner) → Row IsItemWithin (items_in container n) inner
 
 -- an item may nest less deep than it might
 abbrev pub IsItemDeeper : Type 0
@@ -31,7 +31,7 @@ IsItemDeeper = (depth : ℕ) (bytes : List ℕ) → Item depth bytes → Item (s
 
 -- open bytes become a text item by so many zeros, and by nothing shorter
 abbrev pub IsOpenForZeros : Type 0
-IsOpenForZeros = (bytes : List ℕ) → IsOpen bytes → (n : ℕ) × IsTextItem (bytes ++ replicate n 0) × ((more : List ℕ) → IsTextItem (bytes ++ more) → n ≤ length more)
+IsOpenForZeros = (bytes : List ℕ) → IsOpen bytes → (n : ℕ) × IsItemWithin (bytes ++ replicate n 0) × ((more : List ℕ) → IsItemWithin (bytes ++ more) → n ≤ length more)
 
 -- where the length is at fault, an item begins so, and each one that does is too long
 abbrev pub IsLongOnly : Type 0

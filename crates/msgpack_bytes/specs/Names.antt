@@ -9,8 +9,8 @@ abbrev pub IsNamed : List ℕ → Pair → Type 0
 IsNamed name pair = IsText pair.key name
 
 -- no key is this name
-abbrev pub Lacks : List ℕ → List Pair → Type 0
-Lacks name pairs = AllByRecursion (λ pair. IsNamed name pair → ⊥) pairs
+abbrev pub HasNoKey : List ℕ → List Pair → Type 0
+HasNoKey name pairs = AllByRecursion (λ pair. IsNamed name pair → ⊥) pairs
 
 -- the value of the last key of this name
 pub record IsLastValue (name : List ℕ) (pairs : List Pair) (value : List ℕ) : Type 0 where
@@ -18,5 +18,5 @@ pub record IsLastValue (name : List ℕ) (pairs : List Pair) (value : List ℕ) 
   pub key : List ℕ
   pub after : List Pair
   pub named : IsText key name
-  pub last : Lacks name after
+  pub last : HasNoKey name after
   pub whole : pairs ≡ before ++ record { key = key; value = value } ∷ after

@@ -2,8 +2,8 @@
 use Rattle.std.specs.Prelude.{ℕ, zero, suc, ◌≡◌, ◌+◌, ◌-◌, ◌<◌, ◌≤◌, List, ◌++◌, length, drop, slice_index, slice_range, Option, Some, None, Result, Ok}
 use Rattle.msgpack_bytes.specs.declared.answers.Scan.{Scan}
 use Rattle.msgpack_bytes.specs.declared.answers.Scan.TheVariants as scan
-use Rattle.msgpack_bytes.specs.declared.answers.Taken.{Taken}
-use Rattle.msgpack_bytes.specs.declared.answers.Taken.TheVariants as taken
+use Rattle.msgpack_bytes.specs.declared.answers.PieceScan.{PieceScan}
+use Rattle.msgpack_bytes.specs.declared.answers.PieceScan.TheVariants as taken
 use Rattle.msgpack_bytes.specs.declared.scanner.Place.{Place}
 use Rattle.msgpack_bytes.specs.Item.{longest, deepest}
 use Rattle.msgpack_bytes.specs.Answers.{IsScanned}
@@ -11,13 +11,13 @@ use Rattle.msgpack_bytes.specs.Run.{Lacks, Stop, front_of, then_, many, run}
 use Rattle.msgpack_bytes.specs.Steps.{BeginsSame}
 
 -- what a scan of all bytes answers, with the end counted behind the first `before` of them
-abbrev pub counted_from : ℕ → Scan → Taken
+abbrev pub counted_from : ℕ → Scan → PieceScan
 counted_from before (scan.End end) = taken.End (end - before)
 counted_from before scan.Need = taken.Need
 counted_from before (scan.Bad fault) = taken.Bad fault
 
 -- what is right to answer to a piece, behind the bytes that were seen before: what a scan of all of them answers
-abbrev pub IsTaken : List ℕ → List ℕ → Taken → Type 0
+abbrev pub IsTaken : List ℕ → List ℕ → PieceScan → Type 0
 IsTaken seen piece answer = (whole : Scan) × IsScanned (seen ++ piece) 0 whole × (answer ≡ counted_from (length seen) whole)
 
 -- what a scanner keeps
@@ -25,7 +25,7 @@ pub record Scanning : Type 0 where
   pub missing : List ℕ  -- how many items each level still lacks
   pub place : Place
   pub front : List ℕ  -- the first bytes of the item that is cut
-  pub over : Option Taken  -- what is answered from now on
+  pub over : Option PieceScan  -- what is answered from now on
 
 -- the items that are missing on the levels below k
 abbrev pub owed : List ℕ → ℕ → ℕ
@@ -51,8 +51,8 @@ pub record State (bytes : List ℕ) (at i : ℕ) (missing : List ℕ) (levels ro
   pub spent : room + (i - at) + owed missing levels ≡ longest
 
 -- these bytes begin an item, and don't end in a whole scalar or header
-abbrev pub IsCutShort : List ℕ → Type 0
-IsCutShort bytes = (n : ℕ) × (front_of bytes ≡ Lacks n)
+abbrev pub LacksBytes : List ℕ → Type 0
+LacksBytes bytes = (n : ℕ) × (front_of bytes ≡ Lacks n)
 
 -- the bytes so far are whole scalars and headers, of whose items these are missing, and a part of the next
 pub record IsBegun (s : Scanning) (seen : List ℕ) : Type 0 where
@@ -61,10 +61,10 @@ pub record IsBegun (s : Scanning) (seen : List ℕ) : Type 0 where
   pub lies : done + s.place.came ≡ length seen
   pub short : s.place.came ≤ longest
   pub begins : BeginsSame 5 s.front (drop done seen)
-  pub part : 0 < s.place.came → IsCutShort (drop done seen)
+  pub part : 0 < s.place.came → LacksBytes (drop done seen)
 
 -- the same by what is answered from now on: nothing yet, or the item ended, or the bytes are none
-abbrev pub IsAfterBy : Option Taken → Scanning → List ℕ → Type 0
+abbrev pub IsAfterBy : Option PieceScan → Scanning → List ℕ → Type 0
 IsAfterBy None s seen = IsBegun s seen
 IsAfterBy (Some (taken.End n)) s seen = (n ≡ 0) × ((end : ℕ) × IsScanned seen 0 (scan.End end))
 IsAfterBy (Some taken.Need) s seen = ⊥

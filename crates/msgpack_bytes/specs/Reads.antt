@@ -41,12 +41,12 @@ IsSizedFit Bin extra = extra ≡ 0
 IsSizedFit Ext extra = extra ≡ 1
 
 -- what the table's rows have in common
-abbrev pub IsFit : ℕ → Shape → Type 0
-IsFit first (Fixed kind size) = IsFixedFit first kind size × (size ≤ 31)
-IsFit first (Sized kind width extra) = IsSizedFit kind extra × (width ≤ 4) × (extra ≤ 1)
-IsFit first (Holds container count) = count < 16
-IsFit first (Counted container width) = width ≤ 4
-IsFit first Never = first ≡ 0xc1
+abbrev pub IsFitShape : ℕ → Shape → Type 0
+IsFitShape first (Fixed kind size) = IsFixedFit first kind size × (size ≤ 31)
+IsFitShape first (Sized kind width extra) = IsSizedFit kind extra × (width ≤ 4) × (extra ≤ 1)
+IsFitShape first (Holds container count) = count < 16
+IsFitShape first (Counted container width) = width ≤ 4
+IsFitShape first Never = first ≡ 0xc1
 
 -- the content of a scalar, where `rest` is what stands from `start` on, behind its first byte
 abbrev pub content_in : Shape → ℕ → List ℕ → Option Span

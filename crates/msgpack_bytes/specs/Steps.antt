@@ -2,23 +2,23 @@
 use Rattle.std.specs.Prelude.{ℕ, ◌≡◌, ◌+◌, ◌^◌, ◌<◌, ◌≤◌, List, [], ◌∷◌, length, drop, slice_index, Bool, nat_lt, if◌then◌else◌}
 use Rattle.msgpack_bytes.specs.declared.format.Shape.{Shape}
 use Rattle.msgpack_bytes.specs.declared.format.Shape.TheVariants.{Fixed, Sized, Holds, Counted, Never}
-use Rattle.msgpack_bytes.specs.declared.format.Step.{Step}
-use Rattle.msgpack_bytes.specs.declared.format.Step.TheVariants as step
+use Rattle.msgpack_bytes.specs.declared.format.ScanStep.{ScanStep}
+use Rattle.msgpack_bytes.specs.declared.format.ScanStep.TheVariants as step
 use Rattle.msgpack_bytes.specs.declared.format.Told.{Told}
 use Rattle.msgpack_bytes.specs.declared.format.Told.TheVariants as told
 use Rattle.msgpack_bytes.specs.Format.{items_in, shape_of}
 use Rattle.msgpack_bytes.specs.Run.{number}
 
 -- a scalar of so many bytes, of which one and `left` more are there
-abbrev pub scalar_step : ℕ → ℕ → Step
+abbrev pub scalar_step : ℕ → ℕ → ScanStep
 scalar_step size left = if nat_lt (left + 1) size then step.Lacks size else step.Whole size
 
 -- a container of so many items, whose count has so many bytes, of which `left` are there
-abbrev pub container_step : ℕ → ℕ → ℕ → Step
+abbrev pub container_step : ℕ → ℕ → ℕ → ScanStep
 container_step width items left = if nat_lt left width then step.Lacks (1 + width + items) else step.Opens items (1 + width)
 
 -- behind a first byte of this shape, where `left` bytes are there, the first of which are these
-abbrev pub step_by : Bool → Shape → ℕ → List ℕ → Step
+abbrev pub step_by : Bool → Shape → ℕ → List ℕ → ScanStep
 step_by may_open (Fixed kind n) left rest = scalar_step (1 + n) left
 step_by may_open (Sized kind width extra) left rest = scalar_step (1 + width + (number width rest + extra)) left
 step_by may_open (Holds container n) left rest = if may_open then step.Opens (items_in container n) 1 else step.Deep
@@ -26,7 +26,7 @@ step_by may_open (Counted container width) left rest = if may_open then containe
 step_by may_open Never left rest = step.Wrong
 
 -- at the front of the bytes, where a container may or may not stand
-abbrev pub step_of : Bool → List ℕ → Step
+abbrev pub step_of : Bool → List ℕ → ScanStep
 step_of may_open [] = step.Lacks 1
 step_of may_open (first ∷ rest) = step_by may_open (shape_of first) (length rest) rest
 
@@ -44,7 +44,7 @@ told_of [] = told.Nothing
 told_of (first ∷ rest) = told_by (shape_of first) rest
 
 -- the step behind a first byte that tells this, where `left` more are there
-abbrev pub step_told : Bool → Told → ℕ → Step
+abbrev pub step_told : Bool → Told → ℕ → ScanStep
 step_told may_open (told.Scalar size) left = scalar_step size left
 step_told may_open (told.Container items width) left = if may_open then container_step width items left else step.Deep
 step_told may_open told.Nothing left = step.Wrong
@@ -64,7 +64,7 @@ IsSingle (Counted container width) = ⊥
 IsSingle Never = ⊥
 
 -- what keeps a step's numbers small
-abbrev pub IsSmall : Step → Type 0
+abbrev pub IsSmall : ScanStep → Type 0
 IsSmall (step.Whole size) = size < 2 ^ 33
 IsSmall (step.Opens items size) = (items < 2 ^ 33) × (size ≤ 5)
 IsSmall (step.Lacks size) = size < 2 ^ 34

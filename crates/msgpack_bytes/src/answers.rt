@@ -44,7 +44,7 @@ pub enum Scan {
 
 /// Where an item ends whose bytes come in pieces.
 #[derive(Clone, Copy, Debug, Drop, PartialEq, Eq)]
-pub enum Taken {
+pub enum PieceScan {
     /// The index in this piece behind the item's last byte; 0 where it ended in an earlier one.
     End(usize),
     /// The bytes so far are a proper beginning of an item, within the limits.

@@ -77,7 +77,7 @@ pub enum Told {
 
 /// The next step of a scan; `size` and what is bare are counts of bytes.
 #[derive(Clone, Copy, Debug, Drop, PartialEq, Eq)]
-pub enum Step {
+pub enum ScanStep {
     /// A whole scalar.
     Whole(usize),
     /// The header of a container of so many items.

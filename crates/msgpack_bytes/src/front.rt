@@ -1,7 +1,7 @@
 //! The parts of an item, each with what is behind it.
 
 ghost use Rattle.std.specs.Prelude.{◌≡◌, ◌↔◌, ℕ, List, ◌++◌, Bool, IsTrue, IfSome, IsSomeAnd, MatchOption};
-ghost use Rattle.msgpack_bytes.specs.Item.{IsTextItem};
+ghost use Rattle.msgpack_bytes.specs.Item.{IsItemWithin};
 ghost use Rattle.msgpack_bytes.specs.Kinds.{IsText, IsBool, IsArrayHeader, IsMapHeader};
 
 use crate::answers::{Head, Scan};
@@ -10,7 +10,7 @@ use crate::whole::scan;
 
 /// Whether the bytes are one whole item.
 pub fn is_item(bytes: &[u8]) -> bool
-    ensures { IsTrue result ↔ IsTextItem bytes.now }
+    ensures { IsTrue result ↔ IsItemWithin bytes.now }
 {
     match scan(bytes, 0) {
         Scan::End(end) => end == bytes.len(),
@@ -20,9 +20,9 @@ pub fn is_item(bytes: &[u8]) -> bool
 
 /// The item that the bytes begin with, and what is behind it.
 pub fn next_item(bytes: &[u8]) -> Option<(&[u8], &[u8])>
-    ensures right { IfSome result (λ found. IsTextItem found.0.now
+    ensures right { IfSome result (λ found. IsItemWithin found.0.now
         × (bytes.now ≡ found.0.now ++ found.1.now)) }
-    ensures only { (front back : List ℕ) → IsTextItem front → bytes.now ≡ front ++ back
+    ensures only { (front back : List ℕ) → IsItemWithin front → bytes.now ≡ front ++ back
         → IsSomeAnd result (λ found. (found.0.now ≡ front) × (found.1.now ≡ back)) }
 {
     match scan(bytes, 0) {
@@ -86,7 +86,7 @@ pub fn map_of(bytes: &[u8]) -> Option<(u32, &[u8])>
 }
 
 /// The content of an item that is a str or a bin.
-pub fn text_of(item: &[u8]) -> Option<&[u8]>
+pub fn str_or_bin(item: &[u8]) -> Option<&[u8]>
     ensures right { MatchOption result ((content : List ℕ) → IsText item.now content → ⊥)
         (λ content. IsText item.now content.now) }
     ensures only { (content : List ℕ) → IsText item.now content → IsSomeAnd result (λ found. found.now ≡ content) }

@@ -3,7 +3,7 @@
 ghost use Rattle.std.specs.Prelude.{ℕ, ◌≡◌, ◌+◌, ◌-◌, ◌<◌, ◌≤◌, length, drop, Option};
 ghost use Rattle.msgpack_bytes.specs.Answers.{IsHead};
 ghost use Rattle.msgpack_bytes.specs.Format.{shape_of};
-ghost use Rattle.msgpack_bytes.specs.Reads.{IsFit, IsFixedFit, content_in, count_in, head_by, scalar_head};
+ghost use Rattle.msgpack_bytes.specs.Reads.{IsFitShape, IsFixedFit, content_in, count_in, head_by, scalar_head};
 ghost use Rattle.msgpack_bytes.specs.declared.answers.Head.{Head};
 
 use crate::answers::Head;
@@ -26,7 +26,7 @@ pub fn head(bytes: &[u8], at: usize) -> Option<Head>
 // The head of an item with this first byte, whose shape it is; `start` is behind it.
 fn read(bytes: &[u8], start: usize, first: u8, shape: Shape) -> Option<Head>
     requires start { start ≤ length bytes.now }
-    requires fit { IsFit first shape }
+    requires fit { IsFitShape first shape }
     ensures { result ≡ head_by shape first bytes.now start (drop start bytes.now) }
 {
     match shape {
@@ -48,7 +48,7 @@ fn read(bytes: &[u8], start: usize, first: u8, shape: Shape) -> Option<Head>
 // The content of a scalar of this shape, where all of it is there; the first byte is before `start`.
 fn content(bytes: &[u8], start: usize, shape: Shape) -> Option<Span>
     requires start { start ≤ length bytes.now }
-    requires fit { (first : ℕ) × IsFit first shape }
+    requires fit { (first : ℕ) × IsFitShape first shape }
     ensures { result ≡ content_in shape start (drop start bytes.now) }
 {
     let (width, size) = match shape {
@@ -72,7 +72,7 @@ fn content(bytes: &[u8], start: usize, shape: Shape) -> Option<Span>
 // The count of a container of this shape, where all of it is there.
 fn count(bytes: &[u8], start: usize, shape: Shape) -> Option<Count>
     requires start { start ≤ length bytes.now }
-    requires fit { (first : ℕ) × IsFit first shape }
+    requires fit { (first : ℕ) × IsFitShape first shape }
     ensures { result ≡ count_in shape start (drop start bytes.now) }
 {
     match shape {

@@ -14,9 +14,9 @@ mod table;
 mod whole;
 mod writer;
 
-pub use answers::{Head, MsgFault, Scan, Taken};
+pub use answers::{Head, MsgFault, PieceScan, Scan};
 pub use front::{
-    after_text, array_of, is_item, is_text, map_of, next_bool, next_item, next_text, text_of,
+    after_text, array_of, is_item, is_text, map_of, next_bool, next_item, next_text, str_or_bin,
 };
 pub use heads::head;
 pub use laws::{

@@ -2,15 +2,15 @@
 
 ghost use Rattle.std.specs.Prelude.{ℕ, List, [], ◌≡◌, ◌+◌, ◌++◌, ◌↔◌, ◌<◌, ◌≤◌, length};
 ghost use Rattle.msgpack_bytes.specs.declared.answers.Scan.{Scan};
-ghost use Rattle.msgpack_bytes.specs.declared.answers.Taken.{Taken};
+ghost use Rattle.msgpack_bytes.specs.declared.answers.PieceScan.{PieceScan};
 ghost use Rattle.msgpack_bytes.specs.Item.{IsOpen};
 ghost use Rattle.msgpack_bytes.specs.Answers.{IsScanned};
 ghost use Rattle.msgpack_bytes.specs.Pieces.{IsAfter, IsTaken};
 ghost use Rattle.msgpack_bytes.specs.Steps.{BeginsSame};
 ghost use Rattle.msgpack_bytes.specs.Going.{Stands, Goes};
 
-use crate::answers::{MsgFault, Taken};
-use crate::format::Step;
+use crate::answers::{MsgFault, PieceScan};
+use crate::format::ScanStep;
 use crate::number::byte;
 use crate::steps::next_step;
 use std::marker::Model;
@@ -36,7 +36,7 @@ pub struct Scanner {
     // The first bytes of the item that is cut, and 0 for those that haven't come.
     front: [u8; HEADER],
     // What is answered from now on.
-    over: Option<Taken>,
+    over: Option<PieceScan>,
 }
 
 impl Model for Scanner {
@@ -70,12 +70,12 @@ impl Scanner {
 
     /// Takes the next piece, and answers as `scan` does of all bytes so far, with the end counted from the piece's
     /// first byte: 0 where the item ended before it. So `End` and `Bad` stay, whatever follows.
-    pub fn take(&mut self, piece: &[u8]) -> Taken
+    pub fn take(&mut self, piece: &[u8]) -> PieceScan
         ensures right { (seen : List ℕ) → IsAfter self.old seen → IsTaken seen piece.now result }
-        ensures only { (seen : List ℕ) → IsAfter self.old seen → (other : Taken) → IsTaken seen piece.now other → other ≡ result }
+        ensures only { (seen : List ℕ) → IsAfter self.old seen → (other : PieceScan) → IsTaken seen piece.now other → other ≡ result }
         ensures after { (seen : List ℕ) → IsAfter self.old seen → IsAfter self.new (seen ++ piece.now) }
         // So more is asked for exactly where all bytes so far are open.
-        ensures need { (seen : List ℕ) → IsAfter self.old seen → (result ≡ Taken.Need) ↔ IsOpen (seen ++ piece.now) }
+        ensures need { (seen : List ℕ) → IsAfter self.old seen → (result ≡ PieceScan.Need) ↔ IsOpen (seen ++ piece.now) }
     {
         if let Some(answer) = self.over {
             return answer;
@@ -83,12 +83,12 @@ impl Scanner {
         fill(&mut self.front, self.place.came, piece);
         match go_on(&mut self.missing, &self.front, piece, self.place) {
             Went::Ended(n) => {
-                self.over = Some(Taken::End(0));
-                Taken::End(n)
+                self.over = Some(PieceScan::End(0));
+                PieceScan::End(n)
             }
             Went::Bad(fault) => {
-                self.over = Some(Taken::Bad(fault));
-                Taken::Bad(fault)
+                self.over = Some(PieceScan::Bad(fault));
+                PieceScan::Bad(fault)
             }
             Went::Cut(place, at) => {
                 let (_, rest) = piece.split_at(at);
@@ -97,7 +97,7 @@ impl Scanner {
                     came: place.came + rest.len(),
                     ..place
                 };
-                Taken::Need
+                PieceScan::Need
             }
         }
     }
@@ -160,18 +160,18 @@ fn go_on(missing: &mut [u32; DEEPEST + 1], front: &[u8; HEADER], piece: &[u8], p
             levels -= 1;
         } else {
             match next_step(front, came, piece, at, levels <= DEEPEST) {
-                Step::Wrong => return Went::Bad(MsgFault::Reserved),
-                Step::Deep => return Went::Bad(MsgFault::TooDeep),
-                Step::Lacks(size) if size - 1 <= room => {
+                ScanStep::Wrong => return Went::Bad(MsgFault::Reserved),
+                ScanStep::Deep => return Went::Bad(MsgFault::TooDeep),
+                ScanStep::Lacks(size) if size - 1 <= room => {
                     return Went::Cut(Place { levels, room, came }, at);
                 }
-                Step::Whole(size) if size - 1 <= room => {
+                ScanStep::Whole(size) if size - 1 <= room => {
                     missing[levels - 1] = left - 1;
                     room -= size - 1;
                     at += size - came;
                     came = 0;
                 }
-                Step::Opens { items, size } if size - 1 + items as usize <= room => {
+                ScanStep::Opens { items, size } if size - 1 + items as usize <= room => {
                     missing[levels - 1] = left - 1;
                     missing[levels] = items as u32;
                     levels += 1;

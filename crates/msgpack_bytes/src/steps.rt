@@ -5,7 +5,7 @@ ghost use Rattle.msgpack_bytes.specs.Format.{items_in};
 ghost use Rattle.msgpack_bytes.specs.Run.{number};
 ghost use Rattle.msgpack_bytes.specs.Steps.{IsNext, IsSmall, IsSmallTold, BeginsSame, step_of, step_told, told_of};
 
-use crate::format::{Container, Step, Told};
+use crate::format::{Container, ScanStep, Told};
 use crate::number::number_at;
 use crate::table::is_single;
 
@@ -13,7 +13,7 @@ use crate::table::is_single;
 /// piece from `at` on. `front` has the first five of all, with 0 for those that are missing, where some came before.
 /// `may_open` says whether a container may stand there.
 #[inline(always)]
-pub fn next_step(front: &[u8; 5], came: usize, piece: &[u8], at: usize, may_open: bool) -> Step
+pub fn next_step(front: &[u8; 5], came: usize, piece: &[u8], at: usize, may_open: bool) -> ScanStep
     requires within { at ≤ length piece.now }
     requires few { came + length piece.now ≤ usize.MAX }
     ensures is { (all : List ℕ) → IsNext front.now came piece.now at all → result ≡ step_of may_open all }
@@ -27,7 +27,7 @@ pub fn next_step(front: &[u8; 5], came: usize, piece: &[u8], at: usize, may_open
 }
 
 // The step of `len` bytes, of which `front` has the first five.
-fn cut_step(front: &[u8; 5], len: usize, may_open: bool) -> Step
+fn cut_step(front: &[u8; 5], len: usize, may_open: bool) -> ScanStep
     requires { 0 < len }
     ensures is { (all : List ℕ) → length all ≡ len → BeginsSame 5 front.now all → result ≡ step_of may_open all }
     ensures small { IsSmall result }
@@ -37,35 +37,37 @@ fn cut_step(front: &[u8; 5], len: usize, may_open: bool) -> Step
 
 /// The step at `at`.
 #[inline(always)]
-pub fn step(bytes: &[u8], at: usize, may_open: bool) -> Step
+pub fn step(bytes: &[u8], at: usize, may_open: bool) -> ScanStep
     requires { at ≤ length bytes.now }
     ensures is { result ≡ step_of may_open (drop at bytes.now) }
     ensures small { IsSmall result }
 {
     if at == bytes.len() {
-        return Step::Lacks(1);
+        return ScanStep::Lacks(1);
     }
     step_from(tell(bytes, at), bytes.len() - at - 1, may_open)
 }
 
 // The step where an item's first bytes tell this, of which the first and `left` more are there.
 #[inline(always)]
-fn step_from(told: Told, left: usize, may_open: bool) -> Step
+fn step_from(told: Told, left: usize, may_open: bool) -> ScanStep
     requires left { left < usize.MAX }
     requires small { IsSmallTold told }
     ensures is { result ≡ step_told may_open told left }
     ensures small { IsSmall result }
 {
     match told {
-        Told::Scalar(size) if left + 1 < size => Step::Lacks(size),
-        Told::Scalar(size) => Step::Whole(size),
-        Told::Container { .. } if !may_open => Step::Deep,
-        Told::Container { items, width } if left < width => Step::Lacks(1 + width + items as usize),
-        Told::Container { items, width } => Step::Opens {
+        Told::Scalar(size) if left + 1 < size => ScanStep::Lacks(size),
+        Told::Scalar(size) => ScanStep::Whole(size),
+        Told::Container { .. } if !may_open => ScanStep::Deep,
+        Told::Container { items, width } if left < width => ScanStep::Lacks(
+            1 + width + items as usize,
+        ),
+        Told::Container { items, width } => ScanStep::Opens {
             items,
             size: 1 + width,
         },
-        Told::Nothing => Step::Wrong,
+        Told::Nothing => ScanStep::Wrong,
     }
 }
 
@@ -73,7 +75,7 @@ fn step_from(told: Told, left: usize, may_open: bool) -> Step
 #[inline(always)]
 pub fn single(bytes: &[u8], at: usize) -> bool
     requires { at < length bytes.now }
-    ensures { (may_open : Bool) → IsTrue result → Step.Whole 1 ≡ step_of may_open (drop at bytes.now) }
+    ensures { (may_open : Bool) → IsTrue result → ScanStep.Whole 1 ≡ step_of may_open (drop at bytes.now) }
 {
     is_single(bytes[at])
 }

@@ -2,7 +2,7 @@
 
 ghost use Rattle.std.specs.Prelude.{◌≡◌, IsTrue};
 ghost use Rattle.msgpack_bytes.specs.Format.{shape_of};
-ghost use Rattle.msgpack_bytes.specs.Reads.{IsFit};
+ghost use Rattle.msgpack_bytes.specs.Reads.{IsFitShape};
 ghost use Rattle.msgpack_bytes.specs.Steps.{IsSingle};
 
 use crate::format::{Container, Kind, Shape};
@@ -12,7 +12,7 @@ use crate::format::{Container, Kind, Shape};
 #[tactic(auto, unfolding(crate::specs::Format::shape_of))]
 pub fn shape(first: u8) -> Shape
     ensures row { result ≡ shape_of first }
-    ensures fit { IsFit first result }
+    ensures fit { IsFitShape first result }
 {
     match first {
         0x00..=0x7f => Shape::Fixed {

@@ -2,12 +2,12 @@
 
 ghost use Rattle.std.specs.Prelude.{true, ◌≡◌, ◌+◌, ◌≤◌, length, IfSome};
 ghost use Rattle.msgpack_bytes.specs.declared.answers.Scan.{Scan};
-ghost use Rattle.msgpack_bytes.specs.declared.format.Step.{Step};
+ghost use Rattle.msgpack_bytes.specs.declared.format.ScanStep.{ScanStep};
 ghost use Rattle.msgpack_bytes.specs.Item.{longest};
 ghost use Rattle.msgpack_bytes.specs.Answers.{IsScanned};
 ghost use Rattle.msgpack_bytes.specs.Steps.{step_of};
 
-use crate::answers::{Scan, Taken};
+use crate::answers::{PieceScan, Scan};
 use crate::format::Told;
 use crate::scanner::{DEEPEST, LONGEST, Scanner};
 use crate::steps::{single, tell};
@@ -47,9 +47,9 @@ fn scan_anew(bytes: &[u8]) -> Scan
 {
     let mut scanner = Scanner::new();
     match scanner.take(bytes) {
-        Taken::End(end) => Scan::End(end),
-        Taken::Need => Scan::Need,
-        Taken::Bad(fault) => Scan::Bad(fault),
+        PieceScan::End(end) => Scan::End(end),
+        PieceScan::Need => Scan::Need,
+        PieceScan::Bad(fault) => Scan::Bad(fault),
     }
 }
 
@@ -74,7 +74,7 @@ pub fn item_end(bytes: &[u8]) -> Option<usize>
 // The end of the container that the bytes begin with, whose header has `size` bytes, and which has so many items, if it is whole.
 #[inline(never)]
 fn items_end(bytes: &[u8], size: usize, items: u32) -> Option<usize>
-    requires opens { Step.Opens items size ≡ step_of true bytes.now }
+    requires opens { ScanStep.Opens items size ≡ step_of true bytes.now }
     requires short { size + items ≤ longest }
     requires there { size + items ≤ length bytes.now }
     ensures { IfSome result (λ end. IsScanned bytes.now 0 (Scan.End end)) }

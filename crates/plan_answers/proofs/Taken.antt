@@ -4,9 +4,9 @@ use Rattle.std.specs.Prelude.{IfOk}
 use Rattle.std.proofs.lemmas.Result.{IfOk-weaker}
 use Rattle.custody_core.specs.Custody.{EachBranchKeeps, NothingIsLost, NothingIsMadeUp}
 use Rattle.custody_steps.specs.Steps.{Steps}
-use Rattle.custody_steps.specs.World.{World, opening}
+use Rattle.custody_steps.specs.World.{World, initial_world}
 use Rattle.loss_rules.specs.Breaks.{Subject}
-use Rattle.loss_rules.specs.Rules.{AreRulesKept, EachOutputKeeps}
+use Rattle.loss_rules.specs.Rules.{AreKeepingRulesKept, EachOutputKeeps}
 use Rattle.loss_rules.specs.Sites.{BuffersAreDistinct}
 use Rattle.loss_rules.specs.declared.answer.Answer.{Answer}
 use Rattle.loss_rules.specs.declared.label.Label.{Label}
@@ -20,10 +20,10 @@ use Rattle.plan_answers.specs.Replays.{IsReplayed, IsWorldListing, IsYesEarned}
 
 -- The steps lead to the world in the network, and this is known of it.
 pub record IsRun {A : Type 0} (net : Network A) (steps : List (Step A)) (w : World) : Type 0 where
-  pub taken : Steps net opening steps w
+  pub taken : Steps net initial_world steps w
   pub made_up : NothingIsMadeUp net w
-  pub lost : (labels : List (Label A)) (reaches : List (Reach A)) → BuffersAreDistinct net → AreRulesKept net labels reaches → NothingIsLost net w
-  pub each : (labels : List (Label A)) (reaches : List (Reach A)) → BuffersAreDistinct net → AreRulesKept net labels reaches → EachOutputKeeps net reaches → EachBranchKeeps net w
+  pub lost : (labels : List (Label A)) (reaches : List (Reach A)) → BuffersAreDistinct net → AreKeepingRulesKept net labels reaches → NothingIsLost net w
+  pub each : (labels : List (Label A)) (reaches : List (Reach A)) → BuffersAreDistinct net → AreKeepingRulesKept net labels reaches → EachOutputKeeps net reaches → EachBranchKeeps net w
 
 -- what is listed of such a world is the listing of the text that says the steps
 pub taken_listed : {A S E : Type 0} (plan : Subject A) (found : Answer) (text : List ℕ) (steps : List (Step A)) (w : World) (listed : Result S E) (lines : S → List ℕ) (status : S → Status)

@@ -3,12 +3,12 @@ use Rattle.std.specs.Prelude.{◌≡◌, ◌==◌, ℕ, List, ◌++◌, codes, d
 use Rattle.hex.specs.Hex.{encode_lower}
 use Rattle.custody_core.specs.Custody.{EachBranchKeeps, IsKeptAs, NothingIsLost, NothingIsMadeUp}
 use Rattle.custody_steps.specs.Steps.{Steps, IsRefusedAt}
-use Rattle.custody_steps.specs.World.{World, opening}
+use Rattle.custody_steps.specs.World.{World, initial_world}
 use Rattle.custody_steps.specs.declared.fault.StepFault.{StepFault}
 use Rattle.custody_steps.specs.declared.fault.StepFault.TheVariants as refusal
 use Rattle.custody_store.specs.Buffers.{Event}
 use Rattle.loss_rules.specs.Breaks.{Subject}
-use Rattle.loss_rules.specs.Rules.{AreRulesKept, EachOutputKeeps}
+use Rattle.loss_rules.specs.Rules.{AreKeepingRulesKept, EachOutputKeeps}
 use Rattle.loss_rules.specs.declared.answer.Answer.{Answer}
 use Rattle.loss_rules.specs.declared.answer.Answer.TheVariants as answer
 use Rattle.loss_rules.specs.declared.label.Duty.{Duty}
@@ -82,7 +82,7 @@ pub record IsRefusalLine (number : ℕ) (fault : StepFault) (written : List ℕ)
 
 -- Where the answer is yes, the rules hold of the plan under which nothing is lost, with what it asks of each match.
 pub record IsYesEarned {A : Type 0} (plan : Subject A) (found : Answer) : Type 0 where
-  pub rules : found ≡ answer.Yes → AreRulesKept plan.net plan.labels plan.reaches
+  pub rules : found ≡ answer.Yes → AreKeepingRulesKept plan.net plan.labels plan.reaches
   pub each_output : found ≡ answer.Yes → plan.duty ≡ duty.Every → EachOutputKeeps plan.net plan.reaches
 
 -- The steps of the text were all taken in the network of a plan with this answer, and this is listed of what they lead to. In that world
@@ -92,7 +92,7 @@ pub record AreTaken {A : Type 0} (plan : Subject A) (found : Answer) (text writt
   pub steps : List (Step A)
   pub read : SayAll (text_lines text) steps
   pub world : World
-  pub taken : Steps plan.net opening steps world
+  pub taken : Steps plan.net initial_world steps world
   pub nothing_is_made_up : NothingIsMadeUp plan.net world
   pub nothing_is_lost : found ≡ answer.Yes → NothingIsLost plan.net world
   pub each_branch_keeps : found ≡ answer.Yes → plan.duty ≡ duty.Every → EachBranchKeeps plan.net world

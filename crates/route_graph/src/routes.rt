@@ -9,7 +9,7 @@ ghost use Rattle.route_graph.specs.Ways.{IsTakenBy, rules_at};
 
 use crate::hop::Hop;
 use crate::table::{RouteRule, RouteScope};
-use crate::visit::{Mark, Step, Visit};
+use crate::visit::{LeafSearch, Mark, Step};
 use crate::way::Way;
 use relay_conf::{Relay, ScopeNo};
 use std::alloc::{AllocError, Allocator};
@@ -54,7 +54,7 @@ impl<A: Allocator + Copy> Routes<A> {
         ensures leaves { IfOk result (HasLeaves self.now tag.now scope.0) }
         ensures once { IfOk result HasEachOnce }
     {
-        let mut visit = Visit::begin(*self.scopes.allocator(), self.scopes.len(), scope)?;
+        let mut visit = LeafSearch::begin(*self.scopes.allocator(), self.scopes.len(), scope)?;
         while let Some(step) = visit.next() {
             match step {
                 Step::Leave(left) => visit.leave(left),

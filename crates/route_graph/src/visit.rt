@@ -34,7 +34,7 @@ pub(crate) enum Step {
 
 /// A search for the leaves of one event. To contracts its steps stand in the order in which they come.
 #[derive(Drop)]
-pub(crate) struct Visit<A: Allocator> {
+pub(crate) struct LeafSearch<A: Allocator> {
     marks: Vec<Mark, A>,
     ahead: Vec<Step, A>,
     found: Vec<BufferNo, A>,
@@ -42,7 +42,7 @@ pub(crate) struct Visit<A: Allocator> {
     numbers: BTreeSet<usize, A>,
 }
 
-impl<A: Allocator> Model for Visit<A> {
+impl<A: Allocator> Model for LeafSearch<A> {
     ghost use Rattle.std.specs.Prelude.{reverse};
     ghost use Rattle.route_graph.specs.Listing.{numbers_of};
     ghost use Rattle.route_graph.specs.Visits.{Known, HasNumbers};
@@ -54,7 +54,7 @@ impl<A: Allocator> Model for Visit<A> {
     ghost invariant = { λ v. HasNumbers v.numbers (numbers_of v.found.items) };
 }
 
-impl<A: Allocator> Visit<A> {
+impl<A: Allocator> LeafSearch<A> {
     /// The buffers found.
     pub fn into_found(self) -> Vec<BufferNo, A>
         ensures { numbers_of result.items ≡ self.found }
@@ -101,14 +101,14 @@ impl<A: Allocator> Visit<A> {
     }
 }
 
-impl<A: Allocator + Copy> Visit<A> {
+impl<A: Allocator + Copy> LeafSearch<A> {
     /// The search from this scope, of so many in all.
-    pub fn begin(alloc: A, scopes: usize, start: ScopeNo) -> Result<Visit<A>, AllocError>
+    pub fn begin(alloc: A, scopes: usize, start: ScopeNo) -> Result<LeafSearch<A>, AllocError>
         ensures { IfOk result (λ visit. visit ≡ record { marks = replicate scopes Mark.New; coming = Step.Take (Hop.Scope start) ∷ []; found = [] }) }
     {
         let mut ahead = Vec::new(alloc);
         ahead.push(Step::Take(Hop::Scope(start)))?;
-        Ok(Visit {
+        Ok(LeafSearch {
             marks: vec![in alloc; Mark::New; scopes]?,
             ahead,
             found: Vec::new(alloc),

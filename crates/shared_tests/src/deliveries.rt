@@ -4,7 +4,7 @@ use crate::shelves::{
     LEAF, Refused, Shelf, WIDE, audited, begun, begun_of, dropped, enqueue, message, put, shelf_in,
     stored,
 };
-use ack_receipt::{AckFault, Delivery, Leaf, Numbers, Reserved, Stub};
+use ack_receipt::{BookFault, Delivery, Leaf, Numbers, Reserved, Stub};
 use buffer_state::Limits;
 use buffer_store::BufferFault;
 use disk_files::{Dir, MemoryDir};
@@ -34,7 +34,7 @@ fn doubled<R: Wait, D: Dir + Drop>(
     alloc: Global,
     rt: &R,
     dir: D,
-) -> Result<(AckFault, Option<AckFault>), Fail> {
+) -> Result<(BookFault, Option<BookFault>), Fail> {
     let shelf = shelf_in(alloc, dir, LEAF, WIDE)?;
     let (stub, Some((fault, spent))) = twice(alloc, rt, &shelf)? else {
         return Err(Fail::from("the second is taken"));
@@ -46,7 +46,7 @@ fn doubled<R: Wait, D: Dir + Drop>(
 #[test]
 fn a_second_receipt_is_double(rt: HostRuntime) -> Result<(), Fail> {
     let doubled = doubled(rt.alloc(), &rt, MemoryDir::new(rt.alloc()))?;
-    assert_eq!(rt; doubled, (AckFault::Double, None));
+    assert_eq!(rt; doubled, (BookFault::Double, None));
     Ok(())
 }
 
@@ -56,7 +56,7 @@ fn given_to_another<R: Wait, D: Dir>(
     shelf: &Shelf<D>,
     own: &Delivery<Global>,
     other: Delivery<Global>,
-) -> (Option<AckFault>, Stub<Global>) {
+) -> (Option<BookFault>, Stub<Global>) {
     if own.entries().count() == 0 {
         return (None, other.abandon());
     }
@@ -77,7 +77,7 @@ fn crossed<R: Wait, D: Dir>(
     alloc: Global,
     rt: &R,
     shelf: &Shelf<D>,
-) -> Result<(Option<AckFault>, Stub<Global>), BufferFault> {
+) -> Result<(Option<BookFault>, Stub<Global>), BufferFault> {
     let mut numbers = Numbers::new();
     let own = begun(alloc, &mut numbers, &[LEAF])?;
     match begun(alloc, &mut numbers, &[LEAF]) {
@@ -98,7 +98,7 @@ fn strange<R: Wait, D: Dir + Drop>(
     alloc: Global,
     rt: &R,
     dir: D,
-) -> Result<(Option<AckFault>, Option<AckFault>), Fail> {
+) -> Result<(Option<BookFault>, Option<BookFault>), Fail> {
     let shelf = shelf_in(alloc, dir, LEAF, WIDE)?;
     let (fault, stub) = crossed(alloc, rt, &shelf)?;
     Ok((fault, audited(alloc, shelf, &[stub])?))
@@ -108,7 +108,7 @@ fn strange<R: Wait, D: Dir + Drop>(
 #[test]
 fn a_receipt_of_another_is_strange(rt: HostRuntime) -> Result<(), Fail> {
     let strange = strange(rt.alloc(), &rt, MemoryDir::new(rt.alloc()))?;
-    assert_eq!(rt; strange, (Some(AckFault::Stranger), None));
+    assert_eq!(rt; strange, (Some(BookFault::Stranger), None));
     Ok(())
 }
 
@@ -132,7 +132,7 @@ fn copied<R: Wait, D: Dir>(
 }
 
 // What settling answers to this stub.
-fn settled<R: Wait, D: Dir>(rt: &R, shelf: &Shelf<D>, stub: &Stub<Global>) -> Option<AckFault> {
+fn settled<R: Wait, D: Dir>(rt: &R, shelf: &Shelf<D>, stub: &Stub<Global>) -> Option<BookFault> {
     shelf.settle(rt, stub).err()
 }
 
@@ -142,7 +142,7 @@ fn settled_twice<R: Wait, D: Dir + Drop>(
     rt: &R,
     shelf: Shelf<D>,
     longer: Shelf<D>,
-) -> Result<([Option<AckFault>; 3], [Option<AckFault>; 2]), Fail> {
+) -> Result<([Option<BookFault>; 3], [Option<BookFault>; 2]), Fail> {
     let mut numbers = Numbers::new();
     let one = stored(alloc, rt, &shelf, &mut numbers)?;
     let _ = stored(alloc, rt, &longer, &mut numbers)?;
@@ -167,9 +167,9 @@ fn stubs_are_settled_once(rt: HostRuntime) -> Result<(), Fail> {
     let (answers, audits) = settled_twice(rt.alloc(), &rt, shelf, longer)?;
     assert_eq!(rt;
         answers,
-        [Some(AckFault::Stranger), None, Some(AckFault::Double)]
+        [Some(BookFault::Stranger), None, Some(BookFault::Double)]
     );
-    assert_eq!(rt; audits, [None, Some(AckFault::Missing)]);
+    assert_eq!(rt; audits, [None, Some(BookFault::Missing)]);
     Ok(())
 }
 
@@ -186,7 +186,7 @@ fn waited<R: Wait, D: Dir + Drop>(
     rt: &R,
     wide: Shelf<D>,
     small: Shelf<D>,
-) -> Result<([bool; 2], [Option<AckFault>; 2]), Fail> {
+) -> Result<([bool; 2], [Option<BookFault>; 2]), Fail> {
     let mut numbers = Numbers::new();
     let before = stored(alloc, rt, &small, &mut numbers)?;
     enqueue(rt, &small, 0)?;
@@ -210,6 +210,6 @@ fn a_copy_waits_for_room(rt: HostRuntime) -> Result<(), Fail> {
     let small = shelf_in(rt.alloc(), MemoryDir::new(rt.alloc()), OTHER, SMALL)?;
     let (answered, audits) = waited(rt.alloc(), &rt, wide, small)?;
     assert_eq!(rt; answered, [false, true]);
-    assert_eq!(rt; audits, [None, Some(AckFault::Missing)]);
+    assert_eq!(rt; audits, [None, Some(BookFault::Missing)]);
     Ok(())
 }

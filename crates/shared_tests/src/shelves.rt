@@ -4,7 +4,7 @@ ghost use Rattle.std.specs.Prelude.{◌≡◌, IfOk};
 ghost use Rattle.event_modes.specs.Reading.{meaning};
 
 use ack_receipt::{
-    AckFault, AuditError, Basis, Delivery, Leaf, Numbers, SharedBuffer, Stub, Takes,
+    AuditError, Basis, BookFault, Delivery, Leaf, Numbers, SharedBuffer, Stub, Takes,
 };
 use buffer_state::Limits;
 use buffer_store::{Buffer, BufferFault, RENEWED_PAST_IN_MEMORY, Settings};
@@ -100,7 +100,7 @@ pub fn begun(
 }
 
 // What is left of a receipt that its delivery didn't take, and why not.
-pub type Refused = (AckFault, Stub<Global>);
+pub type Refused = (BookFault, Stub<Global>);
 
 // Appends a delivery where it can be, and adds the receipt.
 pub fn put<R: Wait, D: Dir>(
@@ -154,7 +154,7 @@ pub fn audited<D: Dir + Drop>(
     alloc: Global,
     shelf: Shelf<D>,
     stubs: &[Stub<Global>],
-) -> Result<Option<AckFault>, Fail> {
+) -> Result<Option<BookFault>, Fail> {
     match shelf.close().audit(alloc, stubs) {
         Ok(()) => Ok(None),
         Err(AuditError::Fault(fault)) => Ok(Some(fault)),

@@ -5,7 +5,7 @@ use Rattle.std.proofs.Math.Seq.{take-append_seam}
 use Rattle.std.specs.List.{concat, AllByRecursion}
 use Rattle.std.proofs.lemmas.List.{length-append, append-nil}
 use Rattle.msgpack_bytes.specs.declared.format.Kind.TheVariants as kind
-use Rattle.msgpack_bytes.specs.Item.{IsTextItem}
+use Rattle.msgpack_bytes.specs.Item.{IsItemWithin}
 use Rattle.msgpack_bytes.specs.Kinds.{IsStr, IsText, IsArrayHeader}
 use Rattle.msgpack_bytes.specs.Spelling.{str_of}
 use Rattle.msgpack_bytes.proofs.Shortest.{str_spelled, array_spelled}
@@ -19,8 +19,8 @@ use Rattle.sink_series.specs.Events.{Event, IsEvent, item_of, run_of, under}
 pub record Split (entry : List ℕ) : Type 0 where
   pub time : List ℕ
   pub fields : List ℕ
-  pub is_time : IsTextItem time
-  pub is_fields : IsTextItem fields
+  pub is_time : IsItemWithin time
+  pub is_fields : IsItemWithin fields
   pub whole : entry ≡ 0x92 ∷ time ++ fields
 
 pub split_of : (entry : List ℕ) → IsStored entry → Split entry

@@ -2,7 +2,7 @@
 use Rattle.std.proofs.Common.{ℕ, ◌≡◌, ◌≤◌, ⊎_elim, Bool, true, false, List, [], ◌∷◌, ◌++◌, length, take, Some, None, ap, sym, subst, ◌∙◌, arith}
 use Rattle.std.proofs.lemmas.Bool.{cases_lt}
 use Rattle.std.proofs.lemmas.List.{take-append-le, length-take}
-use Rattle.disk_files.specs.Disk.{Disk, Folder, SameDisk, MayStay, Makes, fresh}
+use Rattle.disk_files.specs.Disk.{Disk, Folder, SameDisk, MayStay, Makes, new_file}
 use Rattle.disk_files.proofs.Moments.{rests, joined, weaker, here}
 use Rattle.disk_files.specs.Moments.{History, now, Elapses, LeavesOnly}
 use Rattle.sink_series.specs.Events.{Event, under, Holds}
@@ -119,7 +119,7 @@ module _ {D : Type 0} (is_honest : D → Type 0) (history : D → History) where
       → Makes (newest series) (now (history dir)) (now (history series.dir)) → LeavesOnly (history dir) (history series.dir) (HasMade (now (history dir)) path)
       → ((name : List ℕ) (events : List Event) → IsSafe (now (history dir)) name events → StaysSafe (history dir) (history series.dir) name events) → Keeps is_honest history series
   keeps_new series dir path opening honest begun stored makes moments older =
-      let found : now (history series.dir) (newest series) ≡ Some (file_with [] false) = here (now (history dir)) (now (history series.dir)) (newest series) (Some fresh) makes.1 in
+      let found : now (history series.dir) (newest series) ≡ Some (file_with [] false) = here (now (history dir)) (now (history series.dir)) (newest series) (Some new_file) makes.1 in
       record {
         honest = record { dir = honest; written = λ ready. (false, found ∙ ap (λ es. Some (file_with es false)) (sym begun)) };
         begun = λ ready. begun ∙ ap answered (sym stored);

@@ -2,7 +2,7 @@
 use Rattle.std.proofs.Common.{ℕ, zero, suc, ◌≡◌, ⊎_elim, inl, inr, ◌⊎◌, Bool, true, false, cond, List, [], length, take, Option, Some, None, refl, ap, sym, subst, ◌∙◌, arith}
 use Rattle.std.specs.Str.{bytes_eq}
 use Rattle.std.proofs.lemmas.List.{take_all}
-use Rattle.disk_files.specs.Disk.{Disk, Folder, fresh, SameDisk, Makes, MayStay, StopLeaves}
+use Rattle.disk_files.specs.Disk.{Disk, Folder, new_file, SameDisk, Makes, MayStay, StopLeaves}
 use Rattle.disk_files.specs.Moments.{History, now, Elapses, LeavesOnly}
 use Rattle.disk_files.proofs.Moments.{started, goes_on, rests, leaves_same}
 use Rattle.disk_files.proofs.Table.{same_name}
@@ -23,16 +23,16 @@ none_taken n none is = take_all n none (omega (arith, ap length is)) ∙ is
 without : List ℕ → Folder → Folder
 without name folder q = cond (bytes_eq name q) None (folder q)
 
-left_at : (disk new : Disk) (name : List ℕ) (folder : Folder) (q : List ℕ) (b : Bool) → bytes_eq name q ≡ b → disk name ≡ None → new q ≡ cond b (Some fresh) (disk q) → MayStay (new q) (folder q)
+left_at : (disk new : Disk) (name : List ℕ) (folder : Folder) (q : List ℕ) (b : Bool) → bytes_eq name q ≡ b → disk name ≡ None → new q ≡ cond b (Some new_file) (disk q) → MayStay (new q) (folder q)
     → MayStay (disk q) (cond b None (folder q))
 left_at disk new name folder q true same none is stays = subst (λ o. MayStay o None) (sym (sym (ap disk (same_name name q same)) ∙ none)) refl
 left_at disk new name folder q false other none is stays = subst (λ o. MayStay o (folder q)) is stays
 
-empty_left : (o : Option (List ℕ)) → MayStay (Some fresh) o → (o ≡ None) ⊎ (o ≡ Some [])
+empty_left : (o : Option (List ℕ)) → MayStay (Some new_file) o → (o ≡ None) ⊎ (o ≡ Some [])
 empty_left None stays = inl refl
 empty_left (Some bytes) stays = inr (ap Some (sym stays.1 ∙ none_taken (length bytes) [] refl))
 
-new_at : (new disk : Disk) (path : List ℕ) (n : ℕ) (folder : Folder) (q : List ℕ) (b : Bool) → bytes_eq (sink_name path n) q ≡ b → new q ≡ cond b (Some fresh) (disk q) → MayStay (new q) (folder q)
+new_at : (new disk : Disk) (path : List ℕ) (n : ℕ) (folder : Folder) (q : List ℕ) (b : Bool) → bytes_eq (sink_name path n) q ≡ b → new q ≡ cond b (Some new_file) (disk q) → MayStay (new q) (folder q)
     → (folder q ≡ cond b None (folder q)) ⊎ (((m : ℕ) × (q ≡ sink_name path m)) × (cond b None (folder q) ≡ None) × (folder q ≡ Some []))
 new_at new disk path n folder q true same is stays = ⊎_elim
     (λ none. inl none)

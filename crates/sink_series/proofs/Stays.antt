@@ -3,7 +3,7 @@ use Rattle.std.proofs.Common.{ℕ, zero, suc, ◌≡◌, ◌≤◌, ⊎_elim, tr
 use Rattle.std.specs.List.{AllByRecursion}
 use Rattle.std.proofs.lemmas.List.{take_all, take-append-drop, take-append-le}
 use Rattle.std.proofs.lemmas.Bool.{cases_eq}
-use Rattle.disk_files.specs.Disk.{File, Disk, Folder, MayStay, StopLeaves, kept_file, settled}
+use Rattle.disk_files.specs.Disk.{File, Disk, Folder, MayStay, StopLeaves, kept_file, after_stop}
 use Rattle.sink_series.specs.Events.{Event, IsEvent, run_of, Holds}
 use Rattle.sink_series.specs.Names.{sink_name}
 use Rattle.sink_series.specs.Folders.{FileHolds, HoldsTo}
@@ -41,7 +41,7 @@ begins_left name events disk folder safe leaves =
     let l = left_safe name events disk folder safe leaves in
     (l.bytes, l.found, λ all h. first_are events l.rest l.bytes all safe.each l.whole h)
 
-pub safe_over_stop : (name : List ℕ) (events : List Event) (disk : Disk) (folder : Folder) → IsSafe disk name events → StopLeaves disk folder → IsSafe (settled folder) name events
+pub safe_over_stop : (name : List ℕ) (events : List Event) (disk : Disk) (folder : Folder) → IsSafe disk name events → StopLeaves disk folder → IsSafe (after_stop folder) name events
 safe_over_stop name events disk folder safe leaves =
     let l = left_safe name events disk folder safe leaves in
     record {

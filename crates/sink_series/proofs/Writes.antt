@@ -5,7 +5,7 @@ use Rattle.std.specs.Str.{bytes_eq}
 use Rattle.std.specs.List.{AllByRecursion}
 use Rattle.std.proofs.lemmas.List.{append-nil, take_all, take-append-drop, take-append-le, length-append}
 use Rattle.std.proofs.lemmas.Grind.{flat_map-append}
-use Rattle.disk_files.specs.Disk.{File, Disk, Folder, fresh, Makes, grown, flushed, kept_file, SameDisk, Changes, MayStay, StopLeaves}
+use Rattle.disk_files.specs.Disk.{File, Disk, Folder, new_file, Makes, with_bytes, flushed, kept_file, SameDisk, Changes, MayStay, StopLeaves}
 use Rattle.disk_files.specs.Moments.{History, now, Elapses, LeavesOnly}
 use Rattle.disk_files.proofs.Moments.{started, goes_on, rests, joined, here, elsewhere, follows}
 use Rattle.disk_files.proofs.Table.{same_name}
@@ -51,7 +51,7 @@ front_longer n w x = ⊎_elim
     (λ within. ([], take-append-le n w x within ∙ sym (append-nil (take n w))))
     (cases_lt (length w) n)
 
-sure_grown : (events : List Event) (bytes : List ℕ) (f : File) → Sure events f → Sure events (grown bytes f)
+sure_grown : (events : List Event) (bytes : List ℕ) (f : File) → Sure events f → Sure events (with_bytes bytes f)
 sure_grown events bytes f s =
     let l = front_longer f.synced f.written bytes in
     record { durable = s.durable; there = s.there; more = s.more ++ l.0; synced = l.1 ∙ ap (λ (z : List ℕ). z ++ l.0) s.synced ∙ append_assoc (run_of events) s.more l.0 }
@@ -86,8 +86,8 @@ safe_changed disk new own name how events keeps changes safe = changed_at disk n
 pub safe_same : (disk new : Disk) (name : List ℕ) (events : List Event) → SameDisk new disk → IsSafe disk name events → IsSafe new name events
 safe_same disk new name events same safe = safe_of new name events safe.file safe.each (same name ∙ safe.found) (sure_of disk name events safe)
 
-pub safe_grown : (disk new : Disk) (own name bytes : List ℕ) (events : List Event) → Changes own (grown bytes) disk new → IsSafe disk name events → IsSafe new name events
-safe_grown disk new own name bytes events = safe_changed disk new own name (grown bytes) events (sure_grown events bytes)
+pub safe_grown : (disk new : Disk) (own name bytes : List ℕ) (events : List Event) → Changes own (with_bytes bytes) disk new → IsSafe disk name events → IsSafe new name events
+safe_grown disk new own name bytes events = safe_changed disk new own name (with_bytes bytes) events (sure_grown events bytes)
 
 pub safe_flushed : (disk new : Disk) (own name : List ℕ) (events : List Event) → Changes own flushed disk new → IsSafe disk name events → IsSafe new name events
 safe_flushed disk new own name events = safe_changed disk new own name flushed events (sure_flushed events)
@@ -208,39 +208,39 @@ module _ (begun events : List Event) (each : AllByRecursion IsEvent begun) (each
       beginning disk name (file_with begun is_durable) found (record { tail = run_of events; whole = refl; enough = omega arith })
 
   -- with a part of the new bytes
-  pub grown_left : (disk new : Disk) (name : List ℕ) (n : ℕ) (is_durable : Bool) → disk name ≡ Some (file_with begun is_durable) → Changes name (grown (take n (run_of events))) disk new
+  pub grown_left : (disk new : Disk) (name : List ℕ) (n : ℕ) (is_durable : Bool) → disk name ≡ Some (file_with begun is_durable) → Changes name (with_bytes (take n (run_of events))) disk new
       → (folder : Folder) → StopLeaves new folder → IsBeginning folder name (length begun) (begun ++ events)
   grown_left disk new name n is_durable found changes =
-      beginning new name (grown (take n (run_of events)) (file_with begun is_durable)) (own_changed disk new name _ _ changes found) (record {
+      beginning new name (with_bytes (take n (run_of events)) (file_with begun is_durable)) (own_changed disk new name _ _ changes found) (record {
         tail = drop n (run_of events);
         whole = ap (λ (z : List ℕ). run_of begun ++ z) (sym (take-append-drop n (run_of events))) ∙ sym (append_assoc (run_of begun) (take n (run_of events)) (drop n (run_of events)));
         enough = omega arith;
       })
 
   -- with all of them, synced
-  pub flushed_left : (disk mid new : Disk) (name : List ℕ) (is_durable : Bool) → disk name ≡ Some (file_with begun is_durable) → Changes name (grown (run_of events)) disk mid
+  pub flushed_left : (disk mid new : Disk) (name : List ℕ) (is_durable : Bool) → disk name ≡ Some (file_with begun is_durable) → Changes name (with_bytes (run_of events)) disk mid
       → Changes name flushed mid new → (folder : Folder) → StopLeaves new folder → IsBeginning folder name (length begun) (begun ++ events)
   flushed_left disk mid new name is_durable found first second =
-      beginning new name (flushed (grown (run_of events) (file_with begun is_durable))) (own_changed mid new name _ _ second (own_changed disk mid name _ _ first found)) (record {
+      beginning new name (flushed (with_bytes (run_of events) (file_with begun is_durable))) (own_changed mid new name _ _ second (own_changed disk mid name _ _ first found)) (record {
         tail = [];
         whole = sym (append-nil (run_of begun ++ run_of events));
         enough = omega (arith, length-append (run_of begun) (run_of events));
       })
 
 -- both changes of a write in one
-pub changes_both : (disk mid new : Disk) (name bytes : List ℕ) → Changes name (grown bytes) disk mid → Changes name flushed mid new → Changes name (λ f. flushed (grown bytes f)) disk new
+pub changes_both : (disk mid new : Disk) (name bytes : List ℕ) → Changes name (with_bytes bytes) disk mid → Changes name flushed mid new → Changes name (λ f. flushed (with_bytes bytes f)) disk new
 changes_both disk mid new name bytes first second q =
-    follows disk mid new name (option_map (grown bytes) (disk name)) flushed first second q ∙ ap (λ o. cond (bytes_eq name q) o (disk q)) (twice (disk name))
+    follows disk mid new name (option_map (with_bytes bytes) (disk name)) flushed first second q ∙ ap (λ o. cond (bytes_eq name q) o (disk q)) (twice (disk name))
   where
-    twice : (o : Option File) → option_map flushed (option_map (grown bytes) o) ≡ option_map (λ f. flushed (grown bytes f)) o
+    twice : (o : Option File) → option_map flushed (option_map (with_bytes bytes) o) ≡ option_map (λ f. flushed (with_bytes bytes f)) o
     twice None = refl
     twice (Some f) = refl
 
 -- the file after a write: all of it is synced
 pub written_file : (disk new : Disk) (name bytes : List ℕ) (begun events : List Event) (is_durable : Bool) → disk name ≡ Some (file_with begun is_durable) → bytes ≡ run_of events
-    → Changes name (λ f. flushed (grown bytes f)) disk new → new name ≡ Some (kept_file (run_of (begun ++ events)))
+    → Changes name (λ f. flushed (with_bytes bytes f)) disk new → new name ≡ Some (kept_file (run_of (begun ++ events)))
 written_file disk new name bytes begun events is_durable found is changes =
-    own_changed disk new name _ (λ f. flushed (grown bytes f)) changes found
+    own_changed disk new name _ (λ f. flushed (with_bytes bytes f)) changes found
     ∙ ap (λ (w : List ℕ). Some (kept_file w)) (ap (λ (z : List ℕ). run_of begun ++ z) is ∙ sym (flat_map-append item_of begun events))
 
 -- ---- a write at each moment
@@ -254,18 +254,18 @@ err_map (Ok t) f p = tt
 err_map (Err e) f p = f p
 
 -- all of the bytes
-pub grown_all : (disk new : Disk) (name bytes : List ℕ) → Changes name (grown bytes) disk new → Changes name (grown (take (length bytes) bytes)) disk new
-grown_all disk new name bytes = subst (λ (b : List ℕ). Changes name (grown b) disk new) (sym (take_all (length bytes) bytes (omega arith)))
+pub grown_all : (disk new : Disk) (name bytes : List ℕ) → Changes name (with_bytes bytes) disk new → Changes name (with_bytes (take (length bytes) bytes)) disk new
+grown_all disk new name bytes = subst (λ (b : List ℕ). Changes name (with_bytes b) disk new) (sym (take_all (length bytes) bytes (omega arith)))
 
 pub same_changes : (disk mid new : Disk) (name : List ℕ) (how : File → File) → Changes name how disk mid → SameDisk new mid → Changes name how disk new
 same_changes disk mid new name how changes same q = same q ∙ changes q
 
-pub safe_append : (old mid : History) (own name bytes : List ℕ) (events : List Event) → Elapses old mid → Changes own (grown bytes) (now old) (now mid) → IsSafe (now old) name events
+pub safe_append : (old mid : History) (own name bytes : List ℕ) (events : List Event) → Elapses old mid → Changes own (with_bytes bytes) (now old) (now mid) → IsSafe (now old) name events
     → StaysSafe old mid name events
 safe_append old mid own name bytes events time changes safe = safe_on old old mid name events (safe_here old name events safe) time (safe_grown (now old) (now mid) own name bytes events changes safe)
 
-pub others_append : (old mid : History) (own bytes : List ℕ) → Elapses old mid → Changes own (grown bytes) (now old) (now mid) → OthersStay old mid own
-others_append old mid own bytes time changes = others_on old old mid own (others_here old own) time (change_leaves (now old) (now mid) own (grown bytes) changes)
+pub others_append : (old mid : History) (own bytes : List ℕ) → Elapses old mid → Changes own (with_bytes bytes) (now old) (now mid) → OthersStay old mid own
+others_append old mid own bytes time changes = others_on old old mid own (others_here old own) time (change_leaves (now old) (now mid) own (with_bytes bytes) changes)
 
 pub others_sync : (mid new : Disk) (own : List ℕ) → Changes own flushed mid new ⊎ SameDisk new mid → (name : List ℕ) → name ≢ own → new name ≡ mid name
 others_sync mid new own how name other = ⊎_elim (λ changes. change_leaves mid new own flushed changes name other) (λ same. same name) how
@@ -278,26 +278,26 @@ module _ (old : History) (name bytes : List ℕ) (begun events : List Event) (is
   pub begun_here : LeavesOnly old old (λ folder. IsBeginning folder name (length begun) (begun ++ events))
   begun_here = started old (λ folder. IsBeginning folder name (length begun) (begun ++ events)) (begun_left begun events each each_new (now old) name is_durable found)
 
-  pub begun_append : (mid : History) (n : ℕ) → Elapses old mid → Changes name (grown (take n bytes)) (now old) (now mid)
+  pub begun_append : (mid : History) (n : ℕ) → Elapses old mid → Changes name (with_bytes (take n bytes)) (now old) (now mid)
       → LeavesOnly old mid (λ folder. IsBeginning folder name (length begun) (begun ++ events))
   begun_append mid n time changes =
       goes_on old old mid (λ folder. IsBeginning folder name (length begun) (begun ++ events)) begun_here time
-      (grown_left begun events each each_new (now old) (now mid) name n is_durable found (subst (λ (b : List ℕ). Changes name (grown (take n b)) (now old) (now mid)) is changes))
+      (grown_left begun events each each_new (now old) (now mid) name n is_durable found (subst (λ (b : List ℕ). Changes name (with_bytes (take n b)) (now old) (now mid)) is changes))
 
-  pub begun_sync : (mid new : History) → Elapses old mid → Elapses mid new → Changes name (grown bytes) (now old) (now mid) → Changes name flushed (now mid) (now new) ⊎ SameDisk (now new) (now mid)
+  pub begun_sync : (mid new : History) → Elapses old mid → Elapses mid new → Changes name (with_bytes bytes) (now old) (now mid) → Changes name flushed (now mid) (now new) ⊎ SameDisk (now new) (now mid)
       → LeavesOnly old new (λ folder. IsBeginning folder name (length begun) (begun ++ events))
   begun_sync mid new first second changes how =
       let so_far = begun_append mid (length bytes) first (grown_all (now old) (now mid) name bytes changes) in
       ⊎_elim
       (λ flush.
       goes_on old mid new (λ folder. IsBeginning folder name (length begun) (begun ++ events)) so_far second
-      (flushed_left begun events each each_new (now old) (now mid) (now new) name is_durable found (subst (λ (b : List ℕ). Changes name (grown b) (now old) (now mid)) is changes) flush))
+      (flushed_left begun events each each_new (now old) (now mid) (now new) name is_durable found (subst (λ (b : List ℕ). Changes name (with_bytes b) (now old) (now mid)) is changes) flush))
       (λ same. rests old mid new (λ folder. IsBeginning folder name (length begun) (begun ++ events)) so_far second same)
       how
 
-pub err_grown : {T E : Type 0} → (old mid new : Disk) (name bytes : List ℕ) (r : Result T E) → Changes name (grown bytes) old mid → OnErr r (SameDisk new mid)
-    → OnErr r ((n : ℕ) × Changes name (grown (take n bytes)) old new)
-err_grown old mid new name bytes r changes = err_map r (λ same. (length bytes, same_changes old mid new name (grown (take (length bytes) bytes)) (grown_all old mid name bytes changes) same))
+pub err_grown : {T E : Type 0} → (old mid new : Disk) (name bytes : List ℕ) (r : Result T E) → Changes name (with_bytes bytes) old mid → OnErr r (SameDisk new mid)
+    → OnErr r ((n : ℕ) × Changes name (with_bytes (take n bytes)) old new)
+err_grown old mid new name bytes r changes = err_map r (λ same. (length bytes, same_changes old mid new name (with_bytes (take (length bytes) bytes)) (grown_all old mid name bytes changes) same))
 
 -- ---- a write of an open sink
 
@@ -356,7 +356,7 @@ is_some_of o x is = subst IsSome (sym is) refl
 -- ---- a new file
 
 made_at : (disk new : Disk) (own name : List ℕ) (events : List Event) → disk own ≡ None → (safe : IsSafe disk name events) → (b : Bool) → bytes_eq own name ≡ b
-    → new name ≡ cond b (Some fresh) (disk name) → IsSafe new name events
+    → new name ≡ cond b (Some new_file) (disk name) → IsSafe new name events
 made_at disk new own name events none safe true same made = let e = ap disk (same_name own name same) in absurd (cc (e, none, safe.found))
 made_at disk new own name events none safe false other made = safe_of new name events safe.file safe.each (made ∙ safe.found) (sure_of disk name events safe)
 

@@ -1,6 +1,6 @@
 -- What holds of sinks' content, apart from any call.
 use Rattle.std.specs.Prelude.{ℕ, ◌≡◌, ◌≤◌, List, ◌∷◌, ◌++◌, length, take}
-use Rattle.disk_files.specs.Disk.{Disk, Folder, StopLeaves, settled}
+use Rattle.disk_files.specs.Disk.{Disk, Folder, StopLeaves, after_stop}
 use Rattle.disk_files.specs.Moments.{History}
 use Rattle.sink_series.specs.Events.{Event, Holds, under}
 use Rattle.sink_series.specs.Views.{Answer}
@@ -39,7 +39,7 @@ AnswersStand =
 
 -- what is safe in a file is safe on the disk from which the folder starts again after a stop
 abbrev pub SafeOverStop : Type 0
-SafeOverStop = (name : List ℕ) (events : List Event) (disk : Disk) (folder : Folder) → IsSafe disk name events → StopLeaves disk folder → IsSafe (settled folder) name events
+SafeOverStop = (name : List ℕ) (events : List Event) (disk : Disk) (folder : Folder) → IsSafe disk name events → StopLeaves disk folder → IsSafe (after_stop folder) name events
 
 -- an empty file besides, where none was, changes no content: it is that of what another stop could leave
 abbrev pub MadeAddsNothing : Type 0

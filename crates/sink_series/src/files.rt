@@ -4,7 +4,7 @@ ghost use Rattle.std.specs.Prelude.{◌≡◌, ◌≢◌, ◌⊎◌, ◌↔◌, 
 ghost use Rattle.std.specs.List.{AllByRecursion};
 ghost use Rattle.std.specs.Ordering.{nat_cmp};
 ghost use Rattle.std.specs.BTreeSet.{contains};
-ghost use Rattle.disk_files.specs.Disk.{grown, flushed, SameDisk, Makes, Changes, reads};
+ghost use Rattle.disk_files.specs.Disk.{with_bytes, flushed, SameDisk, Makes, Changes, reads};
 ghost use Rattle.disk_files.specs.Moments.{Elapses, LeavesOnly, now};
 ghost use Rattle.disk_files.specs.Faults.{HasCause as HasDirCause};
 ghost use Rattle.disk_files.specs.declared.dir.FileNo.{FileNo};
@@ -162,9 +162,9 @@ pub(crate) fn put_synced<D: Dir>(dir: &mut D, file: FileNo, bytes: &[u8]) -> Res
         → LeavesOnly (D.history dir.old) (D.history dir.new)
         (λ folder. IsBeginning folder name (length begun) (begun ++ events)) }
     ensures ok { D.is_honest dir.old → (name : List ℕ) → D.opened dir.old file ≡ Some name
-        → OnOk result (Changes name (λ f. flushed (grown bytes.now f)) (now (D.history dir.old)) (now (D.history dir.new))) }
+        → OnOk result (Changes name (λ f. flushed (with_bytes bytes.now f)) (now (D.history dir.old)) (now (D.history dir.new))) }
     ensures err { D.is_honest dir.old → (name : List ℕ) → D.opened dir.old file ≡ Some name
-        → OnErr result ((n : ℕ) × Changes name (grown (take n bytes.now)) (now (D.history dir.old)) (now (D.history dir.new))) }
+        → OnErr result ((n : ℕ) × Changes name (with_bytes (take n bytes.now)) (now (D.history dir.old)) (now (D.history dir.new))) }
     ensures opened { (other : FileNo) → D.opened dir.new other ≡ D.opened dir.old other }
     ensures cause { HasDirCause (D.fault_count dir.old) (D.fault_count dir.new) result }
     ensures only { OnErr result (result ≡ Err DirError.Fault) }

@@ -4,7 +4,7 @@ use Rattle.std.specs.List.{AllZip}
 use Rattle.step_lines.specs.Texts.{texts_of}
 use Rattle.step_lines.specs.declared.step.ChunkName.{ChunkName}
 use Rattle.step_lines.specs.declared.step.Step.TheVariants as step
-use Rattle.step_lines.specs.StepLines.{IsNumber, IsChunkName, Spells, NoStep, IsNoneOf, number_words, chunk_words, counted_words}
+use Rattle.step_lines.specs.StepLines.{IsNumber, IsChunkName, IsHexOf, NoStep, IsNoneOf, number_words, chunk_words, counted_words}
 use Rattle.tag_pattern.specs.Parts.{most_tag_bytes}
 
 -- a test of a word that failed
@@ -13,7 +13,7 @@ other_word h e x = let holds = h.1 x in absurd (cc)
 
 -- the words are of no form
 pub record Refused (words : List (List ℕ)) : Type 0 where
-  pub send : (number tag : List ℕ) (texts : List (List ℕ)) → words ≡ codes "send" ∷ number ∷ tag ∷ texts → (n : ℕ) → IsNumber number n → length tag ≤ most_tag_bytes → (entries : List (List ℕ)) → ¬ (AllZip Spells texts entries)
+  pub send : (number tag : List ℕ) (texts : List (List ℕ)) → words ≡ codes "send" ∷ number ∷ tag ∷ texts → (n : ℕ) → IsNumber number n → length tag ≤ most_tag_bytes → (entries : List (List ℕ)) → ¬ (AllZip IsHexOf texts entries)
   pub number : (name word : List ℕ) → words ≡ name ∷ word ∷ [] → (n : ℕ) → IsNumber word n → ¬ (¬ (IsNoneOf name number_words))
   pub chunk : (name word : List ℕ) → words ≡ name ∷ word ∷ [] → (chunk : ChunkName) → IsChunkName word chunk → ¬ (¬ (IsNoneOf name chunk_words))
   pub counted : (name word count : List ℕ) → words ≡ name ∷ word ∷ count ∷ [] → (chunk : ChunkName) → IsChunkName word chunk → (n : ℕ) → IsNumber count n → ¬ (¬ (IsNoneOf name counted_words))

@@ -6,7 +6,7 @@ use Rattle.conf_values.specs.Numbers.{number_of}
 use Rattle.step_lines.specs.declared.step.ChunkName.{ChunkName}
 use Rattle.step_lines.specs.declared.step.Step.{Step}
 use Rattle.step_lines.specs.declared.step.Step.TheVariants as step
-use Rattle.step_lines.specs.StepLines.{IsNumber, IsChunkName, Spells, IsStepOf, SaysNothing, chunk_words, counted_words}
+use Rattle.step_lines.specs.StepLines.{IsNumber, IsChunkName, IsHexOf, IsStepOf, SaysNothing, chunk_words, counted_words}
 use Rattle.step_lines.specs.Laws.{Content, numbered, numbers_of, content}
 
 abbrev is_send : List ℕ → Bool
@@ -44,7 +44,7 @@ record Reading (words : List (List ℕ)) (c : Content) : Type 0 where
   word : word_in words ≡ c.word
   numbers : numbers_in words ≡ map Some c.numbers
   tag : tag_in words ≡ c.tag
-  entries : AllZip Spells (texts_in words) c.entries
+  entries : AllZip IsHexOf (texts_in words) c.entries
 
 number_line : (name word : List ℕ) (n : ℕ) (words : List (List ℕ)) → words ≡ name ∷ word ∷ [] → IsNumber word n → is_send name ≡ false → has_chunk name ≡ false → Reading words (numbered name (n ∷ []))
 number_line name word n words e is no_send no_chunk = subst (λ w. Reading w (numbered name (n ∷ []))) (sym e) (record {
@@ -111,7 +111,7 @@ same_numbers [] (y ∷ ys) e = cc
 same_numbers (x ∷ xs) [] e = cc
 same_numbers (x ∷ xs) (y ∷ ys) e = let rest : map Some xs ≡ map Some ys = cc in let same = same_numbers xs ys rest in cc
 
-same_entries : (words xs ys : List (List ℕ)) → AllZip Spells words xs → AllZip Spells words ys → xs ≡ ys
+same_entries : (words xs ys : List (List ℕ)) → AllZip IsHexOf words xs → AllZip IsHexOf words ys → xs ≡ ys
 same_entries [] [] [] h k = refl
 same_entries [] [] (y ∷ ys) h k = absurd k
 same_entries [] (x ∷ xs) ys h k = absurd h

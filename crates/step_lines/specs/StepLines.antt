@@ -42,8 +42,8 @@ abbrev pub IsChunkName : List ℕ → ChunkName → Type 0
 IsChunkName word name = AreNameParts (slice_split (λ b. b == 47) word) name
 
 -- The word spells the entry in hex, in digits of either case.
-abbrev pub Spells : List ℕ → List ℕ → Type 0
-Spells word entry = decode_of word ≡ Ok entry
+abbrev pub IsHexOf : List ℕ → List ℕ → Type 0
+IsHexOf word entry = decode_of word ≡ Ok entry
 
 -- The fields are this word, and one that is a number.
 abbrev pub IsOneNumber : List ℕ → List (List ℕ) → ℕ → Type 0
@@ -61,7 +61,7 @@ IsChunkAndNumber name words chunk n =
 -- The fields are those of the step.
 abbrev pub IsStepOf : {A : Type 0} → List (List ℕ) → Step A → Type 0
 IsStepOf words (step.Send client tag entries) = (number : List ℕ) × (texts : List (List ℕ))
-    × (words ≡ codes "send" ∷ number ∷ tag ∷ texts) × IsNumber number client × (length tag ≤ most_tag_bytes) × AllZip Spells texts (texts_of entries.items)
+    × (words ≡ codes "send" ∷ number ∷ tag ∷ texts) × IsNumber number client × (length tag ≤ most_tag_bytes) × AllZip IsHexOf texts (texts_of entries.items)
 IsStepOf words (step.Begin message) = IsOneNumber (codes "begin") words message
 IsStepOf words (step.Append delivery buffer serial) = (d : List ℕ) × (b : List ℕ) × (s : List ℕ)
     × (words ≡ codes "append" ∷ d ∷ b ∷ s ∷ []) × IsNumber d delivery × IsNumber b buffer × IsNumber s serial

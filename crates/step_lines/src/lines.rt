@@ -4,7 +4,7 @@ ghost use Rattle.std.specs.Prelude.{◌≡◌, [], ◌∷◌, ℕ, codes, map, n
 ghost use Rattle.std.specs.List.{AllZip, slice_split, filter};
 ghost use Rattle.step_lines.specs.Texts.{texts_of};
 ghost use Rattle.step_lines.specs.declared.step.ChunkName.{ChunkName as TheName};
-ghost use Rattle.step_lines.specs.StepLines.{Spells, IsNumber, AreNameParts, IsChunkName, IsStepOf, NoStep, IsNoneOf, number_words, chunk_words, counted_words, SaysNothing, IsSaid, words_of, is_blank as blank};
+ghost use Rattle.step_lines.specs.StepLines.{IsHexOf, IsNumber, AreNameParts, IsChunkName, IsStepOf, NoStep, IsNoneOf, number_words, chunk_words, counted_words, SaysNothing, IsSaid, words_of, is_blank as blank};
 
 use crate::step::{ChunkName, Step};
 use conf_values::whole_number;
@@ -104,8 +104,8 @@ fn name_of_three(relay: &[u8], buffer: &[u8], serial: &[u8]) -> Option<ChunkName
 
 // The entry that the word spells in hex, if it spells one.
 fn entry_of<A: Allocator>(alloc: A, word: &[u8]) -> Result<Option<Vec<u8, A>>, AllocError>
-    ensures entry { IfOk result (λ found. IfSome found (λ entry. Spells word.now entry.items)) }
-    ensures none { IfOk result (λ found. IfNone found ((entry : List ℕ) → ¬ (Spells word.now entry))) }
+    ensures entry { IfOk result (λ found. IfSome found (λ entry. IsHexOf word.now entry.items)) }
+    ensures none { IfOk result (λ found. IfNone found ((entry : List ℕ) → ¬ (IsHexOf word.now entry))) }
 {
     match hex::decode(alloc, word) {
         Ok(entry) => Ok(Some(entry)),
@@ -121,8 +121,8 @@ fn entries_of<A: Allocator + Copy>(
     alloc: A,
     words: &[&[u8]],
 ) -> Result<Option<Vec<Vec<u8, A>, A>>, AllocError>
-    ensures entries { IfOk result (λ found. IfSome found (λ entries. AllZip Spells (map (λ word. word.now) words.now) (texts_of entries.items))) }
-    ensures none { IfOk result (λ found. IfNone found ((entries : List (List ℕ)) → ¬ (AllZip Spells (map (λ word. word.now) words.now) entries))) }
+    ensures entries { IfOk result (λ found. IfSome found (λ entries. AllZip IsHexOf (map (λ word. word.now) words.now) (texts_of entries.items))) }
+    ensures none { IfOk result (λ found. IfNone found ((entries : List (List ℕ)) → ¬ (AllZip IsHexOf (map (λ word. word.now) words.now) entries))) }
 {
     let mut entries = Vec::new(alloc);
     for word in words {

@@ -7,7 +7,7 @@ use Rattle.stream_listing.specs.HexText.{digits_of}
 use Rattle.stream_listing.specs.Listing.{arrival_lines, lines_of}
 use Rattle.stream_listing.specs.declared.decode.Stop.TheVariants.{Memory}
 use Rattle.stream_listing.specs.Decoding.{Lists}
-use Rattle.stream_listing.proofs.HexSteps.{SpellsUpTo-none}
+use Rattle.stream_listing.proofs.HexSteps.{AreDigitsUpTo-none}
 
 -- what is split on begins with what was left over
 pub Splits-trans : (bytes held rest : List ℕ) (arrivals more : List Arrival) → Splits bytes arrivals held → Splits held more rest
@@ -58,7 +58,7 @@ Lists-none hex feed piece lines hex' feed' e = record {
   arrivals = [];
   left = hex ++ digits_of piece;
   held = feed.held;
-  reads = record { bytes = []; read = SpellsUpTo-none (hex ++ digits_of piece); splits = append-nil feed.held };
+  reads = record { bytes = []; read = AreDigitsUpTo-none (hex ++ digits_of piece); splits = append-nil feed.held };
   whole = e;
   after = tt;
 }

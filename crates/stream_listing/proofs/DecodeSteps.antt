@@ -11,14 +11,14 @@ use Rattle.program_text.specs.declared.status.Status.{Status}
 use Rattle.program_text.specs.declared.status.Status.TheVariants.{Usage}
 use Rattle.stream_listing.specs.declared.decode.Stop.{Stop}
 use Rattle.stream_listing.specs.declared.decode.Stop.TheVariants.{Hex, Stream, Memory, Read}
-use Rattle.stream_listing.specs.HexText.{digits_of, SpellsUpTo}
+use Rattle.stream_listing.specs.HexText.{digits_of, AreDigitsUpTo}
 use Rattle.program_text.specs.Lines.{memory_line, read_line}
 use Rattle.stream_listing.specs.Listing.{arrival_lines, lines_of, Ending, Rest, Fault, BadHex, ending_lines, ReadsOn, IsPending, status_of, Holds, IsListed, PrintsListing}
 use Rattle.event_modes.specs.Feeding.{Feeding}
 use Rattle.program_text.specs.Output.{TakesPart, IsPrinted}
 use Rattle.stream_listing.specs.Decoding.{Lists, StopsAt, IsLast, IsLastAtEnd, PrintsLast}
 use Rattle.program_text.specs.Texts.{IsTextOf}
-use Rattle.stream_listing.proofs.HexSteps.{SpellsUpTo-append, SpellsUpTo-more}
+use Rattle.stream_listing.proofs.HexSteps.{AreDigitsUpTo-append, AreDigitsUpTo-more}
 use Rattle.stream_listing.proofs.ArrivalSteps.{Splits-trans, Splits-more}
 
 -- ---- reading on
@@ -37,7 +37,7 @@ pub ReadsOn-trans : (l0 h0 d1 l1 h1 d2 l2 h2 : List ℕ) (a1 a2 : List Arrival) 
     → ReadsOn l0 h0 (d1 ++ d2) (a1 ++ a2) l2 h2
 ReadsOn-trans l0 h0 d1 l1 h1 d2 l2 h2 a1 a2 h k = record {
   bytes = h.bytes ++ k.bytes;
-  read = subst (λ d. SpellsUpTo d (h.bytes ++ k.bytes) l2) (append_assoc l0 d1 d2) (SpellsUpTo-append (l0 ++ d1) d2 h.bytes k.bytes l1 l2 h.read k.read);
+  read = subst (λ d. AreDigitsUpTo d (h.bytes ++ k.bytes) l2) (append_assoc l0 d1 d2) (AreDigitsUpTo-append (l0 ++ d1) d2 h.bytes k.bytes l1 l2 h.read k.read);
   splits = subst (λ b. Splits b (a1 ++ a2) h2) (append_assoc h0 h.bytes k.bytes)
       (Splits-trans ((h0 ++ h.bytes) ++ k.bytes) (h1 ++ k.bytes) h2 a1 a2 (Splits-more (h0 ++ h.bytes) h1 k.bytes a1 h.splits) k.splits);
 }
@@ -47,7 +47,7 @@ pub ReadsOn-more : (l0 h0 digits left held more : List ℕ) (arrivals : List Arr
     → ReadsOn l0 h0 (digits ++ more) arrivals (left ++ more) held
 ReadsOn-more l0 h0 digits left held more arrivals h = record {
   bytes = h.bytes;
-  read = subst (λ d. SpellsUpTo d h.bytes (left ++ more)) (append_assoc l0 digits more) (SpellsUpTo-more (l0 ++ digits) h.bytes left more h.read);
+  read = subst (λ d. AreDigitsUpTo d h.bytes (left ++ more)) (append_assoc l0 digits more) (AreDigitsUpTo-more (l0 ++ digits) h.bytes left more h.read);
   splits = h.splits;
 }
 

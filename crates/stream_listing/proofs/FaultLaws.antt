@@ -1,6 +1,6 @@
 -- What is known of a fault of the stream.
 use Rattle.std.proofs.Common.{◌≡◌, inl, inr, ℕ, List, [], ◌∷◌, ◌++◌, refl, sym, ap, ◌∙◌, subst, append_assoc, append-nil, arith}
-use Rattle.msgpack_bytes.specs.Item.{IsTextItem, IsOpen}
+use Rattle.msgpack_bytes.specs.Item.{IsItemWithin, IsOpen}
 use Rattle.msgpack_bytes.specs.Fault.{IsFaulty}
 use Rattle.msgpack_bytes.specs.declared.answers.MsgFault.{MsgFault}
 use Rattle.event_modes.specs.declared.fault.ModeFault.{ModeFault}
@@ -44,15 +44,15 @@ fault_not_pending bytes fault h (inl none) =
 fault_not_pending bytes fault h (inr begun) = let e = one_answer_to bytes (Refuses fault) Wants h begun in cc
 
 -- the beginning of a text item is open, unless it is one
-pub longer_open : (front more : List ℕ) → IsTextItem (front ++ more) → (IsTextItem front → ⊥) → IsOpen front
-longer_open front [] h none = absurd (none (subst IsTextItem (append-nil front) h))
+pub longer_open : (front more : List ℕ) → IsItemWithin (front ++ more) → (IsItemWithin front → ⊥) → IsOpen front
+longer_open front [] h none = absurd (none (subst IsItemWithin (append-nil front) h))
 longer_open front (m ∷ more) h none = record { more = m ∷ more; some = omega arith; ends = h; unended = none }
 
 faulty_lost : (why : MsgFault) (bytes : List ℕ) → IsFaulty why bytes → IsLost bytes
 faulty_lost why bytes h = record {
   begins_none = λ more text.
       h.closed (longer_open h.shortest (h.rest ++ more)
-      (subst IsTextItem (ap (λ l. l ++ more) h.whole ∙ append_assoc h.shortest h.rest more) text) h.unended);
+      (subst IsItemWithin (ap (λ l. l ++ more) h.whole ∙ append_assoc h.shortest h.rest more) text) h.unended);
   has_none = λ front back e text. not_faulty why bytes (record { front = front; back = back; is = text; whole = e }) h;
 }
 

@@ -3,16 +3,16 @@ use Rattle.std.proofs.Common.{◌≡◌, ◌⊎◌, inl, inr, ℕ, List, [], ◌
 use Rattle.std.specs.Prelude.{IsErr}
 use Rattle.hex.specs.Hex.{decode_of}
 use Rattle.hex.proofs.HexLemmas.{decode_of-same}
-use Rattle.stream_listing.specs.HexText.{Spells, SpellsUpTo, IsBroken}
+use Rattle.stream_listing.specs.HexText.{AreDigitsOf, AreDigitsUpTo, IsBroken}
 
 -- one reading goes on where the other ended
 abbrev pub GoesOn : List ℕ → List ℕ → List ℕ → List ℕ → Type 0
-GoesOn bytes left more_bytes rest = (more : List ℕ) × (more_bytes ≡ bytes ++ more) × SpellsUpTo left more rest
+GoesOn bytes left more_bytes rest = (more : List ℕ) × (more_bytes ≡ bytes ++ more) × AreDigitsUpTo left more rest
 
 same_byte : (high low one other : ℕ) → decode_of (high ∷ low ∷ []) ≡ Ok (one ∷ []) → decode_of (high ∷ low ∷ []) ≡ Ok (other ∷ []) → one ≡ other
 same_byte high low one other h k = let e = decode_of-same (high ∷ low ∷ []) (one ∷ []) (other ∷ []) h k in cc
 
-compare_fronts : (front other bytes others left rest : List ℕ) → Spells front bytes → Spells other others → front ++ left ≡ other ++ rest
+compare_fronts : (front other bytes others left rest : List ℕ) → AreDigitsOf front bytes → AreDigitsOf other others → front ++ left ≡ other ++ rest
     → GoesOn bytes left others rest ⊎ GoesOn others rest bytes left
 compare_fronts [] other [] others left rest h k e = inl (others, refl, record { front = other; spelled = k; whole = e })
 compare_fronts [] other (b ∷ bytes) others left rest h k e = absurd h
@@ -33,14 +33,14 @@ compare_fronts (c ∷ d ∷ front) (x ∷ y ∷ other) (b ∷ bytes) (a ∷ othe
     ]
 
 -- of two readings one goes on where the other ended
-pub compare : (digits bytes others left rest : List ℕ) → SpellsUpTo digits bytes left → SpellsUpTo digits others rest
+pub compare : (digits bytes others left rest : List ℕ) → AreDigitsUpTo digits bytes left → AreDigitsUpTo digits others rest
     → GoesOn bytes left others rest ⊎ GoesOn others rest bytes left
 compare digits bytes others left rest h k = compare_fronts h.front k.front bytes others left rest h.spelled k.spelled (sym h.whole ∙ k.whole)
 
 -- nothing goes on where nothing is left
 pub ends_whole : (bytes others rest : List ℕ) → GoesOn bytes [] others rest → (others ≡ bytes ++ []) × (rest ≡ [])
 ends_whole bytes others rest h = ends bytes others rest h.0 h.2.front h.1 h.2.spelled h.2.whole where
-  ends : (bytes others rest more front : List ℕ) → others ≡ bytes ++ more → Spells front more → [] ≡ front ++ rest → (others ≡ bytes ++ []) × (rest ≡ [])
+  ends : (bytes others rest more front : List ℕ) → others ≡ bytes ++ more → AreDigitsOf front more → [] ≡ front ++ rest → (others ≡ bytes ++ []) × (rest ≡ [])
   ends bytes others rest [] [] e s w = (e, sym w)
   ends bytes others rest (b ∷ more) [] e s w = absurd s
   ends bytes others rest more (d ∷ front) e s w = cc w
@@ -48,7 +48,7 @@ ends_whole bytes others rest h = ends bytes others rest h.0 h.2.front h.1 h.2.sp
 -- nor where what is left is broken
 pub ends_broken : (bytes left others rest : List ℕ) → IsBroken left → GoesOn bytes left others rest → (others ≡ bytes ++ []) × (rest ≡ left)
 ends_broken bytes left others rest broken h = ends bytes left others rest h.0 h.2.front broken h.1 h.2.spelled h.2.whole where
-  ends : (bytes left others rest more front : List ℕ) → IsBroken left → others ≡ bytes ++ more → Spells front more → left ≡ front ++ rest
+  ends : (bytes left others rest more front : List ℕ) → IsBroken left → others ≡ bytes ++ more → AreDigitsOf front more → left ≡ front ++ rest
       → (others ≡ bytes ++ []) × (rest ≡ left)
   ends bytes left others rest [] [] broken e s w = (e, sym w)
   ends bytes left others rest (b ∷ more) [] broken e s w = absurd s

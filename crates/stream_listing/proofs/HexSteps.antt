@@ -5,45 +5,45 @@ use Rattle.std.specs.Char.{is_ascii_whitespace}
 use Rattle.std.proofs.lemmas.List.{append_assoc, append-nil, take-append-drop}
 use Rattle.std.proofs.lemmas.List.Elements.{filter_more, filter-append}
 use Rattle.hex.specs.Hex.{decode_of}
-use Rattle.stream_listing.specs.HexText.{digits_of, Spells, SpellsUpTo, IsBroken, Breaks}
+use Rattle.stream_listing.specs.HexText.{digits_of, AreDigitsOf, AreDigitsUpTo, IsBroken, Breaks}
 
 -- two texts, one after the other, spell the bytes of both
-pub Spells-append : (front digits before bytes : List ℕ) → Spells front before → Spells digits bytes
-    → Spells (front ++ digits) (before ++ bytes)
-Spells-append [] digits [] bytes h k = k
-Spells-append [] digits (b ∷ bs) bytes h k = absurd h
-Spells-append (d ∷ []) digits before bytes h k = absurd h
-Spells-append (a ∷ b ∷ front) digits [] bytes h k = absurd h
-Spells-append (a ∷ b ∷ front) digits (c ∷ before) bytes h k = (h.0, Spells-append front digits before bytes h.1 k)
+pub AreDigitsOf-append : (front digits before bytes : List ℕ) → AreDigitsOf front before → AreDigitsOf digits bytes
+    → AreDigitsOf (front ++ digits) (before ++ bytes)
+AreDigitsOf-append [] digits [] bytes h k = k
+AreDigitsOf-append [] digits (b ∷ bs) bytes h k = absurd h
+AreDigitsOf-append (d ∷ []) digits before bytes h k = absurd h
+AreDigitsOf-append (a ∷ b ∷ front) digits [] bytes h k = absurd h
+AreDigitsOf-append (a ∷ b ∷ front) digits (c ∷ before) bytes h k = (h.0, AreDigitsOf-append front digits before bytes h.1 k)
 
 -- what is read on begins with what was left over
-pub SpellsUpTo-append : (digits more bytes added held left : List ℕ) → SpellsUpTo digits bytes held
-    → SpellsUpTo (held ++ more) added left → SpellsUpTo (digits ++ more) (bytes ++ added) left
-SpellsUpTo-append digits more bytes added held left h k = record {
+pub AreDigitsUpTo-append : (digits more bytes added held left : List ℕ) → AreDigitsUpTo digits bytes held
+    → AreDigitsUpTo (held ++ more) added left → AreDigitsUpTo (digits ++ more) (bytes ++ added) left
+AreDigitsUpTo-append digits more bytes added held left h k = record {
   front = h.front ++ k.front;
-  spelled = Spells-append h.front k.front bytes added h.spelled k.spelled;
+  spelled = AreDigitsOf-append h.front k.front bytes added h.spelled k.spelled;
   whole = ap (λ l. l ++ more) h.whole ∙ append_assoc h.front held more ∙ ap (λ l. h.front ++ l) k.whole
       ∙ sym (append_assoc h.front k.front left);
 }
 
 -- nothing is read yet
-pub SpellsUpTo-none : (digits : List ℕ) → SpellsUpTo digits [] digits
-SpellsUpTo-none digits = record { front = []; spelled = tt; whole = refl }
+pub AreDigitsUpTo-none : (digits : List ℕ) → AreDigitsUpTo digits [] digits
+AreDigitsUpTo-none digits = record { front = []; spelled = tt; whole = refl }
 
 -- what follows is left over too
-pub SpellsUpTo-more : (digits bytes left more : List ℕ) → SpellsUpTo digits bytes left → SpellsUpTo (digits ++ more) bytes (left ++ more)
-SpellsUpTo-more digits bytes left more h = record {
+pub AreDigitsUpTo-more : (digits bytes left more : List ℕ) → AreDigitsUpTo digits bytes left → AreDigitsUpTo (digits ++ more) bytes (left ++ more)
+AreDigitsUpTo-more digits bytes left more h = record {
   front = h.front;
   spelled = h.spelled;
   whole = ap (λ l. l ++ more) h.whole ∙ append_assoc h.front left more;
 }
 
 -- what is read on breaks
-pub Breaks-append : (digits more bytes added held : List ℕ) → SpellsUpTo digits bytes held
+pub Breaks-append : (digits more bytes added held : List ℕ) → AreDigitsUpTo digits bytes held
     → Breaks (held ++ more) added → Breaks (digits ++ more) (bytes ++ added)
 Breaks-append digits more bytes added held h k = record {
   left = k.left;
-  read = SpellsUpTo-append digits more bytes added held k.left h k.read;
+  read = AreDigitsUpTo-append digits more bytes added held k.left h k.read;
   broken = k.broken;
 }
 
@@ -51,19 +51,19 @@ Breaks-append digits more bytes added held h k = record {
 pub Breaks-more : (digits bytes more : List ℕ) → Breaks digits bytes → Breaks (digits ++ more) bytes
 Breaks-more digits bytes more h = record {
   left = h.left ++ more;
-  read = SpellsUpTo-more digits bytes h.left more h.read;
+  read = AreDigitsUpTo-more digits bytes h.left more h.read;
   broken = λ rest. subst IsBroken (sym (append_assoc h.left more rest)) (h.broken (more ++ rest));
 }
 
 -- a second digit
-pub two_digits : (high low byte : ℕ) → decode_of (high ∷ low ∷ []) ≡ Ok (byte ∷ []) → SpellsUpTo (high ∷ low ∷ []) (byte ∷ []) []
+pub two_digits : (high low byte : ℕ) → decode_of (high ∷ low ∷ []) ≡ Ok (byte ∷ []) → AreDigitsUpTo (high ∷ low ∷ []) (byte ∷ []) []
 two_digits high low byte h = record { front = high ∷ low ∷ []; spelled = (h, tt); whole = refl }
 
 -- no second digit
 pub two_broken : (high low : ℕ) → IsErr (decode_of (high ∷ low ∷ [])) → Breaks (high ∷ low ∷ []) []
 two_broken high low h = record {
   left = high ∷ low ∷ [];
-  read = SpellsUpTo-none (high ∷ low ∷ []);
+  read = AreDigitsUpTo-none (high ∷ low ∷ []);
   broken = λ more. h;
 }
 
@@ -89,28 +89,28 @@ digits_of-parts text i =
 -- a step over one digit of a text
 pub read_digit : (text start bytes added held left : List ℕ) (i digit : ℕ) → i < length text → digit ≡ get_or text i 0
     → is_ascii_whitespace digit ≡ false
-    → SpellsUpTo (start ++ digits_of (take i text)) bytes held → SpellsUpTo (held ++ digit ∷ []) added left
-    → SpellsUpTo (start ++ digits_of (take (i + 1) text)) (bytes ++ added) left
+    → AreDigitsUpTo (start ++ digits_of (take i text)) bytes held → AreDigitsUpTo (held ++ digit ∷ []) added left
+    → AreDigitsUpTo (start ++ digits_of (take (i + 1) text)) (bytes ++ added) left
 read_digit text start bytes added held left i digit h e none so_far step =
     let more = digits_of-take_more text i h (subst (λ d. is_ascii_whitespace d ≡ false) e none) in
     let same : (start ++ digits_of (take i text)) ++ digit ∷ [] ≡ start ++ digits_of (take (i + 1) text) =
     append_assoc start (digits_of (take i text)) (digit ∷ []) ∙ ap (λ d. start ++ (digits_of (take i text) ++ d ∷ [])) e ∙ ap (λ l. start ++ l) (sym more) in
-    subst (λ l. SpellsUpTo l (bytes ++ added) left) same
-    (SpellsUpTo-append (start ++ digits_of (take i text)) (digit ∷ []) bytes added held left so_far step)
+    subst (λ l. AreDigitsUpTo l (bytes ++ added) left) same
+    (AreDigitsUpTo-append (start ++ digits_of (take i text)) (digit ∷ []) bytes added held left so_far step)
 
 -- a step over white space
 pub read_space : (text start bytes held : List ℕ) (i digit : ℕ) → i < length text → digit ≡ get_or text i 0
     → is_ascii_whitespace digit ≡ true
-    → SpellsUpTo (start ++ digits_of (take i text)) bytes held
-    → SpellsUpTo (start ++ digits_of (take (i + 1) text)) bytes held
+    → AreDigitsUpTo (start ++ digits_of (take i text)) bytes held
+    → AreDigitsUpTo (start ++ digits_of (take (i + 1) text)) bytes held
 read_space text start bytes held i digit h e white so_far =
-    subst (λ l. SpellsUpTo (start ++ l) bytes held)
+    subst (λ l. AreDigitsUpTo (start ++ l) bytes held)
     (sym (digits_of-take_space text i h (subst (λ d. is_ascii_whitespace d ≡ true) e white))) so_far
 
 -- a digit that breaks the text
 pub break_digit : (text start bytes held : List ℕ) (i digit : ℕ) → i < length text → digit ≡ get_or text i 0
     → is_ascii_whitespace digit ≡ false
-    → SpellsUpTo (start ++ digits_of (take i text)) bytes held → Breaks (held ++ digit ∷ []) []
+    → AreDigitsUpTo (start ++ digits_of (take i text)) bytes held → Breaks (held ++ digit ∷ []) []
     → Breaks (start ++ digits_of text) bytes
 break_digit text start bytes held i digit h e none so_far broken =
     let more = digits_of-take_more text i h (subst (λ d. is_ascii_whitespace d ≡ false) e none) in

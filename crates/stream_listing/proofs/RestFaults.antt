@@ -3,10 +3,10 @@
 use Rattle.std.proofs.Common.{◌≡◌, ◌≤◌, inl, inr, ◌⊎◌, ℕ, zero, suc, List, [], ◌∷◌, ◌++◌, length, Option, Some, None, refl, sym, ap, ◌∙◌, subst, append_assoc, append-nil, length-append, arith}
 use Rattle.std.specs.List.{AllByRecursion, AllZip, concat}
 use Rattle.msgpack_bytes.specs.Containers.{Pair}
-use Rattle.msgpack_bytes.specs.Item.{IsTextItem, IsOpen}
+use Rattle.msgpack_bytes.specs.Item.{IsItemWithin, IsOpen}
 use Rattle.msgpack_bytes.specs.Kinds.{IsNil}
 use Rattle.msgpack_bytes.specs.Fault.{IsFaulty}
-use Rattle.msgpack_bytes.specs.Names.{Lacks, IsLastValue}
+use Rattle.msgpack_bytes.specs.Names.{HasNoKey, IsLastValue}
 use Rattle.msgpack_bytes.specs.declared.answers.MsgFault.{MsgFault}
 use Rattle.msgpack_bytes.specs.declared.answers.MsgFault.TheVariants.{Reserved, TooDeep, TooLong}
 use Rattle.event_modes.specs.declared.fault.ModeFault.{ModeFault}
@@ -43,7 +43,7 @@ module _ (bytes : List ℕ) (lost : IsLost bytes) (none : (why : MsgFault) → I
   -- the shortest beginning that is not open
   closed_at : (front rest : List ℕ) → bytes ≡ front ++ rest → (IsOpen front → ⊥) → AreOpen front → ⊥
   closed_at front rest whole closed before =
-      let unended : IsTextItem front → ⊥ = lost.has_none front rest whole in
+      let unended : IsItemWithin front → ⊥ = lost.has_none front rest whole in
       none TooLong (record {
         shortest = front;
         rest = rest;
@@ -60,7 +60,7 @@ module _ (bytes : List ℕ) (lost : IsLost bytes) (none : (why : MsgFault) → I
   look_on : (front rest : List ℕ) → bytes ≡ front ++ rest → AreOpen front → ⊥
   look_on front [] whole before =
       closed_at front [] whole
-      (λ o. lost.begins_none o.more (subst (λ b. IsTextItem (b ++ o.more)) (sym (whole ∙ append-nil front)) o.ends)) before
+      (λ o. lost.begins_none o.more (subst (λ b. IsItemWithin (b ++ o.more)) (sym (whole ∙ append-nil front)) o.ends)) before
   look_on front (b ∷ rest) whole before =
       closed_at front (b ∷ rest) whole
       (λ o. look_on (front ++ b ∷ []) rest (whole ∙ sym (append_assoc front (b ∷ []) rest))
@@ -116,14 +116,14 @@ stored_as (x ∷ xs) good =
 
 -- packed entries: good ones to the end, or what stands behind some good ones
 packed_fault : (most : ℕ) (content : List ℕ) → length content ≤ most
-    → ((items : List (List ℕ)) → AllByRecursion IsTextItem items → AllByRecursion IsGoodEntry items → content ≡ concat items → ⊥)
-    → ((fault : ModeFault) (items : List (List ℕ)) (rest : List ℕ) → AllByRecursion IsTextItem items → AllByRecursion IsGoodEntry items → content ≡ concat items ++ rest → PackedFault fault rest → ⊥) → ⊥
+    → ((items : List (List ℕ)) → AllByRecursion IsItemWithin items → AllByRecursion IsGoodEntry items → content ≡ concat items → ⊥)
+    → ((fault : ModeFault) (items : List (List ℕ)) (rest : List ℕ) → AllByRecursion IsItemWithin items → AllByRecursion IsGoodEntry items → content ≡ concat items ++ rest → PackedFault fault rest → ⊥) → ⊥
 packed_fault most [] short good none = good [] tt tt refl
 packed_fault zero (b ∷ bytes) short good none = absurd (omega arith)
 packed_fault (suc most) (b ∷ bytes) short good none =
     let content = b ∷ bytes in
     let some : content ≡ [] → ⊥ = λ e. absurd (let l = ap length e in omega (arith, l)) in
-    let begun : (item more : List ℕ) → IsTextItem item → content ≡ item ++ more → ⊥ = λ item more text whole.
+    let begun : (item more : List ℕ) → IsItemWithin item → content ≡ item ++ more → ⊥ = λ item more text whole.
     entry_fault item
     (λ one. packed_fault most more (shorter item more text whole)
     (λ items texts goods e. good (item ∷ items) (text, texts) (one, goods) (whole ∙ ap (λ l. item ++ l) e))
@@ -138,7 +138,7 @@ packed_fault (suc most) (b ∷ bytes) short good none =
     })
     (λ why faulty. none (Bytes why) [] content tt tt refl (some, inl faulty))
   where
-    shorter : (item more : List ℕ) → IsTextItem item → b ∷ bytes ≡ item ++ more → length more ≤ most
+    shorter : (item more : List ℕ) → IsItemWithin item → b ∷ bytes ≡ item ++ more → length more ≤ most
     shorter [] more text e = absurd (some_item (text_item [] text))
     shorter (x ∷ item) more text e = let l = ap length e in omega (arith, l, length-append item more, short)
 
@@ -164,7 +164,7 @@ pair_fault pair fit none =
     follows (λ chunk. follows (λ compressed. fit (record { chunk = chunk; compressed = compressed })) (λ named bad. none Compressed (named, bad)))
     (λ named bad. none BadOption (named, bad))
 
-last_value : (name : List ℕ) (pairs : List Pair) → (Lacks name pairs → ⊥) → ((value : List ℕ) → IsLastValue name pairs value → ⊥) → ⊥
+last_value : (name : List ℕ) (pairs : List Pair) → (HasNoKey name pairs → ⊥) → ((value : List ℕ) → IsLastValue name pairs value → ⊥) → ⊥
 last_value name [] lacks has = lacks tt
 last_value name (pair ∷ pairs) lacks has =
     last_value name pairs
@@ -186,7 +186,7 @@ option_fault (Some bytes) good none = none BadOption (inl (
       (λ fault bad. none fault (inr (pairs, map, bad))),
 ))
 
-frame_fault : (item : List ℕ) (frame : Frame) → IsTextItem item → IsFrame item frame → ((parts : Parts) → IsMessage item parts → ⊥) → ((fault : ModeFault) → FrameFault frame fault → ⊥) → ⊥
+frame_fault : (item : List ℕ) (frame : Frame) → IsItemWithin item → IsFrame item frame → ((parts : Parts) → IsMessage item parts → ⊥) → ((fault : ModeFault) → FrameFault frame fault → ⊥) → ⊥
 frame_fault item frame text framed good none = none BadTag (inl (
   refl,
   λ tag is_tag.
@@ -197,7 +197,7 @@ frame_fault item frame text framed good none = none BadTag (inl (
       (λ fault bad. none fault (inr (inl (tag, is_tag, bad)))),
 ))
 
-item_fault : (item : List ℕ) → IsTextItem item → (IsNil item → ⊥) → ((parts : Parts) → IsMessage item parts → ⊥) → ((fault : ModeFault) → ItemFault item fault → ⊥) → ⊥
+item_fault : (item : List ℕ) → IsItemWithin item → (IsNil item → ⊥) → ((parts : Parts) → IsMessage item parts → ⊥) → ((fault : ModeFault) → ItemFault item fault → ⊥) → ⊥
 item_fault item text nil good none =
     none NotAMessage (inl (refl, nil, λ frame framed. frame_fault item frame text framed good (λ fault bad. none fault (inr (frame, framed, bad)))))
 

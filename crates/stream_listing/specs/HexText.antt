@@ -8,17 +8,17 @@ abbrev pub digits_of : List ℕ → List ℕ
 digits_of text = filter (λ c. not (is_ascii_whitespace c)) text
 
 -- the digits spell the bytes: two digits, of either case, for each
-abbrev pub Spells : List ℕ → List ℕ → Type 0
-Spells [] [] = Unit {0}
-Spells [] (byte ∷ bytes) = ⊥
-Spells (digit ∷ []) bytes = ⊥
-Spells (high ∷ low ∷ digits) [] = ⊥
-Spells (high ∷ low ∷ digits) (byte ∷ bytes) = (decode_of (high ∷ low ∷ []) ≡ Ok (byte ∷ [])) × Spells digits bytes
+abbrev pub AreDigitsOf : List ℕ → List ℕ → Type 0
+AreDigitsOf [] [] = Unit {0}
+AreDigitsOf [] (byte ∷ bytes) = ⊥
+AreDigitsOf (digit ∷ []) bytes = ⊥
+AreDigitsOf (high ∷ low ∷ digits) [] = ⊥
+AreDigitsOf (high ∷ low ∷ digits) (byte ∷ bytes) = (decode_of (high ∷ low ∷ []) ≡ Ok (byte ∷ [])) × AreDigitsOf digits bytes
 
 -- the digits spell the bytes, as far as what is left over
-pub record SpellsUpTo (digits bytes left : List ℕ) : Type 0 where
+pub record AreDigitsUpTo (digits bytes left : List ℕ) : Type 0 where
   pub front : List ℕ
-  pub spelled : Spells front bytes
+  pub spelled : AreDigitsOf front bytes
   pub whole : digits ≡ front ++ left
 
 -- in front of what is left stands no byte, though something does: the second digit is missing, or one of the two is no hex digit
@@ -30,5 +30,5 @@ IsBroken (high ∷ low ∷ digits) = IsErr (decode_of (high ∷ low ∷ []))
 -- the digits spell the bytes, and break behind them, whatever follows
 pub record Breaks (digits bytes : List ℕ) : Type 0 where
   pub left : List ℕ
-  pub read : SpellsUpTo digits bytes left
+  pub read : AreDigitsUpTo digits bytes left
   pub broken : (more : List ℕ) → IsBroken (left ++ more)

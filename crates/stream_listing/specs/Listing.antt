@@ -10,7 +10,7 @@ use Rattle.event_modes.specs.Faults.{StreamFault}
 use Rattle.event_modes.specs.Printed.{code_of}
 use Rattle.program_text.specs.declared.status.Status.{Status}
 use Rattle.program_text.specs.declared.status.Status.TheVariants.{Done, No, Usage}
-use Rattle.stream_listing.specs.HexText.{digits_of, SpellsUpTo, IsBroken}
+use Rattle.stream_listing.specs.HexText.{digits_of, AreDigitsUpTo, IsBroken}
 use Rattle.program_text.specs.Lines.{line, memory_line, read_line}
 use Rattle.program_text.specs.Output.{IsPrinted}
 use Rattle.program_text.specs.Texts.{IsTextOf}
@@ -66,7 +66,7 @@ status_of BadHex = Usage
 -- and holds back the new ones
 pub record ReadsOn (left held digits : List ℕ) (arrivals : List Arrival) (left' held' : List ℕ) : Type 0 where
   pub bytes : List ℕ
-  pub read : SpellsUpTo (left ++ digits) bytes left'
+  pub read : AreDigitsUpTo (left ++ digits) bytes left'
   pub splits : Splits (held ++ bytes) arrivals held'
 
 -- nothing, or the beginning of an item

@@ -2,7 +2,7 @@
 
 ghost use Rattle.std.specs.Prelude.{◌≡◌, ◌++◌, ◌∷◌, [], ℕ, List, IsTrue, ◌↔◌, IsErr, IfSome, IfNone, IfOk, IfErr, OnOk, OnErr};
 ghost use Rattle.std.specs.Bool.{OnFalse};
-ghost use Rattle.stream_listing.specs.HexText.{digits_of, SpellsUpTo, IsBroken, Breaks};
+ghost use Rattle.stream_listing.specs.HexText.{digits_of, AreDigitsUpTo, IsBroken, Breaks};
 ghost use Rattle.std.specs.Option.{option_to_list};
 ghost use Rattle.hex.specs.Hex.{decode_of};
 
@@ -68,7 +68,7 @@ impl HexText {
         bytes: &mut Vec<u8, A>,
     ) -> Result<(), HexFault>
         ensures ok { OnOk result ((added : List ℕ)
-            × SpellsUpTo (self.old ++ digits_of piece.now) added self.new
+            × AreDigitsUpTo (self.old ++ digits_of piece.now) added self.new
             × (bytes.new.items ≡ bytes.old.items ++ added)) }
         ensures broken { result ≡ Err HexFault.Broken → ((added : List ℕ)
             × Breaks (self.old ++ digits_of piece.now) added
@@ -89,7 +89,7 @@ impl HexText {
 
     // Takes one digit: the first of a byte waits for the second.
     fn step(&mut self, digit: u8) -> Result<Option<u8>, HexFault>
-        ensures ok { IfOk result (λ byte. SpellsUpTo (self.old ++ digit ∷ []) (option_to_list byte) self.new) }
+        ensures ok { IfOk result (λ byte. AreDigitsUpTo (self.old ++ digit ∷ []) (option_to_list byte) self.new) }
         ensures broken { OnErr result (Breaks (self.old ++ digit ∷ []) []) }
         ensures error { IfErr result (λ e. e ≡ HexFault.Broken) }
     {

@@ -6,7 +6,7 @@ use Rattle.std.proofs.lemmas.List.{get_or-map, get_or_append_left, get_or-append
 use Rattle.std.proofs.lemmas.Nat.{div_below}
 use Rattle.std.proofs.Math.Nat.{div-eq_of_lt, mod-eq_of_lt, add-mod_left, add-div_left, mul-div_cancel_left, mod-lt}
 use Rattle.tag_pattern.specs.Cuts.{choices_in, BeginsWithSlot, SpellsRest}
-use Rattle.tag_pattern.specs.Grammar.{Slot, Spells, choices, comma, expansions, part_item}
+use Rattle.tag_pattern.specs.Grammar.{Slot, IsPatternText, choices, comma, expansions, part_item}
 use Rattle.tag_pattern.specs.Items.{Item}
 use Rattle.tag_pattern.specs.Parts.{parts_of}
 use Rattle.tag_pattern.proofs.Sizes.{length-products, rest_some}
@@ -84,7 +84,7 @@ left_step slots behind slot body chosen wanted number left count items more is p
     }
 
 -- the slot that stands ahead
-pub ahead_slot : (slots behind : List Slot) (ahead body : List ℕ) (rest : Option (List ℕ)) (wanted number left : ℕ) (items : List Item) → BeginsWithSlot ahead body rest → Spells behind ahead → IsLeft slots behind wanted number left items
+pub ahead_slot : (slots behind : List Slot) (ahead body : List ℕ) (rest : Option (List ℕ)) (wanted number left : ℕ) (items : List Item) → BeginsWithSlot ahead body rest → IsPatternText behind ahead → IsLeft slots behind wanted number left items
     → (slot : Slot) × (later : List Slot) × (choices slot ≡ choices_in body) × SpellsRest later rest × (0 < length (expansions later)) × IsLeft slots (slot ∷ later) wanted number left items
 ahead_slot slots behind ahead body rest wanted number left items first h before =
     let found = first.only behind h in

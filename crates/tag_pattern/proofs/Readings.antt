@@ -2,7 +2,7 @@
 use Rattle.std.proofs.Common.{◌≡◌, ℕ, ◌+◌, ◌<◌, ◌≤◌, List, [], ◌∷◌, ◌++◌, length, map, take, get_or, suc, zero, Result, Err, MatchResult, inl, inr, refl, ap, subst, ◌∙◌, arith}
 use Rattle.std.proofs.lemmas.Bool.{cases_lt}
 use Rattle.std.proofs.lemmas.List.{length-map, get_or-map, take_more}
-use Rattle.tag_pattern.specs.Grammar.{Slot, Spells, AnyByRecursion, AreTooMany, IsPattern, expansions, part_item, plain_patterns}
+use Rattle.tag_pattern.specs.Grammar.{Slot, IsPatternText, AnyByRecursion, AreTooMany, IsPattern, expansions, part_item, plain_patterns}
 use Rattle.tag_pattern.specs.Items.{Item}
 use Rattle.tag_pattern.specs.declared.pattern.PatternError.{PatternError}
 use Rattle.tag_pattern.specs.declared.pattern.PatternError.TheVariants.{Memory}
@@ -32,15 +32,15 @@ read_more slots number read items below so_far is =
     rw (take_more (plain_patterns slots) number [] below, so_far, is, at) refl
 
 -- the slots that are meant are those that the text has
-pub same_pattern : (slots others : List Slot) (text : List ℕ) → IsPattern slots text → Spells others text → IsPattern others text
+pub same_pattern : (slots others : List Slot) (text : List ℕ) → IsPattern slots text → IsPatternText others text → IsPattern others text
 same_pattern slots others text pattern h =
     let P : List Slot → Type 0 = λ x. IsPattern x text in subst P (slots_unique slots others text pattern.spelled h) pattern
 
-pub same_count : (slots others : List Slot) (text : List ℕ) (n : ℕ) → Spells slots text → Spells others text → n ≡ length (plain_patterns slots) → n ≡ length (plain_patterns others)
+pub same_count : (slots others : List Slot) (text : List ℕ) (n : ℕ) → IsPatternText slots text → IsPatternText others text → n ≡ length (plain_patterns slots) → n ≡ length (plain_patterns others)
 same_count slots others text n h k is = subst (λ (x : List Slot). n ≡ length (plain_patterns x)) (slots_unique slots others text h k) is
 
 -- what holds of the slots of a text holds of any slots that it has
-pub moved : (P : List Slot → Type 0) (slots others : List Slot) (text : List ℕ) → Spells slots text → Spells others text → P slots → P others
+pub moved : (P : List Slot → Type 0) (slots others : List Slot) (text : List ℕ) → IsPatternText slots text → IsPatternText others text → P slots → P others
 moved P slots others text h k p = subst P (slots_unique slots others text h k) p
 
 pub only_memory : {X : Type 0} (r : Result X PatternError) (P : X → Type 0) (fault : PatternError) → MatchResult r P (λ e. e ≡ Memory) → r ≡ Err fault → fault ≡ Memory

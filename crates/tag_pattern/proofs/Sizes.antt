@@ -7,7 +7,7 @@ use Rattle.std.proofs.lemmas.List.{length-map}
 use Rattle.std.proofs.Math.Nat.{mul-pos, mul_assoc, le-mul_of_pos_right}
 use Rattle.std.proofs.lemmas.Slice.Eq.{bytes_eq-Decides}
 use Rattle.tag_pattern.specs.Cuts.{choices_in, is_partial, most_parts, SpellsRest}
-use Rattle.tag_pattern.specs.Grammar.{Slot, Part, Group, AnyByRecursion, AreTooMany, HasPartialWildcard, IsPartialWildcard, IsSlot, Spells, choices, expansions, star}
+use Rattle.tag_pattern.specs.Grammar.{Slot, Part, Group, AnyByRecursion, AreTooMany, HasPartialWildcard, IsPartialWildcard, IsSlot, IsPatternText, choices, expansions, star}
 use Rattle.tag_pattern.specs.Survey.{Grows, IsSizeBefore, IsSurveyed, longest}
 use Rattle.tag_pattern.specs.declared.survey.Size.{Size}
 use Rattle.tag_pattern.proofs.SlotCuts.{all_append}
@@ -53,7 +53,7 @@ full_slot (Part text) is = omega arith
 full_slot (Group []) is = absurd (is.0 refl)
 full_slot (Group (a ∷ alternatives)) is = omega arith
 
-full : (slots : List Slot) (text : List ℕ) → Spells slots text → AreFull slots
+full : (slots : List Slot) (text : List ℕ) → IsPatternText slots text → AreFull slots
 unfolding AreFull
 full [] text h = absurd h
 full (slot ∷ []) text (is, whole) = (full_slot slot is, tt)
@@ -198,7 +198,7 @@ partial_step slots behind slot body has more is found before =
       ],
     )
 
-pub survey_step : (slots behind : List Slot) (text : List ℕ) (slot : Slot) (body : List ℕ) (rest : Option (List ℕ)) (has more : Bool) (size grown : Option Size) → Spells slots text → SpellsRest behind rest → choices slot ≡ choices_in body → more ≡ list_any (λ parts. list_any is_partial parts) (choices_in body) → MatchOption size (grown ≡ None) (λ s. Grows s body grown) → IsSurveyed slots (slot ∷ behind) has size → IsSurveyed slots behind (has || more) grown
+pub survey_step : (slots behind : List Slot) (text : List ℕ) (slot : Slot) (body : List ℕ) (rest : Option (List ℕ)) (has more : Bool) (size grown : Option Size) → IsPatternText slots text → SpellsRest behind rest → choices slot ≡ choices_in body → more ≡ list_any (λ parts. list_any is_partial parts) (choices_in body) → MatchOption size (grown ≡ None) (λ s. Grows s body grown) → IsSurveyed slots (slot ∷ behind) has size → IsSurveyed slots behind (has || more) grown
 survey_step slots behind text slot body rest has more size grown spelled h is found grows before = record {
   partial = partial_step slots behind slot body has more is found before.partial;
   sized = sizes_step slots behind slot body size grown (full slots text spelled) (rest_some behind rest h) is grows before.sized;

@@ -5,9 +5,9 @@ use Rattle.std.proofs.lemmas.Bool.{cases_eq, eq-eqb, ne_eqb, eqb-true, eqb-false
 use Rattle.std.proofs.lemmas.List.{append-nil, nil_from_length}
 use Rattle.std.proofs.lemmas.List.Splits.{slice_split-cons_yes, slice_split-cons_no, join_with_byte-slice_split}
 use Rattle.tag_pattern.specs.Cuts.{is_among, is_nil, choices_in, BeginsWith, BeginsWithSlot, EndsSlot, HasSlotFirst, IsBody, IsCut, IsGroup}
-use Rattle.tag_pattern.specs.Grammar.{Slot, Part, Group, IsAlternative, IsPartText, IsSlot, Spells, slot_text, comma, open_brace, close_brace}
+use Rattle.tag_pattern.specs.Grammar.{Slot, Part, Group, IsAlternative, IsPartText, IsSlot, IsPatternText, slot_text, comma, open_brace, close_brace}
 use Rattle.tag_pattern.specs.Parts.{dot, parts_of}
-use Rattle.tag_pattern.proofs.Splits.{Lacks, pieces, pieces_lack, pieces_some, pieces_last, pieces-join, same_cut}
+use Rattle.tag_pattern.proofs.Splits.{HasNo, pieces, pieces_lack, pieces_some, pieces_last, pieces-join, same_cut}
 
 -- ---- what holds of each element
 
@@ -100,9 +100,9 @@ part_body text body after cut plain =
 texts : List (List (List ℕ)) → List (List ℕ)
 texts alternatives = map (join_with_byte dot) alternatives
 
-alternative_lacks : (a : List (List ℕ)) → AllByRecursion IsPartText a → Lacks comma (join_with_byte dot a)
+alternative_lacks : (a : List (List ℕ)) → AllByRecursion IsPartText a → HasNo comma (join_with_byte dot a)
 alternative_lacks a h =
-    all_join (λ b. b ≢ comma) dot (λ e. omega arith) a (along IsPartText (Lacks comma) (λ t k. along IsPartByte (λ b. b ≢ comma) (λ b i. i.1) t k) a h)
+    all_join (λ b. b ≢ comma) dot (λ e. omega arith) a (along IsPartText (HasNo comma) (λ t k. along IsPartByte (λ b. b ≢ comma) (λ b i. i.1) t k) a h)
 
 alternative_without_braces : (a : List (List ℕ)) → AllByRecursion IsPartText a → AllByRecursion (λ b. is_among braces b ≡ false) (join_with_byte dot a)
 alternative_without_braces a h =
@@ -116,9 +116,9 @@ alternative_not_nil ([] ∷ y ∷ a) some full = refl
 alternative_not_nil ((b ∷ x) ∷ y ∷ a) some full = refl
 
 alternative_parts : (a : List (List ℕ)) → a ≢ [] → AllByRecursion IsPartText a → parts_of (join_with_byte dot a) ≡ a
-alternative_parts a some h = pieces-join dot a some (along IsPartText (Lacks dot) (λ t k. along IsPartByte (λ b. b ≢ dot) (λ b i. i.0) t k) a h)
+alternative_parts a some h = pieces-join dot a some (along IsPartText (HasNo dot) (λ t k. along IsPartByte (λ b. b ≢ dot) (λ b i. i.0) t k) a h)
 
-texts_lack : (alts : List (List (List ℕ))) → AllByRecursion IsAlternative alts → AllByRecursion (Lacks comma) (texts alts)
+texts_lack : (alts : List (List (List ℕ))) → AllByRecursion IsAlternative alts → AllByRecursion (HasNo comma) (texts alts)
 unfolding texts
 texts_lack [] h = tt
 texts_lack (a ∷ alts) (h, hs) = (alternative_lacks a h.2, texts_lack alts hs)
@@ -187,14 +187,14 @@ group_unique inside b x c y g h =
 abbrev IsInside : ℕ → Type 0
 IsInside b = (b ≢ comma) × (b ≢ open_brace) × (b ≢ close_brace)
 
-is_part_text : (t : List ℕ) → AllByRecursion IsInside t × Lacks dot t → IsPartText t
+is_part_text : (t : List ℕ) → AllByRecursion IsInside t × HasNo dot t → IsPartText t
 is_part_text t (h, k) = along (λ b. IsInside b × (b ≢ dot)) IsPartByte (λ b i. (i.1, i.0.0, i.0.1, i.0.2)) t (both IsInside (λ b. b ≢ dot) t h k)
 
 is_alternative : (t : List ℕ) → AllByRecursion IsInside t → is_nil t ≡ false → IsAlternative (parts_of t)
 is_alternative t h full = (
   pieces_some dot t,
   λ e. let empty : t ≡ [] = sym (join_with_byte-slice_split dot t) ∙ ap (join_with_byte dot) e in absurd (false≢true (sym full ∙ ap is_nil empty)),
-  along (λ part. AllByRecursion IsInside part × Lacks dot part) IsPartText is_part_text (parts_of t) (both (AllByRecursion IsInside) (Lacks dot) (parts_of t) (all_pieces IsInside dot t h) (pieces_lack dot t)),
+  along (λ part. AllByRecursion IsInside part × HasNo dot part) IsPartText is_part_text (parts_of t) (both (AllByRecursion IsInside) (HasNo dot) (parts_of t) (all_pieces IsInside dot t h) (pieces_lack dot t)),
 )
 
 are_alternatives : (ps : List (List ℕ)) → AllByRecursion (AllByRecursion IsInside) ps → list_any is_nil ps ≡ false → AllByRecursion IsAlternative (map parts_of ps)
@@ -219,10 +219,10 @@ inside_bytes b (h, c) = let m = lacks_mark braces b h in (c, λ e. m.0 (sym e), 
 
 pieces_inside : (body : List ℕ) → AllByRecursion (λ b. is_among braces b ≡ false) body → AllByRecursion (AllByRecursion IsInside) (pieces comma body)
 pieces_inside body h =
-    along (λ p. AllByRecursion (λ b. is_among braces b ≡ false) p × Lacks comma p) (AllByRecursion IsInside)
+    along (λ p. AllByRecursion (λ b. is_among braces b ≡ false) p × HasNo comma p) (AllByRecursion IsInside)
     (λ p k. along (λ b. (is_among braces b ≡ false) × (b ≢ comma)) IsInside inside_bytes p (both (λ b. is_among braces b ≡ false) (λ b. b ≢ comma) p k.0 k.1))
     (pieces comma body)
-    (both (AllByRecursion (λ b. is_among braces b ≡ false)) (Lacks comma) (pieces comma body) (all_pieces (λ b. is_among braces b ≡ false) comma body h) (pieces_lack comma body))
+    (both (AllByRecursion (λ b. is_among braces b ≡ false)) (HasNo comma) (pieces comma body) (all_pieces (λ b. is_among braces b ≡ false) comma body h) (pieces_lack comma body))
 
 pub group_body : (inside body after : List ℕ) → IsGroup inside body after → IsBody (open_brace ∷ inside) body after
 unfolding texts
@@ -242,23 +242,23 @@ group_body inside body after group =
 -- ---- the slots behind the first
 
 Behind : List Slot → List ℕ → Type 0
-Behind slots after = ((slots ≡ []) × (after ≡ [])) ⊎ ((rest : List ℕ) × (after ≡ dot ∷ rest) × Spells slots rest)
+Behind slots after = ((slots ≡ []) × (after ≡ [])) ⊎ ((rest : List ℕ) × (after ≡ dot ∷ rest) × IsPatternText slots rest)
 
-spelled_first : (slots : List Slot) (text : List ℕ) → Spells slots text → (slot : Slot) × (behind : List Slot) × (after : List ℕ) × (slots ≡ slot ∷ behind) × HasSlotFirst text slot after × Behind behind after
+spelled_first : (slots : List Slot) (text : List ℕ) → IsPatternText slots text → (slot : Slot) × (behind : List Slot) × (after : List ℕ) × (slots ≡ slot ∷ behind) × HasSlotFirst text slot after × Behind behind after
 unfolding Behind
 spelled_first [] text h = absurd h
 spelled_first (slot ∷ []) text (is, whole) = (slot, [], [], refl, record { is_slot = is; whole = whole ∙ sym (append-nil (slot_text slot)); ends = tt }, inl (refl, refl))
 spelled_first (slot ∷ next ∷ slots) text (is, (rest, whole, h)) = (slot, next ∷ slots, dot ∷ rest, refl, record { is_slot = is; whole = whole; ends = refl }, inr (rest, refl, h))
 
-spells_more : (slot : Slot) (behind : List Slot) (text rest : List ℕ) → IsSlot slot → text ≡ slot_text slot ++ dot ∷ rest → Spells behind rest → Spells (slot ∷ behind) text
+spells_more : (slot : Slot) (behind : List Slot) (text rest : List ℕ) → IsSlot slot → text ≡ slot_text slot ++ dot ∷ rest → IsPatternText behind rest → IsPatternText (slot ∷ behind) text
 spells_more slot [] text rest is whole h = absurd h
 spells_more slot (next ∷ slots) text rest is whole h = (is, (rest, whole, h))
 
-spells_last : (slot : Slot) (behind : List Slot) (text : List ℕ) → IsSlot slot → text ≡ slot_text slot ++ [] → behind ≡ [] → Spells (slot ∷ behind) text
+spells_last : (slot : Slot) (behind : List Slot) (text : List ℕ) → IsSlot slot → text ≡ slot_text slot ++ [] → behind ≡ [] → IsPatternText (slot ∷ behind) text
 spells_last slot [] text is whole none = (is, whole ∙ append-nil (slot_text slot))
 spells_last slot (next ∷ slots) text is whole none = cc
 
-pub no_body : (text : List ℕ) → ((slot : Slot) (rest : List ℕ) → HasSlotFirst text slot rest → ⊥) → (slots : List Slot) → Spells slots text → ⊥
+pub no_body : (text : List ℕ) → ((slot : Slot) (rest : List ℕ) → HasSlotFirst text slot rest → ⊥) → (slots : List Slot) → IsPatternText slots text → ⊥
 no_body text none slots h = let found = spelled_first slots text h in none found.0 found.2 found.4
 
 behind_none : (behind : List Slot) (after : List ℕ) → after ≡ [] → Behind behind after → behind ≡ []
@@ -266,13 +266,13 @@ unfolding Behind
 behind_none behind after e (inl (none, _)) = none
 behind_none behind after e (inr (rest, is, h)) = cc
 
-behind_some : (behind : List Slot) (after : List ℕ) (b : ℕ) (rest : List ℕ) → after ≡ b ∷ rest → Behind behind after → (b ≡ dot) × Spells behind rest
+behind_some : (behind : List Slot) (after : List ℕ) (b : ℕ) (rest : List ℕ) → after ≡ b ∷ rest → Behind behind after → (b ≡ dot) × IsPatternText behind rest
 unfolding Behind
 behind_some behind after b rest e (inl (_, none)) = cc
 behind_some behind after b rest e (inr (others, is, h)) =
     let mark : b ≡ dot = cc in
     let same : others ≡ rest = cc in
-    (mark, subst (Spells behind) same h)
+    (mark, subst (IsPatternText behind) same h)
 
 pub last_slot : (text body : List ℕ) → IsBody text body [] → BeginsWithSlot text body None
 last_slot text body found = record {
@@ -298,7 +298,7 @@ more_slots text body b rest mark found = record {
   shorter = omega (arith, ap length found.whole, length-append (slot_text found.slot) (b ∷ rest));
 }
 
-pub no_slots : (text body : List ℕ) (b : ℕ) (rest : List ℕ) → b ≢ dot → IsBody text body (b ∷ rest) → (slots : List Slot) → Spells slots text → ⊥
+pub no_slots : (text body : List ℕ) (b : ℕ) (rest : List ℕ) → b ≢ dot → IsBody text body (b ∷ rest) → (slots : List Slot) → IsPatternText slots text → ⊥
 no_slots text body b rest other found slots h =
     let first = spelled_first slots text h in
     let same = found.only first.0 first.2 first.4 in
@@ -335,7 +335,7 @@ first_unique text (Group alternatives) b x y first second =
     (h.1 ∙ (ap (λ (body : List ℕ). Group (choices_in body)) same.0 ∙ sym g.1), same.1)
 
 -- the slots of a text
-pub slots_unique : (slots others : List Slot) (text : List ℕ) → Spells slots text → Spells others text → slots ≡ others
+pub slots_unique : (slots others : List Slot) (text : List ℕ) → IsPatternText slots text → IsPatternText others text → slots ≡ others
 slots_unique [] others text h k = absurd h
 slots_unique (slot ∷ []) others text (is, whole) k =
     let found = spelled_first others text k in

@@ -7,17 +7,17 @@ use Rattle.std.proofs.lemmas.List.Splits.{slice_split-cons_yes, slice_split-cons
 use Rattle.tag_pattern.specs.Cuts.{is_among, BeginsWith, IsCut}
 
 -- a text without the byte c
-abbrev pub Lacks : ℕ → List ℕ → Type 0
-Lacks c text = AllByRecursion (λ b. b ≢ c) text
+abbrev pub HasNo : ℕ → List ℕ → Type 0
+HasNo c text = AllByRecursion (λ b. b ≢ c) text
 
 abbrev pub pieces : ℕ → List ℕ → List (List ℕ)
 pieces c text = slice_split (λ b. b == c) text
 
-onto_lacks : (c b : ℕ) (xs : List (List ℕ)) → b ≢ c → AllByRecursion (Lacks c) xs → AllByRecursion (Lacks c) (onto_first b xs)
+onto_lacks : (c b : ℕ) (xs : List (List ℕ)) → b ≢ c → AllByRecursion (HasNo c) xs → AllByRecursion (HasNo c) (onto_first b xs)
 onto_lacks c b [] other h = ((other, tt), tt)
 onto_lacks c b (x ∷ xs) other (h, hs) = ((other, h), hs)
 
-pub pieces_lack : (c : ℕ) (text : List ℕ) → AllByRecursion (Lacks c) (pieces c text)
+pub pieces_lack : (c : ℕ) (text : List ℕ) → AllByRecursion (HasNo c) (pieces c text)
 pieces_lack c [] = (tt, tt)
 pieces_lack c (b ∷ text) = elim (cases_eq b c) [
   | inl e ↦ rw (slice_split-cons_yes (λ x. x == c) b text (eq-eqb b c e)) (tt, pieces_lack c text)
@@ -36,17 +36,17 @@ pieces_some c (b ∷ text) = elim (cases_eq b c) [
 ]
 
 -- a piece, and the pieces behind it
-pub pieces_front : (c : ℕ) (x text : List ℕ) → Lacks c x → pieces c (x ++ c ∷ text) ≡ x ∷ pieces c text
+pub pieces_front : (c : ℕ) (x text : List ℕ) → HasNo c x → pieces c (x ++ c ∷ text) ≡ x ∷ pieces c text
 pieces_front c [] text h = slice_split-cons_yes (λ x. x == c) c text (eq-eqb c c refl)
 pieces_front c (b ∷ x) text (other, h) = slice_split-cons_no (λ x. x == c) b (x ++ c ∷ text) (ne_eqb b c other) ∙ ap (onto_first b) (pieces_front c x text h)
 
 -- the last piece
-pub pieces_last : (c : ℕ) (x : List ℕ) → Lacks c x → pieces c x ≡ x ∷ []
+pub pieces_last : (c : ℕ) (x : List ℕ) → HasNo c x → pieces c x ≡ x ∷ []
 pieces_last c [] h = refl
 pieces_last c (b ∷ x) (other, h) = slice_split-cons_no (λ x. x == c) b x (ne_eqb b c other) ∙ ap (onto_first b) (pieces_last c x h)
 
 -- what a separator joins is parted into the same pieces
-pub pieces-join : (c : ℕ) (xs : List (List ℕ)) → xs ≢ [] → AllByRecursion (Lacks c) xs → pieces c (join_with_byte c xs) ≡ xs
+pub pieces-join : (c : ℕ) (xs : List (List ℕ)) → xs ≢ [] → AllByRecursion (HasNo c) xs → pieces c (join_with_byte c xs) ≡ xs
 pieces-join c [] some h = absurd (some refl)
 pieces-join c (x ∷ []) some (h, _) = pieces_last c x h
 pieces-join c (x ∷ y ∷ xs) some (h, hs) =
@@ -76,7 +76,7 @@ among_yes c b e = elim (cases_eq c b) [ inl same ↦ sym same | inr other ↦ ab
 among_no : (c b : ℕ) → is_among (c ∷ []) b ≡ false → b ≢ c
 among_no c b e same = absurd (false≢true (sym e ∙ rw (eq-eqb c b (sym same)) refl))
 
-cut_lacks : (c : ℕ) (front : List ℕ) → AllByRecursion (λ b. is_among (c ∷ []) b ≡ false) front → Lacks c front
+cut_lacks : (c : ℕ) (front : List ℕ) → AllByRecursion (λ b. is_among (c ∷ []) b ≡ false) front → HasNo c front
 cut_lacks c [] h = tt
 cut_lacks c (b ∷ front) (h, hs) = (among_no c b h, cut_lacks c front hs)
 

@@ -2,7 +2,7 @@
 use Rattle.std.specs.Prelude.{◌≡◌, ℕ, ◌<◌, ◌==◌, Bool, true, false, not, ◌&&◌, List, [], ◌∷◌, ◌++◌, length, map, max, Option, Some, None, IfSome}
 use Rattle.std.specs.List.{AllByRecursion, list_any, slice_split}
 use Rattle.std.specs.Str.{bytes_eq}
-use Rattle.tag_pattern.specs.Grammar.{Slot, IsSlot, Spells, choices, slot_text, comma, star, open_brace, close_brace}
+use Rattle.tag_pattern.specs.Grammar.{Slot, IsSlot, IsPatternText, choices, slot_text, comma, star, open_brace, close_brace}
 use Rattle.tag_pattern.specs.Parts.{dot, parts_of}
 
 -- the byte is one of the marks
@@ -46,14 +46,14 @@ most_parts (parts ∷ others) = max (length parts) (most_parts others)
 -- what stands behind a slot: nothing, or the text of more slots behind a dot
 abbrev pub SpellsRest : List Slot → Option (List ℕ) → Type 0
 SpellsRest slots None = slots ≡ []
-SpellsRest slots (Some rest) = Spells slots rest
+SpellsRest slots (Some rest) = IsPatternText slots rest
 
 -- A slot with these choices, and what may stand behind it, are all that the text can be.
 pub record BeginsWithSlot (text body : List ℕ) (rest : Option (List ℕ)) : Type 0 where
   pub slot : Slot
   pub slot_choices : choices slot ≡ choices_in body
-  pub only : (slots : List Slot) → Spells slots text → (behind : List Slot) × (slots ≡ slot ∷ behind) × SpellsRest behind rest
-  pub each : (behind : List Slot) → SpellsRest behind rest → Spells (slot ∷ behind) text
+  pub only : (slots : List Slot) → IsPatternText slots text → (behind : List Slot) × (slots ≡ slot ∷ behind) × SpellsRest behind rest
+  pub each : (behind : List Slot) → SpellsRest behind rest → IsPatternText (slot ∷ behind) text
   pub shorter : IfSome rest (λ r. length r < length text)
 
 -- what ends a slot: nothing, or a dot

@@ -48,10 +48,10 @@ slot_text (Part text) = text
 slot_text (Group alternatives) = open_brace ∷ join_with_byte comma (map (join_with_byte dot) alternatives) ++ close_brace ∷ []
 
 -- A pattern's text is that of a slot, or of a slot, a dot and the text of the slots behind it.
-abbrev pub Spells : List Slot → List ℕ → Type 0
-Spells [] text = ⊥
-Spells (slot ∷ []) text = IsSlot slot × (text ≡ slot_text slot)
-Spells (slot ∷ next ∷ slots) text = IsSlot slot × ((rest : List ℕ) × (text ≡ slot_text slot ++ dot ∷ rest) × Spells (next ∷ slots) rest)
+abbrev pub IsPatternText : List Slot → List ℕ → Type 0
+IsPatternText [] text = ⊥
+IsPatternText (slot ∷ []) text = IsSlot slot × (text ≡ slot_text slot)
+IsPatternText (slot ∷ next ∷ slots) text = IsSlot slot × ((rest : List ℕ) × (text ≡ slot_text slot ++ dot ∷ rest) × IsPatternText (next ∷ slots) rest)
 
 -- what may stand in a slot's place: a list of parts
 abbrev pub choices : Slot → List (List (List ℕ))
@@ -91,10 +91,10 @@ AreTooMany slots = (64 < length (expansions slots)) ⊎ AnyByRecursion (λ parts
 
 -- The slots spell the text, no part of them has a partial wildcard, and they are not too many.
 pub record IsPattern (slots : List Slot) (text : List ℕ) : Type 0 where
-  pub spelled : Spells slots text
+  pub spelled : IsPatternText slots text
   pub whole_wildcards : HasPartialWildcard slots → ⊥
   pub few : AreTooMany slots → ⊥
 
 -- A text is spelled by one list of slots at most.
 abbrev pub SlotsAreUnique : Type 0
-SlotsAreUnique = (slots others : List Slot) (text : List ℕ) → Spells slots text → Spells others text → slots ≡ others
+SlotsAreUnique = (slots others : List Slot) (text : List ℕ) → IsPatternText slots text → IsPatternText others text → slots ≡ others

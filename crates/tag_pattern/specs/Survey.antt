@@ -1,7 +1,7 @@
 -- What a pattern's text amounts to, found without making its plain patterns.
 use Rattle.std.specs.Prelude.{◌≡◌, ⊤, ℕ, ◌+◌, ◌*◌, ◌<◌, ◌≤◌, ◌⊎◌, ◌↔◌, Bool, IsTrue, List, [], ◌∷◌, length, Option, MatchOption}
 use Rattle.tag_pattern.specs.Cuts.{choices_in, most_parts}
-use Rattle.tag_pattern.specs.Grammar.{Slot, Spells, AreTooMany, HasPartialWildcard, choices, expansions}
+use Rattle.tag_pattern.specs.Grammar.{Slot, IsPatternText, AreTooMany, HasPartialWildcard, choices, expansions}
 use Rattle.tag_pattern.specs.declared.survey.Size.{Size}
 use Rattle.tag_pattern.specs.declared.survey.Survey.{Survey}
 
@@ -35,6 +35,6 @@ pub record IsSurveyed (slots behind : List Slot) (has_partial : Bool) (size : Op
 -- the survey of a text that slots spell
 pub record Surveys (text : List ℕ) (survey : Survey) : Type 0 where
   pub slots : List Slot
-  pub spelled : Spells slots text
+  pub spelled : IsPatternText slots text
   pub partial : IsTrue survey.has_partial ↔ HasPartialWildcard slots
   pub plains : MatchOption survey.plains (AreTooMany slots) (λ n. (n ≡ length (expansions slots)) × (AreTooMany slots → ⊥))

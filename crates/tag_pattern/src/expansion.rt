@@ -1,7 +1,7 @@
 //! One of the plain patterns for which a pattern's text stands.
 
 ghost use Rattle.std.specs.Prelude.{◌≡◌, ◌<◌, ◌++◌, [], List, length, map, IfOk, OnOk, slice_index_or};
-ghost use Rattle.tag_pattern.specs.Grammar.{Slot, Spells, expansions, part_item};
+ghost use Rattle.tag_pattern.specs.Grammar.{Slot, IsPatternText, expansions, part_item};
 ghost use Rattle.tag_pattern.specs.Items.{item_of, items_of};
 ghost use Rattle.tag_pattern.specs.Parts.{parts_of};
 
@@ -48,9 +48,9 @@ pub(crate) fn expansion<A: Allocator + Copy>(
     number: usize,
     plains: usize,
 ) -> Result<Vec<PatternItem<Vec<u8, A>>, A>, AllocError>
-    requires { (slots : List Slot) × Spells slots text.now × (plains ≡ length (expansions slots)) × (number < plains) }
+    requires { (slots : List Slot) × IsPatternText slots text.now × (plains ≡ length (expansions slots)) × (number < plains) }
     ensures { IfOk result
-        (λ items. (slots : List Slot) → Spells slots text.now
+        (λ items. (slots : List Slot) → IsPatternText slots text.now
         → items_of items.items ≡ map part_item (slice_index_or (expansions slots) number [])) }
 {
     let mut items = Vec::new(alloc);

@@ -1,7 +1,7 @@
 //! Patterns: texts that stand for plain patterns.
 
 ghost use Rattle.std.specs.Prelude.{◌≡◌, ◌↔◌, List, length, IfOk, MatchResult};
-ghost use Rattle.tag_pattern.specs.Grammar.{Slot, Spells, HasPartialWildcard, AreTooMany, IsPattern, plain_patterns};
+ghost use Rattle.tag_pattern.specs.Grammar.{Slot, IsPatternText, HasPartialWildcard, AreTooMany, IsPattern, plain_patterns};
 
 use crate::expansion::expansion;
 use crate::plain::Plain;
@@ -64,11 +64,11 @@ impl Pattern {
             → MatchResult result (λ plains. plains.items ≡ plain_patterns slots) (λ e. e ≡ PatternError.Memory) }
 
         ensures brace_fault { (result ≡ Err PatternError.BraceFault)
-            ↔ ((slots : List Slot) → ¬ Spells slots text.now) }
+            ↔ ((slots : List Slot) → ¬ IsPatternText slots text.now) }
         ensures partial_wildcard { (result ≡ Err PatternError.PartialWildcard)
-            ↔ ((slots : List Slot) × Spells slots text.now × HasPartialWildcard slots) }
+            ↔ ((slots : List Slot) × IsPatternText slots text.now × HasPartialWildcard slots) }
         ensures too_many { (result ≡ Err PatternError.TooMany)
-            ↔ ((slots : List Slot) × Spells slots text.now × (¬ HasPartialWildcard slots) × AreTooMany slots) }
+            ↔ ((slots : List Slot) × IsPatternText slots text.now × (¬ HasPartialWildcard slots) × AreTooMany slots) }
     {
         let bytes = text.as_bytes();
         let survey = match take_survey(bytes) {
@@ -92,7 +92,7 @@ fn expansions<A: Allocator + Copy>(
     plains: usize,
 ) -> Result<Vec<Plain<A>, A>, PatternError>
     requires { (slots : List Slot) × IsPattern slots text.now × (plains ≡ length (plain_patterns slots)) }
-    ensures { (slots : List Slot) → Spells slots text.now
+    ensures { (slots : List Slot) → IsPatternText slots text.now
         → MatchResult result (λ read. read.items ≡ plain_patterns slots) (λ e. e ≡ PatternError.Memory) }
 {
     let mut read = Vec::with_capacity(alloc, plains)?;

@@ -3,7 +3,7 @@
 ghost use Rattle.std.specs.Prelude.{List, ℕ, MatchOption};
 ghost use Rattle.std.specs.Option.{option_copied};
 ghost use Rattle.tag_pattern.specs.Cuts.{BeginsWithSlot, HasSlotFirst, IsBody, IsGroup};
-ghost use Rattle.tag_pattern.specs.Grammar.{Slot, Spells};
+ghost use Rattle.tag_pattern.specs.Grammar.{Slot, IsPatternText};
 
 use crate::cut::{cut, has_empty_piece};
 
@@ -49,7 +49,7 @@ fn first_body(text: &[u8]) -> Option<(&[u8], &[u8])>
 /// `None` where no slots spell the text.
 pub(crate) fn first_slot(text: &[u8]) -> Option<(&[u8], Option<&[u8]>)>
     ensures { MatchOption result
-        ((slots : List Slot) → Spells slots text.now → ⊥)
+        ((slots : List Slot) → IsPatternText slots text.now → ⊥)
         (λ found. BeginsWithSlot text.now found.0.now (option_copied found.1)) }
 {
     match first_body(text) {

@@ -1,7 +1,7 @@
 //! What a pattern's text amounts to, before any plain pattern is made.
 
 ghost use Rattle.std.specs.Prelude.{◌≡◌, List, MatchOption};
-ghost use Rattle.tag_pattern.specs.Grammar.{Slot, Spells};
+ghost use Rattle.tag_pattern.specs.Grammar.{Slot, IsPatternText};
 ghost use Rattle.tag_pattern.specs.Survey.{Grows, IsWithin, Surveys};
 
 use crate::alternatives::{most_parts, slot_is_partial};
@@ -64,7 +64,7 @@ fn next_size(size: Option<Size>, body: &[u8]) -> Option<Size>
 /// What the text amounts to, or `None` where no slots spell it. It takes no memory, and goes over the text once.
 pub(crate) fn take_survey(text: &[u8]) -> Option<Survey>
     ensures { MatchOption result
-        ((slots : List Slot) → Spells slots text.now → ⊥)
+        ((slots : List Slot) → IsPatternText slots text.now → ⊥)
         (λ survey. Surveys text.now survey) }
 {
     let mut rest = Some(text);

@@ -1,4 +1,4 @@
-use Rattle.chunk_journal.proofs.Telling.{tells_chunks}
+use Rattle.chunk_journal.proofs.ChunkRecords.{tells_chunks}
 use Rattle.chunk_journal.proofs.laws.means_its_chunks.Goals as goal
 
 pub returns : goal.returns

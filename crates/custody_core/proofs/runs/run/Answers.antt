@@ -2,7 +2,7 @@ use Rattle.std.proofs.Common.{◌≡◌, suc, take, drop, sym, subst, ◌∙◌,
 use Rattle.std.proofs.lemmas.List.{length-take-le, take_all}
 use Rattle.relay_net.specs.Network.{Network}
 use Rattle.custody_steps.specs.Steps.{Names, Allowed, IsRefused, Steps, effect}
-use Rattle.custody_steps.specs.World.{opening}
+use Rattle.custody_steps.specs.World.{initial_world}
 use Rattle.custody_steps.specs.WorldOf.{world_of}
 use Rattle.custody_core.proofs.EveryBranch.{each_branch}
 use Rattle.custody_core.proofs.EveryNetwork.{nothing_lost}
@@ -42,35 +42,35 @@ loop-place-preserved g c =
     let ok = subst (λ (net : Network _). Names net before step × Allowed net before step × (after ≡ effect net before step)) c.loop-place.invariant.0 c.in_default.ensures.ok in (
       c.step.ensures.net ∙ c.loop-place.invariant.0,
       rw (take_next steps place step c.loop-place-test.true c.index-steps-place.is, ok.2)
-          (steps_more net opening (take place steps) before step c.loop-place.invariant.1 ok.0 ok.1),
+          (steps_more net initial_world (take place steps) before step c.loop-place.invariant.1 ok.0 ok.1),
     )
 
 pub returns-clause-net : goal.returns-clause-net
 returns-clause-net g c = c.collect.ensures.net ∙ c.loop-place.invariant.0
 
 pub returns-clause-taken : goal.returns-clause-taken
-returns-clause-taken g c = subst (Steps c.args.net.now opening c.args.steps.now) (sym c.collect.ensures.same) (rw (take_all c.loop-place.place c.args.steps.now c.loop-place-test.false) at c.loop-place.invariant.1)
+returns-clause-taken g c = subst (Steps c.args.net.now initial_world c.args.steps.now) (sym c.collect.ensures.same) (rw (take_all c.loop-place.place c.args.steps.now c.loop-place-test.false) at c.loop-place.invariant.1)
 
 pub returns-clause-labelled_nothing_is_lost : goal.returns-clause-labelled_nothing_is_lost
 returns-clause-labelled_nothing_is_lost g c =
     let net = c.args.net.now in
-    let taken = subst (Steps c.args.net.now opening c.args.steps.now) (sym c.collect.ensures.same) (rw (take_all c.loop-place.place c.args.steps.now c.loop-place-test.false) at c.loop-place.invariant.1) in
+    let taken = subst (Steps c.args.net.now initial_world c.args.steps.now) (sym c.collect.ensures.same) (rw (take_all c.loop-place.place c.args.steps.now c.loop-place-test.false) at c.loop-place.invariant.1) in
     λ labels reaches distinct rules. nothing_lost net (labelled net labels reaches labelled_safe distinct rules) (lead_on net labels reaches labelled_safe distinct rules) c.args.steps.now _ taken
 
 pub returns-clause-held_onward : goal.returns-clause-held_onward
 returns-clause-held_onward g c =
     let net = c.args.net.now in
-    let taken = subst (Steps c.args.net.now opening c.args.steps.now) (sym c.collect.ensures.same) (rw (take_all c.loop-place.place c.args.steps.now c.loop-place-test.false) at c.loop-place.invariant.1) in
+    let taken = subst (Steps c.args.net.now initial_world c.args.steps.now) (sym c.collect.ensures.same) (rw (take_all c.loop-place.place c.args.steps.now c.loop-place-test.false) at c.loop-place.invariant.1) in
     λ labels reaches distinct rules. held_onward net (labelled net labels reaches labelled_safe distinct rules) (lead_on net labels reaches labelled_safe distinct rules) c.args.steps.now _ taken
 
 pub returns-clause-nothing_is_made_up : goal.returns-clause-nothing_is_made_up
 returns-clause-nothing_is_made_up g c =
-    let taken = subst (Steps c.args.net.now opening c.args.steps.now) (sym c.collect.ensures.same) (rw (take_all c.loop-place.place c.args.steps.now c.loop-place-test.false) at c.loop-place.invariant.1) in
+    let taken = subst (Steps c.args.net.now initial_world c.args.steps.now) (sym c.collect.ensures.same) (rw (take_all c.loop-place.place c.args.steps.now c.loop-place-test.false) at c.loop-place.invariant.1) in
     sourced c.args.net.now c.args.steps.now _ taken
 
 pub returns-clause-each_branch_keeps : goal.returns-clause-each_branch_keeps
 returns-clause-each_branch_keeps g c =
     let net = c.args.net.now in
-    let taken = subst (Steps c.args.net.now opening c.args.steps.now) (sym c.collect.ensures.same) (rw (take_all c.loop-place.place c.args.steps.now c.loop-place-test.false) at c.loop-place.invariant.1) in
+    let taken = subst (Steps c.args.net.now initial_world c.args.steps.now) (sym c.collect.ensures.same) (rw (take_all c.loop-place.place c.args.steps.now c.loop-place-test.false) at c.loop-place.invariant.1) in
     λ labels reaches distinct rules each. each_branch net (labelled net labels reaches labelled_safe distinct rules) (lead_on net labels reaches labelled_safe distinct rules)
     (λ at tag is buffer leaf. labelled_kept net labels reaches distinct rules each at.relay at.scope tag is buffer leaf) c.args.steps.now _ taken

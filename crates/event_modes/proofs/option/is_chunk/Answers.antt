@@ -13,4 +13,4 @@ no_chunk value (Some x) n m e = absurd cc
 pub returns-else-is_some : goal.returns-else-is_some
 returns-else-is_some c =
     subst (λ (b : Bool). (IsTrue b → IsChunk c.args.value.now) × (IsChunk c.args.value.now → IsTrue b)) (sym c.if-is_some.false)
-    (no_chunk c.args.value.now c.text_of.result (λ n. let f = c.if-is_nil.ensures.1 n in absurd cc) c.text_of.ensures.right (sym c.if-is_some.ensures))
+    (no_chunk c.args.value.now c.str_or_bin.result (λ n. let f = c.if-is_nil.ensures.1 n in absurd cc) c.str_or_bin.ensures.right (sym c.if-is_some.ensures))

@@ -2,7 +2,7 @@ use Rattle.std.proofs.Common.{ℕ, ◌≡◌, ◌-◌, ◌∙◌, List, ◌++◌
 use Rattle.std.specs.Prelude.{IfOk}
 use Rattle.std.proofs.lemmas.List.{take-append-drop, length-take-le}
 use Rattle.msgpack_bytes.specs.declared.answers.Scan.TheVariants as scan
-use Rattle.msgpack_bytes.specs.Item.{IsTextItem}
+use Rattle.msgpack_bytes.specs.Item.{IsItemWithin}
 use Rattle.msgpack_bytes.specs.Answers.{IsScanned}
 use Rattle.event_modes.specs.declared.message.Read.{Read}
 use Rattle.event_modes.specs.Message.{IsMessage}
@@ -23,7 +23,7 @@ of_item bytes item end Wants i s p = absurd p
 of_item bytes item end (Refuses fault) i s p =
     let whole : bytes ≡ item ++ drop end bytes = sym (take-append-drop end bytes) ∙ ap (λ (m : List ℕ). m ++ drop end bytes) (sym i) in
     let n : end - 0 ≡ end = omega arith in
-    let is_item : IsTextItem item = subst IsTextItem (ap (λ (k : ℕ). take k bytes) n ∙ sym i) s.2 in
+    let is_item : IsItemWithin item = subst IsItemWithin (ap (λ (k : ℕ). take k bytes) n ∙ sym i) s.2 in
     inr (item, drop end bytes, is_item, p, whole)
 
 of_read : {A E : Type 0} (bytes item : List ℕ) (end : ℕ) (r : Result (Read A) E) → item ≡ take end bytes → IsScanned bytes 0 (scan.End end) → IfOk r (λ found. AnswersItem item (answer_of found))

@@ -2,7 +2,7 @@ use Rattle.std.proofs.Common.{ℕ, List, Option, Some, None, Bor}
 use Rattle.std.specs.Prelude.{IfSome}
 use Rattle.std.specs.Option.{option_to_list}
 use Rattle.std.specs.List.{AllByRecursion}
-use Rattle.msgpack_bytes.specs.Item.{IsTextItem}
+use Rattle.msgpack_bytes.specs.Item.{IsItemWithin}
 use Rattle.event_modes.specs.Pairs.{bytes_of}
 use Rattle.event_modes.specs.Places.{frame_of}
 use Rattle.event_modes.proofs.Framed.{whole_frame}
@@ -14,7 +14,7 @@ tag_of-requires g c = (whole_frame c.args.item.now (frame_of c.in-Some.places) c
 pub entries_of-requires : goal.entries_of-requires
 entries_of-requires g c = (whole_frame c.args.item.now (frame_of c.in-Some.places) c.requires.item c.in-Some.ensures).carried
 
-an_option : (o : Option (Bor (List ℕ))) → AllByRecursion IsTextItem (option_to_list (bytes_of o)) → IfSome o (λ bytes. IsTextItem bytes.now)
+an_option : (o : Option (Bor (List ℕ))) → AllByRecursion IsItemWithin (option_to_list (bytes_of o)) → IfSome o (λ bytes. IsItemWithin bytes.now)
 an_option None p = tt
 an_option (Some x) p = p.0
 

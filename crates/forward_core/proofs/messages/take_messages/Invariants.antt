@@ -1,5 +1,5 @@
 use Rattle.std.proofs.Common.{◌≡◌, ◌-◌, length, map}
-use Rattle.forward_core.specs.declared.taken.Stage.TheVariants as stage
+use Rattle.forward_core.specs.declared.taken.Standing.TheVariants as stage
 use Rattle.forward_core.specs.Demands.{wanted}
 use Rattle.forward_core.proofs.Streaming.{Reading}
 use Rattle.forward_core.proofs.messages.take_messages.Given as goal

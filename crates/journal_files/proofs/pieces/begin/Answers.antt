@@ -3,7 +3,7 @@ use Rattle.std.specs.List.{flat_map}
 use Rattle.disk_files.specs.Moments.{now}
 use Rattle.disk_files.proofs.Moments.{started}
 use Rattle.chunk_journal.specs.Journal.{journal_bytes}
-use Rattle.chunk_journal.specs.Meaning.{telling}
+use Rattle.chunk_journal.specs.Meaning.{chunk_records}
 use Rattle.journal_files.specs.Faults.{begin_error}
 use Rattle.journal_files.specs.Pieces.{IsUnfinished}
 use Rattle.journal_files.specs.declared.error.BeginError.TheVariants as beginning
@@ -32,7 +32,7 @@ returns-in_err-len-clause-moments g c = λ honest t before none m source. starte
 pub returns-in_err-file-clause-moments : goal.returns-in_err-file-clause-moments
 returns-in_err-file-clause-moments g c = λ honest t before none m source.
     let s = c.args.chunks.now in
-    let bytes = journal_bytes (flat_map telling s.chunks) in
+    let bytes = journal_bytes (flat_map chunk_records s.chunks) in
     let can = can_open s c.in_ok-told.ensures.told c.in_ok-told.ensures.records c.in_ok-told.ensures.next in
     let name = c.deref.ensures.value ∙ c.in_ok-name.ensures ∙ c.generations.ensures c.args.number in
     let give = gives (g.D.Dir.opened c.args.dir.now) (now (g.D.Dir.history c.args.dir.now)) c.args.path.now c.args.number c.deref.result.now c.args.places.now s c.deref-2.result.now c.in_ok-told.told.pieces.items c.args.from name c.deref-2.ensures.value c.in_ok-told.ensures.bytes c.in_ok-told.ensures.within source in
@@ -47,7 +47,7 @@ returns-in_err-file-clause-stray g c = λ honest none stray.
 pub returns-in_err-file-clause-whole : goal.returns-in_err-file-clause-whole
 returns-in_err-file-clause-whole g c = λ honest source short.
     let s = c.args.chunks.now in
-    let bytes = journal_bytes (flat_map telling s.chunks) in
+    let bytes = journal_bytes (flat_map chunk_records s.chunks) in
     let name = c.deref.ensures.value ∙ c.in_ok-name.ensures ∙ c.generations.ensures c.args.number in
     let give = gives (g.D.Dir.opened c.args.dir.now) (now (g.D.Dir.history c.args.dir.now)) c.args.path.now c.args.number c.deref.result.now c.args.places.now s c.deref-2.result.now c.in_ok-told.told.pieces.items c.args.from name c.deref-2.ensures.value c.in_ok-told.ensures.bytes c.in_ok-told.ensures.within source in
     let answer = answered c.in_err-file.field-0.0 c.from_residual-in_err-file.result c.from_residual-in_err-file.ensures.1 in
@@ -72,7 +72,7 @@ returns-in_err-file-clause-cause g c =
 pub returns-in_err-seal_with-clause-moments : goal.returns-in_err-seal_with-clause-moments
 returns-in_err-seal_with-clause-moments g c = λ honest t before none m source.
     let s = c.args.chunks.now in
-    let bytes = journal_bytes (flat_map telling s.chunks) in
+    let bytes = journal_bytes (flat_map chunk_records s.chunks) in
     let can = can_open s c.in_ok-told.ensures.told c.in_ok-told.ensures.records c.in_ok-told.ensures.next in
     let name = c.deref.ensures.value ∙ c.in_ok-name.ensures ∙ c.generations.ensures c.args.number in
     let seal = c.deref-3.ensures.value ∙ c.in_ok-told.ensures.seal in
@@ -106,7 +106,7 @@ returns-in_err-seal_with-clause-cause g c =
 pub returns-clause-ok : goal.returns-clause-ok
 returns-clause-ok g c = λ honest none source.
     let s = c.args.chunks.now in
-    let bytes = journal_bytes (flat_map telling s.chunks) in
+    let bytes = journal_bytes (flat_map chunk_records s.chunks) in
     let can = can_open s c.in_ok-told.ensures.told c.in_ok-told.ensures.records c.in_ok-told.ensures.next in
     let name = c.deref.ensures.value ∙ c.in_ok-name.ensures ∙ c.generations.ensures c.args.number in
     let seal = c.deref-3.ensures.value ∙ c.in_ok-told.ensures.seal in
@@ -140,7 +140,7 @@ returns-clause-elsewhere g c = λ honest other differ.
 pub returns-clause-moments : goal.returns-clause-moments
 returns-clause-moments g c = λ honest t before none m source.
     let s = c.args.chunks.now in
-    let bytes = journal_bytes (flat_map telling s.chunks) in
+    let bytes = journal_bytes (flat_map chunk_records s.chunks) in
     let can = can_open s c.in_ok-told.ensures.told c.in_ok-told.ensures.records c.in_ok-told.ensures.next in
     let name = c.deref.ensures.value ∙ c.in_ok-name.ensures ∙ c.generations.ensures c.args.number in
     let seal = c.deref-3.ensures.value ∙ c.in_ok-told.ensures.seal in

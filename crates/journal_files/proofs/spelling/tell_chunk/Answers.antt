@@ -1,7 +1,7 @@
 use Rattle.std.proofs.Common.{◌≡◌, ◌+◌, length}
 use Rattle.chunk_journal.specs.Records.{Queue, record_bytes}
 use Rattle.chunk_journal.specs.Journal.{journal_bytes}
-use Rattle.chunk_journal.specs.Meaning.{telling}
+use Rattle.chunk_journal.specs.Meaning.{chunk_records}
 use Rattle.file_pieces.specs.Pieces.{pieces_bytes}
 use Rattle.journal_files.proofs.Fronts.{if_ok, queue_is, queued_bytes, queued_length, queued_records}
 use Rattle.journal_files.proofs.Steps.{on_ok}
@@ -17,7 +17,7 @@ returns-in-Queued g c =
     record {
       bytes = on_ok c.tell_queue.result second.bytes (λ is. λ seen are. queued_bytes serial chunk queued (pieces_bytes seen c.args.pieces.now.items) (pieces_bytes seen c.tell_entries.new.pieces.items) (pieces_bytes seen c.tell_queue.new.pieces.items) (first.bytes seen are) (is seen));
       within = on_ok c.tell_queue.result second.within (λ is. λ seen small are before. is seen small (first.within seen small are before));
-      len = if_ok (λ end. end ≡ c.in_ok-end.end + length (record_bytes (Queue serial))) (λ end. end ≡ c.args.len + length (journal_bytes (telling (serial, chunk)))) c.tell_queue.result second.len
+      len = if_ok (λ end. end ≡ c.in_ok-end.end + length (record_bytes (Queue serial))) (λ end. end ≡ c.args.len + length (journal_bytes (chunk_records (serial, chunk)))) c.tell_queue.result second.len
           (λ end is. queued_length serial chunk queued c.args.len c.in_ok-end.end end first.len is);
       places = on_ok c.tell_queue.result second.bytes (λ is. first.places);
       records = on_ok c.tell_queue.result second.bytes (λ is. queued_records serial chunk queued first.record second.record);

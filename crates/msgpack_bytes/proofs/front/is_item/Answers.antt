@@ -1,7 +1,7 @@
 use Rattle.std.proofs.Common.{[], length, sym, subst, ◌∙◌, ◌-◌, ◌≤◌, arith, eq-eqb}
 use Rattle.std.proofs.lemmas.Bool.{eqb-true}
 use Rattle.std.proofs.lemmas.List.{append-nil, take_all}
-use Rattle.msgpack_bytes.specs.Item.{IsTextItem}
+use Rattle.msgpack_bytes.specs.Item.{IsItemWithin}
 use Rattle.msgpack_bytes.specs.Answers.{IsScanned}
 use Rattle.msgpack_bytes.specs.declared.answers.Scan.TheVariants as scan
 use Rattle.msgpack_bytes.proofs.Cuts.{item_ends, one_end}
@@ -13,7 +13,7 @@ returns-in-End c = (
       (let same = eqb-true c.in-End.end (length c.args.bytes.now) whole in
       let ends = subst (IsScanned c.args.bytes.now 0) c.in-End.is c.scan.ensures.right in
       let all : length c.args.bytes.now ≤ c.in-End.end - 0 = omega arith in
-      subst IsTextItem (take_all (c.in-End.end - 0) c.args.bytes.now all) ends.2),
+      subst IsItemWithin (take_all (c.in-End.end - 0) c.args.bytes.now all) ends.2),
   λ item.
       (let bytes = c.args.bytes.now in
       let h = c.scan.ensures.only (scan.End (length bytes)) (item_ends bytes bytes [] item (sym (append-nil bytes))) in

@@ -2,8 +2,8 @@ use Rattle.std.proofs.Common.{◌≡◌, ◌≤◌, ℕ, Some, Ok, Err, true, fa
 use Rattle.std.specs.Prelude.{◌↔◌}
 use Rattle.buffer_state.specs.Steps.{appended, place_of, CanAppend}
 use Rattle.chunk_journal.specs.Records.{Append}
-use Rattle.journal_files.specs.Tellings.{state_of}
-use Rattle.buffer_store.specs.Buffers.{Held, sure_if}
+use Rattle.journal_files.specs.JournalLogs.{state_of}
+use Rattle.buffer_store.specs.Buffers.{Held, durable_if}
 use Rattle.buffer_store.specs.Calls.{Begins, StaysWithin}
 use Rattle.buffer_store.specs.Logs.{held_of}
 use Rattle.buffer_store.specs.declared.buffer.Appended.{Appended}
@@ -26,7 +26,7 @@ returns-in_err-serial-clause-begins g c = λ honest.
     let e = c.in_err-serial.field-0.0 in
     let is : c.from_residual.result ≡ Err e = search rules in
     let item = Append (place_of c.args.self.now.limits c.args.self.now.chunks c.args.tag.now c.args.entries.now) c.args.tag.now c.args.entries.now in
-    subst (Begins g.D.Dir.history c.args.self.now c.args.self.now (Some item) (sure_if c.args.synced)) (sym is) (begins_none g.D.Dir.is_honest g.D.Dir.history g.D.Dir.fault_count c.args.self.now e (Some item) (sure_if c.args.synced) (plan_not_fault e c.plan.result c.in_err-serial.was c.plan.ensures.only))
+    subst (Begins g.D.Dir.history c.args.self.now c.args.self.now (Some item) (durable_if c.args.synced)) (sym is) (begins_none g.D.Dir.is_honest g.D.Dir.history g.D.Dir.fault_count c.args.self.now e (Some item) (durable_if c.args.synced) (plan_not_fault e c.plan.result c.in_err-serial.was c.plan.ensures.only))
 
 pub invariant_of-self : goal.invariant_of-self
 invariant_of-self g c =
@@ -69,9 +69,9 @@ returns-in_err-add_entries-clause-begins g c = λ honest.
     let put : Appended = record { serial = serial } in
     let new : Held g.row.D.Denot = held_of c.add_entries.new.log c.add_entries.new.chunks c.self.inside.settings in
     let place : place_of c.args.self.now.limits c.args.self.now.chunks tag entries ≡ serial = planned_place c.args.self.now.limits c.args.self.now.chunks tag entries serial c.in_ok-serial.ensures.place in
-    subst (λ (n : ℕ). Begins g.D.Dir.history c.args.self.now new (Some (Append n tag entries)) (sure_if c.args.synced) c.from_residual-in_err-add_entries.result) (sym place)
-    (subst (λ (b : Held g.row.D.Denot). Begins g.D.Dir.history b new (Some (Append serial tag entries)) (sure_if c.args.synced) c.from_residual-in_err-add_entries.result) v
-    (renamed_err g.D.Dir.is_honest g.D.Dir.history g.D.Dir.fault_count (held_of c.self.inside.log chunks c.self.inside.settings) new (Some (Append serial tag entries)) (sure_if c.args.synced) c.add_entries.result c.from_residual-in_err-add_entries.result c.in_err-add_entries.field-0.0 c.in_err-add_entries.was (search rules)
+    subst (λ (n : ℕ). Begins g.D.Dir.history c.args.self.now new (Some (Append n tag entries)) (durable_if c.args.synced) c.from_residual-in_err-add_entries.result) (sym place)
+    (subst (λ (b : Held g.row.D.Denot). Begins g.D.Dir.history b new (Some (Append serial tag entries)) (durable_if c.args.synced) c.from_residual-in_err-add_entries.result) v
+    (renamed_err g.D.Dir.is_honest g.D.Dir.history g.D.Dir.fault_count (held_of c.self.inside.log chunks c.self.inside.settings) new (Some (Append serial tag entries)) (durable_if c.args.synced) c.add_entries.result c.from_residual-in_err-add_entries.result c.in_err-add_entries.field-0.0 c.in_err-add_entries.was (search rules)
     (begins_by g.D.Dir.is_honest g.D.Dir.history g.D.Dir.fault_count c.self.inside.log c.add_entries.new.log chunks c.add_entries.new.chunks c.self.inside.settings going (Append serial tag entries) (appended serial tag entries chunks)
     (λ t same. (append_allowed (state_of t) chunks same serial tag entries can near, append_same (state_of t) chunks same serial tag entries)) c.args.synced c.add_entries.result c.add_entries.ensures.wrote c.add_entries.ensures.ok c.add_entries.ensures.err (subst (λ (b : Held g.row.D.Denot). g.D.Dir.is_honest b.dir) (sym v) honest))))
 
@@ -88,8 +88,8 @@ returns-clause-begins g c = λ honest.
     let put : Appended = record { serial = serial } in
     let new : Held g.row.D.Denot = held_of c.add_entries.new.log c.add_entries.new.chunks c.self.inside.settings in
     let place : place_of c.args.self.now.limits c.args.self.now.chunks tag entries ≡ serial = planned_place c.args.self.now.limits c.args.self.now.chunks tag entries serial c.in_ok-serial.ensures.place in
-    subst (λ (n : ℕ). Begins g.D.Dir.history c.args.self.now new (Some (Append n tag entries)) (sure_if c.args.synced) (Ok put)) (sym place)
-    (subst (λ (b : Held g.row.D.Denot). Begins g.D.Dir.history b new (Some (Append serial tag entries)) (sure_if c.args.synced) (Ok put)) v
-    (renamed_ok g.D.Dir.is_honest g.D.Dir.history g.D.Dir.fault_count (held_of c.self.inside.log chunks c.self.inside.settings) new (Some (Append serial tag entries)) (sure_if c.args.synced) c.add_entries.result (tt {0}) put c.in_ok-add_entries.was
+    subst (λ (n : ℕ). Begins g.D.Dir.history c.args.self.now new (Some (Append n tag entries)) (durable_if c.args.synced) (Ok put)) (sym place)
+    (subst (λ (b : Held g.row.D.Denot). Begins g.D.Dir.history b new (Some (Append serial tag entries)) (durable_if c.args.synced) (Ok put)) v
+    (renamed_ok g.D.Dir.is_honest g.D.Dir.history g.D.Dir.fault_count (held_of c.self.inside.log chunks c.self.inside.settings) new (Some (Append serial tag entries)) (durable_if c.args.synced) c.add_entries.result (tt {0}) put c.in_ok-add_entries.was
     (begins_by g.D.Dir.is_honest g.D.Dir.history g.D.Dir.fault_count c.self.inside.log c.add_entries.new.log chunks c.add_entries.new.chunks c.self.inside.settings going (Append serial tag entries) (appended serial tag entries chunks)
     (λ t same. (append_allowed (state_of t) chunks same serial tag entries can near, append_same (state_of t) chunks same serial tag entries)) c.args.synced c.add_entries.result c.add_entries.ensures.wrote c.add_entries.ensures.ok c.add_entries.ensures.err (subst (λ (b : Held g.row.D.Denot). g.D.Dir.is_honest b.dir) (sym v) honest))))

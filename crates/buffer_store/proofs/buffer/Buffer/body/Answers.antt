@@ -15,7 +15,7 @@ returns-in_err-bytes-clause-undamaged g c = λ began q.
     let told = durable.going (ap (λ (b : Held g.row.D.Denot). b.failed) c.self.view_is ∙ sym c.has_failed.ensures ∙ c.if-has_failed.false) in
     let is : c.from_residual.result ≡ Err c.in_err-bytes.field-0.0 = search rules in
     let same : c.in_err-bytes.field-0.0 ≡ BufferFault.Damaged = cc (is, q) in
-    c.body.ensures.whole durable.honest told.telling told.holds.keeps (c.in_err-bytes.was ∙ ap (λ (e : BufferFault). Err e) same)
+    c.body.ensures.whole durable.honest told.logged told.holds.keeps (c.in_err-bytes.was ∙ ap (λ (e : BufferFault). Err e) same)
 
 pub invariant_of-self-2 : goal.invariant_of-self-2
 invariant_of-self-2 g c = sound_read g.D.Dir.is_honest g.D.Dir.history c.self.inside.log c.self.inside.chunks c.self.inside.settings (ap (λ (b : Held g.row.D.Denot). b.failed) c.self.view_is ∙ sym c.has_failed.ensures ∙ c.if-has_failed.false) c.self.invariant
@@ -27,8 +27,8 @@ returns-clause-entries g c = λ began.
     let durable = c.self.invariant.durable began0 in
     let told = durable.going (ap (λ (b : Held g.row.D.Denot). b.failed) c.self.view_is ∙ sym c.has_failed.ensures ∙ c.if-has_failed.false) in
     let at : chunk_at c.self.inside.chunks c.args.serial ≡ Some c.in-Some.chunk.now.chunk = sym c.in-Some.ensures.value in
-    let bytes : c.deref.result.now ≡ concat c.in-Some.chunk.now.chunk.entries = c.deref.ensures.value ∙ c.in_ok-bytes.ensures.bytes durable.honest told.telling told.holds.keeps
-    ∙ entries_same told.telling c.self.inside.chunks c.args.serial c.in-Some.chunk.now.chunk at told.holds.means in
+    let bytes : c.deref.result.now ≡ concat c.in-Some.chunk.now.chunk.entries = c.deref.ensures.value ∙ c.in_ok-bytes.ensures.bytes durable.honest told.logged told.holds.keeps
+    ∙ entries_same told.logged c.self.inside.chunks c.args.serial c.in-Some.chunk.now.chunk at told.holds.means in
     of_chunk (λ (chunk : Chunk) (entries : List (List ℕ)). entries ≡ chunk.entries) c.entries_of.result (chunk_at c.args.self.now.chunks c.args.serial) c.in-Some.chunk.now.chunk (ap (λ (b : Held g.row.D.Denot). chunk_at b.chunks c.args.serial) (sym c.self.view_is) ∙ at) (c.entries_of.ensures.entries bytes)
 
 pub returns-clause-counted : goal.returns-clause-counted
@@ -43,6 +43,6 @@ returns-clause-undamaged g c = λ began.
     let durable = c.self.invariant.durable began0 in
     let told = durable.going (ap (λ (b : Held g.row.D.Denot). b.failed) c.self.view_is ∙ sym c.has_failed.ensures ∙ c.if-has_failed.false) in
     let at : chunk_at c.self.inside.chunks c.args.serial ≡ Some c.in-Some.chunk.now.chunk = sym c.in-Some.ensures.value in
-    let bytes : c.deref.result.now ≡ concat c.in-Some.chunk.now.chunk.entries = c.deref.ensures.value ∙ c.in_ok-bytes.ensures.bytes durable.honest told.telling told.holds.keeps
-    ∙ entries_same told.telling c.self.inside.chunks c.args.serial c.in-Some.chunk.now.chunk at told.holds.means in
+    let bytes : c.deref.result.now ≡ concat c.in-Some.chunk.now.chunk.entries = c.deref.ensures.value ∙ c.in_ok-bytes.ensures.bytes durable.honest told.logged told.holds.keeps
+    ∙ entries_same told.logged c.self.inside.chunks c.args.serial c.in-Some.chunk.now.chunk at told.holds.means in
     c.entries_of.ensures.undamaged bytes

@@ -4,7 +4,7 @@ use Rattle.buffer_state.specs.State.{IsAt}
 use Rattle.buffer_state.specs.Steps.{removed, oldest}
 use Rattle.buffer_state.specs.declared.chunk.Stage.TheVariants.{Queued}
 use Rattle.chunk_journal.specs.Records.{Purge}
-use Rattle.journal_files.specs.Tellings.{state_of}
+use Rattle.journal_files.specs.JournalLogs.{state_of}
 use Rattle.buffer_store.specs.Buffers.{Held}
 use Rattle.buffer_store.specs.Calls.{Begins}
 use Rattle.buffer_store.specs.Logs.{held_of}

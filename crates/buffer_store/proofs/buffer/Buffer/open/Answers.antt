@@ -2,7 +2,7 @@ use Rattle.std.proofs.Common.{List, ℕ, sym, subst}
 use Rattle.disk_files.specs.Disk.{reads}
 use Rattle.disk_files.specs.Moments.{LeavesOnly, now}
 use Rattle.journal_files.specs.Folders.{Opens}
-use Rattle.journal_files.specs.Tellings.{OpensWithin}
+use Rattle.journal_files.specs.JournalLogs.{OpensWithin}
 use Rattle.journal_files.specs.Disks.{HasNoStray}
 use Rattle.buffer_store.specs.Buffers.{Held}
 use Rattle.buffer_store.proofs.buffer.Buffer.open.Goals as goal

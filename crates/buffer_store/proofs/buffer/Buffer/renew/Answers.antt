@@ -1,5 +1,5 @@
 use Rattle.std.proofs.Common.{None, sym, subst, ◌∙◌}
-use Rattle.journal_files.specs.Tellings.{opening}
+use Rattle.journal_files.specs.JournalLogs.{new_generation}
 use Rattle.buffer_store.specs.Buffers.{Held}
 use Rattle.buffer_store.specs.Calls.{Begins}
 use Rattle.buffer_store.specs.Durability.{BeganWell}
@@ -9,7 +9,7 @@ use Rattle.buffer_store.proofs.Told.{begins_none, renews_begins, sound_renewed}
 use Rattle.buffer_store.proofs.buffer.Buffer.renew.Goals as goal
 
 pub returns-then-has_failed-clause-begins : goal.returns-then-has_failed-clause-begins
-returns-then-has_failed-clause-begins g c = λ honest. begins_none g.D.Dir.is_honest g.D.Dir.history g.D.Dir.fault_count c.args.self.now BufferFault.Failed None (λ _. opening c.args.self.now.chunks) (λ q. cc q)
+returns-then-has_failed-clause-begins g c = λ honest. begins_none g.D.Dir.is_honest g.D.Dir.history g.D.Dir.fault_count c.args.self.now BufferFault.Failed None (λ _. new_generation c.args.self.now.chunks) (λ q. cc q)
 
 pub invariant_of-self : goal.invariant_of-self
 invariant_of-self g c =
@@ -18,7 +18,7 @@ invariant_of-self g c =
 pub returns-clause-begins : goal.returns-clause-begins
 returns-clause-begins g c = λ honest.
     let v = c.self.view_is in
-    subst (λ (b : Held g.row.D.Denot). Begins g.D.Dir.history b (held_of c.renew.new.self c.self.inside.chunks c.self.inside.settings) None (λ _. opening b.chunks) c.renew.result) v
+    subst (λ (b : Held g.row.D.Denot). Begins g.D.Dir.history b (held_of c.renew.new.self c.self.inside.chunks c.self.inside.settings) None (λ _. new_generation b.chunks) c.renew.result) v
     (renews_begins g.D.Dir.is_honest g.D.Dir.history g.D.Dir.fault_count c.self.inside.log c.renew.new.self c.self.inside.chunks c.self.inside.settings (sym c.has_failed.ensures ∙ c.if-has_failed.false) c.renew.result c.renew.ensures (subst (λ (b : Held g.row.D.Denot). g.D.Dir.is_honest b.dir) (sym v) honest))
 
 pub returns-clause-undamaged : goal.returns-clause-undamaged
@@ -26,4 +26,4 @@ returns-clause-undamaged g c = λ began.
     let began0 : BeganWell g.D.Dir.is_honest g.D.Dir.history (held_of c.self.inside.log c.self.inside.chunks c.self.inside.settings) = subst (λ (b : Held g.row.D.Denot). BeganWell g.D.Dir.is_honest g.D.Dir.history b) (sym c.self.view_is) began in
     let durable = c.self.invariant.durable began0 in
     let told = durable.going (sym c.has_failed.ensures ∙ c.if-has_failed.false) in
-    c.renew.ensures.whole durable.honest told.telling told.holds.keeps told.holds.means
+    c.renew.ensures.whole durable.honest told.logged told.holds.keeps told.holds.means

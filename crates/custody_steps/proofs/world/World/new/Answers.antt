@@ -1,10 +1,10 @@
 use Rattle.std.proofs.Common.{◌∙◌, ap}
 use Rattle.custody_store.specs.Contents.{buffer_of}
 use Rattle.message_book.specs.Book.{Book}
-use Rattle.custody_steps.specs.World.{opening}
+use Rattle.custody_steps.specs.World.{initial_world}
 use Rattle.custody_steps.specs.WorldOf.{world_from}
 use Rattle.custody_steps.proofs.world.World.new.Goals as goal
 
 pub returns-clause-opening : goal.returns-clause-opening
 returns-clause-opening g c = ap (λ (book : Book). world_from c.new.result book) c.new-3.ensures
-    ∙ (λ i. record opening { buffers = λ p b. buffer_of (c.new.ensures.contents p b i) })
+    ∙ (λ i. record initial_world { buffers = λ p b. buffer_of (c.new.ensures.contents p b i) })

@@ -1,5 +1,5 @@
 use Rattle.std.proofs.Common.{◌≡◌, ℕ, List, Some, OnErr, take, ap, rules, subst}
-use Rattle.disk_files.specs.Disk.{Changes, grown}
+use Rattle.disk_files.specs.Disk.{Changes, with_bytes}
 use Rattle.disk_files.specs.Moments.{now}
 use Rattle.disk_files.proofs.Failing.{not_passed, passed_on}
 use Rattle.disk_files.proofs.fuse.FuseDir.append.Goals as goal
@@ -8,7 +8,7 @@ pub returns-clause-err : goal.returns-clause-err
 returns-clause-err g c =
     let dir = g.D.Dir in
     subst (λ d. dir.is_honest d → (name : List ℕ) → dir.opened d c.args.file ≡ Some name
-    → OnErr c.append.result ((n : ℕ) × Changes name (grown (take n c.args.bytes.now)) (now (dir.history d)) (now (dir.history c.append.new.self))))
+    → OnErr c.append.result ((n : ℕ) × Changes name (with_bytes (take n c.args.bytes.now)) (now (dir.history d)) (now (dir.history c.append.new.self))))
     c.in_ok-pass.ensures.inner c.append.ensures.err
 
 pub returns-in_err-pass-clause-fault : goal.returns-in_err-pass-clause-fault

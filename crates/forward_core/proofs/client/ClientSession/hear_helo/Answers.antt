@@ -1,5 +1,5 @@
 use Rattle.std.proofs.Common.{drop, refl, ap, sym, ◌∙◌, subst}
-use Rattle.forward_core.specs.declared.meeting.Met.{Met}
+use Rattle.forward_core.specs.declared.client_handshake.Met.{Met}
 use Rattle.forward_core.specs.Client.{ClientState, MeetsHelo}
 use Rattle.forward_core.proofs.Shaking.{helo_client, helo_taken, helo_refused}
 use Rattle.forward_core.proofs.client.ClientSession.hear_helo.Goals as goal

@@ -3,7 +3,7 @@ use Rattle.std.specs.Prelude.{IfOk}
 use Rattle.disk_files.specs.Moments.{now}
 use Rattle.chunk_journal.specs.Places.{places_at}
 use Rattle.chunk_journal.specs.Journal.{journal_bytes}
-use Rattle.journal_files.specs.Tellings.{records_of}
+use Rattle.journal_files.specs.JournalLogs.{records_of}
 use Rattle.journal_files.specs.Views.{OpenJournal}
 use Rattle.journal_files.proofs.Told.{reads_told, few_told, within_told, lie_told}
 use Rattle.journal_files.proofs.journal.Journal.body.Goals as goal

@@ -2,7 +2,7 @@ use Rattle.std.proofs.Common.{rules, ◌≡◌, ◌+◌, ◌<◌, ◌^◌, List,
 use Rattle.disk_files.specs.Moments.{now}
 use Rattle.journal_files.specs.Faults.{renew_error, renewal_error}
 use Rattle.journal_files.specs.Folders.{journal_name}
-use Rattle.journal_files.specs.Tellings.{opening}
+use Rattle.journal_files.specs.JournalLogs.{new_generation}
 use Rattle.journal_files.specs.Views.{OpenJournal, IsOpenIn}
 use Rattle.journal_files.specs.Disks.{Keeps, HasNoStray}
 use Rattle.disk_files.proofs.Moments.{started}
@@ -60,7 +60,7 @@ returns-in_err-remove-clause-fault g c = λ honest t keeps means fault.
     let on = onward (g.D.Dir.opened c.args.dir.now) _ c.args.self.now c.deref.result.now c.deref.ensures.value c.self.view_is c.requires.open small (omega (arith, c.if-self.false, c.self.inside.number)) in
     let begun = c.in_ok-next.ensures.ok honest (none on keeps) (source on keeps c.args.chunks.now means) in
     still_recovers c.args.self.now c.in_ok-next.next (now (g.D.Dir.history c.begin.new.dir)) (now (g.D.Dir.history c.remove.new.self)) (c.in_ok-next.ensures.path ∙ on.path_is) (c.in_ok-next.ensures.number ∙ on.number_is) keeps.last
-    t c.args.chunks.now c.in_ok-next.ensures.state (of_all t c.args.chunks.now keeps.telling means) begun
+    t c.args.chunks.now c.in_ok-next.ensures.state (of_all t c.args.chunks.now keeps.logged means) begun
     (c.in_err-remove.ensures.err (c.in_ok-next.ensures.honest honest) _ (still on (g.D.Dir.opened c.begin.new.dir) c.in_ok-next.ensures.others))
 
 pub returns-in_err-remove-clause-moments : goal.returns-in_err-remove-clause-moments
@@ -73,7 +73,7 @@ returns-in_err-remove-clause-moments g c = λ honest t keeps means.
     removing c.args.self.now.path t (journal_name c.args.self.now.path c.args.self.now.number) (g.D.Dir.history c.args.dir.now) (g.D.Dir.history c.begin.new.dir) (g.D.Dir.history c.remove.new.self) c.remove.result
     (beginning on keeps c.args.chunks.now means (g.D.Dir.history c.args.dir.now) (g.D.Dir.history c.begin.new.dir) (c.begin.ensures.moments honest t)) (c.remove.ensures.time after)
     (λ disk. still_recovers c.args.self.now c.in_ok-next.next (now (g.D.Dir.history c.begin.new.dir)) disk (c.in_ok-next.ensures.path ∙ on.path_is) (c.in_ok-next.ensures.number ∙ on.number_is) keeps.last
-    t c.args.chunks.now c.in_ok-next.ensures.state (of_all t c.args.chunks.now keeps.telling means) begun)
+    t c.args.chunks.now c.in_ok-next.ensures.state (of_all t c.args.chunks.now keeps.logged means) begun)
     (c.remove.ensures.ok after _ opened) (c.remove.ensures.err after _ opened)
 
 pub returns-in_err-remove-clause-stray : goal.returns-in_err-remove-clause-stray
@@ -98,7 +98,7 @@ returns-clause-moments g c = λ honest t keeps means.
     removing c.args.self.now.path t (journal_name c.args.self.now.path c.args.self.now.number) (g.D.Dir.history c.args.dir.now) (g.D.Dir.history c.begin.new.dir) (g.D.Dir.history c.remove.new.self) c.remove.result
     (beginning on keeps c.args.chunks.now means (g.D.Dir.history c.args.dir.now) (g.D.Dir.history c.begin.new.dir) (c.begin.ensures.moments honest t)) (c.remove.ensures.time after)
     (λ disk. still_recovers c.args.self.now c.in_ok-next.next (now (g.D.Dir.history c.begin.new.dir)) disk (c.in_ok-next.ensures.path ∙ on.path_is) (c.in_ok-next.ensures.number ∙ on.number_is) keeps.last
-    t c.args.chunks.now c.in_ok-next.ensures.state (of_all t c.args.chunks.now keeps.telling means) begun)
+    t c.args.chunks.now c.in_ok-next.ensures.state (of_all t c.args.chunks.now keeps.logged means) begun)
     (c.remove.ensures.ok after _ opened) (c.remove.ensures.err after _ opened)
 
 pub returns-clause-stray : goal.returns-clause-stray
@@ -119,7 +119,7 @@ returns-clause-ok g c = λ honest t keeps means.
     let small : c.self.inside.len < 2 ^ 64 = search rules in
     let on = onward (g.D.Dir.opened c.args.dir.now) _ c.args.self.now c.deref.result.now c.deref.ensures.value c.self.view_is c.requires.open small (omega (arith, c.if-self.false, c.self.inside.number)) in
     let begun = c.in_ok-next.ensures.ok honest (none on keeps) (source on keeps c.args.chunks.now means) in
-    subst (λ (j : OpenJournal). Keeps j (now (g.D.Dir.history c.remove.new.self)) (opening c.args.chunks.now)) (sym c.next.view_is)
+    subst (λ (j : OpenJournal). Keeps j (now (g.D.Dir.history c.remove.new.self)) (new_generation c.args.chunks.now)) (sym c.next.view_is)
     (still_keeps c.args.self.now c.in_ok-next.next (now (g.D.Dir.history c.begin.new.dir)) (now (g.D.Dir.history c.remove.new.self)) (c.in_ok-next.ensures.path ∙ on.path_is) (c.in_ok-next.ensures.number ∙ on.number_is) keeps.last
     c.args.chunks.now begun (inr (c.in_ok-remove.ensures.ok (c.in_ok-next.ensures.honest honest) _ (still on (g.D.Dir.opened c.begin.new.dir) c.in_ok-next.ensures.others))))
 

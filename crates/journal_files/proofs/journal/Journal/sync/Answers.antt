@@ -3,7 +3,7 @@ use Rattle.disk_files.proofs.Moments.{elsewhere}
 use Rattle.journal_files.specs.Views.{OpenJournal}
 use Rattle.journal_files.proofs.Names.{apart}
 use Rattle.journal_files.proofs.Recovery.{recovers}
-use Rattle.journal_files.proofs.Steps.{synced_all, kept, less_sure, either, on_ok, one_call}
+use Rattle.journal_files.proofs.Steps.{synced_all, kept, less_durable, either, on_ok, one_call}
 use Rattle.journal_files.proofs.journal.Journal.sync.Goals as goal
 
 pub returns-clause-ok : goal.returns-clause-ok
@@ -16,7 +16,7 @@ returns-clause-moments g c = λ honest t keeps.
     let named = ap (λ (j : OpenJournal). g.D.Dir.opened c.args.dir.now j.file) c.self.view_is ∙ c.requires.open in
     one_call _ _ _ (c.sync.ensures.time honest) (recovers c.args.self.now _ t keeps)
     (either c.sync.result (c.sync.ensures.ok honest _ named) (c.sync.ensures.err honest)
-    (λ changes folder leaves. less_sure c.args.self.now.path t folder keeps.telling.few (recovers c.args.self.now _ _ (synced_all c.args.self.now _ _ t keeps changes) folder leaves))
+    (λ changes folder leaves. less_durable c.args.self.now.path t folder keeps.logged.few (recovers c.args.self.now _ _ (synced_all c.args.self.now _ _ t keeps changes) folder leaves))
     (λ same. recovers c.args.self.now _ t (kept c.args.self.now _ _ t keeps same)))
 
 pub returns-clause-elsewhere : goal.returns-clause-elsewhere

@@ -5,7 +5,7 @@ use Rattle.ack_receipt.specs.Deliveries.{OpenDelivery}
 use Rattle.ack_receipt.specs.Reservations.{asked_of}
 use Rattle.event_modes.specs.Reading.{meaning}
 use Rattle.loop_core.specs.declared.inlet.Branches.{Branches}
-use Rattle.loop_core.specs.Leaves.{Entry, GoesTo}
+use Rattle.loop_core.specs.Leaves.{Entry, IsRoutedTo}
 use Rattle.loop_core.specs.Waits.{Waits, awaited_by}
 use Rattle.loop_core.specs.Peers.{PeerState, IsOwed, IsFaithful}
 use Rattle.loop_core.proofs.Leading.{has_entries}
@@ -25,8 +25,8 @@ invariant_of-self-then-append g c =
     let wanted = asked_of (meaning c.args.message) in
     let tag = c.in-Some.branches.tag in
     let leaves = c.in-Some.branches.leaves.items in
-    let found = subst (λ (o : Option (Branches _)). IfSome o (λ branches. GoesTo c.deref.result.now wanted branches.tag branches.leaves.items)) c.in-Some.is c.in_ok-branches.ensures.leaves in
-    let goes = subst (λ (e : Entry). GoesTo e wanted tag leaves) c.deref.ensures found in
+    let found = subst (λ (o : Option (Branches _)). IfSome o (λ branches. IsRoutedTo c.deref.result.now wanted branches.tag branches.leaves.items)) c.in-Some.is c.in_ok-branches.ensures.leaves in
+    let goes = subst (λ (e : Entry). IsRoutedTo e wanted tag leaves) c.deref.ensures found in
     let opened = c.in-Ok.ensures.opens ∙ ap (λ (t : List ℕ). record { number = c.in-Some-draw.number; message = meaning c.args.message; tag = t; leaves = leaves; receipts = [] }) c.as_bytes.ensures.bytes in
     let is : c.new.result ≡ record { awaited = record { asked = wanted; tag = tag; leaves = leaves }; buffers = c.in-Some.branches.buffers.items } =
     c.new.ensures ∙ ap (λ (d : OpenDelivery). record { awaited = awaited_by d; buffers = c.in-Some.branches.buffers.items }) opened in

@@ -1,12 +1,12 @@
 use Rattle.std.proofs.Common.{◌≡◌, ◌+◌, length, Option, Some, None, refl, arith}
-use Rattle.msgpack_bytes.specs.declared.answers.Taken.{Taken}
-use Rattle.msgpack_bytes.specs.declared.answers.Taken.TheVariants as taken
+use Rattle.msgpack_bytes.specs.declared.answers.PieceScan.{PieceScan}
+use Rattle.msgpack_bytes.specs.declared.answers.PieceScan.TheVariants as taken
 use Rattle.msgpack_bytes.specs.declared.scanner.Went.TheVariants.{Ended, Bad, Cut}
 use Rattle.msgpack_bytes.proofs.Standing.{place_of, scanning, clauses, seen_of, tells_kept, goes_from, stands_some, tells_ended, tells_bad, cut_within, tells_cut}
 use Rattle.msgpack_bytes.proofs.scanner.Scanner.take.Goals as goal
 
 -- where nothing is answered from now on
-not_over : (o : Option Taken) → ((answer : Taken) → o ≡ Some answer → ⊥) → o ≡ None
+not_over : (o : Option PieceScan) → ((answer : PieceScan) → o ≡ Some answer → ⊥) → o ≡ None
 not_over None h = refl
 not_over (Some answer) h = absurd (h answer refl)
 

@@ -1,6 +1,6 @@
 use Rattle.std.proofs.Common.{◌≡◌, ◌++◌, ◌∷◌, [], sym, subst, rules}
 use Rattle.std.specs.Option.{option_to_list}
-use Rattle.stream_listing.specs.HexText.{SpellsUpTo, Breaks}
+use Rattle.stream_listing.specs.HexText.{AreDigitsUpTo, Breaks}
 use Rattle.stream_listing.proofs.HexSteps.{two_digits, two_broken}
 use Rattle.stream_listing.proofs.hex_text.HexText.step.Goals as goal
 
@@ -13,6 +13,6 @@ pub returns-clause-ok : goal.returns-clause-ok
 returns-clause-ok c =
     let held : c.args.self.now ≡ c.in-Some.high ∷ [] = search rules in
     let none : option_to_list c.take.new.self ≡ [] = search rules in
-    let read : SpellsUpTo (c.in-Some.high ∷ c.args.digit ∷ []) (c.in-Some-byte_of.byte ∷ []) [] = two_digits c.in-Some.high c.args.digit c.in-Some-byte_of.byte (search rules) in
-    subst (λ l. SpellsUpTo (l ++ c.args.digit ∷ []) (c.in-Some-byte_of.byte ∷ []) (option_to_list c.take.new.self)) (sym held)
-    (subst (SpellsUpTo (c.in-Some.high ∷ c.args.digit ∷ []) (c.in-Some-byte_of.byte ∷ [])) (sym none) read)
+    let read : AreDigitsUpTo (c.in-Some.high ∷ c.args.digit ∷ []) (c.in-Some-byte_of.byte ∷ []) [] = two_digits c.in-Some.high c.args.digit c.in-Some-byte_of.byte (search rules) in
+    subst (λ l. AreDigitsUpTo (l ++ c.args.digit ∷ []) (c.in-Some-byte_of.byte ∷ []) (option_to_list c.take.new.self)) (sym held)
+    (subst (AreDigitsUpTo (c.in-Some.high ∷ c.args.digit ∷ []) (c.in-Some-byte_of.byte ∷ [])) (sym none) read)

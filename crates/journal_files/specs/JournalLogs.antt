@@ -5,66 +5,66 @@ use Rattle.disk_files.specs.Disk.{Folder}
 use Rattle.buffer_state.specs.State.{State, empty}
 use Rattle.buffer_state.specs.Steps.{settled}
 use Rattle.chunk_journal.specs.Records.{Record, Seal, IsRecord}
-use Rattle.chunk_journal.specs.Meaning.{Tells, Allows, Each, after, after_all, telling}
+use Rattle.chunk_journal.specs.Meaning.{Tells, Allows, Each, after, after_all, chunk_records}
 use Rattle.journal_files.specs.Folders.{Opens}
 
 -- What a generation has told so far.
-pub record Telling : Type 0 where
+pub record JournalLog : Type 0 where
   pub told : List Record  -- the chunks that it begins with
   pub next : ℕ  -- the serial of its Seal
   pub steps : List Record  -- the steps begun behind the Seal, in order
-  pub sure : ℕ  -- how many of these steps each stop leaves
+  pub durable : ℕ  -- how many of these steps each stop leaves
 
 -- its records: the chunks, the Seal and the steps
-abbrev pub records_of : Telling → List Record
+abbrev pub records_of : JournalLog → List Record
 records_of t = t.told ++ Seal t.next ∷ t.steps
 
 -- those that each stop leaves
-abbrev pub sure_records : Telling → List Record
-sure_records t = t.told ++ Seal t.next ∷ take t.sure t.steps
+abbrev pub durable_records : JournalLog → List Record
+durable_records t = t.told ++ Seal t.next ∷ take t.durable t.steps
 
 -- the state at its Seal
-abbrev pub state_at_seal : Telling → State
+abbrev pub state_at_seal : JournalLog → State
 state_at_seal t = after (after_all empty t.told) (Seal t.next)
 
 -- the state after all of its steps
-abbrev pub state_of : Telling → State
+abbrev pub state_of : JournalLog → State
 state_of t = after_all (state_at_seal t) t.steps
 
 -- the state that opening gives where so many of its steps were left: the queue goes by rising serial
-abbrev pub reopened_at : Telling → ℕ → State
+abbrev pub reopened_at : JournalLog → ℕ → State
 reopened_at t k = settled (after_all (state_at_seal t) (take k t.steps))
 
--- the state is the one after some of the steps, all sure ones among them, as opening gives it
-pub record IsOfSome (t : Telling) (state : State) : Type 0 where
+-- the state is the one after some of the steps, all durable ones among them, as opening gives it
+pub record IsOfSome (t : JournalLog) (state : State) : Type 0 where
   pub steps : ℕ
-  pub enough : t.sure ≤ steps
+  pub enough : t.durable ≤ steps
   pub begun : steps ≤ length t.steps
   pub state_is : state ≡ reopened_at t steps
 
 -- its records can be told so
-pub record IsTelling (t : Telling) : Type 0 where
+pub record IsJournalLog (t : JournalLog) : Type 0 where
   pub tells : Each Tells empty t.told
   pub greater : (after_all empty t.told).next ≤ t.next
   pub allowed : Each Allows (state_at_seal t) t.steps
   pub records : AllByRecursion IsRecord (records_of t)
-  pub few : t.sure ≤ length t.steps
+  pub few : t.durable ≤ length t.steps
 
 -- one more step is begun
-abbrev pub begun : Record → Telling → Telling
+abbrev pub begun : Record → JournalLog → JournalLog
 begun item t = record t { steps = t.steps ++ item ∷ [] }
 
 -- each stop leaves all steps
-abbrev pub all_sure : Telling → Telling
-all_sure t = record t { sure = length t.steps }
+abbrev pub all_durable : JournalLog → JournalLog
+all_durable t = record t { durable = length t.steps }
 
 -- a generation that only begins: it tells these chunks, claimed ones as queued
-abbrev pub opening : State → Telling
-opening state = record { told = flat_map telling state.chunks; next = state.next; steps = []; sure = 0 }
+abbrev pub new_generation : State → JournalLog
+new_generation state = record { told = flat_map chunk_records state.chunks; next = state.next; steps = []; durable = 0 }
 
 -- The folder opens to the state after some of the steps, and those that each stop leaves are among them.
-pub record OpensWithin (path : List ℕ) (t : Telling) (folder : Folder) : Type 0 where
+pub record OpensWithin (path : List ℕ) (t : JournalLog) (folder : Folder) : Type 0 where
   pub steps : ℕ
-  pub enough : t.sure ≤ steps
+  pub enough : t.durable ≤ steps
   pub begun : steps ≤ length t.steps
   pub opens : Opens path folder (reopened_at t steps)

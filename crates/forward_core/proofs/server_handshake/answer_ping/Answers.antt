@@ -4,7 +4,7 @@ use Rattle.auth_handshake.specs.declared.answers.Ping.TheVariants.{Passed}
 use Rattle.auth_handshake.specs.Ends.{ServerEnd, IsAnswer}
 use Rattle.forward_core.specs.Server.{Awaiting}
 use Rattle.forward_core.proofs.Stepping.{lets_in}
-use Rattle.forward_core.proofs.greeting.answer_ping.Goals as goal
+use Rattle.forward_core.proofs.server_handshake.answer_ping.Goals as goal
 
 passed : (server : ServerEnd) (item old new : List ℕ) (answer : Ping) → answer ≡ Passed → old ≡ []
     → ((pong : List ℕ) × IsAnswer server item answer pong × (new ≡ old ++ pong)) → (pong : List ℕ) × IsAnswer server item Passed pong × (new ≡ pong)

@@ -1,7 +1,7 @@
 use Rattle.std.proofs.Common.{ℕ, List, take, drop, subst, ap, ◌∙◌, Err}
 use Rattle.auth_handshake.specs.Messages.{IsHelo}
 use Rattle.forward_core.proofs.Shaking.{no_helo}
-use Rattle.forward_core.proofs.meeting.take_helo.Goals as goal
+use Rattle.forward_core.proofs.client_handshake.take_helo.Goals as goal
 
 pub returns-in-Err-Fault-clause-meets : goal.returns-in-Err-Fault-clause-meets
 returns-in-Err-Fault-clause-meets g c =

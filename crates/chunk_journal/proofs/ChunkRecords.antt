@@ -13,7 +13,7 @@ use Rattle.buffer_state.specs.State.{Chunk, Numbered, State, empty, size, size_a
 use Rattle.buffer_state.specs.Steps.{with_chunk, added, appended, queued_last, greatest_size, last_serial, unclaimed, unclaimed_chunks, settled, reopened}
 use Rattle.buffer_state.proofs.Serials.{at_itself, at_below}
 use Rattle.chunk_journal.specs.Records.{Record, Seal, Append, Queue}
-use Rattle.chunk_journal.specs.Meaning.{Tells, after, after_all, Each, IsGeneration, telling, beginning, AreTold}
+use Rattle.chunk_journal.specs.Meaning.{Tells, after, after_all, Each, IsGeneration, chunk_records, beginning, AreTold}
 use Rattle.chunk_journal.proofs.Standing.{after_more, each_more}
 
 -- ---- chunks by serial
@@ -100,7 +100,7 @@ append_queued chunks n queue s tag entries b le lt small =
     }
 
 tell_one : (chunks : List Numbered) (n : ℕ) (queue : List ℕ) (s : ℕ) (tag : List ℕ) (entries : List (List ℕ)) (stage : Stage) → Below n chunks → n ≤ s → s < last_serial → size entries ≤ greatest_size
-    → ToldAs (state_of chunks n queue) (telling (s, chunk_of tag entries stage)) (chunks ++ (s, chunk_of tag entries (unclaimed stage)) ∷ []) (s + 1)
+    → ToldAs (state_of chunks n queue) (chunk_records (s, chunk_of tag entries stage)) (chunks ++ (s, chunk_of tag entries (unclaimed stage)) ∷ []) (s + 1)
 tell_one chunks n queue s tag entries Staged b le lt small = append_only chunks n queue s tag entries b le lt small
 tell_one chunks n queue s tag entries Queued b le lt small = append_queued chunks n queue s tag entries b le lt small
 tell_one chunks n queue s tag entries Claimed b le lt small = append_queued chunks n queue s tag entries b le lt small
@@ -112,7 +112,7 @@ told_within n [] next t = t
 told_within n (x ∷ chunks) next t = omega (arith, t.0, told_within (x.0 + 1) chunks next t.2)
 
 tell_all : (before : List Numbered) (n : ℕ) (queue : List ℕ) (chunks : List Numbered) (next : ℕ) → Below n before → AreTold n chunks next → next < 2 ^ 64
-    → (last : ℕ) × (last ≤ next) × ToldAs (state_of before n queue) (flat_map telling chunks) (before ++ unclaimed_chunks chunks) last
+    → (last : ℕ) × (last ≤ next) × ToldAs (state_of before n queue) (flat_map chunk_records chunks) (before ++ unclaimed_chunks chunks) last
 tell_all before n queue [] next b t fits =
     (n, t, record { each = tt; queue = queue; leads = ap (λ (z : List Numbered). state_of z n queue) (sym (append-nil before)) })
 tell_all before n queue (x ∷ chunks) next b t fits =
@@ -124,9 +124,9 @@ tell_all before n queue (x ∷ chunks) next b t fits =
       r.0,
       r.1,
       record {
-        each = each_more Tells (state_of before n queue) (telling x) (flat_map telling chunks) one.each (subst (λ (z : State). Each Tells z (flat_map telling chunks)) (sym one.leads) r.2.each);
+        each = each_more Tells (state_of before n queue) (chunk_records x) (flat_map chunk_records chunks) one.each (subst (λ (z : State). Each Tells z (flat_map chunk_records chunks)) (sym one.leads) r.2.each);
         queue = r.2.queue;
-        leads = after_more (state_of before n queue) (telling x) (flat_map telling chunks) ∙ ap (λ (z : State). after_all z (flat_map telling chunks)) one.leads ∙ r.2.leads
+        leads = after_more (state_of before n queue) (chunk_records x) (flat_map chunk_records chunks) ∙ ap (λ (z : State). after_all z (flat_map chunk_records chunks)) one.leads ∙ r.2.leads
             ∙ ap (λ (z : List Numbered). state_of z r.0 r.2.queue) (append_assoc before (y ∷ []) (unclaimed_chunks chunks));
       },
     )
@@ -136,9 +136,9 @@ pub tells_chunks : (chunks : List Numbered) (next : ℕ) → AreTold 0 chunks ne
 tells_chunks chunks next t fits =
     let r = tell_all [] 0 [] chunks next tt t fits in
     record {
-      last = after (after_all empty (flat_map telling chunks)) (Seal next);
+      last = after (after_all empty (flat_map chunk_records chunks)) (Seal next);
       leads = record {
-        told = flat_map telling chunks;
+        told = flat_map chunk_records chunks;
         next = next;
         steps = [];
         tells = r.2.each;
@@ -152,9 +152,9 @@ tells_chunks chunks next t fits =
 
 -- the records that tell live chunks do so in an empty buffer, and with the Seal behind them lead to these chunks
 pub record AreToldBy (chunks : List Numbered) (next : ℕ) : Type 0 where
-  pub each : Each Tells empty (flat_map telling chunks)
-  pub within : (after_all empty (flat_map telling chunks)).next ≤ next
-  pub leads : settled (after (after_all empty (flat_map telling chunks)) (Seal next)) ≡ reopened (record { chunks = chunks; next = next; queue = [] })
+  pub each : Each Tells empty (flat_map chunk_records chunks)
+  pub within : (after_all empty (flat_map chunk_records chunks)).next ≤ next
+  pub leads : settled (after (after_all empty (flat_map chunk_records chunks)) (Seal next)) ≡ reopened (record { chunks = chunks; next = next; queue = [] })
 
 pub told_so : (chunks : List Numbered) (next : ℕ) → AreTold 0 chunks next → next < 2 ^ 64 → AreToldBy chunks next
 told_so chunks next t fits =

@@ -1,5 +1,5 @@
 use Rattle.std.proofs.Common.{◌≡◌, ◌++◌, map, take}
-use Rattle.loss_rules.proofs.visit.Visit.follow.Given as goal
+use Rattle.loss_rules.proofs.visit.ScopeSearch.follow.Given as goal
 
 abbrev pub invariant-loop-relabel : goal.invariant-loop-relabel
 invariant-loop-relabel g l = record {

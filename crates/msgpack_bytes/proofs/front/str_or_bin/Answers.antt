@@ -1,7 +1,7 @@
 use Rattle.std.proofs.Common.{[], sym}
 use Rattle.std.proofs.lemmas.List.{append-nil}
 use Rattle.msgpack_bytes.proofs.Cuts.{no_rest}
-use Rattle.msgpack_bytes.proofs.front.text_of.Goals as goal
+use Rattle.msgpack_bytes.proofs.front.str_or_bin.Goals as goal
 
 pub returns-in_err-content-clause-only : goal.returns-in_err-content-clause-only
 returns-in_err-content-clause-only c content p = absurd (c.in_err-content.ensures.only c.args.item.now content [] p (sym (append-nil c.args.item.now)))

@@ -1,6 +1,6 @@
 use Rattle.std.proofs.Common.{ℕ, List, take, drop, subst, Err}
 use Rattle.auth_handshake.specs.Ends.{IsVerdict}
-use Rattle.forward_core.proofs.meeting.take_pong.Goals as goal
+use Rattle.forward_core.proofs.client_handshake.take_pong.Goals as goal
 
 pub returns-in-Err : goal.returns-in-Err
 returns-in-Err g c = (

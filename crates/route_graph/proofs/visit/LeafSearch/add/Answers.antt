@@ -4,7 +4,7 @@ use Rattle.std.specs.BTreeSet.{contains}
 use Rattle.route_graph.specs.Listing.{numbers_of}
 use Rattle.route_graph.specs.Visits.{Known}
 use Rattle.route_graph.proofs.Numbered.{found_in}
-use Rattle.route_graph.proofs.visit.Visit.add.Goals as goal
+use Rattle.route_graph.proofs.visit.LeafSearch.add.Goals as goal
 
 pub returns-else-branch-clause-found : goal.returns-else-branch-clause-found
 returns-else-branch-clause-found g c =

@@ -7,7 +7,7 @@ ghost use Rattle.forward_core.specs.Server.{Awaiting, Greets, outcome_of};
 use crate::fault::SessionFault;
 use crate::first::first_len;
 use crate::messages::take_messages;
-use crate::taken::{Stage, Taken};
+use crate::taken::{Standing, TakenItem};
 use auth_handshake::{Ping, Server};
 use std::alloc::{AllocError, Allocator};
 
@@ -16,13 +16,13 @@ pub fn take_ping<A: Allocator + Copy>(
     alloc: A,
     server: &Server<A>,
     bytes: &[u8],
-) -> Result<Taken<A>, AllocError>
+) -> Result<TakenItem<A>, AllocError>
     ensures greets { IfOk result (λ taken. Greets server.now bytes.now (outcome_of (Awaiting server.now) bytes.now taken)) }
     ensures len { IfOk result (λ taken. taken.len ≤ length bytes.now) }
 {
     match first_len(bytes) {
         Some(end) => answer_ping(alloc, server, bytes, end),
-        None => Ok(Taken::new(alloc, Stage::Same, Vec::new(alloc))),
+        None => Ok(TakenItem::new(alloc, Standing::Same, Vec::new(alloc))),
     }
 }
 
@@ -32,7 +32,7 @@ fn answer_ping<A: Allocator + Copy>(
     server: &Server<A>,
     bytes: &[u8],
     end: usize,
-) -> Result<Taken<A>, AllocError>
+) -> Result<TakenItem<A>, AllocError>
     requires end { end ≤ length bytes.now }
     requires shown { IsShown bytes.now (take end bytes.now) (drop end bytes.now) }
     ensures greets { IfOk result (λ taken. Greets server.now bytes.now (outcome_of (Awaiting server.now) bytes.now taken)) }
@@ -47,7 +47,7 @@ fn answer_ping<A: Allocator + Copy>(
             Ok(taken)
         }
         Ping::Refused(fault) => {
-            let mut taken = Taken::new(alloc, Stage::Same, pong);
+            let mut taken = TakenItem::new(alloc, Standing::Same, pong);
             taken.close(SessionFault::Handshake(fault))?;
             Ok(taken)
         }

@@ -1,4 +1,4 @@
-use Rattle.buffer_store.proofs.laws.recovers_what_is_sure.Goals as goal
+use Rattle.buffer_store.proofs.laws.recovers_what_is_durable.Goals as goal
 
 pub returns-clause-holds : goal.returns-clause-holds
 returns-clause-holds c journal chunks disk t holds = c.recovers_all.ensures journal disk t holds.keeps
