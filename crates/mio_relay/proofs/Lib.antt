@@ -1,3 +1,2 @@
-pub mod Carried
 pub mod Places
 pub mod Serving

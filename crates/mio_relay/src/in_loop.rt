@@ -2,13 +2,10 @@
 
 ghost use Rattle.std.specs.Prelude.{◌≡◌, [], map, Contains, IfOk};
 ghost use Rattle.std.specs.Arc.{arc_value};
-ghost use Rattle.mio_relay.specs.Loops.{AreBuffersOf, Stays, entries_of};
+ghost use Rattle.relay_buffers.specs.Buffers.{AreBuffersOf};
+ghost use Rattle.mio_relay.specs.Loops.{Stays, entries_of};
 
-use crate::chance::Nonces;
-use crate::clock::now_after;
-use crate::folders::{Folders, SystemDir, SystemFolders};
 use crate::listener::{FIRST_LISTENER, Listener, listen, peer_at};
-use crate::opening::{lanes_of, open_all};
 use crate::peers;
 use crate::socket::Socket;
 use ack_receipt::{Numbers, SharedBuffer, Stub};
@@ -18,6 +15,7 @@ use loop_core::{Lanes, LoopFault, Peer};
 use mio::event::Event;
 use mio::net::TcpStream;
 use mio::{Events, Poll, Token};
+use relay_buffers::{Folders, SystemDir, SystemFolders, lanes_of, open_all};
 use relay_conf::Relay;
 use route_graph::Routes;
 use slab::Slab;
@@ -31,6 +29,7 @@ use std::rt::Files;
 use std::sync::atomic::{AtomicBool, Ordering};
 use std::sync::{Arc, Wait};
 use std::time::{Clock, Duration};
+use tcp_courier::{Nonces, now_after};
 
 /// How many connections a loop has at most.
 const MOST_CONNECTIONS: usize = 1_024;

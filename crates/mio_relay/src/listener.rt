@@ -5,7 +5,6 @@ ghost use Rattle.std.specs.Arc.{arc_value};
 ghost use Rattle.forward_core.specs.Handshakes.{IsHosted};
 ghost use Rattle.mio_relay.specs.Loops.{entry_of};
 
-use crate::secret::shown;
 use forward_core::Security;
 use loop_core::{Inlet, LoopFault, Peer};
 use mio::net::TcpListener;
@@ -13,9 +12,9 @@ use mio::{Interest, Registry, Token};
 use relay_conf::{Security as Secret, Source};
 use route_graph::Routes;
 use std::alloc::{AllocError, Allocator};
-use std::io;
-use std::net::{IpAddr, Net, SocketAddr, ToSocketAddrs};
+use std::net::Net;
 use std::sync::Arc;
+use tcp_courier::{resolve, shown};
 
 /// A listener's token is this and its place, and a connection's is its key.
 pub const FIRST_LISTENER: usize = 1 << 32;
@@ -44,15 +43,6 @@ impl<A: Allocator> Listener<A> {
             Err(_) => self.port,
         }
     }
-}
-
-/// The first address of a host, by its number or its name, which the system looks up.
-pub fn resolve(net: &impl Net, host: &str, port: u16) -> io::Result<Option<SocketAddr>> {
-    if let Ok(ip) = host.parse::<IpAddr>() {
-        return Ok(Some(SocketAddr::new(ip, port)));
-    }
-    let mut found = (host, port).to_socket_addrs(net)?;
-    Ok(found.next())
 }
 
 /// The socket that listens where the source says. `Bind` where the address can't be had.

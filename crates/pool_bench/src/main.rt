@@ -44,7 +44,8 @@ const RETRIES: RetrySettings = RetrySettings {
     forever: true,
 };
 
-type Shelf = SharedBuffer<MemoryDir<Global>, Global>;
+// A buffer in a folder of any kind: over one in memory all that is said of it would be in view at each call.
+type Shelf<D> = SharedBuffer<D, Global>;
 
 // Carries nothing anywhere, and stops the workers at the last chunk.
 #[derive(Drop)]
@@ -67,10 +68,7 @@ impl<'a, R: Wait, D: Dir> Courier<R, D, Global> for Idle<'a> {
 }
 
 // Appends an entry and queues its chunk.
-fn put(
-    buffer: &mut Buffer<MemoryDir<Global>, Global>,
-    entries: &Entries<Global>,
-) -> io::Result<()> {
+fn put<D: Dir>(buffer: &mut Buffer<D, Global>, entries: &Entries<Global>) -> io::Result<()> {
     if entries.count() == 0 {
         return Err(io::ErrorKind::InvalidData.into());
     }
@@ -83,12 +81,12 @@ fn put(
     }
 }
 
-// A buffer in memory with so many queued chunks of one entry.
-fn filled(alloc: Global, chunks: u64) -> io::Result<Shelf> {
+// A buffer in this folder with so many queued chunks of one entry.
+fn filled<D: Dir + Drop>(alloc: Global, dir: D, chunks: u64) -> io::Result<Shelf<D>> {
     let Some(entries) = Entries::read(alloc, &[0x92, 0x01, 0x80], 1)? else {
         return Err(io::ErrorKind::InvalidData.into());
     };
-    let Ok(mut buffer) = Buffer::open(alloc, MemoryDir::new(alloc), b"bench", SETTINGS) else {
+    let Ok(mut buffer) = Buffer::open(alloc, dir, b"bench", SETTINGS) else {
         return Err(io::ErrorKind::Other.into());
     };
     for _ in 0..chunks {
@@ -107,13 +105,14 @@ fn a_second(count: u64, time: Duration) -> u128 {
     u128::from(count) * 1_000_000 / time.as_micros().max(1)
 }
 
-fn purge<R: Wait + Clock + Threads + Print + Sync>(
+fn purge<R: Wait + Clock + Threads + Print + Sync, D: Dir + Drop + Send>(
     rt: &R,
     alloc: Global,
+    dir: D,
     workers: usize,
     chunks: u64,
 ) -> io::Result<u8> {
-    let shelf = filled(alloc, chunks)?;
+    let shelf = filled(alloc, dir, chunks)?;
     let stop = AtomicBool::new(chunks == 0);
     let courier = Idle {
         left: AtomicU64::new(chunks),
@@ -138,13 +137,14 @@ fn purge<R: Wait + Clock + Threads + Print + Sync>(
     }
 }
 
-fn claim<R: Wait + Clock + Print>(
+fn claim<R: Wait + Clock + Print, D: Dir + Drop>(
     rt: &R,
     alloc: Global,
+    dir: D,
     chunks: u64,
     count: u64,
 ) -> io::Result<u8> {
-    let shelf = filled(alloc, chunks)?;
+    let shelf = filled(alloc, dir, chunks)?;
     let start = Instant::now(rt)?;
     for _ in 0..count {
         let Some(claim) = shelf.claim(rt)? else {
@@ -178,7 +178,7 @@ fn begun(alloc: Global, numbers: &mut Numbers) -> io::Result<Delivery<Global>> {
 }
 
 // Stores a delivery, as far as the buffer takes it, and ends it.
-fn stored<R: Wait>(rt: &R, shelf: &Shelf, delivery: Delivery<Global>) -> Stub<Global> {
+fn stored<R: Wait, D: Dir>(rt: &R, shelf: &Shelf<D>, delivery: Delivery<Global>) -> Stub<Global> {
     if delivery.entries().count() == 0 {
         return delivery.abandon();
     }
@@ -195,7 +195,7 @@ fn stored<R: Wait>(rt: &R, shelf: &Shelf, delivery: Delivery<Global>) -> Stub<Gl
 }
 
 // Queues the chunk, claims it and lets it go.
-fn let_go<R: Wait>(rt: &R, shelf: &Shelf, serial: u64) -> io::Result<bool> {
+fn let_go<R: Wait, D: Dir>(rt: &R, shelf: &Shelf<D>, serial: u64) -> io::Result<bool> {
     if shelf.enqueue(rt, serial).is_err() {
         return Ok(false);
     }
@@ -214,10 +214,10 @@ fn let_go<R: Wait>(rt: &R, shelf: &Shelf, serial: u64) -> io::Result<bool> {
 }
 
 // Appends so many messages to one chunk, settles each, and lets the chunk go: whether all went well.
-fn settle_chunk<R: Wait>(
+fn settle_chunk<R: Wait, D: Dir>(
     rt: &R,
     alloc: Global,
-    shelf: &Shelf,
+    shelf: &Shelf<D>,
     numbers: &mut Numbers,
     count: u64,
 ) -> io::Result<bool> {
@@ -235,8 +235,14 @@ fn settle_chunk<R: Wait>(
     let_go(rt, shelf, last)
 }
 
-fn settle<R: Wait + Print>(rt: &R, alloc: Global, chunks: u64, count: u64) -> io::Result<u8> {
-    let shelf = filled(alloc, 0)?;
+fn settle<R: Wait + Print, D: Dir + Drop>(
+    rt: &R,
+    alloc: Global,
+    dir: D,
+    chunks: u64,
+    count: u64,
+) -> io::Result<u8> {
+    let shelf = filled(alloc, dir, 0)?;
     let mut numbers = Numbers::new();
     for _ in 0..chunks {
         if !settle_chunk(rt, alloc, &shelf, &mut numbers, count)? {
@@ -252,10 +258,11 @@ fn number(word: &str) -> Option<u16> {
     word.parse().ok()
 }
 
-// What the words ask for, and the exit status of it.
-fn answer<R: Wait + Clock + Threads + Print + Sync>(
+// What the words ask for, in this folder, and the exit status of it.
+fn answer<R: Wait + Clock + Threads + Print + Sync, D: Dir + Drop + Send>(
     rt: &R,
     alloc: Global,
+    dir: D,
     words: &[String],
 ) -> io::Result<u8> {
     let [_, word, first, second] = words else {
@@ -266,9 +273,9 @@ fn answer<R: Wait + Clock + Threads + Print + Sync>(
     };
     let thousands = 1_000 * u64::from(second);
     match word.as_str() {
-        "purge" => purge(rt, alloc, usize::from(first), thousands),
-        "claim" => claim(rt, alloc, 1_000 * u64::from(first), thousands),
-        "settle" => settle(rt, alloc, u64::from(first), thousands),
+        "purge" => purge(rt, alloc, dir, usize::from(first), thousands),
+        "claim" => claim(rt, alloc, dir, 1_000 * u64::from(first), thousands),
+        "settle" => settle(rt, alloc, dir, u64::from(first), thousands),
         _ => Ok(2),
     }
 }
@@ -282,5 +289,6 @@ fn main(rt: HostRuntime) -> ExitCode {
     let Ok(words) = words(&rt) else {
         return ExitCode::from(2);
     };
-    ExitCode::from(answer(&rt, rt.alloc(), words.as_slice()).unwrap_or(2))
+    let dir = MemoryDir::new(rt.alloc());
+    ExitCode::from(answer(&rt, rt.alloc(), dir, words.as_slice()).unwrap_or(2))
 }

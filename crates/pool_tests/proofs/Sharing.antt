@@ -7,20 +7,12 @@ use Rattle.std_heap.specs.contracts.Global as Heap
 use Rattle.std_heap.specs.contracts.GlobalAllocator.TheImpl.{ghosts}
 use Rattle.std.specs.declared.alloc.Allocator as alloc
 use Rattle.disk_files.specs.declared.dir.Dir as dir
-use Rattle.disk_files.proofs.past.Past.TheLaws.TheKnot as past
-use Rattle.disk_files.specs.contracts.memory.MemoryDir as MemoryDir
 use Rattle.ack_receipt.specs.contracts.shared.SharedBuffer as Shared
 use Rattle.flush_pool.specs.contracts.retries.Retries as Retries
 use Rattle.flush_pool.proofs.Sharing as pool
 
-Shared-sync : (D A : RattleType) (d : dir.Ghosts D.Denot) (a : alloc.Ghosts A.Denot) → IsSend D → IsSend A → IsSync A → Frees a a.dealloc_token → IsSync (Shared.the_row D A d a)
+pub Shared-sync : (D A : RattleType) (d : dir.Ghosts D.Denot) (a : alloc.Ghosts A.Denot) → IsSend D → IsSend A → IsSync A → Frees a a.dealloc_token → IsSync (Shared.the_row D A d a)
 Shared-sync D A d a = pool.Shared-sync D A d a
-
-Dir-send : IsSend (MemoryDir.the_row Heap.the_row ghosts)
-Dir-send = search (maps.crosses, crosses, past.crosses, sendable) depth 60 fits 20000
 
 pub Retries-sync : IsSync (Retries.the_row Heap.the_row ghosts)
 Retries-sync = search (maps.crosses, crosses, sendable) depth 60 fits 20000
-
-pub Shelf-sync : (d : dir.Ghosts (MemoryDir.the_row Heap.the_row ghosts).Denot) → IsSync (Shared.the_row (MemoryDir.the_row Heap.the_row ghosts) Heap.the_row d ghosts)
-Shelf-sync d = let s = Dir-send in search (Shared-sync, crosses, sendable) depth 60 fits 20000

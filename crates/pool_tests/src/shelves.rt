@@ -3,14 +3,14 @@
 use ack_receipt::{Basis, Leaf, SharedBuffer, Takes};
 use buffer_state::{Limits, Stage};
 use buffer_store::{Buffer, BufferFault, RENEWED_PAST_IN_MEMORY, Settings};
-use disk_files::{Dir, MemoryDir};
+use disk_files::Dir;
 use event_modes::Entries;
 use retry_waits::RetrySettings;
 use sink_series::{Series, SeriesFault};
 use std::alloc::{AllocError, Global};
 
-// What is behind the lock in these tests.
-pub type Shelf = SharedBuffer<MemoryDir<Global>, Global>;
+// What is behind the lock in these tests, in a folder of any kind: over one in memory all that is said of it would be in view at each call.
+pub type Shelf<D> = SharedBuffer<D, Global>;
 
 const LEAF: Leaf = Leaf {
     relay: 1,
@@ -51,22 +51,14 @@ fn entries(alloc: Global) -> Result<Entries<Global>, AllocError> {
     Ok(entries)
 }
 
-// A buffer in memory with so many queued chunks of one entry each, by serials from 0, whose chunks go so.
-pub fn filled(alloc: Global, chunks: usize, takes: Takes<Global>) -> Result<Shelf, BufferFault> {
-    filled_in(alloc, MemoryDir::new(alloc), chunks, takes)
-}
-
-// The same in this folder.
-pub fn filled_in<D: Dir + Drop>(
+// A buffer in this folder with so many queued chunks of one entry each, by serials from 0, whose chunks go so.
+pub fn filled<D: Dir + Drop>(
     alloc: Global,
     dir: D,
     chunks: usize,
     takes: Takes<Global>,
-) -> Result<SharedBuffer<D, Global>, BufferFault> {
-    let mut buffer = match Buffer::open(alloc, dir, b"buf", SETTINGS) {
-        Ok(buffer) => buffer,
-        Err((fault, _dir)) => return Err(fault),
-    };
+) -> Result<Shelf<D>, BufferFault> {
+    let mut buffer = Buffer::open(alloc, dir, b"buf", SETTINGS).map_err(|(fault, _dir)| fault)?;
     for _ in 0..chunks {
         put(alloc, &mut buffer)?;
     }
@@ -103,14 +95,11 @@ pub fn sink<S: Dir + Drop>(
     dir: S,
     path: &[u8],
 ) -> Result<Series<S, Global>, SeriesFault> {
-    match Series::open(alloc, dir, path) {
-        Ok(series) => Ok(series),
-        Err((fault, _dir)) => Err(fault),
-    }
+    Series::open(alloc, dir, path).map_err(|(fault, _dir)| fault)
 }
 
 // How many of the serials 0 to 3 are queued, as a bit each.
-pub fn queued(shelf: Shelf) -> u8 {
+pub fn queued<D: Dir + Drop>(shelf: Shelf<D>) -> u8 {
     let closed = shelf.close();
     let mut bits = 0u8;
     for serial in 0..4u8 {

@@ -4,10 +4,8 @@ use super::couriers::{Answer, Meeting, NotFirst, Scripted, Third};
 use super::shelves::{PATIENT, Shelf, by, by_sink, filled, queued, sink};
 use ack_receipt::Basis;
 use buffer_store::BufferFault;
-use disk_files::MemoryDir;
+use disk_files::{Dir, MemoryDir};
 use flush_pool::{Courier, Gate, OpenGate, Retries, SinkCourier, Worked, run_pool};
-use retry_waits::RetrySettings;
-use sink_series::SeriesFault;
 use std::alloc::Global;
 use std::sync::Wait;
 use std::sync::atomic::{AtomicBool, AtomicU64, Ordering};
@@ -28,9 +26,9 @@ fn watch<R: Clock>(rt: &R, stop: &AtomicBool) {
 }
 
 // Two workers at the buffer until the flag is raised, and a further thread that watches them.
-fn run_two<R, C, G>(
+fn run_two<R, D, C, G>(
     rt: &R,
-    shelf: &Shelf,
+    shelf: &Shelf<D>,
     courier: &C,
     gate: &G,
     retries: &Retries<Global>,
@@ -38,7 +36,8 @@ fn run_two<R, C, G>(
 ) -> Result<Worked, BufferFault>
 where
     R: Wait + Clock + Threads + Sync,
-    C: Courier<R, MemoryDir<Global>, Global> + Sync,
+    D: Dir + Send,
+    C: Courier<R, D, Global> + Sync,
     G: Gate + Sync,
 {
     let (worked, ()) = thread::join(
@@ -49,14 +48,13 @@ where
     worked
 }
 
-fn patient(alloc: Global) -> Retries<Global> {
-    let settings: RetrySettings = PATIENT;
-    Retries::new(alloc, settings)
-}
-
-#[test]
-fn two_chunks_are_carried_at_once(rt: HostRuntime) -> Result<(), Fail> {
-    let shelf = filled(rt.alloc(), 2, by(Basis::Written))?;
+// Two workers of which each carries its chunk until the other does too, and what is queued then.
+fn both_carried<R: Wait + Clock + Threads + Sync, D: Dir + Drop + Send>(
+    alloc: Global,
+    rt: &R,
+    dir: D,
+) -> Result<(Worked, u8), BufferFault> {
+    let shelf = filled(alloc, dir, 2, by(Basis::Written))?;
     let stop = AtomicBool::new(false);
     let courier = Meeting {
         first: AtomicBool::new(false),
@@ -64,32 +62,49 @@ fn two_chunks_are_carried_at_once(rt: HostRuntime) -> Result<(), Fail> {
         carried: AtomicU64::new(0),
         stop: &stop,
     };
-    let retries = patient(rt.alloc());
-    let worked = run_two(&rt, &shelf, &courier, &OpenGate, &retries, &stop)?;
-    assert_eq!(rt; worked.purged, 2);
-    assert_eq!(rt; worked.failed, 0);
-    assert_eq!(rt; queued(shelf), 0);
+    let retries = Retries::new(alloc, PATIENT);
+    let worked = run_two(rt, &shelf, &courier, &OpenGate, &retries, &stop)?;
+    Ok((worked, queued(shelf)))
+}
+
+#[test]
+fn two_chunks_are_carried_at_once(rt: HostRuntime) -> Result<(), Fail> {
+    let both = Worked {
+        purged: 2,
+        failed: 0,
+    };
+    let carried = both_carried(rt.alloc(), &rt, MemoryDir::new(rt.alloc()))?;
+    assert_eq!(rt; carried, (both, 0));
     Ok(())
+}
+
+// How many of two chunks two workers purge behind a gate that keeps the first, and how many are queued then.
+fn kept_by_a_gate<R: Wait + Clock + Threads + Sync, D: Dir + Drop + Send>(
+    alloc: Global,
+    rt: &R,
+    dir: D,
+) -> Result<(u64, u8), BufferFault> {
+    let shelf = filled(alloc, dir, 2, by(Basis::Written))?;
+    let stop = AtomicBool::new(false);
+    let courier = Scripted::new(Answer::Written, Answer::Written, 1, &stop);
+    let retries = Retries::new(alloc, PATIENT);
+    let worked = run_two(rt, &shelf, &courier, &NotFirst, &retries, &stop)?;
+    Ok((worked.purged, queued(shelf)))
 }
 
 #[test]
 fn a_gate_keeps_one_chunk(rt: HostRuntime) -> Result<(), Fail> {
-    let shelf = filled(rt.alloc(), 2, by(Basis::Written))?;
-    let stop = AtomicBool::new(false);
-    let courier = Scripted::new(Answer::Written, Answer::Written, 1, &stop);
-    let retries = patient(rt.alloc());
-    let worked = run_two(&rt, &shelf, &courier, &NotFirst, &retries, &stop)?;
-    assert_eq!(rt; worked.purged, 1);
-    assert_eq!(rt; queued(shelf), 1);
+    let kept = kept_by_a_gate(rt.alloc(), &rt, MemoryDir::new(rt.alloc()))?;
+    assert_eq!(rt; kept, (1, 1));
     Ok(())
 }
 
 // Two workers that write to the sink until three chunks are written.
-fn write_three<R: Wait + Clock + Threads + Sync>(
+fn write_three<R: Wait + Clock + Threads + Sync, D: Dir + Send, S: Dir + Send>(
     rt: &R,
     alloc: Global,
-    shelf: &Shelf,
-    sink: &SinkCourier<MemoryDir<Global>, Global>,
+    shelf: &Shelf<D>,
+    sink: &SinkCourier<S, Global>,
 ) -> Result<Worked, BufferFault> {
     let stop = AtomicBool::new(false);
     let courier = Third {
@@ -97,24 +112,32 @@ fn write_three<R: Wait + Clock + Threads + Sync>(
         carried: AtomicU64::new(0),
         stop: &stop,
     };
-    run_two(rt, shelf, &courier, &OpenGate, &patient(alloc), &stop)
+    let retries = Retries::new(alloc, PATIENT);
+    run_two(rt, shelf, &courier, &OpenGate, &retries, &stop)
 }
 
-// How many events are in the sink.
-fn written(sink: SinkCourier<MemoryDir<Global>, Global>) -> Result<usize, SeriesFault> {
-    let events = sink.into_series().content()?;
-    Ok(events.len())
+// What two workers do with three chunks for a sink in the second folder, how many are queued then, and how many events the sink has.
+fn written<R: Wait + Clock + Threads + Sync, D: Dir + Drop + Send, S: Dir + Drop + Send>(
+    alloc: Global,
+    rt: &R,
+    dir: D,
+    sinks: S,
+) -> Result<(Worked, u8, usize), Fail> {
+    let shelf = filled(alloc, dir, 3, by_sink(alloc, b"all")?)?;
+    let writer = SinkCourier::new(sink(alloc, sinks, b"all")?);
+    let worked = write_three(rt, alloc, &shelf, &writer)?;
+    let events = writer.into_series().content()?;
+    Ok((worked, queued(shelf), events.len()))
 }
 
 #[test]
 fn three_chunks_reach_the_sink(rt: HostRuntime) -> Result<(), Fail> {
-    let shelf = filled(rt.alloc(), 3, by_sink(rt.alloc(), b"all")?)?;
-    let series = sink(rt.alloc(), MemoryDir::new(rt.alloc()), b"all")?;
-    let writer = SinkCourier::new(series);
-    let worked = write_three(&rt, rt.alloc(), &shelf, &writer)?;
-    assert_eq!(rt; worked.purged, 3);
-    assert_eq!(rt; worked.failed, 0);
-    assert_eq!(rt; queued(shelf), 0);
-    assert_eq!(rt; written(writer)?, 3);
+    let alloc = rt.alloc();
+    let three = Worked {
+        purged: 3,
+        failed: 0,
+    };
+    let written = written(alloc, &rt, MemoryDir::new(alloc), MemoryDir::new(alloc))?;
+    assert_eq!(rt; written, (three, 0, 3));
     Ok(())
 }

@@ -1,13 +1,8 @@
 -- From what is read and written to what a relay prints.
-use Rattle.std.proofs.Common.{◌≡◌, ◌∙◌, ap, inl, ℕ, zero, suc, ◌+◌, List, [], ◌∷◌, ◌++◌, length, refl, subst, sym, Option, Some, None}
-use Rattle.std.specs.Prelude.{slice_get}
-use Rattle.std.proofs.lemmas.List.{length-append}
-use Rattle.std.proofs.lemmas.Option.{none-some, same_Some}
-use Rattle.relay_conf.specs.declared.relay.Relay.{Relay}
+use Rattle.std.proofs.Common.{◌≡◌, inl, ℕ, List, [], refl, subst, Option, Some, None}
 use Rattle.loop_core.specs.declared.fault.LoopFault.{LoopFault}
 use Rattle.program_text.specs.declared.status.Status.{Status}
 use Rattle.program_text.specs.declared.status.Status.TheVariants.{Done, Usage}
-use Rattle.relay_run.specs.Delivering.{Delivery, AreDeliveriesIn, IsDeliveryAt}
 use Rattle.program_text.specs.Output.{TakesPart, IsPrinted}
 use Rattle.relay_run.specs.Starting.{PrintsReady, PrintsRun, fault_line, ready_lines}
 use Rattle.program_text.proofs.OutputSteps.{TakesPart-none}
@@ -37,19 +32,3 @@ ended_well old new ready = record {
   ended = None;
   printed = ([], TakesPart-none new [], inl (refl, refl));
 }
-
--- what holds of each element, by its place, holds when one more is added of which it holds
-pub each_more : {X : Type 0} (P : ℕ → X → Type 0) (xs : List X) (x : X) → ((k : ℕ) (y : X) → slice_get xs k ≡ Some y → P k y) → P (length xs) x
-    → (k : ℕ) (y : X) → slice_get (xs ++ x ∷ []) k ≡ Some y → P k y
-each_more P [] x each last zero y is = subst (P zero) (same_Some x y is) last
-each_more P [] x each last (suc k) y is = absurd (none-some y is)
-each_more P (z ∷ zs) x each last zero y is = each zero y is
-each_more P (z ∷ zs) x each last (suc k) y is = each_more (λ n. P (suc n)) zs x (λ n w e. each (suc n) w e) last k y is
-
--- the deliveries of one buffer more
-pub delivered_more : {A : Type 0} (relay : Relay A) (old new : List Delivery) (delivery : Delivery) → new ≡ old ++ delivery ∷ [] → AreDeliveriesIn relay old → IsDeliveryAt relay (length old) delivery → AreDeliveriesIn relay new
-delivered_more relay old new delivery is each last = subst (AreDeliveriesIn relay) (sym is) (each_more (IsDeliveryAt relay) old delivery each last)
-
--- a list of one element more is longer by one
-pub counted_more : {X : Type 0} (old new : List X) (x : X) (n : ℕ) → new ≡ old ++ x ∷ [] → length old ≡ n → length new ≡ n + 1
-counted_more old new x n is count = ap length is ∙ length-append old (x ∷ []) ∙ ap (λ m. m + 1) count

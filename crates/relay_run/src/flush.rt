@@ -1,24 +1,19 @@
 //! The threads that deliver a relay's chunks.
 
-ghost use Rattle.std.specs.Prelude.{◌≡◌, IfOk};
-ghost use Rattle.relay_run.specs.Delivering.{sink_named, sink_of as sink_of_outlet, AreDeliveriesOf, IsDeliveryOf};
-
 use ack_receipt::{Evidence, SharedBuffer};
 use buffer_store::BufferFault;
 use disk_files::{Dir, RealDir};
 use flush_pool::{CarryFault, ClaimView, Courier, OpenGate, Retries, SinkCourier, run_pool};
-use mio_relay::{LoopFault, Outlet, SystemDir, TcpCourier, outlet_of};
-use relay_conf::{BufferNo, Relay};
-use retry_waits::RetrySettings;
+use loop_core::LoopFault;
+use relay_buffers::{Aim, Delivering, SystemDir};
 use sink_series::{Series, SeriesFault};
 use std::alloc::Global;
-use std::marker::Model;
 use std::net::{Net, TcpListener, TcpStream};
-use std::random::RandomSource;
 use std::sync::atomic::{AtomicBool, Ordering};
 use std::sync::{Arc, Wait};
 use std::thread::Threads;
 use std::time::Clock;
+use tcp_courier::TcpCourier;
 
 /// Where a relay has its files: the folder of this path.
 #[derive(Clone, Copy)]
@@ -29,29 +24,6 @@ pub struct Home<'a> {
 
 /// A folder of the relay's buffers.
 pub type Folder = SystemDir<HostRuntime, Global>;
-
-// Where an output's chunks go, before a file is touched.
-#[derive(Drop)]
-enum Aim {
-    Servers(TcpCourier<Global>),
-    Sink(String),
-}
-
-/// How an output's chunks are delivered. Contracts see the sink that they go to, if they go to one, and by which settings.
-#[derive(Drop)]
-pub struct Delivering {
-    aim: Aim,
-    threads: usize,
-    retry: RetrySettings,
-}
-
-impl Model for Delivering {
-    ghost use Rattle.relay_run.specs.Delivering.{Delivery, sink_named};
-
-    ghost Value = { Delivery };
-
-    ghost view = { λ d. record { sink = sink_named d.aim; threads = d.threads; retry = d.retry } };
-}
 
 // Carries chunks to servers, or to the files of a sink.
 #[derive(Drop)]
@@ -73,63 +45,6 @@ impl<R: Wait + Net + Clock, D: Dir> Courier<R, D, Global> for Carrier {
     }
 }
 
-/// How the chunks of each of the relay's buffers are delivered, in the order of their numbers. A carry that waits ends soon after
-/// `stop` is raised.
-pub fn delivering_of<R: RandomSource + AllocGlobal>(
-    rt: &R,
-    relay: &Relay<Global>,
-    stop: &Arc<AtomicBool>,
-) -> Result<Vec<Delivering>, LoopFault>
-    ensures { IfOk result (λ all. AreDeliveriesOf relay.now all.items) }
-{
-    let mut all = Vec::new(rt.alloc());
-    for at in 0..u32::MAX {
-        let Some(outlet) = outlet_of(relay, BufferNo(at as usize)) else {
-            return Ok(all);
-        };
-        all.push(delivering_to(rt, &outlet, stop)?)?;
-    }
-    Ok(all)
-}
-
-// How the chunks of this output are delivered.
-fn delivering_to<R: RandomSource + AllocGlobal>(
-    rt: &R,
-    outlet: &Outlet<'_, Global>,
-    stop: &Arc<AtomicBool>,
-) -> Result<Delivering, LoopFault>
-    ensures { IfOk result (IsDeliveryOf outlet.now) }
-{
-    let aim = aim_of(rt, outlet, stop)?;
-    let buffer = outlet.buffer();
-    Ok(Delivering {
-        aim,
-        threads: buffer.flush_thread_count,
-        retry: buffer.retry,
-    })
-}
-
-// Where the chunks of this output go.
-fn aim_of<R: RandomSource + AllocGlobal>(
-    rt: &R,
-    outlet: &Outlet<'_, Global>,
-    stop: &Arc<AtomicBool>,
-) -> Result<Aim, LoopFault>
-    ensures { IfOk result (λ aim. sink_named aim ≡ sink_of_outlet outlet.now) }
-{
-    match outlet {
-        Outlet::Forward(settings) => {
-            let theirs = Arc::try_clone(stop)?;
-            let courier = TcpCourier::new(rt, rt.alloc(), settings, theirs)?;
-            Ok(Aim::Servers(courier))
-        }
-        Outlet::File(settings) => {
-            let name = String::from_str(rt.alloc(), settings.path.as_str())?;
-            Ok(Aim::Sink(name))
-        }
-    }
-}
-
 /// What one thread has that starts a buffer's flush threads.
 #[derive(Drop)]
 pub struct Pool {
@@ -144,7 +59,7 @@ impl Pool {
     /// Opens the output's sink, where it has one, in this folder. `Buffer`: its files can't be made. `Memory`.
     pub fn open(
         home: Home<'_>,
-        delivering: Delivering,
+        delivering: Delivering<Global>,
         buffer: &Arc<SharedBuffer<Folder, Global>>,
         stop: &Arc<AtomicBool>,
     ) -> Result<Pool, LoopFault> {

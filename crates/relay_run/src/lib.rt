@@ -4,5 +4,5 @@
 mod flush;
 mod relay;
 
-pub use flush::{Delivering, Home, delivering_of};
+pub use flush::Home;
 pub use relay::Runner;

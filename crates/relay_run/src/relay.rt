@@ -4,10 +4,12 @@ ghost use Rattle.std.specs.Prelude.{◌≡◌, ◌≢◌, None, IfOk, IfSome, If
 ghost use Rattle.plan_lines.specs.Forms.{relay_number};
 ghost use Rattle.relay_run.specs.Starting.{ready_lines, fault_line as fault_line_of, PrintsReady, PrintsRelay, PrintsRun};
 
-use crate::flush::{Delivering, Folder, Home, Pool, copy_of, delivering_of};
+use crate::flush::{Folder, Home, Pool, copy_of};
 use conf_values::whole_number;
-use mio_relay::{Ended, InLoop, LoopFault, SystemFolders};
+use loop_core::LoopFault;
+use mio_relay::{Ended, InLoop};
 use program_text::{Status, put_all, put_last};
+use relay_buffers::{Delivering, SystemFolders, delivering_of};
 use relay_conf::Relay;
 use relay_reading::{print_conf_stop, read_relay};
 use std::alloc::{AllocError, Allocator, Global};
@@ -97,7 +99,7 @@ where
     {
         let alloc = self.rt.alloc();
         let stop = Arc::new(alloc, AtomicBool::new(false))?;
-        let delivering = delivering_of(self.rt, &relay, &stop)?;
+        let delivering = delivering_of(self.rt, alloc, &relay, &stop)?;
         let sources = relay.sources.len();
         let folders = SystemFolders {
             rt: copy_of(self.home.files)?,
@@ -220,7 +222,7 @@ fn put_ready<A: Allocator + Copy, W: Write>(
 #[tactic(auto, using(crate::proofs::StartingSteps::none_ready))]
 fn open_ready<W: Write>(
     home: Home<'_>,
-    delivering: Vec<Delivering>,
+    delivering: Vec<Delivering<Global>>,
     turning: &InLoop<Folder, Global>,
     sources: usize,
     stop: &Arc<AtomicBool>,
@@ -236,7 +238,7 @@ fn open_ready<W: Write>(
 // What delivers each buffer's chunks.
 fn open_pools(
     home: Home<'_>,
-    delivering: Vec<Delivering>,
+    delivering: Vec<Delivering<Global>>,
     turning: &InLoop<Folder, Global>,
     stop: &Arc<AtomicBool>,
 ) -> Result<Vec<Pool>, LoopFault> {

@@ -4,10 +4,10 @@ use crate::relays::{FORWARD, aim, relay_of};
 use ack_receipt::{Basis, Delivery, Evidence, Leaf, Numbers, SharedBuffer, Takes};
 use buffer_state::Limits;
 use buffer_store::{Buffer, Settings};
-use disk_files::MemoryDir;
+use disk_files::{Dir, MemoryDir};
 use event_modes::{Entries, Message};
 use flush_pool::{CarryFault, ClaimView, Courier};
-use mio_relay::{Outlet, TcpCourier, outlet_of};
+use loop_core::{Outlet, outlet_of};
 use relay_conf::{BufferNo, Relay};
 use std::alloc::Global;
 use std::io::Read;
@@ -18,11 +18,12 @@ use std::sync::{Arc, Wait};
 use std::test::Fail;
 use std::thread;
 use std::time::Clock;
+use tcp_courier::{Nonces, TcpCourier};
 
-type Shared = SharedBuffer<MemoryDir<Global>, Global>;
+type Shared<D> = SharedBuffer<D, Global>;
 
-// A buffer with one queued chunk.
-fn queued<R: Wait>(rt: &R, alloc: Global) -> Result<Shared, Fail> {
+// A buffer in this folder with one queued chunk.
+fn queued<R: Wait, D: Dir + Drop>(rt: &R, alloc: Global, dir: D) -> Result<Shared<D>, Fail> {
     let settings = Settings {
         limits: Limits {
             chunk: 1_000,
@@ -30,7 +31,7 @@ fn queued<R: Wait>(rt: &R, alloc: Global) -> Result<Shared, Fail> {
         },
         renewed_past: 1_000_000,
     };
-    let Ok(buffer) = Buffer::open(alloc, MemoryDir::new(alloc), b"out", settings) else {
+    let Ok(buffer) = Buffer::open(alloc, dir, b"out", settings) else {
         return Err(Fail::from("the buffer doesn't open"));
     };
     let leaf = Leaf {
@@ -48,7 +49,12 @@ fn queued<R: Wait>(rt: &R, alloc: Global) -> Result<Shared, Fail> {
 }
 
 // Appends one entry, and queues its chunk.
-fn fill<R: Wait>(rt: &R, alloc: Global, shared: &Shared, leaf: Leaf) -> Result<(), Fail> {
+fn fill<R: Wait, D: Dir>(
+    rt: &R,
+    alloc: Global,
+    shared: &Shared<D>,
+    leaf: Leaf,
+) -> Result<(), Fail> {
     let Some(entries) = Entries::read(alloc, b"\x92\x01\x80", 1)? else {
         return Err(Fail::from("an entry"));
     };
@@ -93,19 +99,17 @@ pub fn courier_to<R: RandomSource + AllocGlobal>(
     let stop = Arc::new(rt.alloc(), AtomicBool::new(false))?;
     match outlet_of(&relay, BufferNo(0)) {
         Some(Outlet::Forward(settings)) => {
-            match TcpCourier::new(rt, rt.alloc(), settings, stop) {
-                Ok(courier) => Ok(courier),
-                Err(_) => Err(Fail::from("no courier")),
-            }
+            let nonces = Nonces::new(rt)?;
+            Ok(TcpCourier::new(rt.alloc(), settings, nonces, stop)?)
         }
         _ => Err(Fail::from("no output")),
     }
 }
 
 // Why the queued chunk isn't carried; then whether it is queued again.
-fn carried<R: Wait + Net + Clock>(
+fn carried<R: Wait + Net + Clock, D: Dir>(
     rt: &R,
-    shared: &Shared,
+    shared: &Shared<D>,
     courier: &TcpCourier<Global>,
 ) -> Result<(Option<CarryFault>, bool), Fail> {
     let Some(claim) = shared.claim(rt)? else {
@@ -147,7 +151,7 @@ fn swallow(listener: &TcpListener) -> bool {
 // A server that reads and never answers is too late, and the chunk is queued again.
 #[test]
 fn no_answer_is_a_timeout(rt: HostRuntime) -> Result<(), Fail> {
-    let shared = queued(&rt, rt.alloc())?;
+    let shared = queued(&rt, rt.alloc(), MemoryDir::new(rt.alloc()))?;
     let address = SocketAddr::from((Ipv4Addr::LOCALHOST, 0));
     let listener = TcpListener::bind(&rt, address)?;
     let courier = courier_to(&rt, listener.local_addr()?.port())?;
@@ -162,7 +166,7 @@ fn no_answer_is_a_timeout(rt: HostRuntime) -> Result<(), Fail> {
 // Nobody listens.
 #[test]
 fn no_listener_is_no_server(rt: HostRuntime) -> Result<(), Fail> {
-    let shared = queued(&rt, rt.alloc())?;
+    let shared = queued(&rt, rt.alloc(), MemoryDir::new(rt.alloc()))?;
     let address = SocketAddr::from((Ipv4Addr::LOCALHOST, 0));
     let listener = TcpListener::bind(&rt, address)?;
     let port = listener.local_addr()?.port();

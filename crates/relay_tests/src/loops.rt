@@ -1,8 +1,10 @@
 //! A loop with clients on sockets, turned by hand.
 
 use crate::relays::{LOOPING, SINK, SMALL, relay_of};
-use disk_files::MemoryDir;
-use mio_relay::{Ended, InLoop, LoopFault, MemoryFolders};
+use disk_files::Dir;
+use loop_core::LoopFault;
+use mio_relay::{Ended, InLoop};
+use relay_buffers::{Folders, MemoryFolders};
 use std::alloc::Global;
 use std::io::{ErrorKind, Read, Write};
 use std::net::{Ipv4Addr, Net, OpenStream, SocketAddr, TcpStream};
@@ -12,7 +14,8 @@ use std::sync::atomic::AtomicBool;
 use std::test::Fail;
 use std::time::{Clock, Duration};
 
-pub type Turning = InLoop<MemoryDir<Global>, Global>;
+// A loop with buffers in folders of any kind: over ones in memory all that is said of these would be in view at each call.
+pub type Turning<D> = InLoop<D, Global>;
 
 pub const TAG: &[u8] = b"a";
 
@@ -29,14 +32,15 @@ pub const ANSWER: &[u8] = b"\x81\xa3ack\xa2c1";
 
 const OTHER_ANSWER: &[u8] = b"\x81\xa3ack\xa2c2";
 
-// A loop that keeps what is left of its deliveries.
-pub fn open<R: Net + Clock + RandomSource + AllocGlobal>(
-    rt: &R,
-    text: &str,
-) -> Result<Turning, Fail> {
+// A loop with buffers in these folders, which keeps what is left of its deliveries.
+pub fn open<R, D, F>(rt: &R, text: &str, folders: &F) -> Result<Turning<D>, Fail>
+where
+    R: Net + Clock + RandomSource + AllocGlobal,
+    D: Dir + Drop,
+    F: Folders<D, Global>,
+{
     let relay = relay_of(rt.alloc(), text)?;
-    let folders = MemoryFolders { alloc: rt.alloc() };
-    match InLoop::open_in(rt, rt.alloc(), relay, 1, &folders) {
+    match InLoop::open_in(rt, rt.alloc(), relay, 1, folders) {
         Ok(mut turning) => {
             turning.keep_stubs();
             Ok(turning)
@@ -46,7 +50,7 @@ pub fn open<R: Net + Clock + RandomSource + AllocGlobal>(
 }
 
 // A client of the loop's only source.
-pub fn client<R: Net>(rt: &R, turning: &Turning) -> Result<R::Stream, Fail> {
+pub fn client<R: Net, D: Dir + Drop>(rt: &R, turning: &Turning<D>) -> Result<R::Stream, Fail> {
     let Some(port) = turning.port(0) else {
         return Err(Fail::from("no source"));
     };
@@ -57,7 +61,7 @@ pub fn client<R: Net>(rt: &R, turning: &Turning) -> Result<R::Stream, Fail> {
 }
 
 // Twenty turns, or those up to a fault.
-fn turn<R: Wait + Clock>(rt: &R, turning: &mut Turning) -> Result<(), Fail> {
+fn turn<R: Wait + Clock, D: Dir + Drop>(rt: &R, turning: &mut Turning<D>) -> Result<(), Fail> {
     for _ in 0..20u32 {
         if turning.turn(rt).is_err() {
             return Err(Fail::from("a turn has a fault"));
@@ -83,7 +87,11 @@ pub fn hears<S: Read>(stream: &mut S, wanted: &[u8]) -> Result<bool, Fail> {
 }
 
 // Ends the loop, and says how many deliveries left something, each of so many parts.
-fn ended<R: Wait + Clock>(rt: &R, turning: Turning, parts: usize) -> (usize, bool) {
+fn ended<R: Wait + Clock, D: Dir + Drop>(
+    rt: &R,
+    turning: Turning<D>,
+    parts: usize,
+) -> (usize, bool) {
     let stop = AtomicBool::new(true);
     let Ended { stubs, fault } = turning.run(rt, &stop);
     let all = stubs.iter().all(|stub| stub.parts.len() == parts);
@@ -98,9 +106,9 @@ fn three(message: &[u8], alloc: Global) -> Result<Vec<u8>, Fail> {
     Ok(bytes)
 }
 
-fn talk_apart<R: Wait + Clock + Net + AllocGlobal>(
+fn talk_apart<R: Wait + Clock + Net + AllocGlobal, D: Dir + Drop>(
     rt: &R,
-    turning: &mut Turning,
+    turning: &mut Turning<D>,
 ) -> Result<(bool, bool), Fail> {
     let mut one = client(rt, turning)?;
     let mut two = client(rt, turning)?;
@@ -112,20 +120,30 @@ fn talk_apart<R: Wait + Clock + Net + AllocGlobal>(
     Ok((first, second))
 }
 
+// What two clients hear, and what is left of the loop's deliveries then.
+fn heard_apart<R, D, F>(rt: &R, folders: &F) -> Result<((bool, bool), (usize, bool)), Fail>
+where
+    R: Wait + Clock + Net + RandomSource + AllocGlobal,
+    D: Dir + Drop,
+    F: Folders<D, Global>,
+{
+    let mut turning = open(rt, SINK, folders)?;
+    let heard = talk_apart(rt, &mut turning);
+    let left = ended(rt, turning, 1);
+    Ok((heard?, left))
+}
+
 // Two clients ask for their own chunks, each three times in one write: each hears three answers, its own.
 #[test]
 fn each_client_hears_its_own_answers(rt: HostRuntime) -> Result<(), Fail> {
-    let mut turning = open(&rt, SINK)?;
-    let heard = talk_apart(&rt, &mut turning);
-    let left = ended(&rt, turning, 1);
-    assert_eq!(rt; heard?, (true, true));
-    assert_eq!(rt; left, (6, true));
+    let folders = MemoryFolders { alloc: rt.alloc() };
+    assert_eq!(rt; heard_apart(&rt, &folders)?, ((true, true), (6, true)));
     Ok(())
 }
 
-fn talk_in_turn<R: Wait + Clock + Net>(
+fn talk_in_turn<R: Wait + Clock + Net, D: Dir + Drop>(
     rt: &R,
-    turning: &mut Turning,
+    turning: &mut Turning<D>,
 ) -> Result<(bool, bool), Fail> {
     let mut one = client(rt, turning)?;
     let mut two = client(rt, turning)?;
@@ -137,23 +155,36 @@ fn talk_in_turn<R: Wait + Clock + Net>(
     Ok((first && hears(&mut one, b"")?, hears(&mut two, b"")?))
 }
 
+// What clients of a small buffer hear, and how many parts are left of the first delivery and of the second.
+fn heard_in_turn<R, D, F>(rt: &R, folders: &F) -> Result<((bool, bool), (usize, usize)), Fail>
+where
+    R: Wait + Clock + Net + RandomSource + AllocGlobal,
+    D: Dir + Drop,
+    F: Folders<D, Global>,
+{
+    let mut turning = open(rt, SMALL, folders)?;
+    let heard = talk_in_turn(rt, &mut turning);
+    let stop = AtomicBool::new(true);
+    let Ended { stubs, fault } = turning.run(rt, &stop);
+    let heard = heard?;
+    match stubs.as_slice() {
+        [one, two] if fault.is_none() => Ok((heard, (one.parts.len(), two.parts.len()))),
+        _ => Err(Fail::from("two deliveries and no fault")),
+    }
+}
+
 // What a full buffer refuses isn't answered, and its connection stays.
 #[test]
 fn a_full_buffer_refuses(rt: HostRuntime) -> Result<(), Fail> {
-    let mut turning = open(&rt, SMALL)?;
-    let heard = talk_in_turn(&rt, &mut turning);
-    let stop = AtomicBool::new(true);
-    let Ended { stubs, fault } = turning.run(&rt, &stop);
-    assert_eq!(rt; heard?, (true, true));
-    assert!(rt; fault.is_none());
-    let [one, two] = stubs.as_slice() else {
-        return Err(Fail::from("two deliveries"));
-    };
-    assert_eq!(rt; (one.parts.len(), two.parts.len()), (1, 0));
+    let folders = MemoryFolders { alloc: rt.alloc() };
+    assert_eq!(rt; heard_in_turn(&rt, &folders)?, ((true, true), (1, 0)));
     Ok(())
 }
 
-fn talk_round<R: Wait + Clock + Net>(rt: &R, turning: &mut Turning) -> Result<bool, Fail> {
+fn talk_round<R: Wait + Clock + Net, D: Dir + Drop>(
+    rt: &R,
+    turning: &mut Turning<D>,
+) -> Result<bool, Fail> {
     let mut one = client(rt, turning)?;
     one.write_all(MESSAGE)?;
     one.write_all(OTHER)?;
@@ -161,28 +192,39 @@ fn talk_round<R: Wait + Clock + Net>(rt: &R, turning: &mut Turning) -> Result<bo
     hears(&mut one, OTHER_ANSWER)
 }
 
+// Whether the message is answered that no match takes, and what is left of the loop's deliveries then.
+fn heard_round<R, D, F>(rt: &R, folders: &F) -> Result<(bool, (usize, bool)), Fail>
+where
+    R: Wait + Clock + Net + RandomSource + AllocGlobal,
+    D: Dir + Drop,
+    F: Folders<D, Global>,
+{
+    let mut turning = open(rt, LOOPING, folders)?;
+    let heard = talk_round(rt, &mut turning);
+    let left = ended(rt, turning, 0);
+    Ok((heard?, left))
+}
+
 // A message whose way is a loop is no delivery, and isn't answered; one that no match takes is.
 #[test]
 fn what_goes_round_is_no_delivery(rt: HostRuntime) -> Result<(), Fail> {
-    let mut turning = open(&rt, LOOPING)?;
-    let heard = talk_round(&rt, &mut turning);
-    let left = ended(&rt, turning, 0);
-    assert!(rt; heard?);
-    assert_eq!(rt; left, (1, true));
+    let folders = MemoryFolders { alloc: rt.alloc() };
+    assert_eq!(rt; heard_round(&rt, &folders)?, (true, (1, true)));
     Ok(())
 }
 
 // Why another relay at this port isn't opened.
-fn fault_at<R: Wait + Clock + Net + RandomSource + AllocGlobal>(
-    rt: &R,
-    port: Option<u16>,
-) -> Result<Option<LoopFault>, Fail> {
+fn fault_at<R, D, F>(rt: &R, port: Option<u16>, folders: &F) -> Result<Option<LoopFault>, Fail>
+where
+    R: Wait + Clock + Net + RandomSource + AllocGlobal,
+    D: Dir + Drop,
+    F: Folders<D, Global>,
+{
     let mut relay = relay_of(rt.alloc(), SINK)?;
     for source in relay.sources.iter_mut() {
         source.port = port.unwrap_or(1);
     }
-    let folders = MemoryFolders { alloc: rt.alloc() };
-    match InLoop::open_in(rt, rt.alloc(), relay, 2, &folders) {
+    match InLoop::open_in(rt, rt.alloc(), relay, 2, folders) {
         Ok(other) => {
             ended(rt, other, 0);
             Ok(None)
@@ -191,12 +233,23 @@ fn fault_at<R: Wait + Clock + Net + RandomSource + AllocGlobal>(
     }
 }
 
+// Why another relay isn't opened at the port of one that is.
+fn fault_of_another<R, D, F>(rt: &R, folders: &F) -> Result<Option<LoopFault>, Fail>
+where
+    R: Wait + Clock + Net + RandomSource + AllocGlobal,
+    D: Dir + Drop,
+    F: Folders<D, Global>,
+{
+    let turning = open(rt, SINK, folders)?;
+    let fault = fault_at(rt, turning.port(0), folders);
+    ended(rt, turning, 0);
+    fault
+}
+
 // A relay whose source is taken isn't opened.
 #[test]
 fn a_taken_source_is_bind(rt: HostRuntime) -> Result<(), Fail> {
-    let turning = open(&rt, SINK)?;
-    let fault = fault_at(&rt, turning.port(0));
-    ended(&rt, turning, 0);
-    assert_eq!(rt; fault?, Some(LoopFault::Bind));
+    let folders = MemoryFolders { alloc: rt.alloc() };
+    assert_eq!(rt; fault_of_another(&rt, &folders)?, Some(LoopFault::Bind));
     Ok(())
 }

@@ -4,9 +4,10 @@ use crate::couriers::courier_to;
 use crate::loops::{ANSWER, ENTRY, MESSAGE, TAG, Turning, client, hears, open};
 use crate::relays::{FORWARD, SINK};
 use ack_receipt::SharedBuffer;
-use disk_files::MemoryDir;
+use disk_files::{Dir, MemoryDir};
 use flush_pool::{Courier, OpenGate, Retries, SinkCourier, work};
 use mio_relay::Ended;
+use relay_buffers::{Folders, MemoryFolders};
 use retry_waits::RetrySettings;
 use sink_series::{Series, SinkEvent};
 use std::alloc::Global;
@@ -20,7 +21,7 @@ use std::thread;
 use std::thread::Threads;
 use std::time::Clock;
 
-type Shelf = SharedBuffer<MemoryDir<Global>, Global>;
+type Shelf<D> = SharedBuffer<D, Global>;
 
 // Retries go on for ever.
 const FOREVER: RetrySettings = RetrySettings {
@@ -33,10 +34,10 @@ const FOREVER: RetrySettings = RetrySettings {
 };
 
 // A hundred turns of both, or those up to a fault; then raises the flag.
-fn turn_both<R: Wait + Clock>(
+fn turn_both<R: Wait + Clock, D: Dir + Drop>(
     rt: &R,
-    edge: &mut Turning,
-    hub: &mut Turning,
+    edge: &mut Turning<D>,
+    hub: &mut Turning<D>,
     stop: &AtomicBool,
 ) -> bool {
     let mut well = true;
@@ -48,17 +49,18 @@ fn turn_both<R: Wait + Clock>(
 }
 
 // One worker at the hub's buffer, while both loops are turned.
-fn hub_at_work<R, H>(
+fn hub_at_work<R, D, H>(
     rt: &R,
-    store: &Shelf,
+    store: &Shelf<D>,
     sink: &H,
     stop: &AtomicBool,
-    edge: &mut Turning,
-    hub: &mut Turning,
+    edge: &mut Turning<D>,
+    hub: &mut Turning<D>,
 ) -> bool
 where
     R: Wait + Clock + Threads + Sync + AllocGlobal,
-    H: Courier<R, MemoryDir<Global>, Global> + Sync,
+    D: Dir + Drop + Send,
+    H: Courier<R, D, Global> + Sync,
 {
     let retries = Retries::new(rt.alloc(), FOREVER);
     let (worked, well) = thread::join(
@@ -70,19 +72,20 @@ where
 }
 
 // And one at the edge's.
-fn both_at_work<R, C, H>(
+fn both_at_work<R, D, C, H>(
     rt: &R,
-    out: &Shelf,
+    out: &Shelf<D>,
     courier: &C,
-    store: &Shelf,
+    store: &Shelf<D>,
     sink: &H,
-    edge: &mut Turning,
-    hub: &mut Turning,
+    edge: &mut Turning<D>,
+    hub: &mut Turning<D>,
 ) -> bool
 where
     R: Wait + Clock + Threads + Sync + AllocGlobal,
-    C: Courier<R, MemoryDir<Global>, Global> + Sync,
-    H: Courier<R, MemoryDir<Global>, Global> + Sync,
+    D: Dir + Drop + Send,
+    C: Courier<R, D, Global> + Sync,
+    H: Courier<R, D, Global> + Sync,
 {
     let stop = AtomicBool::new(false);
     let retries = Retries::new(rt.alloc(), FOREVER);
@@ -95,16 +98,16 @@ where
 }
 
 // The loop's only buffer, if there is memory to share it.
-fn buffer_of(turning: &Turning) -> Option<Arc<Shelf>> {
+fn buffer_of<D: Dir + Drop>(turning: &Turning<D>) -> Option<Arc<Shelf<D>>> {
     match turning.buffers() {
         [buffer] => Arc::try_clone(buffer).ok(),
         _ => None,
     }
 }
 
-// The hub's sink, in a folder of its own.
-fn sink_of(alloc: Global) -> Result<SinkCourier<MemoryDir<Global>, Global>, Fail> {
-    match Series::open(alloc, MemoryDir::new(alloc), b"all") {
+// The hub's sink, in this folder.
+fn sink_of<S: Dir + Drop>(alloc: Global, dir: S) -> Result<SinkCourier<S, Global>, Fail> {
+    match Series::open(alloc, dir, b"all") {
         Ok(series) => Ok(SinkCourier::new(series)),
         Err(_) => Err(Fail::from("no sink")),
     }
@@ -121,8 +124,15 @@ fn are_the_messages(events: &[SinkEvent<Global>]) -> bool {
 }
 
 // A client sends the edge a message: whether it heard its answer, and whether its event, and no other, is in the hub's sink then.
-fn talk_through<R>(rt: &R, edge: &mut Turning, hub: &mut Turning) -> Result<(bool, bool), Fail>
+fn talk_through<R, D, S>(
+    rt: &R,
+    edge: &mut Turning<D>,
+    hub: &mut Turning<D>,
+    sink: SinkCourier<S, Global>,
+) -> Result<(bool, bool), Fail>
 where
+    D: Dir + Drop + Send,
+    S: Dir + Drop + Send,
     R: Wait
         + Clock
         + Net<Listener = TcpListener, Stream = TcpStream>
@@ -135,7 +145,6 @@ where
     let (Some(out), Some(store)) = (buffer_of(edge), buffer_of(hub)) else {
         return Err(Fail::from("no buffer"));
     };
-    let sink = sink_of(rt.alloc())?;
     let mut one = client(rt, edge)?;
     one.write_all(MESSAGE)?;
     let well = both_at_work(rt, &out, &courier, &store, &sink, edge, hub);
@@ -145,7 +154,7 @@ where
 }
 
 // Ends the loop: whether its buffer's book accounts for what is left of its deliveries.
-fn is_accounted<R: Wait + Clock + AllocGlobal>(rt: &R, turning: Turning) -> bool {
+fn is_accounted<R: Wait + Clock + AllocGlobal, D: Dir + Drop>(rt: &R, turning: Turning<D>) -> bool {
     let buffer = buffer_of(&turning);
     let stop = AtomicBool::new(true);
     let Ended { stubs, fault } = turning.run(rt, &stop);
@@ -155,9 +164,17 @@ fn is_accounted<R: Wait + Clock + AllocGlobal>(rt: &R, turning: Turning) -> bool
     }
 }
 
-// What comes of it with an edge in front of the hub.
-fn pass_on<R>(rt: &R, hub: &mut Turning) -> Result<(bool, bool, bool), Fail>
+// What comes of it with an edge in front of the hub, and a sink in this folder.
+fn pass_on<R, D, F, S>(
+    rt: &R,
+    hub: &mut Turning<D>,
+    folders: &F,
+    dir: S,
+) -> Result<(bool, bool, bool), Fail>
 where
+    D: Dir + Drop + Send,
+    F: Folders<D, Global>,
+    S: Dir + Drop + Send,
     R: Wait
         + Clock
         + Net<Listener = TcpListener, Stream = TcpStream>
@@ -166,20 +183,39 @@ where
         + Threads
         + Sync,
 {
-    let mut edge = open(rt, FORWARD)?;
-    let talk = talk_through(rt, &mut edge, hub);
+    let sink = sink_of(rt.alloc(), dir)?;
+    let mut edge = open(rt, FORWARD, folders)?;
+    let talk = talk_through(rt, &mut edge, hub, sink);
     let accounted = is_accounted(rt, edge);
     let (heard, stored) = talk?;
     Ok((heard, stored, accounted))
 }
 
+// The same, and whether the hub's book accounts for what is left of its deliveries too.
+fn passed_on<R, D, F, S>(rt: &R, folders: &F, dir: S) -> Result<((bool, bool, bool), bool), Fail>
+where
+    D: Dir + Drop + Send,
+    F: Folders<D, Global>,
+    S: Dir + Drop + Send,
+    R: Wait
+        + Clock
+        + Net<Listener = TcpListener, Stream = TcpStream>
+        + RandomSource
+        + AllocGlobal
+        + Threads
+        + Sync,
+{
+    let mut hub = open(rt, SINK, folders)?;
+    let passed = pass_on(rt, &mut hub, folders, dir);
+    let accounted = is_accounted(rt, hub);
+    Ok((passed?, accounted))
+}
+
 // A client's message to an edge is answered and comes to the hub's sink, and the books of both account for it.
 #[test]
 fn an_edge_hands_on_to_a_hub(rt: HostRuntime) -> Result<(), Fail> {
-    let mut hub = open(&rt, SINK)?;
-    let passed = pass_on(&rt, &mut hub);
-    let accounted = is_accounted(&rt, hub);
-    assert_eq!(rt; passed?, (true, true, true));
-    assert!(rt; accounted);
+    let folders = MemoryFolders { alloc: rt.alloc() };
+    let passed = passed_on(&rt, &folders, MemoryDir::new(rt.alloc()))?;
+    assert_eq!(rt; passed, ((true, true, true), true));
     Ok(())
 }

@@ -2,7 +2,8 @@ use Rattle.std.proofs.Common.{◌≡◌, ◌∙◌, List, ap, map, subst, sym}
 use Rattle.std.specs.Arc.{arc_value}
 use Rattle.ack_receipt.specs.Terms.{Terms}
 use Rattle.route_graph.specs.Table.{Table, table_of}
-use Rattle.mio_relay.specs.Loops.{AreBuffersOf, entry_of}
+use Rattle.relay_buffers.specs.Buffers.{AreBuffersOf}
+use Rattle.mio_relay.specs.Loops.{entry_of}
 use Rattle.mio_relay.proofs.in_loop.InLoop.open_in.Goals as goal
 
 pub returns-clause-sources : goal.returns-clause-sources

@@ -1,5 +1,0 @@
-use Rattle.std.proofs.Common.{◌≡◌}
-use Rattle.mio_relay.proofs.exchange.write_out.Given as goal
-
-abbrev pub invariant-loop : goal.invariant-loop
-invariant-loop g l = l.session.phase ≡ l.initial.session.phase

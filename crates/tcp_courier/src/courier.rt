@@ -1,0 +1,224 @@
+//! Chunks that go to another relay.
+
+ghost use Rattle.std.specs.Prelude.{◌≡◌, IfOk};
+ghost use Rattle.tcp_courier.specs.Carrying.{IsCarried};
+
+use crate::address::resolve;
+use crate::chance::Nonces;
+use crate::clock::now_after;
+use crate::exchange::{Moved, Wire, acknowledged, shake, write_out};
+use crate::secret::{copied, shown};
+use ack_receipt::Evidence;
+use disk_files::Dir;
+use event_modes::{Entries, LONGEST_TAG};
+use flush_pool::{CarryFault, ClaimView, Courier};
+use forward_core::ClientSession;
+use relay_conf::{ForwardSettings, Security as Secret, Server};
+use std::alloc::{AllocError, Allocator};
+use std::io::{ErrorKind, Read, Write};
+use std::marker::Model;
+use std::net::{Net, OpenStream, TcpStream};
+use std::sync::atomic::{AtomicBool, Ordering};
+use std::sync::{Arc, Mutex, Wait};
+use std::time::{Clock, Duration};
+
+/// How long a server may take to accept a connection, in milliseconds, before the next one is tried.
+const LONGEST_CONNECT: u64 = 10_000;
+
+/// How long a read or a write waits before the time, and whether to stop, is looked at.
+const SLICE: u64 = 200;
+
+/// How many bytes are read at once: the answers are short.
+const PIECE: usize = 4_096;
+
+/// A server's address.
+#[derive(Drop)]
+struct Target<A: Allocator> {
+    host: String<A>,
+    port: u16,
+}
+
+/// Sends chunks to the first of its servers that takes a connection, one connection for each chunk. Contracts see whether it
+/// asks for acknowledgements.
+#[derive(Drop)]
+pub struct TcpCourier<A: Allocator> {
+    alloc: A,
+    targets: Vec<Target<A>, A>,
+    secret: Option<Secret<A>>,
+    asks: bool,
+    // In milliseconds.
+    timeout: u64,
+    stop: Arc<AtomicBool, A>,
+    nonces: Mutex<Nonces>,
+}
+
+impl<A: Allocator> Model for TcpCourier<A> {
+    ghost use Rattle.std.specs.Prelude.{Bool};
+
+    ghost Value = { Bool };
+
+    ghost view = { λ c. c.asks };
+}
+
+impl<A: Allocator + Copy> TcpCourier<A> {
+    /// Sends as this output's settings say, with salts from these. A carry that waits ends soon after `stop` is raised. The error is want
+    /// of memory.
+    pub fn new<B: Allocator>(
+        alloc: A,
+        settings: &ForwardSettings<B>,
+        nonces: Nonces,
+        stop: Arc<AtomicBool, A>,
+    ) -> Result<TcpCourier<A>, AllocError>
+        ensures { IfOk result (λ courier. courier ≡ settings.now.require_ack_response) }
+    {
+        Ok(TcpCourier {
+            alloc,
+            targets: targets_of(alloc, &settings.servers)?,
+            secret: copied(alloc, &settings.security)?,
+            asks: settings.require_ack_response,
+            timeout: settings.ack_response_timeout.saturating_mul(1_000),
+            stop,
+            nonces: Mutex::new(nonces),
+        })
+    }
+
+    // A session of a connection that was made.
+    fn session<R: Wait>(&self, rt: &R) -> Result<ClientSession<A>, CarryFault> {
+        let Ok(security) = shown(&self.secret) else {
+            return Err(CarryFault::NoServer);
+        };
+        let salt = self.nonces.lock(rt).draw();
+        Ok(ClientSession::open(self.alloc, security, salt)?)
+    }
+
+    // A connection to the first server that takes one.
+    fn connect<R: Net + Clock>(&self, rt: &R, until: u64) -> Result<R::Stream, CarryFault> {
+        for target in &self.targets {
+            let Ok(Some(address)) = resolve(rt, target.host.as_str(), target.port) else {
+                continue;
+            };
+            let left = until.saturating_sub(now_after(rt, 0));
+            let wait = Duration::from_millis(left.min(LONGEST_CONNECT).max(1));
+            if let Ok(stream) = TcpStream::connect_timeout(rt, &address, wait) {
+                return Ok(stream);
+            }
+        }
+        Err(CarryFault::NoServer)
+    }
+
+    // Sends a chunk, and gives what shows that it arrived.
+    fn send<R: Wait + Clock, S: Read + Write + OpenStream + Drop, D: Dir>(
+        &self,
+        rt: &R,
+        stream: S,
+        until: u64,
+        chunk: &ClaimView<'_, D, A>,
+        entries: &Entries<A>,
+    ) -> Result<Evidence<A>, CarryFault>
+        ensures { IfOk result (IsCarried self.now chunk.now) }
+    {
+        if chunk.tag().len() > LONGEST_TAG || entries.as_bytes().len() > u32::MAX as usize {
+            return Err(CarryFault::Device);
+        }
+        let mut session = self.session(rt)?;
+        let mut piece = Vec::from_elem(self.alloc, 0, PIECE)?;
+        let mut wire = Line {
+            rt,
+            stream,
+            until,
+            stop: &self.stop,
+        };
+        shake(&mut wire, &mut session, &mut piece)?;
+        session.send(chunk.tag(), entries, chunk.id(), self.asks)?;
+        write_out(&mut wire, &mut session)?;
+        if !self.asks {
+            return Ok(Evidence::written(chunk.claim()));
+        }
+        acknowledged(&mut wire, &mut session, &mut piece)
+    }
+}
+
+impl<R: Wait + Net + Clock, D: Dir, A: Allocator + Copy> Courier<R, D, A> for TcpCourier<A> {
+    /// Connects to the first server that takes a connection, shakes hands where there is a key, sends the chunk and, where the
+    /// output requires it, waits for its acknowledgement.
+    ///
+    /// `NoServer`: no server took a connection, or it was lost. `Timeout`: the time for an answer has passed, or the relay
+    /// stops. `Session`: what came is no part of a handshake, or no acknowledgement. `Device`: the chunk can't be read. `Memory`.
+    fn carry(&self, rt: &R, chunk: &ClaimView<'_, D, A>) -> Result<Evidence<A>, CarryFault>
+        ensures { IfOk result (IsCarried self.now chunk.now) }
+    {
+        let entries = chunk.entries(rt)?;
+        let until = now_after(rt, 0).saturating_add(self.timeout);
+        let stream = self.connect(rt, until)?;
+        self.send(rt, stream, until, chunk, &entries)
+    }
+}
+
+/// A stream that is read and written up to a time.
+#[derive(Drop)]
+struct Line<'a, R, S, A: Allocator> {
+    rt: &'a R,
+    stream: S,
+    until: u64,
+    stop: &'a Arc<AtomicBool, A>,
+}
+
+impl<'a, R: Clock, S: Read + Write + OpenStream, A: Allocator> Line<'a, R, S, A> {
+    // How long the next read or write waits.
+    fn slice(&self) -> Duration {
+        let left = self.until.saturating_sub(now_after(self.rt, 0));
+        Duration::from_millis(left.min(SLICE).max(1))
+    }
+}
+
+impl<'a, R: Clock, S: Read + Write + OpenStream, A: Allocator> Wire for Line<'a, R, S, A> {
+    fn get(&mut self, piece: &mut [u8]) -> Moved {
+        if self.stream.set_read_timeout(Some(self.slice())).is_err() {
+            return Moved::Over;
+        }
+        match self.stream.read(piece) {
+            Ok(0) => Moved::Over,
+            Ok(n) => Moved::Some(n),
+            Err(e) => moved_none(e.kind()),
+        }
+    }
+
+    fn put(&mut self, bytes: &[u8]) -> Moved {
+        if self.stream.set_write_timeout(Some(self.slice())).is_err() {
+            return Moved::Over;
+        }
+        match self.stream.write(bytes) {
+            Ok(0) => Moved::Over,
+            Ok(n) => Moved::Some(n),
+            Err(e) => moved_none(e.kind()),
+        }
+    }
+
+    fn is_late(&self) -> bool {
+        self.stop.load(Ordering::SeqCst) || now_after(self.rt, 0) >= self.until
+    }
+}
+
+// What an error says: that nothing was moved in this time, or that the connection is over.
+fn moved_none(kind: ErrorKind) -> Moved {
+    match kind {
+        ErrorKind::WouldBlock | ErrorKind::TimedOut | ErrorKind::Interrupted => Moved::None,
+        _ => Moved::Over,
+    }
+}
+
+// The addresses of these servers, in their order.
+fn targets_of<A: Allocator + Copy, B: Allocator>(
+    alloc: A,
+    servers: &[Server<B>],
+) -> Result<Vec<Target<A>, A>, AllocError> {
+    let mut targets = Vec::with_capacity(alloc, servers.len())?;
+    for server in servers {
+        let host = String::from_str(alloc, server.host.as_str())?;
+        targets.push(Target {
+            host,
+            port: server.port,
+        })?;
+    }
+    Ok(targets)
+}

@@ -1,0 +1,15 @@
+//! Chunks that go to another relay over a connection, and what both ends of connections need: addresses, time, random bytes, names and keys.
+#![tactic(auto)]
+
+mod address;
+mod chance;
+mod clock;
+mod courier;
+mod exchange;
+mod secret;
+
+pub use address::resolve;
+pub use chance::Nonces;
+pub use clock::now_after;
+pub use courier::TcpCourier;
+pub use secret::shown;
