@@ -1,26 +1,22 @@
 //! The loop that takes messages in.
 
-ghost use Rattle.std.specs.Prelude.{◌≡◌, [], map, Contains, IfOk};
+ghost use Rattle.std.specs.Prelude.{◌≡◌, [], map, IfOk};
 ghost use Rattle.std.specs.Arc.{arc_value};
 ghost use Rattle.relay_buffers.specs.Buffers.{AreBuffersOf};
 ghost use Rattle.mio_relay.specs.Loops.{Stays, entries_of};
 
-use crate::listener::{FIRST_LISTENER, Listener, listen, peer_at};
-use crate::peers;
+use crate::listener::{Listener, listen};
 use crate::socket::Socket;
 use ack_receipt::{Numbers, SharedBuffer, Stub};
 use buffer_store::BufferFault;
 use disk_files::Dir;
 use loop_core::{Lanes, LoopFault, Peer};
-use mio::event::Event;
-use mio::net::TcpStream;
-use mio::{Events, Poll, Token};
+use mio::{Events, Poll};
 use relay_buffers::{Folders, SystemDir, SystemFolders, lanes_of, open_all};
 use relay_conf::Relay;
 use route_graph::Routes;
 use slab::Slab;
-use std::alloc::{AllocError, Allocator};
-use std::io::ErrorKind;
+use std::alloc::Allocator;
 use std::marker::Model;
 use std::net::Net;
 use std::os::unix::fs::FileExt;
@@ -28,11 +24,8 @@ use std::random::RandomSource;
 use std::rt::Files;
 use std::sync::atomic::{AtomicBool, Ordering};
 use std::sync::{Arc, Wait};
-use std::time::{Clock, Duration};
+use std::time::Clock;
 use tcp_courier::{Nonces, now_after};
-
-/// How many connections a loop has at most.
-const MOST_CONNECTIONS: usize = 1_024;
 
 /// How many bytes are read from a connection at once.
 const PIECE: usize = 65_536;
@@ -40,29 +33,26 @@ const PIECE: usize = 65_536;
 /// How many events a turn takes from the system.
 const EVENTS: usize = 1_024;
 
-/// How long a turn waits for sockets, in milliseconds.
-const LONGEST_WAIT: u64 = 10;
-
 /// The sources of a relay, their connections, and the relay's buffers.
 ///
 /// It is no `Drop`: `run` ends it.
 pub struct InLoop<D: Dir + Drop, A: Allocator> {
-    alloc: A,
-    poll: Poll,
-    events: Events<A>,
-    listeners: Vec<Listener<A>, A>,
+    pub(crate) alloc: A,
+    pub(crate) poll: Poll,
+    pub(crate) events: Events<A>,
+    pub(crate) listeners: Vec<Listener<A>, A>,
     // At which listeners connections may wait.
-    ready: Vec<bool, A>,
-    sockets: Slab<Socket, A>,
+    pub(crate) ready: Vec<bool, A>,
+    pub(crate) sockets: Slab<Socket, A>,
     // By the keys of the sockets.
-    peers: Vec<Option<Peer<A>>, A>,
-    piece: Vec<u8, A>,
-    lanes: Lanes<D, A>,
-    buffers: Vec<Arc<SharedBuffer<D, A>, A>, A>,
-    numbers: Numbers,
-    nonces: Nonces,
+    pub(crate) peers: Vec<Option<Peer<A>>, A>,
+    pub(crate) piece: Vec<u8, A>,
+    pub(crate) lanes: Lanes<D, A>,
+    pub(crate) buffers: Vec<Arc<SharedBuffer<D, A>, A>, A>,
+    pub(crate) numbers: Numbers,
+    pub(crate) nonces: Nonces,
     // In milliseconds.
-    time: u64,
+    pub(crate) time: u64,
 }
 
 impl<D: Dir + Drop, A: Allocator> Model for InLoop<D, A> {
@@ -81,16 +71,6 @@ impl<D: Dir + Drop, A: Allocator> Model for InLoop<D, A> {
 
     // Each connection came in at one of the sources.
     ghost invariant = { λ l. All (IsServed (map (λ listener. arc_value listener.inlet) l.listeners.items)) l.peers.items };
-}
-
-// What comes of asking for a connection.
-#[derive(Drop)]
-enum Accepted {
-    Stream(TcpStream),
-    // There may be more.
-    Again,
-    // None waits.
-    None,
 }
 
 /// What is left of a loop.
@@ -265,206 +245,6 @@ impl<D: Dir + Drop, A: Allocator + Copy> InLoop<D, A> {
         self.lanes.renew(rt);
     }
 
-    // Waits for sockets, unless some are known to be ready, and notes which are.
-    fn wait(&mut self) -> Result<(), LoopFault>
-        ensures { Stays self.old self.new }
-    {
-        let most = if self.is_busy() { 0 } else { LONGEST_WAIT };
-        let polled = self
-            .poll
-            .poll(&mut self.events, Some(Duration::from_millis(most)));
-        match polled {
-            Ok(()) => {
-                note_all(&self.events, &mut self.ready, &mut self.sockets);
-                Ok(())
-            }
-            Err(e) if e.kind() == ErrorKind::Interrupted => Ok(()),
-            Err(_) => Err(LoopFault::Poll),
-        }
-    }
-
-    // Whether a connection is known to have more to be read.
-    fn is_busy(&self) -> bool {
-        if self.lanes.have_pendings() {
-            return false;
-        }
-        for key in 0..self.peers.len() {
-            if let Some(socket) = self.sockets.get(key)
-                && let Some(peer) = &self.peers[key]
-                && socket.wants_reading(peer)
-            {
-                return true;
-            }
-        }
-        false
-    }
-
-    // Takes in the connections that wait.
-    fn accept_all<R: Wait>(&mut self, rt: &R)
-        ensures { Stays self.old self.new }
-    {
-        for place in 0..self.listeners.len() {
-            self.accept_at(rt, place);
-        }
-    }
-
-    // Takes in the connections that wait at one source, at most so many as a loop has.
-    fn accept_at<R: Wait>(&mut self, rt: &R, place: usize)
-        ensures { Stays self.old self.new }
-    {
-        for _ in 0..MOST_CONNECTIONS {
-            match self.accept_one(place) {
-                Accepted::Stream(stream) => {
-                    // Without memory, and past the limit, the connection is closed at once.
-                    let _ = self.admit(rt, place, stream);
-                }
-                Accepted::Again => {}
-                Accepted::None => return,
-            }
-        }
-    }
-
-    // Takes the next connection that waits at one source.
-    fn accept_one(&mut self, place: usize) -> Accepted
-        ensures { Stays self.old self.new }
-    {
-        let Some(listener) = self.listeners.get(place) else {
-            return Accepted::None;
-        };
-        let Some(ready) = self.ready.get_mut(place) else {
-            return Accepted::None;
-        };
-        if !*ready {
-            return Accepted::None;
-        }
-        accept_from(listener, ready)
-    }
-
-    // Takes a connection in that came to this source.
-    fn admit<R: Wait>(&mut self, rt: &R, place: usize, stream: TcpStream) -> Result<(), AllocError>
-        ensures { Stays self.old self.new }
-    {
-        if self.sockets.len() >= MOST_CONNECTIONS {
-            return Ok(());
-        }
-        self.sockets.reserve(1)?;
-        let key = self.sockets.vacant_key();
-        if !peers::make_place(&mut self.peers, key)? {
-            return Ok(());
-        }
-        let Some(socket) = Socket::register(stream, self.poll.registry(), key) else {
-            return Ok(());
-        };
-        let nonce = self.nonces.draw();
-        let Some(peer) = peer_at(self.alloc, &self.listeners, place, nonce)? else {
-            return Ok(());
-        };
-        let _ = self.sockets.insert_reserved(socket);
-        self.put(rt, key, peer);
-        Ok(())
-    }
-
-    // Puts a connection at its key, where none is.
-    fn put<R: Wait>(&mut self, rt: &R, key: usize, peer: Peer<A>)
-        requires { Contains self.old.entries peer.entry }
-        ensures { Stays self.old self.new }
-    {
-        if let Some(other) = peers::put(&mut self.peers, key, peer) {
-            other.end(rt, &mut self.lanes);
-        }
-    }
-
-    // Reads a piece from each connection that has one. The error is that the numbers of deliveries have run out.
-    fn read_all<R: Wait>(&mut self, rt: &R) -> Result<(), LoopFault>
-        ensures { Stays self.old self.new }
-    {
-        for key in 0..self.peers.len() {
-            self.read_from(rt, key)?;
-        }
-        Ok(())
-    }
-
-    fn read_from<R: Wait>(&mut self, rt: &R, key: usize) -> Result<(), LoopFault>
-        ensures { Stays self.old self.new }
-    {
-        let Some(socket) = self.sockets.get_mut(key) else {
-            return Ok(());
-        };
-        peers::read(
-            &mut self.peers,
-            key,
-            socket,
-            &mut self.piece,
-            rt,
-            self.alloc,
-            &mut self.lanes,
-            &mut self.numbers,
-        )
-    }
-
-    // Ends the deliveries that have what they wait for.
-    fn settle_all<R: Wait>(&mut self, rt: &R)
-        ensures { Stays self.old self.new }
-    {
-        for key in 0..self.peers.len() {
-            self.settle_at(rt, key);
-        }
-    }
-
-    fn settle_at<R: Wait>(&mut self, rt: &R, key: usize)
-        ensures { Stays self.old self.new }
-    {
-        peers::settle(&mut self.peers, key, rt, self.alloc, &mut self.lanes);
-    }
-
-    // Writes what is outgoing.
-    fn write_all(&mut self)
-        ensures { Stays self.old self.new }
-    {
-        for key in 0..self.peers.len() {
-            self.write_to(key);
-        }
-    }
-
-    fn write_to(&mut self, key: usize)
-        ensures { Stays self.old self.new }
-    {
-        if let Some(socket) = self.sockets.get_mut(key) {
-            peers::write(&mut self.peers, key, socket);
-        }
-    }
-
-    // Closes the connections that are over.
-    fn close_all<R: Wait>(&mut self, rt: &R)
-        ensures { Stays self.old self.new }
-    {
-        for key in 0..self.peers.len() {
-            if self.is_over(key) {
-                self.close(rt, key);
-            }
-        }
-    }
-
-    fn is_over(&self, key: usize) -> bool {
-        if let Some(socket) = self.sockets.get(key)
-            && let Some(Some(peer)) = self.peers.get(key)
-        {
-            return socket.is_over(peer);
-        }
-        false
-    }
-
-    fn close<R: Wait>(&mut self, rt: &R, key: usize)
-        ensures { Stays self.old self.new }
-    {
-        if let Some(socket) = self.sockets.try_remove(key) {
-            socket.close(self.poll.registry());
-        }
-        if let Some(peer) = peers::take(&mut self.peers, key) {
-            peer.end(rt, &mut self.lanes);
-        }
-    }
-
     /// Turns until the flag is set, or a fault comes; then ends what waits, without an answer.
     pub fn run<R: Wait + Clock>(self, rt: &R, stop: &AtomicBool) -> Ended<A> {
         let mut turning = self;
@@ -514,46 +294,5 @@ impl<D: Dir + Drop, A: Allocator + Copy> InLoop<D, A> {
             None => Vec::new(alloc),
         };
         Ended { stubs, fault }
-    }
-}
-
-// Takes the next connection that waits at this listener, or notes that none does.
-fn accept_from<A: Allocator>(listener: &Listener<A>, ready: &mut bool) -> Accepted {
-    match listener.socket.accept() {
-        Ok((stream, _)) => Accepted::Stream(stream),
-        Err(e) => match e.kind() {
-            ErrorKind::WouldBlock => {
-                *ready = false;
-                Accepted::None
-            }
-            ErrorKind::Interrupted | ErrorKind::ConnectionAborted => Accepted::Again,
-            // The system has no more sockets for now: the next turn tries again.
-            _ => Accepted::None,
-        },
-    }
-}
-
-// Notes what the system says.
-fn note_all<A: Allocator>(events: &Events<A>, ready: &mut [bool], sockets: &mut Slab<Socket, A>) {
-    for event in events {
-        note(event, ready, sockets);
-    }
-}
-
-// Notes what the system says of a listener or a connection.
-fn note<A: Allocator>(event: &Event, ready: &mut [bool], sockets: &mut Slab<Socket, A>) {
-    let Token(token) = event.token();
-    if token >= FIRST_LISTENER {
-        if let Some(ready) = ready.get_mut(token - FIRST_LISTENER) {
-            *ready = true;
-        }
-    } else if let Some(socket) = sockets.get_mut(token) {
-        let is_over = event.is_read_closed() || event.is_error();
-        if event.is_readable() || is_over {
-            socket.note_readable(is_over);
-        }
-        if event.is_writable() || event.is_error() {
-            socket.note_writable();
-        }
     }
 }

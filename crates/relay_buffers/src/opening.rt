@@ -8,21 +8,12 @@ ghost use Rattle.relay_buffers.specs.Buffers.{AreBuffersOf};
 use crate::folders::Folders;
 use ack_receipt::{Leaf, SharedBuffer};
 use buffer_state::{Limits, Stage};
-use buffer_store::{Buffer, BufferFault, Settings};
+use buffer_store::{Buffer, BufferFault, RENEWED_PAST_IN_FILES, RENEWED_PAST_IN_MEMORY, Settings};
 use disk_files::Dir;
 use loop_core::{Lane, Lanes, LoopFault, Outlet, Schedule, outlet_of, takes_of};
 use relay_conf::{BufferKind, BufferNo, BufferSettings, Relay};
 use std::alloc::{AllocError, Allocator};
 use std::sync::Arc;
-
-/// The most bytes of entries that a chunk may have, whatever the configuration says: so a message has room for them.
-const MOST_CHUNK: u64 = 16_775_168;
-
-/// How long a journal in files is, in bytes, before it is written anew.
-const RENEWED_FILE: u64 = 268_435_456;
-
-/// The same of a journal in memory.
-const RENEWED_MEMORY: u64 = 16_777_216;
 
 /// The name under which a buffer in memory keeps its journal, in a folder of its own.
 const MEMORY_NAME: &[u8] = b"memory";
@@ -91,12 +82,12 @@ fn open_one<D: Dir + Drop, A: Allocator + Copy, F: Folders<D, A>>(
 // What the configuration says of a buffer, as the buffer takes it.
 fn settings_of<A: Allocator>(settings: &BufferSettings<A>) -> Settings {
     let limits = Limits {
-        chunk: settings.chunk_limit_size.min(MOST_CHUNK),
+        chunk: settings.chunk_limit_size,
         total: settings.total_limit_size,
     };
     let renewed_past = match &settings.kind {
-        BufferKind::Memory => RENEWED_MEMORY,
-        BufferKind::File { path: _ } => RENEWED_FILE,
+        BufferKind::Memory => RENEWED_PAST_IN_MEMORY,
+        BufferKind::File { path: _ } => RENEWED_PAST_IN_FILES,
     };
     Settings {
         limits,
