@@ -139,8 +139,8 @@ fn fill<D: Dir>(dir: &mut D) -> Result<(), DirError> {
     }
 }
 
-fn folder(alloc: Global) -> Result<MemoryDir<Global>, DirError> {
-    let mut dir = MemoryDir::new(alloc);
+fn filled<D: Dir + Drop>(dir: D) -> Result<D, DirError> {
+    let mut dir = dir;
     fill(&mut dir)?;
     Ok(dir)
 }
@@ -166,7 +166,12 @@ struct Left {
     last: &'static [u8],
 }
 
-fn has<D: Dir>(alloc: Global, dir: &mut D, left: &Left) -> Result<bool, DirError> {
+fn has<D: Dir + Drop>(alloc: Global, dir: D, left: &Left) -> Result<bool, DirError> {
+    let mut dir = dir;
+    has_in(alloc, &mut dir, left)
+}
+
+fn has_in<D: Dir>(alloc: Global, dir: &mut D, left: &Left) -> Result<bool, DirError> {
     Ok(
         reads_as(alloc, dir, b"kept", Some(left.kept))?
             && reads_as(alloc, dir, b"young", left.young)?
@@ -177,8 +182,8 @@ fn has<D: Dir>(alloc: Global, dir: &mut D, left: &Left) -> Result<bool, DirError
 
 // Whether a stop leaves that. It counts as synced, so a second stop loses nothing.
 fn leaves(alloc: Global, keep: Keep, left: &Left) -> Result<bool, DirError> {
-    let mut dir = folder(alloc)?.stop(keep).stop(Keep::Least);
-    has(alloc, &mut dir, left)
+    let dir = filled(MemoryDir::new(alloc))?;
+    has(alloc, dir.stop(keep).stop(Keep::Least), left)
 }
 
 // How much a stop keeps, and what it leaves. All but what was written to `last` is there, or what was synced.
@@ -249,23 +254,20 @@ fn turns<D: Dir>(alloc: Global, dir: &mut D) -> [bool; 3] {
 }
 
 // A fuse that fails from a call on; what it holds doesn't.
-fn fails_after(alloc: Global, passes: u64) -> bool {
-    let mut fuse = Fuse::after(MemoryDir::new(alloc), passes);
+fn fails_after<D: Dir + Drop>(alloc: Global, dir: D, passes: u64) -> bool {
+    let mut fuse = Fuse::after(dir, passes);
     let failed = turns(alloc, &mut fuse);
     failed == [passes < CALLS, true, true] && is_sound(alloc, fuse.into_inner())
 }
 
-fn is_sound<D: Dir>(alloc: Global, dir: D) -> bool
-where
-    D: Drop,
-{
+fn is_sound<D: Dir + Drop>(alloc: Global, dir: D) -> bool {
     let mut dir = dir;
     each_call(alloc, &mut dir, b"d").is_ok()
 }
 
 // A fuse that fails one call.
-fn fails_once(alloc: Global, passes: u64) -> bool {
-    let mut fuse = Fuse::once(MemoryDir::new(alloc), passes);
+fn fails_once<D: Dir + Drop>(alloc: Global, dir: D, passes: u64) -> bool {
+    let mut fuse = Fuse::once(dir, passes);
     turns(alloc, &mut fuse) == [passes < CALLS, passes >= CALLS, false] && faults_of(&fuse) == 1
 }
 
@@ -275,14 +277,18 @@ fn faults_of<D: Dir>(dir: &D) -> u64 {
 
 #[test]
 fn fuse_fails_one_call_or_all_later_ones(rt: HostRuntime) {
+    let alloc = rt.alloc();
     for passes in 0..=CALLS {
-        assert!(rt; fails_after(rt.alloc(), passes), "{passes}");
-        assert!(rt; fails_once(rt.alloc(), passes), "{passes}");
+        assert!(rt;
+            fails_after(alloc, MemoryDir::new(alloc), passes),
+            "{passes}"
+        );
+        assert!(rt;
+            fails_once(alloc, MemoryDir::new(alloc), passes),
+            "{passes}"
+        );
     }
 }
-
-// A folder may be kept under a lock that threads share.
-fn send<T: Send>(_value: &T) {}
 
 // Names are taken for good, and each refusal is counted.
 static TAKEN: [Row; 4] = [
@@ -299,15 +305,30 @@ fn listed<D: Dir>(alloc: Global, dir: &mut D) -> Result<usize, DirError> {
     Ok(dir.list(alloc)?.len())
 }
 
+// How many files a folder has, whether names are taken in it, and how often it refused; then the folder. It may be kept under a lock
+// that threads share.
+fn taken_in<D: Dir + Drop + Send>(
+    alloc: Global,
+    dir: D,
+) -> Result<((usize, bool, u64), D), DirError> {
+    let mut dir = dir;
+    let count = listed(alloc, &mut dir)?;
+    let are_taken = answers(&mut dir, &TAKEN);
+    Ok(((count, are_taken, faults_of(&dir)), dir))
+}
+
+fn are_free<D: Dir + Drop>(dir: D) -> bool {
+    let mut dir = dir;
+    answers(&mut dir, &FREE)
+}
+
 #[test]
 fn names_of_files(rt: HostRuntime) -> Result<(), DirError> {
-    let mut dir = folder(rt.alloc())?;
-    send(&dir);
-    assert_eq!(rt; listed(rt.alloc(), &mut dir)?, 3);
-    assert!(rt; answers(&mut dir, &TAKEN));
-    assert_eq!(rt; faults_of(&dir), 4);
-    let mut dir = dir.stop(Keep::Greatest);
-    assert!(rt; answers(&mut dir, &FREE));
+    let alloc = rt.alloc();
+    let (taken, dir) = taken_in(alloc, filled(MemoryDir::new(alloc))?)?;
+    let are_free = are_free(dir.stop(Keep::Greatest));
+    assert_eq!(rt; taken, (3, true, 4));
+    assert!(rt; are_free);
     Ok(())
 }
 
@@ -327,44 +348,53 @@ static REAL: [Row; 7] = [
     (b"\xff", Act::Open, Some(DirError::Fault)),
 ];
 
-fn real_refusals<D: Dir>(alloc: Global, dir: &mut D) -> Result<bool, DirError> {
-    each_call(alloc, dir, b"a.journal")?;
-    Ok(answers(dir, &REAL) && faults_of(dir) == 4)
+fn real_refusals<D: Dir + Drop>(alloc: Global, dir: D) -> Result<bool, DirError> {
+    let mut dir = dir;
+    each_call(alloc, &mut dir, b"a.journal")?;
+    Ok(answers(&mut dir, &REAL) && faults_of(&dir) == 4)
 }
 
 // A folder has one file of this name and these bytes, and nothing else.
-fn has_one<D: Dir>(
+fn has_one<D: Dir + Drop>(
     alloc: Global,
-    dir: &mut D,
+    dir: D,
     name: &[u8],
     bytes: &[u8],
 ) -> Result<bool, DirError> {
+    let mut dir = dir;
     Ok(
-        listed(alloc, dir)? == 1
-            && is_listed(alloc, dir, name)?
-            && reads_as(alloc, dir, name, Some(bytes))?,
+        listed(alloc, &mut dir)? == 1
+            && is_listed(alloc, &mut dir, name)?
+            && reads_as(alloc, &mut dir, name, Some(bytes))?,
     )
 }
 
 // A folder that isn't there fails, and says so.
 static MISSING: [Row; 1] = [(b"a", Act::Create, Some(DirError::Fault))];
 
-fn is_missing<D: Dir>(alloc: Global, dir: &mut D) -> bool {
-    answers(dir, &MISSING) && listed(alloc, dir).is_err() && faults_of(dir) == 2
+fn is_missing<D: Dir + Drop>(alloc: Global, dir: D) -> bool {
+    let mut dir = dir;
+    answers(&mut dir, &MISSING) && listed(alloc, &mut dir).is_err() && faults_of(&dir) == 2
+}
+
+// A folder that can't be made.
+fn is_refused<D: Drop>(made: Result<D, DirError>) -> bool {
+    made.is_err()
 }
 
 #[test]
 fn real_files(rt: HostRuntime) -> Result<(), Fail> {
     let alloc = rt.alloc();
     no_folder(&rt, "disk_files_test");
-    let mut none = RealDir::new(rt.clone()?, alloc, "disk_files_test/made")?;
-    assert!(rt; is_missing(alloc, &mut none));
-    let mut dir = RealDir::make(rt.clone()?, alloc, "disk_files_test/made")?;
-    assert!(rt; real_refusals(alloc, &mut dir)?);
+    let none = RealDir::new(rt.clone()?, alloc, "disk_files_test/made")?;
+    assert!(rt; is_missing(alloc, none));
+    let dir = RealDir::make(rt.clone()?, alloc, "disk_files_test/made")?;
+    assert!(rt; real_refusals(alloc, dir)?);
     // A value made anew finds the file as it was written.
-    let mut anew = RealDir::make(rt.clone()?, alloc, "disk_files_test/made")?;
-    assert!(rt; has_one(alloc, &mut anew, b"b.sink", b"hello")?);
-    assert!(rt; RealDir::make(rt.clone()?, alloc, "disk_files_test/made/b.sink/x").is_err());
+    let anew = RealDir::make(rt.clone()?, alloc, "disk_files_test/made")?;
+    assert!(rt; has_one(alloc, anew, b"b.sink", b"hello")?);
+    let within = RealDir::make(rt.clone()?, alloc, "disk_files_test/made/b.sink/x");
+    assert!(rt; is_refused(within));
     fs::remove_dir_all(&rt, "disk_files_test")?;
     Ok(())
 }
@@ -378,9 +408,10 @@ fn come_and_go<D: Dir>(dir: &mut D) -> Result<FileNo, DirError> {
 }
 
 // Two thousand of them stand at the same place.
-fn stay_in_place<D: Dir>(dir: &mut D) -> bool {
+fn stay_in_place<D: Dir + Drop>(dir: D) -> bool {
+    let mut dir = dir;
     for _ in 0..2000u32 {
-        if come_and_go(dir) != Ok(FileNo(0)) {
+        if come_and_go(&mut dir) != Ok(FileNo(0)) {
             return false;
         }
     }
@@ -391,20 +422,29 @@ fn stay_in_place<D: Dir>(dir: &mut D) -> bool {
 fn removed_files_leave_their_places(rt: HostRuntime) -> Result<(), Fail> {
     let alloc = rt.alloc();
     no_folder(&rt, "disk_places_test");
-    let mut dir = RealDir::make(rt.clone()?, alloc, "disk_places_test")?;
-    assert!(rt; stay_in_place(&mut dir));
+    let dir = RealDir::make(rt.clone()?, alloc, "disk_places_test")?;
+    assert!(rt; stay_in_place(dir));
     fs::remove_dir_all(&rt, "disk_places_test")?;
     Ok(())
 }
 
-// A relay's folder: of the system, or in memory.
-type Folder = EitherDir<RealDir<HostRuntime, Global>, MemoryDir<Global>>;
-
 // Whether each call goes well, and a name is free again then, in the one, and not before a stop, in the other.
-fn serves<D: Dir>(alloc: Global, dir: &mut D, is_free: bool) -> bool {
-    each_call(alloc, dir, b"a") == Ok(())
-        && create(dir, b"a").is_none() == is_free
-        && faults_of(dir) == u64::from(!is_free)
+fn serves<D: Dir + Drop + Send>(alloc: Global, dir: D, is_free: bool) -> bool {
+    let mut dir = dir;
+    each_call(alloc, &mut dir, b"a") == Ok(())
+        && create(&mut dir, b"a").is_none() == is_free
+        && faults_of(&dir) == u64::from(!is_free)
+}
+
+// The same of a relay's folders: one of the system, and one in memory.
+fn both_serve<L: Dir + Drop + Send, R: Dir + Drop + Send>(
+    alloc: Global,
+    left: L,
+    right: R,
+) -> bool {
+    let on_disk: EitherDir<L, R> = EitherDir::Left(left);
+    let in_memory: EitherDir<L, R> = EitherDir::Right(right);
+    serves(alloc, on_disk, true) && serves(alloc, in_memory, false)
 }
 
 #[test]
@@ -412,11 +452,7 @@ fn either_kind_of_folder(rt: HostRuntime) -> Result<(), Fail> {
     let alloc = rt.alloc();
     no_folder(&rt, "disk_either_test");
     let real = RealDir::make(rt.clone()?, alloc, "disk_either_test")?;
-    let mut on_disk: Folder = EitherDir::Left(real);
-    let mut in_memory: Folder = EitherDir::Right(MemoryDir::new(alloc));
-    send(&on_disk);
-    assert!(rt; serves(alloc, &mut on_disk, true));
-    assert!(rt; serves(alloc, &mut in_memory, false));
+    assert!(rt; both_serve(alloc, real, MemoryDir::new(alloc)));
     fs::remove_dir_all(&rt, "disk_either_test")?;
     Ok(())
 }

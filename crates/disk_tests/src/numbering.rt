@@ -85,20 +85,40 @@ fn found<D: Dir>(
     Ok((found.len(), found.first().copied(), found.last().copied()))
 }
 
+// The same of an empty folder, and once it is filled.
+fn found_then<D: Dir + Drop>(
+    alloc: Global,
+    dir: D,
+) -> Result<[(usize, Option<u32>, Option<u32>); 2], DirError> {
+    let mut dir = dir;
+    let before = found(alloc, &mut dir)?;
+    fill(&mut dir)?;
+    Ok([before, found(alloc, &mut dir)?])
+}
+
+// Why nothing is found over a device that fails.
+fn found_over<D: Dir + Drop>(alloc: Global, dir: D) -> Option<DirError> {
+    let mut dir = dir;
+    found(alloc, &mut dir).err()
+}
+
 #[test]
 fn numbers_that_are_there(rt: HostRuntime) -> Result<(), DirError> {
     let alloc = rt.alloc();
-    let mut dir = MemoryDir::new(alloc);
-    assert_eq!(rt; found(alloc, &mut dir)?, (0, None, None));
-    fill(&mut dir)?;
-    assert_eq!(rt; found(alloc, &mut dir)?, (2, Some(2), Some(7)));
-    let mut broken = Fuse::after(dir, 0);
-    assert_eq!(rt; found(alloc, &mut broken), Err(DirError::Fault));
+    let numbers = found_then(alloc, MemoryDir::new(alloc))?;
+    assert_eq!(rt; numbers, [(0, None, None), (2, Some(2), Some(7))]);
+    let broken = found_over(alloc, Fuse::after(MemoryDir::new(alloc), 0));
+    assert_eq!(rt; broken, Some(DirError::Fault));
     Ok(())
 }
 
 // Whether a file reads as it was written, before and after.
-fn reads<D: Dir>(alloc: Global, dir: &mut D) -> Result<bool, DirError> {
+fn reads<D: Dir + Drop>(alloc: Global, dir: D) -> Result<bool, DirError> {
+    let mut dir = dir;
+    reads_in(alloc, &mut dir)
+}
+
+fn reads_in<D: Dir>(alloc: Global, dir: &mut D) -> Result<bool, DirError> {
     let file = dir.create(b"buf.0000000001.sink", 5)?;
     let before = read_file(alloc, dir, file)?.is_empty();
     dir.append(file, b"hello")?;
@@ -106,7 +126,12 @@ fn reads<D: Dir>(alloc: Global, dir: &mut D) -> Result<bool, DirError> {
 }
 
 // Whether a read tells that a call of the device failed.
-fn tells<D: Dir>(alloc: Global, dir: &mut D) -> Result<bool, DirError> {
+fn tells<D: Dir + Drop>(alloc: Global, dir: D) -> Result<bool, DirError> {
+    let mut dir = dir;
+    tells_in(alloc, &mut dir)
+}
+
+fn tells_in<D: Dir>(alloc: Global, dir: &mut D) -> Result<bool, DirError> {
     let file = dir.create(b"a", 0)?;
     let read = read_file(alloc, dir, file);
     Ok(matches!(read, Err(DirError::Fault)) && dir.faults() == 1)
@@ -115,13 +140,12 @@ fn tells<D: Dir>(alloc: Global, dir: &mut D) -> Result<bool, DirError> {
 #[test]
 fn bytes_of_a_file(rt: HostRuntime) -> Result<(), DirError> {
     let alloc = rt.alloc();
-    let mut dir = MemoryDir::new(alloc);
-    assert!(rt; reads(alloc, &mut dir)?);
+    assert!(rt; reads(alloc, MemoryDir::new(alloc))?);
     // The first, or the second, of the calls that a read needs.
-    let mut first = Fuse::after(MemoryDir::new(alloc), 1);
-    assert!(rt; tells(alloc, &mut first)?);
-    let mut second = Fuse::after(MemoryDir::new(alloc), 2);
-    assert!(rt; tells(alloc, &mut second)?);
+    for passes in 1..3u64 {
+        let fuse = Fuse::after(MemoryDir::new(alloc), passes);
+        assert!(rt; tells(alloc, fuse)?);
+    }
     names_differ();
     Ok(())
 }

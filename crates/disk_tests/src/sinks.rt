@@ -82,13 +82,13 @@ fn has_both<D: Dir>(series: &mut Series<D, Global>) -> Result<bool, SeriesFault>
 }
 
 // Whether a sink in this folder holds an entry under `a`, and then the one that is written under `b`.
-fn holds_both<D: Dir>(alloc: Global, dir: D) -> Result<bool, SeriesFault>
-where
-    D: Drop,
-{
+fn holds_both<D: Dir + Drop>(alloc: Global, dir: D) -> Result<bool, SeriesFault> {
     let mut series = opened(alloc, dir)?;
-    let written = write(alloc, &mut series, b"b")?;
-    Ok(written.is_some() && has_both(&mut series)?)
+    adds_second(alloc, &mut series)
+}
+
+fn adds_second<D: Dir>(alloc: Global, series: &mut Series<D, Global>) -> Result<bool, SeriesFault> {
+    Ok(write(alloc, series, b"b")?.is_some() && has_both(series)?)
 }
 
 // Whether the receipt of an entry under `a` is right, and the folder of the sink that it is written to.
@@ -104,19 +104,27 @@ where
     Ok((is_right, series.into_dir()))
 }
 
+// Whether a sink in this folder has one item, and then the one that is written under `b`.
+fn stands<D: Dir + Drop>(alloc: Global, dir: D) -> Result<bool, SeriesFault> {
+    let mut dir = dir;
+    let reads = reads_as(alloc, &mut dir, b"out.0000000001.sink", ITEM)?;
+    Ok(reads && holds_both(alloc, dir)?)
+}
+
 #[test]
 fn bytes_and_receipt(rt: HostRuntime) -> Result<(), Fail> {
     let alloc = rt.alloc();
     let (is_right, dir) = received(alloc, opened(alloc, MemoryDir::new(alloc))?)?;
-    assert!(rt; is_right);
-    let mut dir = dir.stop(Keep::Least);
-    assert!(rt; reads_as(alloc, &mut dir, b"out.0000000001.sink", ITEM)?);
-    assert!(rt; holds_both(alloc, dir)?);
+    let stands = stands(alloc, dir.stop(Keep::Least))?;
+    assert!(rt; is_right && stands);
     Ok(())
 }
 
-// A sink may lie behind a lock that threads share.
-fn send<T: Send>(_value: &T) {}
+// Whether a sink in this folder, which may lie behind a lock that threads share, gives a right receipt and holds what is written to it.
+fn serves<D: Dir + Drop + Send>(alloc: Global, dir: D) -> Result<bool, SeriesFault> {
+    let (is_right, dir) = received(alloc, opened(alloc, dir)?)?;
+    Ok(is_right && holds_both(alloc, dir)?)
+}
 
 #[test]
 fn sink_of_a_relay(rt: HostRuntime) -> Result<(), Fail> {
@@ -124,11 +132,7 @@ fn sink_of_a_relay(rt: HostRuntime) -> Result<(), Fail> {
     let _ = fs::remove_dir_all(&rt, "sink_series_test");
     let real = RealDir::make(rt.clone()?, alloc, "sink_series_test")?;
     let dir: EitherDir<RealDir<HostRuntime, Global>, MemoryDir<Global>> = EitherDir::Left(real);
-    let series = opened(alloc, dir)?;
-    send(&series);
-    let (is_right, dir) = received(alloc, series)?;
-    assert!(rt; is_right);
-    assert!(rt; holds_both(alloc, dir)?);
+    assert!(rt; serves(alloc, dir)?);
     fs::remove_dir_all(&rt, "sink_series_test")?;
     Ok(())
 }

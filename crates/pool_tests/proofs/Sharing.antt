@@ -11,8 +11,11 @@ use Rattle.ack_receipt.specs.contracts.shared.SharedBuffer as Shared
 use Rattle.flush_pool.specs.contracts.retries.Retries as Retries
 use Rattle.flush_pool.proofs.Sharing as pool
 
-pub Shared-sync : (D A : RattleType) (d : dir.Ghosts D.Denot) (a : alloc.Ghosts A.Denot) → IsSend D → IsSend A → IsSync A → Frees a a.dealloc_token → IsSync (Shared.the_row D A d a)
+Shared-sync : (D A : RattleType) (d : dir.Ghosts D.Denot) (a : alloc.Ghosts A.Denot) → IsSend D → IsSend A → IsSync A → Frees a a.dealloc_token → IsSync (Shared.the_row D A d a)
 Shared-sync D A d a = pool.Shared-sync D A d a
+
+pub Shelf-sync : (D : RattleType) (d : dir.Ghosts D.Denot) → IsSend D → IsSync (Shared.the_row D Heap.the_row d ghosts)
+Shelf-sync D d s = search (Shared-sync, crosses, sendable) depth 60 fits 20000
 
 pub Retries-sync : IsSync (Retries.the_row Heap.the_row ghosts)
 Retries-sync = search (maps.crosses, crosses, sendable) depth 60 fits 20000

@@ -6,6 +6,7 @@ use ack_receipt::Basis;
 use buffer_store::BufferFault;
 use disk_files::{Dir, MemoryDir};
 use flush_pool::{Courier, Gate, OpenGate, Retries, SinkCourier, Worked, run_pool};
+use sink_series::SeriesFault;
 use std::alloc::Global;
 use std::sync::Wait;
 use std::sync::atomic::{AtomicBool, AtomicU64, Ordering};
@@ -116,6 +117,11 @@ fn write_three<R: Wait + Clock + Threads + Sync, D: Dir + Send, S: Dir + Send>(
     run_two(rt, shelf, &courier, &OpenGate, &retries, &stop)
 }
 
+// How many events are in the sink.
+fn count_of<S: Dir + Drop>(sink: SinkCourier<S, Global>) -> Result<usize, SeriesFault> {
+    Ok(sink.into_series().content()?.len())
+}
+
 // What two workers do with three chunks for a sink in the second folder, how many are queued then, and how many events the sink has.
 fn written<R: Wait + Clock + Threads + Sync, D: Dir + Drop + Send, S: Dir + Drop + Send>(
     alloc: Global,
@@ -126,8 +132,8 @@ fn written<R: Wait + Clock + Threads + Sync, D: Dir + Drop + Send, S: Dir + Drop
     let shelf = filled(alloc, dir, 3, by_sink(alloc, b"all")?)?;
     let writer = SinkCourier::new(sink(alloc, sinks, b"all")?);
     let worked = write_three(rt, alloc, &shelf, &writer)?;
-    let events = writer.into_series().content()?;
-    Ok((worked, queued(shelf), events.len()))
+    let left = queued(shelf);
+    Ok((worked, left, count_of(writer)?))
 }
 
 #[test]

@@ -176,20 +176,19 @@ fn a_wrong_key_is_refused_by_both(rt: HostRuntime) -> Result<(), AllocError> {
     Ok(())
 }
 
-// Whether the message is delivered that comes in two pieces, the first of at most so many bytes.
-fn deliver_cut(alloc: Global, at: usize) -> Result<bool, AllocError> {
+// What a server wants of each of two pieces of the message, the first of at most so many bytes.
+fn deliver_cut(alloc: Global, at: usize) -> Result<[Wants; 2], AllocError> {
     let (front, back) = MESSAGE.split_at(at.min(MESSAGE.len()));
     let mut server = open_server(alloc, false)?;
-    Ok(
-        feed_server(&mut server, front) == Wants::Nothing
-            && feed_server(&mut server, back) == Wants::Delivery(3),
-    )
+    let first = feed_server(&mut server, front);
+    Ok([first, feed_server(&mut server, back)])
 }
 
 #[test]
 fn a_message_is_delivered_wherever_it_is_cut(rt: HostRuntime) -> Result<(), AllocError> {
     for at in 0..MESSAGE.len() {
-        assert!(rt; deliver_cut(rt.alloc(), at)?);
+        let wanted = deliver_cut(rt.alloc(), at)?;
+        assert_eq!(rt; wanted, [Wants::Nothing, Wants::Delivery(3)]);
     }
     Ok(())
 }
@@ -356,16 +355,30 @@ fn long_message(alloc: Global) -> Result<Vec<u8>, AllocError> {
     Ok(bytes)
 }
 
-// It comes in pieces of one byte: the session looks at each byte once.
+// What a server wants first of bytes that come one by one.
+fn first_wanted(server: &mut ServerSession<Global>, bytes: &[u8]) -> Wants {
+    for byte in bytes {
+        let wants = feed_server(server, &[*byte]);
+        if wants != Wants::Nothing {
+            return wants;
+        }
+    }
+    Wants::Nothing
+}
+
+// What a server wants first of the message in pieces of one byte, and whether it does so before the last.
+fn wanted_by_bytes(alloc: Global, message: &[u8]) -> Result<(Wants, Wants), AllocError> {
+    let (front, last) = message.split_at(message.len().saturating_sub(1));
+    let mut server = open_server(alloc, false)?;
+    let early = first_wanted(&mut server, front);
+    Ok((early, first_wanted(&mut server, last)))
+}
+
+// The session looks at each byte once.
 #[test]
 fn a_long_message_comes_byte_by_byte(rt: HostRuntime) -> Result<(), AllocError> {
-    let bytes = long_message(rt.alloc())?;
-    let mut server = open_server(rt.alloc(), false)?;
-    let mut wants = Wants::Nothing;
-    for byte in &bytes {
-        assert_eq!(rt; wants, Wants::Nothing);
-        wants = feed_server(&mut server, &[*byte]);
-    }
-    assert_eq!(rt; wants, Wants::Delivery(1_000_010));
+    let message = long_message(rt.alloc())?;
+    let wanted = wanted_by_bytes(rt.alloc(), &message)?;
+    assert_eq!(rt; wanted, (Wants::Nothing, Wants::Delivery(1_000_010)));
     Ok(())
 }

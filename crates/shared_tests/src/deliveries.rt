@@ -159,12 +159,23 @@ fn settled_twice<R: Wait, D: Dir + Drop>(
     Ok((answers, audits))
 }
 
+// The same of books of buffers in two folders.
+fn settled_in<R: Wait, D: Dir + Drop>(
+    alloc: Global,
+    rt: &R,
+    dir: D,
+    other: D,
+) -> Result<([Option<BookFault>; 3], [Option<BookFault>; 2]), Fail> {
+    let shelf = shelf_in(alloc, dir, LEAF, WIDE)?;
+    let longer = shelf_in(alloc, other, LEAF, WIDE)?;
+    settled_twice(alloc, rt, shelf, longer)
+}
+
 // A stub closes its lines once; a stub of a further book closes none.
 #[test]
 fn stubs_are_settled_once(rt: HostRuntime) -> Result<(), Fail> {
-    let shelf = shelf_in(rt.alloc(), MemoryDir::new(rt.alloc()), LEAF, WIDE)?;
-    let longer = shelf_in(rt.alloc(), MemoryDir::new(rt.alloc()), LEAF, WIDE)?;
-    let (answers, audits) = settled_twice(rt.alloc(), &rt, shelf, longer)?;
+    let alloc = rt.alloc();
+    let (answers, audits) = settled_in(alloc, &rt, MemoryDir::new(alloc), MemoryDir::new(alloc))?;
     assert_eq!(rt;
         answers,
         [Some(BookFault::Stranger), None, Some(BookFault::Double)]
@@ -203,12 +214,23 @@ fn waited<R: Wait, D: Dir + Drop>(
     Ok(([early, late], audits))
 }
 
+// The same of buffers in two folders, the small one in the second.
+fn waited_in<R: Wait, D: Dir + Drop>(
+    alloc: Global,
+    rt: &R,
+    dir: D,
+    other: D,
+) -> Result<([bool; 2], [Option<BookFault>; 2]), Fail> {
+    let wide = shelf_in(alloc, dir, LEAF, WIDE)?;
+    let small = shelf_in(alloc, other, OTHER, SMALL)?;
+    waited(alloc, rt, wide, small)
+}
+
 // A message that one of two buffers refuses isn't answered; it is, once there is room again.
 #[test]
 fn a_copy_waits_for_room(rt: HostRuntime) -> Result<(), Fail> {
-    let wide = shelf_in(rt.alloc(), MemoryDir::new(rt.alloc()), LEAF, WIDE)?;
-    let small = shelf_in(rt.alloc(), MemoryDir::new(rt.alloc()), OTHER, SMALL)?;
-    let (answered, audits) = waited(rt.alloc(), &rt, wide, small)?;
+    let alloc = rt.alloc();
+    let (answered, audits) = waited_in(alloc, &rt, MemoryDir::new(alloc), MemoryDir::new(alloc))?;
     assert_eq!(rt; answered, [false, true]);
     assert_eq!(rt; audits, [None, Some(BookFault::Missing)]);
     Ok(())

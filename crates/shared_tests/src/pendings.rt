@@ -97,39 +97,36 @@ fn left_in<D: Dir + Drop>(alloc: Global, dir: D) -> Result<(Option<usize>, u64),
     Ok((buffer.body(0).ok().map(|entries| entries.count()), next))
 }
 
-// The same of what a stop leaves that keeps what was synced.
-fn after_stop(
-    alloc: Global,
-    shelf: Shelf<MemoryDir<Global>>,
-) -> Result<(Option<usize>, u64), BufferFault> {
-    left_in(alloc, shelf.close().into_dir().stop(Keep::Least))
+// The folder of a buffer in which two appends wait, and are given up.
+fn given_up<R: Wait, D: Dir + Drop>(alloc: Global, rt: &R, dir: D) -> Result<D, BufferFault> {
+    let shelf = shelf_in(alloc, dir, LEAF, WIDE)?;
+    let pendings = waiting(alloc, rt, &shelf, 2);
+    give_up_all(rt, &shelf, pendings);
+    Ok(shelf.close().into_dir())
 }
 
-// Two appends wait, and are given up.
-fn give_up_two<R: Wait, D: Dir>(alloc: Global, rt: &R, shelf: &Shelf<D>) {
-    let pendings = waiting(alloc, rt, shelf, 2);
-    give_up_all(rt, shelf, pendings);
-}
-
-// Two appends wait, and are redeemed: both answers.
-fn redeem_two<R: Wait, D: Dir>(
+// The same where they are redeemed, and both answers.
+fn redeemed_in<R: Wait, D: Dir + Drop>(
     alloc: Global,
     rt: &R,
-    shelf: &Shelf<D>,
-) -> [Option<RedeemFault>; 2] {
-    let pendings = waiting(alloc, rt, shelf, 2);
-    redeemed(rt, shelf, pendings)
+    dir: D,
+) -> Result<([Option<RedeemFault>; 2], D), BufferFault> {
+    let shelf = shelf_in(alloc, dir, LEAF, WIDE)?;
+    let pendings = waiting(alloc, rt, &shelf, 2);
+    let answers = redeemed(rt, &shelf, pendings);
+    Ok((answers, shelf.close().into_dir()))
 }
 
 // Two appends that wait are lost by a stop before their redemption, and both there behind it.
 #[test]
 fn a_redeemed_list_outlives_a_stop(rt: HostRuntime) -> Result<(), Fail> {
-    let early = shelf_in(rt.alloc(), MemoryDir::new(rt.alloc()), LEAF, WIDE)?;
-    give_up_two(rt.alloc(), &rt, &early);
-    assert_eq!(rt; after_stop(rt.alloc(), early)?, (None, 0));
-    let late = shelf_in(rt.alloc(), MemoryDir::new(rt.alloc()), LEAF, WIDE)?;
-    assert_eq!(rt; redeem_two(rt.alloc(), &rt, &late), [None, None]);
-    assert_eq!(rt; after_stop(rt.alloc(), late)?, (Some(2), 1));
+    let alloc = rt.alloc();
+    let early = given_up(alloc, &rt, MemoryDir::new(alloc))?;
+    let early = left_in(alloc, early.stop(Keep::Least))?;
+    let (answers, late) = redeemed_in(alloc, &rt, MemoryDir::new(alloc))?;
+    let late = left_in(alloc, late.stop(Keep::Least))?;
+    assert_eq!(rt; answers, [None, None]);
+    assert_eq!(rt; (early, late), ((None, 0), (Some(2), 1)));
     Ok(())
 }
 
