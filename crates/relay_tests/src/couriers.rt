@@ -133,6 +133,16 @@ fn carried<R: Wait + Net + Clock, D: Dir>(
     Ok((fault, again))
 }
 
+// The same of a buffer in this folder with one queued chunk.
+fn carried_from<R: Wait + Net + Clock + AllocGlobal, D: Dir + Drop>(
+    rt: &R,
+    dir: D,
+    courier: &TcpCourier<Global>,
+) -> Result<(Option<CarryFault>, bool), Fail> {
+    let shared = queued(rt, rt.alloc(), dir)?;
+    carried(rt, &shared, courier)
+}
+
 // Reads until the other end closes, and never answers.
 fn swallow(listener: &TcpListener) -> bool {
     let Ok((mut stream, _)) = listener.accept() else {
@@ -151,12 +161,11 @@ fn swallow(listener: &TcpListener) -> bool {
 // A server that reads and never answers is too late, and the chunk is queued again.
 #[test]
 fn no_answer_is_a_timeout(rt: HostRuntime) -> Result<(), Fail> {
-    let shared = queued(&rt, rt.alloc(), MemoryDir::new(rt.alloc()))?;
     let address = SocketAddr::from((Ipv4Addr::LOCALHOST, 0));
     let listener = TcpListener::bind(&rt, address)?;
     let courier = courier_to(&rt, listener.local_addr()?.port())?;
     let child = thread::spawn(&rt, move || swallow(&listener))?;
-    let came = carried(&rt, &shared, &courier);
+    let came = carried_from(&rt, MemoryDir::new(rt.alloc()), &courier);
     let read = child.join(&rt);
     assert_eq!(rt; came?, (Some(CarryFault::Timeout), true));
     assert!(rt; read);
@@ -166,15 +175,12 @@ fn no_answer_is_a_timeout(rt: HostRuntime) -> Result<(), Fail> {
 // Nobody listens.
 #[test]
 fn no_listener_is_no_server(rt: HostRuntime) -> Result<(), Fail> {
-    let shared = queued(&rt, rt.alloc(), MemoryDir::new(rt.alloc()))?;
     let address = SocketAddr::from((Ipv4Addr::LOCALHOST, 0));
     let listener = TcpListener::bind(&rt, address)?;
     let port = listener.local_addr()?.port();
     drop(listener);
     let courier = courier_to(&rt, port)?;
-    assert_eq!(rt;
-        carried(&rt, &shared, &courier)?,
-        (Some(CarryFault::NoServer), true)
-    );
+    let came = carried_from(&rt, MemoryDir::new(rt.alloc()), &courier)?;
+    assert_eq!(rt; came, (Some(CarryFault::NoServer), true));
     Ok(())
 }

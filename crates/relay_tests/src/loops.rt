@@ -106,18 +106,28 @@ fn three(message: &[u8], alloc: Global) -> Result<Vec<u8>, Fail> {
     Ok(bytes)
 }
 
+// Sends three of these messages in one write.
+fn send_three<S: Write>(stream: &mut S, message: &[u8], alloc: Global) -> Result<(), Fail> {
+    stream.write_all(&three(message, alloc)?)?;
+    Ok(())
+}
+
+// Whether three of these answers come, and nothing else.
+fn hears_three<S: Read>(stream: &mut S, answer: &[u8], alloc: Global) -> Result<bool, Fail> {
+    hears(stream, &three(answer, alloc)?)
+}
+
 fn talk_apart<R: Wait + Clock + Net + AllocGlobal, D: Dir + Drop>(
     rt: &R,
     turning: &mut Turning<D>,
 ) -> Result<(bool, bool), Fail> {
     let mut one = client(rt, turning)?;
     let mut two = client(rt, turning)?;
-    one.write_all(&three(MESSAGE, rt.alloc())?)?;
-    two.write_all(&three(OTHER, rt.alloc())?)?;
+    send_three(&mut one, MESSAGE, rt.alloc())?;
+    send_three(&mut two, OTHER, rt.alloc())?;
     turn(rt, turning)?;
-    let first = hears(&mut one, &three(ANSWER, rt.alloc())?)?;
-    let second = hears(&mut two, &three(OTHER_ANSWER, rt.alloc())?)?;
-    Ok((first, second))
+    let first = hears_three(&mut one, ANSWER, rt.alloc())?;
+    Ok((first, hears_three(&mut two, OTHER_ANSWER, rt.alloc())?))
 }
 
 // What two clients hear, and what is left of the loop's deliveries then.

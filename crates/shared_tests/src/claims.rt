@@ -44,6 +44,14 @@ fn stored_in<D: Dir + Drop>(
     purge: &Purge,
 ) -> Result<Stored<Global>, SeriesFault> {
     let mut series = Series::open(alloc, dir, purge.path).map_err(|(fault, _dir)| fault)?;
+    stored_by(alloc, &mut series, purge)
+}
+
+fn stored_by<D: Dir>(
+    alloc: Global,
+    series: &mut Series<D, Global>,
+    purge: &Purge,
+) -> Result<Stored<Global>, SeriesFault> {
     if purge.tag.len() > 1_024 {
         return Err(SeriesFault::Memory);
     }

@@ -190,28 +190,38 @@ const SMALL: Limits = Limits {
     total: 5,
 };
 
-// What becomes of a message while there is no room for its copy, and once there is again: whether it was answered, and what audits of
-// the small buffer and of the wide one find.
+// What becomes of a message while there is no room for its copy, and once there is again: whether it was answered, and what is left of
+// the delivery that takes the room, and of both.
+fn copied_twice<R: Wait, D: Dir>(
+    alloc: Global,
+    rt: &R,
+    wide: &Shelf<D>,
+    small: &Shelf<D>,
+) -> Result<([bool; 2], [Stub<Global>; 3]), Fail> {
+    let mut numbers = Numbers::new();
+    let before = stored(alloc, rt, small, &mut numbers)?;
+    enqueue(rt, small, 0)?;
+    let (early, first) = copied(alloc, rt, wide, small, &mut numbers)?;
+    if dropped(rt, small) != Ok(0) {
+        return Err(Fail::from("nothing is dropped"));
+    }
+    let (late, second) = copied(alloc, rt, wide, small, &mut numbers)?;
+    Ok(([early, late], [before, first, second]))
+}
+
+// The same, and what audits of the small buffer and of the wide one find.
 fn waited<R: Wait, D: Dir + Drop>(
     alloc: Global,
     rt: &R,
     wide: Shelf<D>,
     small: Shelf<D>,
 ) -> Result<([bool; 2], [Option<BookFault>; 2]), Fail> {
-    let mut numbers = Numbers::new();
-    let before = stored(alloc, rt, &small, &mut numbers)?;
-    enqueue(rt, &small, 0)?;
-    let (early, first) = copied(alloc, rt, &wide, &small, &mut numbers)?;
-    if dropped(rt, &small) != Ok(0) {
-        return Err(Fail::from("nothing is dropped"));
-    }
-    let (late, second) = copied(alloc, rt, &wide, &small, &mut numbers)?;
-    let stubs = [before, first, second];
+    let (answered, stubs) = copied_twice(alloc, rt, &wide, &small)?;
     let audits = [
         audited(alloc, small, &stubs)?,
         audited(alloc, wide, &stubs[..2])?,
     ];
-    Ok(([early, late], audits))
+    Ok((answered, audits))
 }
 
 // The same of buffers in two folders, the small one in the second.
