@@ -1,12 +1,14 @@
 //! Chunks that go to another relay.
 
-ghost use Rattle.std.specs.Prelude.{◌≡◌, IfOk};
-ghost use Rattle.tcp_courier.specs.Carrying.{IsCarried};
+ghost use Rattle.std.specs.Prelude.{◌≡◌, List, ℕ, IfOk};
+ghost use Rattle.tcp_courier.specs.Carrying.{NamesChunk};
+ghost use Rattle.tcp_courier.specs.Talks.{begun, credentials_of};
 
 use crate::address::resolve;
 use crate::chance::Nonces;
 use crate::clock::now_after;
-use crate::exchange::{Moved, Wire, acknowledged, shake, write_out};
+use crate::exchange::deliver;
+use crate::line::Line;
 use crate::secret::{copied, shown};
 use ack_receipt::Evidence;
 use disk_files::Dir;
@@ -15,18 +17,15 @@ use flush_pool::{CarryFault, ClaimView, Courier};
 use forward_core::ClientSession;
 use relay_conf::{ForwardSettings, Security as Secret, Server};
 use std::alloc::{AllocError, Allocator};
-use std::io::{ErrorKind, Read, Write};
+use std::io::{Read, Write};
 use std::marker::Model;
 use std::net::{Net, OpenStream, TcpStream};
-use std::sync::atomic::{AtomicBool, Ordering};
+use std::sync::atomic::AtomicBool;
 use std::sync::{Arc, Mutex, Wait};
 use std::time::{Clock, Duration};
 
 /// How long a server may take to accept a connection, in milliseconds, before the next one is tried.
 const LONGEST_CONNECT: u64 = 10_000;
-
-/// How long a read or a write waits before the time, and whether to stop, is looked at.
-const SLICE: u64 = 200;
 
 /// How many bytes are read at once: the answers are short.
 const PIECE: usize = 4_096;
@@ -39,7 +38,7 @@ struct Target<A: Allocator> {
 }
 
 /// Sends chunks to the first of its servers that takes a connection, one connection for each chunk. Contracts see whether it
-/// asks for acknowledgements.
+/// asks for acknowledgements, and the name and key that it shows in handshakes.
 #[derive(Drop)]
 pub struct TcpCourier<A: Allocator> {
     alloc: A,
@@ -53,11 +52,11 @@ pub struct TcpCourier<A: Allocator> {
 }
 
 impl<A: Allocator> Model for TcpCourier<A> {
-    ghost use Rattle.std.specs.Prelude.{Bool};
+    ghost use Rattle.tcp_courier.specs.Talks.{Sender, credentials_of};
 
-    ghost Value = { Bool };
+    ghost Value = { Sender };
 
-    ghost view = { λ c. c.asks };
+    ghost view = { λ c. record { asks = c.asks; shows = credentials_of c.secret } };
 }
 
 impl<A: Allocator + Copy> TcpCourier<A> {
@@ -69,7 +68,7 @@ impl<A: Allocator + Copy> TcpCourier<A> {
         nonces: Nonces,
         stop: Arc<AtomicBool, A>,
     ) -> Result<TcpCourier<A>, AllocError>
-        ensures { IfOk result (λ courier. courier ≡ settings.now.require_ack_response) }
+        ensures { IfOk result (λ courier. courier ≡ record { asks = settings.now.require_ack_response; shows = credentials_of settings.now.security }) }
     {
         Ok(TcpCourier {
             alloc,
@@ -83,7 +82,9 @@ impl<A: Allocator + Copy> TcpCourier<A> {
     }
 
     // A session of a connection that was made.
-    fn session<R: Wait>(&self, rt: &R) -> Result<ClientSession<A>, CarryFault> {
+    fn session<R: Wait>(&self, rt: &R) -> Result<ClientSession<A>, CarryFault>
+        ensures { IfOk result (λ session. (salt : List ℕ) × (session ≡ begun self.now.shows salt)) }
+    {
         let Ok(security) = shown(&self.secret) else {
             return Err(CarryFault::NoServer);
         };
@@ -106,7 +107,7 @@ impl<A: Allocator + Copy> TcpCourier<A> {
         Err(CarryFault::NoServer)
     }
 
-    // Sends a chunk, and gives what shows that it arrived.
+    // Sends a chunk, and gives what shows that it was acknowledged, or else written.
     fn send<R: Wait + Clock, S: Read + Write + OpenStream + Drop, D: Dir>(
         &self,
         rt: &R,
@@ -115,7 +116,7 @@ impl<A: Allocator + Copy> TcpCourier<A> {
         chunk: &ClaimView<'_, D, A>,
         entries: &Entries<A>,
     ) -> Result<Evidence<A>, CarryFault>
-        ensures { IfOk result (IsCarried self.now chunk.now) }
+        ensures { IfOk result (NamesChunk self.now.asks chunk.now) }
     {
         if chunk.tag().len() > LONGEST_TAG || entries.as_bytes().len() > u32::MAX as usize {
             return Err(CarryFault::Device);
@@ -128,13 +129,14 @@ impl<A: Allocator + Copy> TcpCourier<A> {
             until,
             stop: &self.stop,
         };
-        shake(&mut wire, &mut session, &mut piece)?;
-        session.send(chunk.tag(), entries, chunk.id(), self.asks)?;
-        write_out(&mut wire, &mut session)?;
-        if !self.asks {
-            return Ok(Evidence::written(chunk.claim()));
-        }
-        acknowledged(&mut wire, &mut session, &mut piece)
+        deliver(
+            &mut wire,
+            &mut session,
+            &mut piece,
+            chunk,
+            entries,
+            self.asks,
+        )
     }
 }
 
@@ -145,65 +147,12 @@ impl<R: Wait + Net + Clock, D: Dir, A: Allocator + Copy> Courier<R, D, A> for Tc
     /// `NoServer`: no server took a connection, or it was lost. `Timeout`: the time for an answer has passed, or the relay
     /// stops. `Session`: what came is no part of a handshake, or no acknowledgement. `Device`: the chunk can't be read. `Memory`.
     fn carry(&self, rt: &R, chunk: &ClaimView<'_, D, A>) -> Result<Evidence<A>, CarryFault>
-        ensures { IfOk result (IsCarried self.now chunk.now) }
+        ensures { IfOk result (NamesChunk self.now.asks chunk.now) }
     {
         let entries = chunk.entries(rt)?;
         let until = now_after(rt, 0).saturating_add(self.timeout);
         let stream = self.connect(rt, until)?;
         self.send(rt, stream, until, chunk, &entries)
-    }
-}
-
-/// A stream that is read and written up to a time.
-#[derive(Drop)]
-struct Line<'a, R, S, A: Allocator> {
-    rt: &'a R,
-    stream: S,
-    until: u64,
-    stop: &'a Arc<AtomicBool, A>,
-}
-
-impl<'a, R: Clock, S: Read + Write + OpenStream, A: Allocator> Line<'a, R, S, A> {
-    // How long the next read or write waits.
-    fn slice(&self) -> Duration {
-        let left = self.until.saturating_sub(now_after(self.rt, 0));
-        Duration::from_millis(left.min(SLICE).max(1))
-    }
-}
-
-impl<'a, R: Clock, S: Read + Write + OpenStream, A: Allocator> Wire for Line<'a, R, S, A> {
-    fn get(&mut self, piece: &mut [u8]) -> Moved {
-        if self.stream.set_read_timeout(Some(self.slice())).is_err() {
-            return Moved::Over;
-        }
-        match self.stream.read(piece) {
-            Ok(0) => Moved::Over,
-            Ok(n) => Moved::Some(n),
-            Err(e) => moved_none(e.kind()),
-        }
-    }
-
-    fn put(&mut self, bytes: &[u8]) -> Moved {
-        if self.stream.set_write_timeout(Some(self.slice())).is_err() {
-            return Moved::Over;
-        }
-        match self.stream.write(bytes) {
-            Ok(0) => Moved::Over,
-            Ok(n) => Moved::Some(n),
-            Err(e) => moved_none(e.kind()),
-        }
-    }
-
-    fn is_late(&self) -> bool {
-        self.stop.load(Ordering::SeqCst) || now_after(self.rt, 0) >= self.until
-    }
-}
-
-// What an error says: that nothing was moved in this time, or that the connection is over.
-fn moved_none(kind: ErrorKind) -> Moved {
-    match kind {
-        ErrorKind::WouldBlock | ErrorKind::TimedOut | ErrorKind::Interrupted => Moved::None,
-        _ => Moved::Over,
     }
 }
 

@@ -1,98 +1,59 @@
 //! One message over a connection, and its acknowledgement.
 
-ghost use Rattle.std.specs.Prelude.{◌≡◌, [], Option, Some, IfOk, OnOk};
+ghost use Rattle.std.specs.Prelude.{◌≡◌, ◌≤◌, ◌<◌, ◌^◌, [], ◌++◌, length, List, ℕ, Option, Some, IfOk, OnOk};
+ghost use Rattle.std.specs.List.{concat};
 ghost use Rattle.event_modes.specs.declared.chunk_id.ChunkId.{ChunkId};
+ghost use Rattle.event_modes.specs.Message.{longest_tag};
 ghost use Rattle.buffer_book.specs.Evidences.{Acknowledged};
 ghost use Rattle.forward_core.specs.Client.{HasSent, Ready};
-ghost use Rattle.tcp_courier.specs.Carrying.{IsHeardOf};
+ghost use Rattle.tcp_courier.specs.Carrying.{NamesChunk};
+ghost use Rattle.tcp_courier.specs.Talks.{Acknowledges, TalksOn, Hears, ConveysChunk, IsGreeting, IsBare, Conveys};
 
+use crate::wire::{Moved, Wire};
 use ack_receipt::Evidence;
-use flush_pool::CarryFault;
+use disk_files::Dir;
+use event_modes::Entries;
+use flush_pool::{CarryFault, ClaimView};
 use forward_core::{ClientSession, Heard};
 use std::alloc::Allocator;
 
-/// What came of a read or a write.
-#[derive(Clone, Copy, Debug, PartialEq, Eq)]
-pub enum Moved {
-    /// So many bytes were moved.
-    Some(usize),
-    /// None for now.
-    None,
-    /// The connection is over.
-    Over,
-}
-
-/// A connection that is read and written for a while.
-pub trait Wire {
-    /// Reads bytes into the piece, waiting for a little.
-    fn get(&mut self, piece: &mut [u8]) -> Moved;
-
-    /// Writes some of the bytes, waiting for a little.
-    fn put(&mut self, bytes: &[u8]) -> Moved;
-
-    /// Whether no more is waited for.
-    fn is_late(&self) -> bool;
-}
-
-/// Writes all that is outgoing.
+/// Delivers a chunk with these entries by a session that begins: greets the server where that is wanted, sends the message and, where
+/// it asks for an acknowledgement, waits for that. It gives what shows that the chunk was acknowledged, or else written.
 ///
-/// `Timeout` where no more is waited for, and `NoServer` where the connection is over: some of it may be written then.
-pub fn write_out<W: Wire, A: Allocator + Copy>(
-    wire: &mut W,
-    session: &mut ClientSession<A>,
-) -> Result<(), CarryFault>
-    ensures written { OnOk result (session.new.outgoing ≡ []) }
-    ensures phase { session.new.phase ≡ session.old.phase }
-{
-    for _ in 0..u64::MAX {
-        let left = session.outgoing().len();
-        if left == 0 {
-            return Ok(());
-        }
-        if wire.is_late() {
-            return Err(CarryFault::Timeout);
-        }
-        match wire.put(session.outgoing()) {
-            Moved::Some(n) => session.sent(n.min(left)),
-            Moved::None => {}
-            Moved::Over => return Err(CarryFault::NoServer),
-        }
-    }
-    Err(CarryFault::Timeout)
-}
-
-// Reads a piece, and lets the session hear it.
-fn hear<W: Wire, A: Allocator + Copy>(
+/// `Timeout` where no more is waited for, and `NoServer` where the connection is over. `Session` where what comes is no part of a handshake, or no
+/// acknowledgement. `Memory`. After each of them some of the message may be written.
+pub fn deliver<W: Wire, D: Dir, A: Allocator + Copy>(
     wire: &mut W,
     session: &mut ClientSession<A>,
     piece: &mut [u8],
-) -> Result<Option<Evidence<A>>, CarryFault>
-    ensures { (sent : Option ChunkId) → session.old.phase ≡ HasSent sent → IfOk result (IsHeardOf sent session.new.phase) }
+    chunk: &ClaimView<'_, D, A>,
+    entries: &Entries<A>,
+    asks: bool,
+) -> Result<Evidence<A>, CarryFault>
+    requires bare { IsBare session.old }
+    requires tag { length chunk.now.tag ≤ longest_tag }
+    requires entries { length (concat entries.now) < 2 ^ 32 }
+    ensures names { IfOk result (NamesChunk asks chunk.now) }
+    ensures delivered { OnOk result (ConveysChunk (W.traffic wire.old) (W.traffic wire.new) session.old.phase chunk.now entries.now asks) }
 {
-    if wire.is_late() {
-        return Err(CarryFault::Timeout);
+    greet(wire, session, piece)?;
+    session.send(chunk.tag(), entries, chunk.id(), asks)?;
+    write_out(wire, session)?;
+    if !asks {
+        return Ok(Evidence::written(chunk.claim()));
     }
-    let n = match wire.get(piece) {
-        Moved::Some(n) => n.min(piece.len()),
-        Moved::None => return Ok(None),
-        Moved::Over => return Err(CarryFault::NoServer),
-    };
-    match session.feed(piece.split_at(n).0)? {
-        Heard::Wait => Ok(None),
-        Heard::Seen(evidence) => Ok(Some(evidence)),
-        Heard::Fault(fault) => Err(CarryFault::Session(fault)),
-    }
+    acknowledged(wire, session, piece)
 }
 
-/// Shakes hands, where that is wanted: then the session is ready.
-///
-/// `Timeout`, `NoServer` as above; `Session` where what comes is no part of a handshake, and `Memory`.
-pub fn shake<W: Wire, A: Allocator + Copy>(
+// Shakes hands, where that is wanted: then the session is ready.
+fn greet<W: Wire, A: Allocator + Copy>(
     wire: &mut W,
     session: &mut ClientSession<A>,
     piece: &mut [u8],
 ) -> Result<(), CarryFault>
-    ensures { OnOk result (session.new.phase ≡ Ready) }
+    ensures ready { OnOk result (session.new.phase ≡ Ready) }
+    ensures greets { OnOk result ((greeting : List ℕ) × (items : List (List ℕ)) × IsGreeting session.old.phase greeting items
+        × TalksOn (W.traffic wire.old) (W.traffic wire.new) session.old session.new greeting items) }
 {
     for _ in 0..u64::MAX {
         write_out(wire, session)?;
@@ -106,15 +67,63 @@ pub fn shake<W: Wire, A: Allocator + Copy>(
     Err(CarryFault::Timeout)
 }
 
-/// Waits for the acknowledgement of what was sent.
-///
-/// `Timeout`, `NoServer` as above; `Session` where what comes is no acknowledgement, and `Memory`.
-pub fn acknowledged<W: Wire, A: Allocator + Copy>(
+// Writes all that is outgoing.
+fn write_out<W: Wire, A: Allocator + Copy>(
+    wire: &mut W,
+    session: &mut ClientSession<A>,
+) -> Result<(), CarryFault>
+    ensures rest { OnOk result (session.new ≡ record session.old { outgoing = [] }) }
+    ensures written { OnOk result (Conveys (W.traffic wire.old) (W.traffic wire.new) session.old.outgoing []) }
+{
+    for _ in 0..u64::MAX {
+        if session.outgoing().is_empty() {
+            return Ok(());
+        }
+        if wire.is_late() {
+            return Err(CarryFault::Timeout);
+        }
+        match wire.put(session.outgoing()) {
+            Moved::Some(n) => session.sent(n),
+            Moved::None => {}
+            Moved::Over => return Err(CarryFault::NoServer),
+        }
+    }
+    Err(CarryFault::Timeout)
+}
+
+// Reads a piece, and lets the session hear it.
+fn hear<W: Wire, A: Allocator + Copy>(
+    wire: &mut W,
+    session: &mut ClientSession<A>,
+    piece: &mut [u8],
+) -> Result<Option<Evidence<A>>, CarryFault>
+    ensures { IfOk result (λ heard. (came : List ℕ) × Conveys (W.traffic wire.old) (W.traffic wire.new) [] came
+        × Hears session.old came heard session.new) }
+{
+    if wire.is_late() {
+        return Err(CarryFault::Timeout);
+    }
+    let n = match wire.get(piece) {
+        Moved::Some(n) => n,
+        Moved::None => return Ok(None),
+        Moved::Over => return Err(CarryFault::NoServer),
+    };
+    match session.feed(piece.split_at(n).0)? {
+        Heard::Wait => Ok(None),
+        Heard::Seen(evidence) => Ok(Some(evidence)),
+        Heard::Fault(fault) => Err(CarryFault::Session(fault)),
+    }
+}
+
+// Waits for the acknowledgement of what was sent.
+fn acknowledged<W: Wire, A: Allocator + Copy>(
     wire: &mut W,
     session: &mut ClientSession<A>,
     piece: &mut [u8],
 ) -> Result<Evidence<A>, CarryFault>
-    ensures { (id : ChunkId) → session.old.phase ≡ HasSent (Some id) → IfOk result (λ evidence. evidence ≡ Acknowledged id) }
+    ensures names { (id : ChunkId) → session.old.phase ≡ HasSent (Some id) → IfOk result (λ evidence. evidence ≡ Acknowledged id) }
+    ensures came { (id : ChunkId) → session.old.phase ≡ HasSent (Some id) → OnOk result ((came : List ℕ)
+        × Conveys (W.traffic wire.old) (W.traffic wire.new) [] came × Acknowledges id (session.old.held ++ came)) }
 {
     for _ in 0..u64::MAX {
         if let Some(evidence) = hear(wire, session, piece)? {

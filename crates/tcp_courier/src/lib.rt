@@ -6,7 +6,9 @@ mod chance;
 mod clock;
 mod courier;
 mod exchange;
+mod line;
 mod secret;
+mod wire;
 
 pub use address::resolve;
 pub use chance::Nonces;

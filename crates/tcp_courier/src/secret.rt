@@ -1,7 +1,8 @@
 //! The name and key of a configuration, as handshakes show them.
 
-ghost use Rattle.std.specs.Prelude.{IfOk};
+ghost use Rattle.std.specs.Prelude.{◌≡◌, IfOk};
 ghost use Rattle.forward_core.specs.Handshakes.{IsHosted};
+ghost use Rattle.tcp_courier.specs.Talks.{credentials_in, credentials_of};
 
 use forward_core::Security;
 use relay_conf::Security as Secret;
@@ -12,7 +13,8 @@ const LONGEST_HOST: usize = 1_024;
 
 /// What this end shows in a handshake, if there is one; `Err` where its name is too long for one.
 pub fn shown<A: Allocator>(secret: &Option<Secret<A>>) -> Result<Option<Security<'_>>, ()>
-    ensures { IfOk result IsHosted }
+    ensures hosted { IfOk result IsHosted }
+    ensures same { IfOk result (λ security. credentials_in security ≡ credentials_of secret.now) }
 {
     let Some(secret) = secret else {
         return Ok(None);
@@ -31,7 +33,9 @@ pub fn shown<A: Allocator>(secret: &Option<Secret<A>>) -> Result<Option<Security
 pub fn copied<A: Allocator + Copy, B: Allocator>(
     alloc: A,
     secret: &Option<Secret<B>>,
-) -> Result<Option<Secret<A>>, AllocError> {
+) -> Result<Option<Secret<A>>, AllocError>
+    ensures { IfOk result (λ copy. credentials_of copy ≡ credentials_of secret.now) }
+{
     match secret {
         None => Ok(None),
         Some(secret) => Ok(Some(Secret {

@@ -1,5 +1,8 @@
-use Rattle.std.proofs.Common.{◌≡◌}
+use Rattle.std.proofs.Common.{◌≡◌, [], ◌++◌, List, ℕ}
+use Rattle.tcp_courier.specs.Talks.{Conveys}
 use Rattle.tcp_courier.proofs.exchange.write_out.Given as goal
 
+-- what was outgoing is written, but for what is left
 abbrev pub invariant-loop : goal.invariant-loop
-invariant-loop g l = l.session.phase ≡ l.initial.session.phase
+invariant-loop g l = (l.session ≡ record l.initial.session { outgoing = l.session.outgoing })
+    × (sent : List ℕ) × (l.initial.session.outgoing ≡ sent ++ l.session.outgoing) × Conveys (g.W.Wire.traffic l.initial.wire) (g.W.Wire.traffic l.wire) sent []
