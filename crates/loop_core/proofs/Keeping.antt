@@ -1,16 +1,17 @@
 -- What a connection keeps.
-use Rattle.std.proofs.Common.{ℕ, ◌≡◌, List, [], ◌∷◌, ◌++◌, sym, subst, Option, None, Some}
+use Rattle.std.proofs.Common.{ℕ, ◌≡◌, ◌<◌, ◌⊎◌, inl, inr, List, [], ◌∷◌, ◌++◌, length, sym, subst, Option, None, Some}
 use Rattle.std.specs.Prelude.{IsSomeAnd, Contains}
 use Rattle.std.specs.List.{All}
 use Rattle.book_audit.specs.declared.line.Leaf.{Leaf}
 use Rattle.std.proofs.lemmas.List.Elements.{All-nil, All-push, All-head, All-rest, All-same, All-weaker, Contains-append_left}
+use Rattle.ack_receipt.specs.Deliveries.{OpenDelivery}
 use Rattle.ack_receipt.specs.Reservations.{Asked, Answer, Reservation, answer_to}
 use Rattle.forward_core.specs.declared.security.Security.{Security}
 use Rattle.forward_core.specs.Demands.{asked_in}
 use Rattle.forward_core.specs.Server.{ServerState, Outcome, after, initial_server}
-use Rattle.loop_core.specs.Leaves.{Entry, IsRoutedTo}
-use Rattle.loop_core.specs.Waits.{Awaited, Waits}
-use Rattle.loop_core.specs.Collecting.{IsAnswerTo}
+use Rattle.relay_ports.specs.Leaves.{Entry, IsRoutedTo}
+use Rattle.buffer_lanes.specs.Waits.{Awaited, HasEntries, Waits}
+use Rattle.buffer_lanes.specs.Collecting.{IsAnswerTo}
 use Rattle.loop_core.specs.Peers.{IsOwed, IsEarned, IsFaithful}
 
 -- a connection that was opened
@@ -83,3 +84,9 @@ pub rest_owed : (entry : Entry) (asked new_asked : List Asked) (w : Waits) (rest
     → All (IsOwed entry asked) all → All (IsOwed entry new_asked) rest
 rest_owed entry asked new_asked w rest all e f a =
     subst (λ (x : List Asked). All (IsOwed entry x) rest) (sym e) (All-rest (IsOwed entry asked) w rest all f a)
+
+-- a delivery that goes somewhere has entries
+pub has_entries : {B : Type 0} (d : OpenDelivery) (n : ℕ) (given named : List B) → length d.message.entries ≡ n → given ≡ named
+    → (0 < n) ⊎ (named ≡ []) → HasEntries d given
+has_entries d n given named e f (inl p) = inl (subst (λ (k : ℕ). 0 < k) (sym e) p)
+has_entries d n given named e f (inr p) = inr (cc)

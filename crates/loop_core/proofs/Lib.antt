@@ -1,3 +1,1 @@
 pub mod Keeping
-pub mod Leading
-pub mod Sought

@@ -2,8 +2,8 @@
 use Rattle.std.specs.Prelude.{List, All, Contains, IsSomeAnd}
 use Rattle.ack_receipt.specs.Reservations.{Asked, Reservation}
 use Rattle.forward_core.specs.Server.{ServerState}
-use Rattle.loop_core.specs.Leaves.{Entry, IsRoutedTo}
-use Rattle.loop_core.specs.Waits.{Waits}
+use Rattle.relay_ports.specs.Leaves.{Entry, IsRoutedTo}
+use Rattle.buffer_lanes.specs.Waits.{Waits}
 
 -- the connection's source, its session, and the deliveries that wait
 pub record PeerState : Type 0 where

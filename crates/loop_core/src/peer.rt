@@ -10,13 +10,12 @@ ghost use Rattle.forward_core.specs.Demands.{wanted};
 ghost use Rattle.forward_core.specs.Server.{IsAskedIn, initial_server};
 
 use crate::fault::LoopFault;
-use crate::inlet::{Branches, Inlet};
-use crate::lanes::Lanes;
-use crate::waiting::{Collected, Waiting};
 use ack_receipt::{Delivery, Numbers, Reserved};
+use buffer_lanes::{Collected, Lanes, Waiting};
 use disk_files::Dir;
 use event_modes::Message;
 use forward_core::{Demand, Security, ServerSession, SessionError};
+use relay_ports::{Branches, Inlet};
 use std::alloc::{AllocError, Allocator};
 use std::marker::Model;
 use std::mem;

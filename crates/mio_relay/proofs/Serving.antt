@@ -3,7 +3,7 @@ use Rattle.std.proofs.Common.{ℕ, ◌≡◌, ◌<◌, List, length, sym, subst,
 use Rattle.std.specs.Prelude.{Contains, slice_index_or, slice_set}
 use Rattle.std.specs.List.{All}
 use Rattle.std.proofs.lemmas.List.Elements.{All-set}
-use Rattle.loop_core.specs.Leaves.{Entry}
+use Rattle.relay_ports.specs.Leaves.{Entry}
 use Rattle.loop_core.specs.Peers.{PeerState}
 use Rattle.mio_relay.specs.Loops.{GoesOn, GoOn, IsServed}
 

@@ -5,7 +5,7 @@ use Rattle.ack_receipt.specs.Terms.{Terms}
 use Rattle.relay_conf.specs.declared.relay.Relay.{Relay}
 use Rattle.relay_conf.specs.declared.relay.Source.{Source}
 use Rattle.route_graph.specs.Table.{Table, table_of}
-use Rattle.loop_core.specs.Leaves.{Entry}
+use Rattle.relay_ports.specs.Leaves.{Entry}
 use Rattle.loop_core.specs.Peers.{PeerState}
 
 -- a loop: its sources, in the order of the configuration, its connections, by their keys, and its buffers, by their places

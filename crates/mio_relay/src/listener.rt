@@ -6,10 +6,11 @@ ghost use Rattle.forward_core.specs.Handshakes.{IsHosted};
 ghost use Rattle.mio_relay.specs.Loops.{entry_of};
 
 use forward_core::Security;
-use loop_core::{Inlet, LoopFault, Peer};
+use loop_core::{LoopFault, Peer};
 use mio::net::TcpListener;
 use mio::{Interest, Registry, Token};
 use relay_conf::{Security as Secret, Source};
+use relay_ports::Inlet;
 use route_graph::Routes;
 use std::alloc::{AllocError, Allocator};
 use std::net::Net;

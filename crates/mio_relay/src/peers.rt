@@ -2,13 +2,14 @@
 
 ghost use Rattle.std.specs.Prelude.{List, Contains};
 ghost use Rattle.std.specs.List.{All};
-ghost use Rattle.loop_core.specs.Leaves.{Entry};
+ghost use Rattle.relay_ports.specs.Leaves.{Entry};
 ghost use Rattle.mio_relay.specs.Loops.{GoesOn, GoOn, IsServed};
 
 use crate::socket::Socket;
 use ack_receipt::Numbers;
+use buffer_lanes::Lanes;
 use disk_files::Dir;
-use loop_core::{Lanes, LoopFault, Peer};
+use loop_core::{LoopFault, Peer};
 use std::alloc::{AllocError, Allocator};
 use std::sync::Wait;
 

@@ -2,11 +2,11 @@
 use Rattle.std.specs.Prelude.{◌≡◌, ◌<◌, ◌-◌, ◌^◌, ℕ, List, All, length, IfSome, Option, Some, None, slice_get, string_bytes}
 use Rattle.relay_conf.specs.declared.relay.Relay.{Relay}
 use Rattle.retry_waits.specs.declared.settings.RetrySettings.{RetrySettings}
-use Rattle.loop_core.specs.declared.outlet.Outlet.{Outlet}
-use Rattle.loop_core.specs.declared.outlet.Outlet.TheVariants.{Forward, File}
+use Rattle.relay_ports.specs.declared.outlet.Outlet.{Outlet}
+use Rattle.relay_ports.specs.declared.outlet.Outlet.TheVariants.{Forward, File}
 use Rattle.relay_buffers.specs.declared.delivering.Aim.{Aim}
 use Rattle.relay_buffers.specs.declared.delivering.Aim.TheVariants.{Servers, Sink}
-use Rattle.loop_core.specs.Outlets.{place_of, settings_of, HasNoBuffer, IsOutletOf}
+use Rattle.relay_ports.specs.Outlets.{place_of, settings_of, HasNoBuffer, IsOutletOf}
 
 -- the sink that chunks go to, if they go to one, by how many threads, and when they are tried again
 pub record Delivery : Type 0 where

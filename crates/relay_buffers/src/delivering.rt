@@ -3,8 +3,9 @@
 ghost use Rattle.std.specs.Prelude.{◌≡◌, IfOk};
 ghost use Rattle.relay_buffers.specs.Delivering.{AreDeliveriesOf, IsDeliveryOf, sink_named, sink_of};
 
-use loop_core::{LoopFault, Outlet, outlet_of};
+use loop_core::LoopFault;
 use relay_conf::{BufferNo, Relay};
+use relay_ports::{Outlet, outlet_of};
 use retry_waits::RetrySettings;
 use std::alloc::Allocator;
 use std::marker::Model;

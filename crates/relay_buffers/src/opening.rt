@@ -2,16 +2,18 @@
 
 ghost use Rattle.std.specs.Prelude.{◌≡◌, map, IfOk};
 ghost use Rattle.std.specs.Arc.{arc_value};
-ghost use Rattle.loop_core.specs.Outlets.{AreTakesOf};
-ghost use Rattle.relay_buffers.specs.Buffers.{AreBuffersOf};
+ghost use Rattle.relay_ports.specs.Outlets.{AreTakesOf, settings_of};
+ghost use Rattle.relay_buffers.specs.Buffers.{AreBuffersOf, IsScheduledBy, IsSetAs, limits_of};
 
 use crate::folders::Folders;
 use ack_receipt::{Leaf, SharedBuffer};
+use buffer_lanes::{Lane, Lanes, Schedule};
 use buffer_state::{Limits, Stage};
 use buffer_store::{Buffer, BufferFault, RENEWED_PAST_IN_FILES, RENEWED_PAST_IN_MEMORY, Settings};
 use disk_files::Dir;
-use loop_core::{Lane, Lanes, LoopFault, Outlet, Schedule, outlet_of, takes_of};
+use loop_core::LoopFault;
 use relay_conf::{BufferKind, BufferNo, BufferSettings, Relay};
+use relay_ports::{Outlet, outlet_of, takes_of};
 use std::alloc::{AllocError, Allocator};
 use std::sync::Arc;
 
@@ -61,26 +63,40 @@ fn open_one<D: Dir + Drop, A: Allocator + Copy, F: Folders<D, A>>(
 ) -> Result<Opened<D, A>, LoopFault>
     ensures leaf { IfOk result (λ opened. (arc_value opened.buffer).leaf ≡ leaf) }
     ensures takes { IfOk result (λ opened. AreTakesOf outlet.now (arc_value opened.buffer).takes) }
+    ensures queues { IfOk result (λ opened. IsScheduledBy (settings_of outlet.now) opened.schedule) }
 {
     let settings = outlet.buffer();
     let takes = takes_of(alloc, outlet)?;
-    let dir = folders.folder_of(&settings.kind)?;
-    let name = match &settings.kind {
-        BufferKind::Memory => MEMORY_NAME,
-        BufferKind::File { path } => path.as_bytes(),
-    };
-    let buffer = match Buffer::open(alloc, dir, name, settings_of(settings)) {
-        Ok(buffer) => buffer,
-        Err((BufferFault::Memory, _)) => return Err(LoopFault::Memory),
-        Err((fault, _)) => return Err(LoopFault::Buffer(fault)),
-    };
+    let buffer = open_buffer(alloc, settings, folders)?;
     let schedule = schedule_of(alloc, settings, &buffer, now)?;
     let buffer = Arc::new(alloc, SharedBuffer::new(alloc, buffer, leaf, takes))?;
     Ok(Opened { buffer, schedule })
 }
 
+// Opens the buffer that has these settings.
+fn open_buffer<D: Dir + Drop, A: Allocator + Copy, F: Folders<D, A>>(
+    alloc: A,
+    settings: &BufferSettings<A>,
+    folders: &F,
+) -> Result<Buffer<D, A>, LoopFault>
+    ensures { IfOk result (IsSetAs settings.now) }
+{
+    let dir = folders.folder_of(&settings.kind)?;
+    let name = match &settings.kind {
+        BufferKind::Memory => MEMORY_NAME,
+        BufferKind::File { path } => path.as_bytes(),
+    };
+    match Buffer::open(alloc, dir, name, store_settings(settings)) {
+        Ok(buffer) => Ok(buffer),
+        Err((BufferFault::Memory, _)) => Err(LoopFault::Memory),
+        Err((fault, _)) => Err(LoopFault::Buffer(fault)),
+    }
+}
+
 // What the configuration says of a buffer, as the buffer takes it.
-fn settings_of<A: Allocator>(settings: &BufferSettings<A>) -> Settings {
+fn store_settings<A: Allocator>(settings: &BufferSettings<A>) -> Settings
+    ensures { result.limits ≡ limits_of settings.now }
+{
     let limits = Limits {
         chunk: settings.chunk_limit_size,
         total: settings.total_limit_size,
@@ -101,7 +117,9 @@ fn schedule_of<D: Dir, A: Allocator + Copy>(
     settings: &BufferSettings<A>,
     buffer: &Buffer<D, A>,
     now: u64,
-) -> Result<Schedule<A>, AllocError> {
+) -> Result<Schedule<A>, AllocError>
+    ensures { IfOk result (IsScheduledBy settings.now) }
+{
     let mut schedule = Schedule::new(alloc, settings.flush_mode, settings.flush_interval);
     for shown in buffer.chunks().iter() {
         if shown.stage == Stage::Staged {

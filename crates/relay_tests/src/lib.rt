@@ -1,4 +1,4 @@
-//! Tests of loop_core and mio_relay: a loop with clients on sockets, and couriers to servers that misbehave.
+//! Tests of the relay, from relay_ports to mio_relay: a loop with clients on sockets, and couriers to servers that misbehave.
 #![tactic(auto)]
 
 #[cfg(test)]

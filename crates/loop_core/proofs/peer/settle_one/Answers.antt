@@ -1,5 +1,5 @@
 use Rattle.std.proofs.Common.{List, ◌∷◌, sym, subst}
-use Rattle.loop_core.specs.Waits.{Waits}
+use Rattle.buffer_lanes.specs.Waits.{Waits}
 use Rattle.loop_core.specs.Peers.{IsFaithful}
 use Rattle.loop_core.proofs.Keeping.{answer_earned, answer_demanded, answered, still_owed, waits_too}
 use Rattle.loop_core.proofs.peer.settle_one.Goals as goal

@@ -4,12 +4,11 @@ use Rattle.std.specs.Arc.{arc_value}
 use Rattle.ack_receipt.specs.Deliveries.{OpenDelivery}
 use Rattle.ack_receipt.specs.Reservations.{asked_of}
 use Rattle.event_modes.specs.Reading.{meaning}
-use Rattle.loop_core.specs.declared.inlet.Branches.{Branches}
-use Rattle.loop_core.specs.Leaves.{Entry, IsRoutedTo}
-use Rattle.loop_core.specs.Waits.{Waits, awaited_by}
+use Rattle.relay_ports.specs.declared.inlet.Branches.{Branches}
+use Rattle.relay_ports.specs.Leaves.{Entry, IsRoutedTo}
+use Rattle.buffer_lanes.specs.Waits.{Waits, awaited_by}
 use Rattle.loop_core.specs.Peers.{PeerState, IsOwed, IsFaithful}
-use Rattle.loop_core.proofs.Leading.{has_entries}
-use Rattle.loop_core.proofs.Keeping.{waits_too}
+use Rattle.loop_core.proofs.Keeping.{has_entries, waits_too}
 use Rattle.loop_core.proofs.peer.Peer.deliver.Goals as goal
 
 pub append-requires : goal.append-requires

@@ -1,0 +1,5 @@
+use Rattle.std.proofs.Common.{◌≡◌}
+use Rattle.buffer_lanes.proofs.waiting.Waiting.collect.Given as goal
+
+abbrev pub invariant-loop-buffer : goal.invariant-loop-buffer
+invariant-loop-buffer g l = (l.gathered ≡ l.initial.gathered) × (l.lanes ≡ l.initial.lanes)

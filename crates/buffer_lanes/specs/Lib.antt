@@ -1,0 +1,4 @@
+pub mod Waits
+pub mod Collecting
+pub mod Lanes
+pub mod Schedules

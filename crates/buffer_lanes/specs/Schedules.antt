@@ -1,0 +1,35 @@
+-- When the staged chunks of a buffer are queued (Fluentd, "Config: Buffer Section", flush_mode, flush_interval).
+use Rattle.std.specs.Prelude.{ℕ, ◌-◌, Bool, List, [], ◌∷◌, ◌++◌, length, slice_get, Option, None, Some, if◌then◌else◌, nat_lt, not, true}
+use Rattle.relay_conf.specs.declared.buffer.FlushMode.{FlushMode}
+use Rattle.relay_conf.specs.declared.buffer.FlushMode.TheVariants.{Interval, Immediate}
+use Rattle.buffer_lanes.specs.declared.schedule.Staged.{Staged}
+
+-- the staged chunks by rising serial, when they are queued, and for how many more there is room; times are in milliseconds
+pub record Plan : Type 0 where
+  pub mode : FlushMode
+  pub interval : ℕ
+  pub chunks : List Staged
+  pub room : ℕ
+
+-- the last of them, if there is one
+abbrev pub newest : List Staged → Option Staged
+newest chunks = slice_get chunks (length chunks - 1)
+
+-- whether an append to this chunk is its first
+abbrev pub is_new : ℕ → Option Staged → Bool
+is_new serial None = true
+is_new serial (Some last) = nat_lt last.serial serial
+
+-- the staged chunks when an append went to this one
+abbrev pub noted : ℕ → ℕ → List Staged → List Staged
+noted serial now chunks = if is_new serial (newest chunks) then chunks ++ record { serial = serial; since = now } ∷ [] else chunks
+
+-- whether a chunk that is staged since then is to be queued now
+abbrev pub is_due : FlushMode → ℕ → ℕ → Staged → Bool
+is_due Immediate interval now staged = true
+is_due Interval interval now staged = not (nat_lt (now - staged.since) interval)
+
+-- the first of them, if it is to be queued now
+abbrev pub due_in : FlushMode → ℕ → ℕ → List Staged → Option ℕ
+due_in mode interval now [] = None
+due_in mode interval now (staged ∷ more) = if is_due mode interval now staged then Some staged.serial else None

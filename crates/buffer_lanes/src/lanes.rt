@@ -1,0 +1,230 @@
+//! The buffers of a relay, as its loop uses them.
+
+ghost use Rattle.std.specs.Prelude.{◌≡◌, ◌<◌, ◌≤◌, ◌+◌, ◌++◌, ◌∷◌, [], length, IfOk, IfSome};
+ghost use Rattle.buffer_lanes.specs.Lanes.{later_at};
+ghost use Rattle.buffer_lanes.specs.Waits.{HasEntries};
+
+use crate::lane::Lane;
+use ack_receipt::{Delivery, Receipt, Stub};
+use buffer_store::BufferFault;
+use disk_files::Dir;
+use relay_conf::BufferNo;
+use std::alloc::{AllocError, Allocator};
+use std::marker::Model;
+use std::sync::Wait;
+
+/// The buffers of a relay, by their numbers, and what is left of the deliveries that ended.
+pub struct Lanes<D: Dir, A: Allocator> {
+    lanes: Vec<Lane<D, A>, A>,
+    // In milliseconds since one fixed start.
+    time: u64,
+    // What is left of deliveries, where it is kept; else the buffers' books account for it at once.
+    stubs: Option<Vec<Stub<A>, A>>,
+    // The first fault of a device.
+    fault: Option<BufferFault>,
+}
+
+impl<D: Dir, A: Allocator> Model for Lanes<D, A> {
+    ghost use Rattle.std.specs.Prelude.{◌-◌, map, vec_len, vec_capacity};
+    ghost use Rattle.buffer_lanes.specs.Lanes.{LanesState};
+
+    ghost Value = { LanesState };
+
+    ghost view = { λ l. record { later = map (λ lane. lane.later) l.lanes.items; room = vec_capacity l.lanes - vec_len l.lanes } };
+}
+
+impl<D: Dir + Drop, A: Allocator + Copy> Lanes<D, A> {
+    /// No buffers yet, and room for so many. The error is want of memory.
+    pub fn with_capacity(alloc: A, count: usize) -> Result<Self, AllocError>
+        ensures { IfOk result (λ lanes. (lanes.later ≡ []) × (count ≤ lanes.room)) }
+    {
+        let lanes = Vec::with_capacity(alloc, count)?;
+        Ok(Lanes {
+            lanes,
+            time: 0,
+            stubs: None,
+            fault: None,
+        })
+    }
+
+    /// Adds a buffer, for which there is room; it has the next number.
+    pub fn add(&mut self, lane: Lane<D, A>)
+        requires { 0 < self.old.room }
+        ensures room { self.new.room + 1 ≡ self.old.room }
+        ensures later { self.new.later ≡ self.old.later ++ lane.later ∷ [] }
+    {
+        self.lanes.push_reserved(lane);
+    }
+
+    /// Keeps what is left of deliveries from now on.
+    pub fn keep_stubs(&mut self, alloc: A) {
+        self.stubs = Some(Vec::new(alloc));
+    }
+
+    /// It is this time, in milliseconds since one fixed start.
+    pub fn set_time(&mut self, now: u64) {
+        self.time = now;
+    }
+
+    /// Whether appends wait for their receipts.
+    pub fn have_pendings(&self) -> bool {
+        self.lanes.iter().any(|lane| lane.has_pendings())
+    }
+
+    /// The first fault of a device, or of a journal that lost bytes, if there was one.
+    pub fn fault(&self) -> Option<BufferFault> {
+        self.fault
+    }
+
+    // Remembers the first fault that is the device's, or that bytes which it was told are gone.
+    fn note(&mut self, fault: BufferFault) {
+        let is_lost = fault == BufferFault::Fault
+            || fault == BufferFault::Failed
+            || fault == BufferFault::Damaged;
+        if is_lost && self.fault.is_none() {
+            self.fault = Some(fault);
+        }
+    }
+
+    /// Appends the delivery's entries to each of these buffers. `false` where one refuses: then none of them gives a receipt.
+    pub fn append<R: Wait>(&mut self, rt: &R, buffers: &[BufferNo], delivery: &Delivery<A>) -> bool
+        requires { HasEntries delivery.now buffers.now }
+    {
+        for at in 0..buffers.len() {
+            if !self.append_to(rt, buffers[at], delivery) {
+                self.undo(rt, buffers.split_at(at).0);
+                return false;
+            }
+        }
+        true
+    }
+
+    fn append_to<R: Wait>(&mut self, rt: &R, buffer: BufferNo, delivery: &Delivery<A>) -> bool
+        requires { 0 < length delivery.now.message.entries }
+    {
+        let now = self.time;
+        let Some(lane) = self.lanes.get_mut(buffer.0) else {
+            return false;
+        };
+        match lane.append(rt, delivery, now) {
+            Ok(()) => true,
+            Err(fault) => {
+                self.note(fault);
+                false
+            }
+        }
+    }
+
+    // The last append to each of these gets no receipt.
+    fn undo<R: Wait>(&mut self, rt: &R, buffers: &[BufferNo]) {
+        for buffer in buffers {
+            if let Some(lane) = self.lanes.get_mut(buffer.0) {
+                lane.undo(rt);
+            }
+        }
+    }
+
+    /// Queues the chunks that are to be queued now.
+    pub fn queue_due<R: Wait>(&mut self, rt: &R) {
+        let now = self.time;
+        for at in 0..self.lanes.len() {
+            if let Some(lane) = self.lanes.get_mut(at)
+                && let Err(fault) = lane.queue_due(rt, now)
+            {
+                self.note(fault);
+            }
+        }
+    }
+
+    /// Makes receipts of all appends, by one sync for each buffer that needs one.
+    pub fn redeem<R: Wait>(&mut self, rt: &R) {
+        for at in 0..self.lanes.len() {
+            if let Some(lane) = self.lanes.get_mut(at)
+                && let Err(fault) = lane.redeem(rt)
+            {
+                self.note(fault);
+            }
+        }
+    }
+
+    /// Writes the journals anew that have grown.
+    pub fn renew<R: Wait>(&mut self, rt: &R) {
+        for at in 0..self.lanes.len() {
+            if let Some(lane) = self.lanes.get_mut(at)
+                && let Err(fault) = lane.renew(rt)
+            {
+                self.note(fault);
+            }
+        }
+    }
+
+    /// Whether receipts of this buffer come later, since there was no memory for them.
+    pub fn is_later(&self, buffer: BufferNo) -> bool
+        ensures { result ≡ later_at self.now.later buffer }
+    {
+        match self.lanes.get(buffer.0) {
+            Some(lane) => lane.is_later(),
+            None => false,
+        }
+    }
+
+    /// How many receipts of this buffer nobody took yet.
+    pub fn ready(&self, buffer: BufferNo) -> usize {
+        match self.lanes.get(buffer.0) {
+            Some(lane) => lane.ready(),
+            None => 0,
+        }
+    }
+
+    /// The receipt of this buffer's first append of those that nobody took it of yet; `None` where there is none.
+    pub fn give(&mut self, buffer: BufferNo) -> Option<Receipt<A>>
+        ensures { self.new ≡ self.old }
+    {
+        self.lanes.get_mut(buffer.0)?.give()
+    }
+
+    /// What is left of a delivery: it is kept, or accounted for in the books of its buffers, also where there is no memory to
+    /// keep it.
+    pub fn settle<R: Wait>(&mut self, rt: &R, stub: Stub<A>)
+        ensures { self.new ≡ self.old }
+    {
+        let Some(stub) = self.kept(stub) else {
+            return;
+        };
+        for part in &stub.parts {
+            if let Some(lane) = self.lanes.get(part.buffer as usize) {
+                lane.settle(rt, &stub);
+            }
+        }
+    }
+
+    // Keeps what is left of a delivery, or hands it back.
+    fn kept(&mut self, stub: Stub<A>) -> Option<Stub<A>>
+        ensures same { self.new ≡ self.old }
+        ensures back { IfSome result (λ back. back ≡ stub) }
+    {
+        let Some(stubs) = &mut self.stubs else {
+            return Some(stub);
+        };
+        match stubs.push(stub) {
+            Ok(()) => None,
+            Err(failed) => Some(failed.value),
+        }
+    }
+
+    /// Ends what waits, and gives what is left of deliveries, where it was kept.
+    pub fn end<R: Wait>(self, rt: &R) -> Option<Vec<Stub<A>, A>> {
+        let Lanes {
+            lanes,
+            time: _,
+            stubs,
+            fault: _,
+        } = self;
+        let mut rest = lanes.into_iter();
+        while let Some(lane) = rest.next() {
+            lane.end(rt);
+        }
+        rest.destroy_empty();
+        stubs
+    }
+}

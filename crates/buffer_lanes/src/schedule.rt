@@ -1,0 +1,100 @@
+//! When the staged chunks of a buffer are queued.
+
+ghost use Rattle.std.specs.Prelude.{◌≡◌, ◌<◌, ◌-◌, ◌*◌, ◌^◌, [], drop, min, OnOk};
+ghost use Rattle.buffer_lanes.specs.Schedules.{due_in, noted};
+
+use relay_conf::FlushMode;
+use std::alloc::{AllocError, Allocator};
+use std::collections::VecDeque;
+use std::marker::Model;
+
+/// A staged chunk, and since when it is there, in milliseconds since one fixed start.
+#[derive(Clone, Copy, Debug, PartialEq, Eq)]
+pub struct Staged {
+    pub serial: u64,
+    pub since: u64,
+}
+
+/// The staged chunks of a buffer, by rising serial, and when they are queued: at once, or when the flush interval has passed
+/// since their first append (since the buffer's opening for chunks that were there then).
+#[derive(Drop)]
+pub struct Schedule<A: Allocator> {
+    mode: FlushMode,
+    // In milliseconds.
+    interval: u64,
+    chunks: VecDeque<Staged, A>,
+}
+
+impl<A: Allocator> Model for Schedule<A> {
+    ghost use Rattle.std.specs.Prelude.{◌-◌};
+    ghost use Rattle.std.specs.VecDeque.{deque_len, deque_capacity};
+    ghost use Rattle.buffer_lanes.specs.Schedules.{Plan};
+
+    ghost Value = { Plan };
+
+    ghost view = { λ s. record { mode = s.mode; interval = s.interval; chunks = s.chunks.items; room = deque_capacity s.chunks - deque_len s.chunks } };
+}
+
+impl<A: Allocator> Schedule<A> {
+    /// No chunk is staged. The interval is in seconds.
+    pub fn new(alloc: A, mode: FlushMode, interval: u64) -> Self
+        ensures mode { result.mode ≡ mode }
+        ensures chunks { result.chunks ≡ [] }
+        ensures interval { result.interval ≡ min (interval * 1000) (2 ^ 64 - 1) }
+    {
+        Schedule {
+            mode,
+            interval: interval.saturating_mul(1_000),
+            chunks: VecDeque::new(alloc),
+        }
+    }
+
+    /// Makes room for one chunk.
+    pub fn reserve(&mut self) -> Result<(), AllocError>
+        ensures room { OnOk result (0 < self.new.room) }
+        ensures rest { self.new ≡ record self.old { room = self.new.room } }
+    {
+        self.chunks.reserve(1)
+    }
+
+    /// An append went to this chunk. The first one of a chunk is what counts; serials rise.
+    pub fn note(&mut self, serial: u64, now: u64)
+        requires { 0 < self.old.room }
+        ensures chunks { self.new.chunks ≡ noted serial now self.old.chunks }
+        ensures rest { self.new ≡ record self.old { chunks = self.new.chunks; room = self.new.room } }
+    {
+        let known = match self.chunks.back() {
+            Some(last) => serial <= last.serial,
+            None => false,
+        };
+        if !known {
+            self.chunks
+                .push_back_reserved(Staged { serial, since: now });
+        }
+    }
+
+    /// The first chunk, if it is to be queued now.
+    pub fn due(&self, now: u64) -> Option<u64>
+        ensures { result ≡ due_in self.now.mode self.now.interval now self.now.chunks }
+    {
+        let first = self.chunks.front()?;
+        match self.mode {
+            FlushMode::Immediate => Some(first.serial),
+            FlushMode::Interval => {
+                if now.saturating_sub(first.since) >= self.interval {
+                    Some(first.serial)
+                } else {
+                    None
+                }
+            }
+        }
+    }
+
+    /// The first chunk is staged no more.
+    pub fn forget_first(&mut self)
+        ensures chunks { self.new.chunks ≡ drop 1 self.old.chunks }
+        ensures rest { self.new ≡ record self.old { chunks = self.new.chunks; room = self.new.room } }
+    {
+        let _ = self.chunks.pop_front();
+    }
+}

@@ -1,0 +1,209 @@
+//! A delivery that waits for its receipts.
+
+ghost use Rattle.std.specs.Prelude.{◌≡◌, [], None, false, IfOk, IfErr};
+ghost use Rattle.ack_receipt.specs.Reservations.{asked_of};
+ghost use Rattle.buffer_lanes.specs.Collecting.{IsCollected, WaitsOnFor, those_later};
+ghost use Rattle.buffer_lanes.specs.Waits.{awaited_by};
+
+use crate::lanes::Lanes;
+use ack_receipt::{Delivery, Receipt, Reserved, Stub};
+use disk_files::Dir;
+use relay_conf::BufferNo;
+use std::alloc::Allocator;
+use std::marker::Model;
+use std::sync::Wait;
+
+/// A delivery whose entries were appended to each of its buffers, and the room for its answer.
+pub struct Waiting<A: Allocator> {
+    gathered: Gathered<A>,
+    // Those whose receipts weren't there yet.
+    buffers: Vec<BufferNo, A>,
+}
+
+impl<A: Allocator> Model for Waiting<A> {
+    ghost use Rattle.buffer_lanes.specs.Waits.{Waits};
+
+    ghost Value = { Waits };
+
+    ghost view = { λ w. record { awaited = w.gathered; buffers = w.buffers.items } };
+}
+
+/// What became of a delivery.
+pub enum Collected<A: Allocator> {
+    /// It is acknowledged: this is the answer, and what is left.
+    Answered(Reserved<A>, Stub<A>),
+    /// It was abandoned.
+    Abandoned(Stub<A>),
+    /// It waits for the next turn.
+    Later(Waiting<A>),
+}
+
+impl<A: Allocator + Copy> Waiting<A> {
+    /// No receipt came yet.
+    pub fn new(delivery: Delivery<A>, reserved: Reserved<A>, buffers: Vec<BufferNo, A>) -> Self
+        requires empty { reserved.filled ≡ None }
+        requires made { reserved.asked ≡ asked_of delivery.message }
+        ensures { result ≡ record { awaited = awaited_by delivery; buffers = buffers.items } }
+    {
+        Waiting {
+            gathered: Gathered {
+                delivery,
+                reserved,
+                is_refused: false,
+            },
+            buffers,
+        }
+    }
+
+    /// Takes the receipts that are there, and acknowledges the delivery where all came; where a buffer refused, the delivery
+    /// is abandoned. It waits on where receipts come later, for those alone, or where it is to be `held` behind another.
+    pub fn collect<R: Wait, D: Dir + Drop>(
+        self,
+        rt: &R,
+        lanes: &mut Lanes<D, A>,
+        held: bool,
+    ) -> Collected<A>
+        ensures is { IsCollected self.awaited result }
+        ensures waits { WaitsOnFor held (those_later lanes.old.later self.buffers) result }
+        ensures lanes { lanes.new ≡ lanes.old }
+    {
+        let Waiting {
+            mut gathered,
+            mut buffers,
+        } = self;
+        for buffer in &buffers {
+            if !lanes.is_later(*buffer) {
+                gathered = gathered.ask(rt, *buffer, lanes);
+            }
+        }
+        keep_later(&mut buffers, lanes);
+        if held || !buffers.is_empty() {
+            return Collected::Later(Waiting { gathered, buffers });
+        }
+        gathered.finish()
+    }
+
+    /// Ends it without an answer.
+    pub fn abandon(self) -> Stub<A> {
+        let Waiting {
+            gathered,
+            buffers: _,
+        } = self;
+        let Gathered {
+            delivery,
+            reserved: _,
+            is_refused: _,
+        } = gathered;
+        delivery.abandon()
+    }
+}
+
+// Keeps those of the buffers whose receipts come later.
+fn keep_later<D: Dir + Drop, A: Allocator + Copy>(
+    buffers: &mut Vec<BufferNo, A>,
+    lanes: &Lanes<D, A>,
+)
+    ensures { buffers.new.items ≡ those_later lanes.now.later buffers.old.items }
+{
+    buffers.retain(|buffer| lanes.is_later(*buffer));
+}
+
+// A delivery with the receipts that came, and the room for its answer.
+struct Gathered<A: Allocator> {
+    delivery: Delivery<A>,
+    reserved: Reserved<A>,
+    // A buffer refused.
+    is_refused: bool,
+}
+
+impl<A: Allocator> Model for Gathered<A> {
+    ghost use Rattle.std.specs.Prelude.{◌≡◌, None};
+    ghost use Rattle.ack_receipt.specs.Reservations.{asked_of};
+    ghost use Rattle.buffer_lanes.specs.Waits.{Awaited, awaited_by};
+
+    ghost Value = { Awaited };
+
+    ghost view = { λ g. awaited_by g.delivery };
+
+    // The room is empty, and for the answer to the delivery's message.
+    ghost invariant = { λ g. (g.reserved.filled ≡ None) × (g.reserved.asked ≡ asked_of g.delivery.message) };
+}
+
+impl<A: Allocator + Copy> Gathered<A> {
+    // Takes the receipt that this buffer has for the delivery; where it has none, it refused. Receipts that stand before it are
+    // of deliveries that ended without them: they are spent.
+    fn ask<R: Wait, D: Dir + Drop>(self, rt: &R, buffer: BufferNo, lanes: &mut Lanes<D, A>) -> Self
+        ensures same { result ≡ self }
+        ensures lanes { lanes.new ≡ lanes.old }
+    {
+        let mut gathered = self;
+        'receipts: for _ in 0..lanes.ready(buffer) {
+            let Some(receipt) = lanes.give(buffer) else {
+                return gathered.refused();
+            };
+            match gathered.with(receipt) {
+                Ok(with) => return with,
+                Err((without, receipt)) => {
+                    lanes.settle(rt, receipt.spend());
+                    gathered = without;
+                }
+            }
+        }
+        gathered.refused()
+    }
+
+    // With one receipt more; one that isn't the delivery's is handed back.
+    fn with(self, receipt: Receipt<A>) -> Result<Self, (Self, Receipt<A>)>
+        ensures ok { IfOk result (λ gathered. gathered ≡ self) }
+        ensures err { IfErr result (λ refused. (refused.0 ≡ self) × (refused.1 ≡ receipt)) }
+    {
+        let Gathered {
+            delivery,
+            reserved,
+            is_refused,
+        } = self;
+        match delivery.add(receipt) {
+            Ok(delivery) => Ok(Gathered {
+                delivery,
+                reserved,
+                is_refused,
+            }),
+            Err((_, delivery, receipt)) => Err((
+                Gathered {
+                    delivery,
+                    reserved,
+                    is_refused,
+                },
+                receipt,
+            )),
+        }
+    }
+
+    // A buffer has no receipt for it.
+    fn refused(self) -> Self
+        ensures { result ≡ self }
+    {
+        let mut gathered = self;
+        gathered.is_refused = true;
+        gathered
+    }
+
+    // Every buffer was asked.
+    fn finish(self) -> Collected<A>
+        ensures is { IsCollected self result }
+        ensures ended { WaitsOnFor false [] result }
+    {
+        let Gathered {
+            delivery,
+            mut reserved,
+            is_refused,
+        } = self;
+        if is_refused {
+            return Collected::Abandoned(delivery.abandon());
+        }
+        match delivery.acknowledge(&mut reserved) {
+            Ok(stub) => Collected::Answered(reserved, stub),
+            Err((_, delivery)) => Collected::Abandoned(delivery.abandon()),
+        }
+    }
+}

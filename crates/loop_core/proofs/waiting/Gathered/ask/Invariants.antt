@@ -1,5 +1,0 @@
-use Rattle.std.proofs.Common.{◌≡◌}
-use Rattle.loop_core.proofs.waiting.Gathered.ask.Given as goal
-
-abbrev pub invariant-receipts : goal.invariant-receipts
-invariant-receipts g l = (l.gathered ≡ l.fn.self) × (l.lanes ≡ l.initial.lanes)
