@@ -25,7 +25,7 @@ pub struct Client<A: Allocator> {
 
 impl<A: Allocator> Model for Client<A> {
     ghost use Rattle.std.specs.Prelude.{vec_len, ◌≤◌, option_map};
-    ghost use Rattle.auth_handshake.specs.Ends.{ClientEnd};
+    ghost use Rattle.auth_handshake.specs.Ends.{ClientEnd, longest_host};
 
     ghost Value = { ClientEnd };
 
@@ -36,7 +36,7 @@ impl<A: Allocator> Model for Client<A> {
       nonce = option_map (λ nonce. nonce.items) c.nonce;
     } };
 
-    ghost invariant = { λ c. vec_len c.host ≤ 1024 };
+    ghost invariant = { λ c. vec_len c.host ≤ longest_host };
 }
 
 impl<A: Allocator> Client<A> {

@@ -16,3 +16,4 @@ pub use client::Client;
 pub use digest::digest_hex;
 pub use laws::{one_key_is_enough, written_is_read};
 pub use server::Server;
+pub use write::LONGEST_HOST;

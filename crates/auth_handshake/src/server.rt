@@ -23,13 +23,13 @@ pub struct Server<A: Allocator> {
 
 impl<A: Allocator> Model for Server<A> {
     ghost use Rattle.std.specs.Prelude.{vec_len, ◌≤◌};
-    ghost use Rattle.auth_handshake.specs.Ends.{ServerEnd};
+    ghost use Rattle.auth_handshake.specs.Ends.{ServerEnd, longest_host};
 
     ghost Value = { ServerEnd };
 
     ghost view = { λ s. record { host = s.host.items; key = s.key.items; nonce = s.nonce } };
 
-    ghost invariant = { λ s. vec_len s.host ≤ 1024 };
+    ghost invariant = { λ s. vec_len s.host ≤ longest_host };
 }
 
 impl<A: Allocator> Server<A> {

@@ -3,23 +3,21 @@ use Rattle.std.proofs.Common.{◌≡◌, ◌⊎◌, inl, inr, ℕ, ◌+◌, ◌<
 use Rattle.std.specs.Prelude.{map, filter, sum_by, IfSome, Contains, slice_index_or, Result, Ok, Err, OnOk, OnErr}
 use Rattle.std.specs.Option.{option_map_or}
 use Rattle.std.specs.List.Sorted.{IsStrictlySortedBy}
-use Rattle.std.specs.Map.{lookup, set_value, remove_entry, keys_of}
-use Rattle.std.specs.Ordering.{nat_cmp, eq_by_cmp}
+use Rattle.std.specs.Map.{lookup, keys_of}
+use Rattle.std.specs.Ordering.{nat_cmp}
 use Rattle.std.specs.BTreeMap.{is_at}
-use Rattle.std.proofs.lemmas.Bool.{true≢false, false≢true}
-use Rattle.std.proofs.lemmas.Cmp.{nat_cmp_total, eq_by_cmp_equiv}
+use Rattle.std.proofs.lemmas.Bool.{false≢true}
 use Rattle.std.proofs.lemmas.List.{length-append}
 use Rattle.std.proofs.lemmas.List.Elements.{Contains-append_left, Contains-append_right, Contains-append_cases, filter-append}
 use Rattle.std.proofs.lemmas.List.Sums.{sum_by-append}
-use Rattle.std.proofs.lemmas.Map.{lookup-set_value, lookup-remove_entry}
-use Rattle.std.proofs.lemmas.Map.Keys.{IsDistinct-from_sorted}
 use Rattle.std.proofs.lemmas.Option.{same_Some}
 use Rattle.buffer_state.specs.declared.chunk.Stage.{Stage}
 use Rattle.buffer_state.specs.declared.chunk.Stage.TheVariants.{Staged, Queued, Claimed}
 use Rattle.buffer_state.specs.State.{State, Chunk, Numbered, chunk_at}
 use Rattle.buffer_state.specs.Steps.{with_chunk, added, appended, restaged, queued_last, claimed, claimed_from, removed}
 use Rattle.buffer_state.specs.Slots.{AreBelow}
-use Rattle.buffer_state.proofs.Serials.{at_same, at_itself}
+use Rattle.buffer_state.proofs.Serials.{at_same, at_itself, other_way}
+use Rattle.buffer_state.proofs.Slots.{set_at, removed_at, last_at, there as is_there}
 use Rattle.book_audit.specs.declared.line.Line.{Line}
 use Rattle.buffer_book.specs.Told.{counts_of}
 use Rattle.buffer_book.specs.Books.{counted_first, is_to, counted_appends, IsKnown, IsAccounted}
@@ -29,29 +27,6 @@ use Rattle.buffer_book.specs.Books.{counted_first, is_to, counted_appends, IsKno
 -- how many entries a chunk has
 abbrev many : Chunk → ℕ
 many chunk = length chunk.entries
-
-same_test : (s x y : ℕ) → is_at (nat_cmp s) x ≡ true → is_at (nat_cmp s) y ≡ eq_by_cmp nat_cmp x y
-same_test s x y h = ap (λ (t : ℕ). is_at (nat_cmp t) y) (at_same s x h)
-
-is_some_of : (o : Option Chunk) (v : Chunk) → o ≡ Some v → IsSome o
-is_some_of None v e = absurd (cc e)
-is_some_of (Some x) v e = refl
-
-chunk_set : (es : List Numbered) (s q : ℕ) (v w : Chunk) → lookup (is_at (nat_cmp s)) es ≡ Some v → lookup (is_at (nat_cmp q)) (set_value (is_at (nat_cmp s)) es w) ≡ cond (is_at (nat_cmp s) q) (Some w) (lookup (is_at (nat_cmp q)) es)
-chunk_set es s q v w at = lookup-set_value (eq_by_cmp_equiv nat_cmp_total) (is_at (nat_cmp s)) (same_test s) q w es (is_some_of _ v at)
-
-chunk_last : (es : List Numbered) (s q : ℕ) (w : Chunk) → lookup (is_at (nat_cmp q)) (es ++ (s, w) ∷ []) ≡ option_map_or Some (lookup (is_at (nat_cmp q)) es) (cond (is_at (nat_cmp q) s) (Some w) None)
-chunk_last [] s q w = refl
-chunk_last (e ∷ es) s q w = by (is_at (nat_cmp q) e.0) (chunk_last es s q w)
-  where
-    by : (b : Bool) → lookup (is_at (nat_cmp q)) (es ++ (s, w) ∷ []) ≡ option_map_or Some (lookup (is_at (nat_cmp q)) es) (cond (is_at (nat_cmp q) s) (Some w) None)
-        → cond b (Some e.1) (lookup (is_at (nat_cmp q)) (es ++ (s, w) ∷ [])) ≡ option_map_or Some (cond b (Some e.1) (lookup (is_at (nat_cmp q)) es)) (cond (is_at (nat_cmp q) s) (Some w) None)
-    by true rest = refl
-    by false rest = rest
-
--- the live serials rise
-chunk_gone : (es : List Numbered) (s q : ℕ) → IsStrictlySortedBy nat_cmp (keys_of es) → lookup (is_at (nat_cmp q)) (remove_entry (is_at (nat_cmp s)) es) ≡ cond (is_at (nat_cmp s) q) None (lookup (is_at (nat_cmp q)) es)
-chunk_gone es s q rising = lookup-remove_entry (eq_by_cmp_equiv nat_cmp_total) (is_at (nat_cmp s)) (same_test s) q es (IsDistinct-from_sorted nat_cmp (keys_of es) rising)
 
 -- each live serial was given
 pub below_next : (c : State) → AreBelow c.next (keys_of c.chunks) → (s : ℕ) → IsSome (chunk_at c s) → s < c.next
@@ -157,7 +132,7 @@ module _ (c : State) (first : List (ℕ × ℕ)) (lines : List Line) (noted : Li
   }
     where
       at : (q : ℕ) → chunk_at (removed s c) q ≡ cond (is_at (nat_cmp s) q) None (chunk_at c q)
-      at q = chunk_gone c.chunks s q rising
+      at q = removed_at c.chunks s q rising
 
       there : (q : ℕ) (b : Bool) → is_at (nat_cmp s) q ≡ b → IsSome (chunk_at c q) ⊎ Contains noted q → IsSome (chunk_at (removed s c) q) ⊎ Contains (noted ++ s ∷ []) q
       there q true is (inr gone) = inr (Contains-append_left noted (s ∷ []) q gone)
@@ -175,7 +150,7 @@ module _ (c : State) (first : List (ℕ × ℕ)) (lines : List Line) (noted : Li
     where
       by : (o : Option Chunk) → chunk_at c s ≡ o → option_map many (chunk_at (option_map_or (λ chunk. with_chunk s (record chunk { stage = stage }) c) o c) q) ≡ option_map many (chunk_at c q)
       by None is = refl
-      by (Some v) is = ap (option_map many) (chunk_set c.chunks s q v (record v { stage = stage }) is) ∙ at (is_at (nat_cmp s) q) refl
+      by (Some v) is = ap (option_map many) (set_at c.chunks s q v (record v { stage = stage }) is) ∙ at (is_at (nat_cmp s) q) refl
         where
           at : (b : Bool) → is_at (nat_cmp s) q ≡ b → option_map many (cond b (Some (record v { stage = stage })) (chunk_at c q)) ≡ option_map many (chunk_at c q)
           at true same = ap (option_map many) (sym is ∙ ap (λ (t : ℕ). chunk_at c t) (at_same s q same))
@@ -236,14 +211,6 @@ module _ (c : State) (first : List (ℕ × ℕ)) (lines : List Line) (noted : Li
   lines_else : (q : ℕ) → is_at (nat_cmp q) s ≡ false → counted_appends (lines ++ line ∷ []) q ≡ counted_appends lines q
   lines_else q other = more_lines lines line q ∙ ap (λ (b : Bool). counted_appends lines q + cond b line.count 0) (ap (is_at (nat_cmp q)) serial ∙ other) ∙ add-zero (counted_appends lines q)
 
-  -- the test, turned
-  turned : (q : ℕ) → is_at (nat_cmp s) q ≡ false → is_at (nat_cmp q) s ≡ false
-  turned q other = by (is_at (nat_cmp q) s) refl
-    where
-      by : (b : Bool) → is_at (nat_cmp q) s ≡ b → b ≡ false
-      by true is = absurd (true≢false (sym (at_itself s) ∙ ap (is_at (nat_cmp s)) (sym (at_same q s is)) ∙ other))
-      by false is = refl
-
   -- to a live chunk
   accounted_grown : (v : Chunk) → chunk_at c s ≡ Some v → s < c.next → IsAccounted (with_chunk s (record v { entries = v.entries ++ entries }) c) first (lines ++ line ∷ []) noted
   accounted_grown v live below = record {
@@ -253,7 +220,7 @@ module _ (c : State) (first : List (ℕ × ℕ)) (lines : List Line) (noted : Li
   }
     where
       at : (q : ℕ) → chunk_at (with_chunk s (record v { entries = v.entries ++ entries }) c) q ≡ cond (is_at (nat_cmp s) q) (Some (record v { entries = v.entries ++ entries })) (chunk_at c q)
-      at q = chunk_set c.chunks s q v (record v { entries = v.entries ++ entries }) live
+      at q = set_at c.chunks s q v (record v { entries = v.entries ++ entries }) live
 
       is_live : (q : ℕ) (b : Bool) → IsSome (chunk_at c q) → IsSome (cond b (Some (record v { entries = v.entries ++ entries })) (chunk_at c q))
       is_live q true h = refl
@@ -264,7 +231,7 @@ module _ (c : State) (first : List (ℕ × ℕ)) (lines : List Line) (noted : Li
 
       there : (q : ℕ) → IsKnown first lines q ⊎ (line.serial ≡ q) → IsSome (chunk_at (with_chunk s (record v { entries = v.entries ++ entries }) c) q) ⊎ Contains noted q
       there q (inl known) = elim (account.there q known) [ inl h ↦ inl (stays q h) | inr gone ↦ inr gone ]
-      there q (inr here) = inl (stays q (subst (λ (t : ℕ). IsSome (chunk_at c t)) (sym serial ∙ here) (is_some_of (chunk_at c s) v live)))
+      there q (inr here) = inl (stays q (subst (λ (t : ℕ). IsSome (chunk_at c t)) (sym serial ∙ here) (is_there (chunk_at c s) v live)))
 
       given : (q : ℕ) → IsKnown first lines q ⊎ (line.serial ≡ q) → q < c.next
       given q (inl known) = account.given q known
@@ -277,7 +244,7 @@ module _ (c : State) (first : List (ℕ × ℕ)) (lines : List Line) (noted : Li
           let here = lines_here in
           let sum : length (v.entries ++ entries) ≡ counted_first first s + counted_appends (lines ++ line ∷ []) s = omega (arith, old, n, here) in
           subst (λ (t : ℕ). length (v.entries ++ entries) ≡ counted_first first t + counted_appends (lines ++ line ∷ []) t) (at_same s q is) sum
-      counted q false other = subst (λ (n : ℕ). IfSome (chunk_at c q) (λ chunk. length chunk.entries ≡ counted_first first q + n)) (sym (lines_else q (turned q other))) (account.counted q)
+      counted q false other = subst (λ (n : ℕ). IfSome (chunk_at c q) (λ chunk. length chunk.entries ≡ counted_first first q + n)) (sym (lines_else q (other_way s q other))) (account.counted q)
 
   -- to a new chunk
   accounted_added : chunk_at c s ≡ None → c.next ≤ s → IsAccounted (added s tag entries c) first (lines ++ line ∷ []) noted
@@ -288,7 +255,7 @@ module _ (c : State) (first : List (ℕ × ℕ)) (lines : List Line) (noted : Li
   }
     where
       at : (q : ℕ) → chunk_at (added s tag entries c) q ≡ option_map_or Some (chunk_at c q) (cond (is_at (nat_cmp q) s) (Some (record { tag = tag; entries = entries; stage = Staged })) None)
-      at q = chunk_last c.chunks s q (record { tag = tag; entries = entries; stage = Staged })
+      at q = last_at c.chunks s q (record { tag = tag; entries = entries; stage = Staged })
 
       unknown : IsKnown first lines s → ⊥
       unknown known = let lt = account.given s known in omega arith
@@ -330,7 +297,7 @@ module _ (c : State) (first : List (ℕ × ℕ)) (lines : List Line) (noted : Li
     where
       by : (o : Option Chunk) → chunk_at c s ≡ o → IsAccounted (option_map_or (λ chunk. with_chunk s (record chunk { entries = chunk.entries ++ entries }) c) o (added s tag entries c)) first (lines ++ line ∷ []) noted
       by None none = accounted_added none (elim place [ inl live ↦ absurd (false≢true (subst (λ (o : Option Chunk). IsSome o) none live)) | inr above ↦ above ])
-      by (Some v) live = accounted_grown v live (below (is_some_of (chunk_at c s) v live))
+      by (Some v) live = accounted_grown v live (below (is_there (chunk_at c s) v live))
 
 -- a chunk is queued, where the call answers so
 pub accounted_enqueue : {T E : Type 0} (c d : State) (first : List (ℕ × ℕ)) (lines : List Line) (noted : List ℕ) (s : ℕ) (r : Result T E) → OnOk r (d ≡ queued_last s c) → OnErr r (d ≡ c)

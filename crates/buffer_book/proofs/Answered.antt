@@ -1,14 +1,14 @@
 -- What a call's answer says of its plan.
 use Rattle.std.proofs.Common.{Bor, nat_eq, ◌+◌, ◌≡◌, ◌≢◌, ◌⊎◌, inl, inr, ◌↔◌, ℕ, ◌<◌, ◌≤◌, Bool, true, false, List, length, Option, Some, None, IsSome, refl, sym, ap, subst, ◌∙◌, arith}
-use Rattle.std.specs.Prelude.{Result, Ok, Err, IsSomeAnd, IsOk, OnOk, IfOk, is_err, IsTrue, is_some, option_copied, ◌&&◌, if◌then◌else◌}
+use Rattle.std.specs.Prelude.{Result, Ok, Err, IsSomeAnd, OnOk, IfOk, is_err, IsTrue, is_some, option_copied, ◌&&◌, if◌then◌else◌}
 use Rattle.std.proofs.lemmas.Bool.{false≢true, eq-eqb, eqb-true}
 use Rattle.book_audit.specs.declared.line.Line.{Line}
 use Rattle.sink_series.specs.Views.{StoredView}
 use Rattle.buffer_state.specs.State.{State, Chunk, chunk_at}
 use Rattle.buffer_state.specs.Steps.{CanAppend}
 use Rattle.buffer_state.specs.declared.limits.AppendFault.{AppendFault}
-use Rattle.buffer_state.specs.declared.limits.AppendFault.TheVariants.{TooLarge, Full, LastSerial}
 use Rattle.buffer_store.specs.Refusals.{of_plan}
+use Rattle.buffer_store.proofs.Plans.{never_fault}
 use Rattle.buffer_store.specs.declared.fault.BufferFault.{BufferFault}
 use Rattle.buffer_store.specs.declared.fault.BufferFault.TheVariants as fault
 
@@ -17,16 +17,11 @@ pub err_of : {T U : Type 0} (r : Result T BufferFault) (s : Result U BufferFault
 err_of r s e x one other q = (let same : e ≡ x = cc (sym one ∙ q) in other ∙ ap Err same)
 
 -- a plan's refusal isn't the device's in this call
-of_plan_not : (f : AppendFault) → of_plan f ≡ fault.Fault → ⊥
-of_plan_not TooLarge q = absurd (cc q)
-of_plan_not Full q = absurd (cc q)
-of_plan_not LastSerial q = absurd (cc q)
-
 pub plan_quiet : (failed : Bool) (p : Result ℕ AppendFault) (r : Result ℕ BufferFault) → (r ≡ Err fault.Failed) ↔ (failed ≡ true)
     → (failed ≡ false → (f : AppendFault) → p ≡ Err f → r ≡ Err (of_plan f)) → (failed ≡ false → (s : ℕ) → p ≡ Ok s → r ≡ Ok s) → r ≡ Err fault.Fault → ⊥
 plan_quiet true p r failed refused accepted q = cc (sym (failed.1 refl) ∙ q)
 plan_quiet false (Ok s) r failed refused accepted q = cc (sym (accepted refl s refl) ∙ q)
-plan_quiet false (Err f) r failed refused accepted q = of_plan_not f (cc (sym (refused refl f refl) ∙ q))
+plan_quiet false (Err f) r failed refused accepted q = never_fault f r (refused refl f refl) q
 
 -- where an append goes
 
@@ -41,10 +36,6 @@ pub below_of_plan : (c : State) (s : ℕ) → s ≤ c.next → chunk_at c c.next
 below_of_plan c s near free live =
     let ne : s ≢ c.next = λ e. false≢true (subst (λ (o : Option Chunk). IsSome o) (subst (λ (t : ℕ). chunk_at c t ≡ None) (sym e) free) live) in
     omega arith
-
-pub on_ok : {T E P : Type 0} (r : Result T E) → IsOk r → OnOk r P → P
-on_ok (Ok x) is p = p
-on_ok (Err e) is p = absurd (cc is)
 
 -- two lines are the same where all that they say is
 pub same_line : (a l : Line) (b : Bool) → b ≡ (nat_eq a.delivery l.delivery && (nat_eq a.serial l.serial && nat_eq a.count l.count)) → IsTrue b ↔ (a ≡ l)

@@ -36,6 +36,14 @@ at_below s q lt = ap is_eq (sym (nat_cmp_is s q Greater lt))
 pub at_above : (s q : ℕ) → s < q → is_at (nat_cmp s) q ≡ false
 at_above s q lt = ap is_eq (sym (nat_cmp_is s q Less lt))
 
+-- the test, turned
+pub other_way : (s q : ℕ) → is_at (nat_cmp s) q ≡ false → is_at (nat_cmp q) s ≡ false
+other_way s q off = by (is_at (nat_cmp q) s) refl
+  where
+    by : (b : Bool) → is_at (nat_cmp q) s ≡ b → b ≡ false
+    by false e = refl
+    by true e = absurd (true≢false (sym (at_itself s) ∙ ap (is_at (nat_cmp s)) (sym (at_same q s e)) ∙ off))
+
 -- `==` from the test, turned
 pub apart : (s q : ℕ) → is_at (nat_cmp s) q ≡ false → (q == s) ≡ false
 apart s q e = by (q == s) refl

@@ -47,7 +47,7 @@ removed_chunks (e ∷ es) s = by (is_at (nat_cmp s) e.0) (removed_chunks es s)
     by true rest = refl
     by false rest = ap (λ r. (e.0, e.1.chunk) ∷ r) rest
 
--- The slot of a serial after a change
+-- What a serial has after a change
 
 pub same_test : (s x y : ℕ) → is_at (nat_cmp s) x ≡ true → is_at (nat_cmp s) y ≡ eq_by_cmp nat_cmp x y
 same_test s x y h = ap (λ (t : ℕ). is_at (nat_cmp t) y) (at_same s x h)
@@ -56,20 +56,24 @@ pub there : {X : Type 0} (o : Option X) (v : X) → o ≡ Some v → IsSome o
 there None v e = absurd (cc e)
 there (Some x) v e = refl
 
-pub set_at : (slots : Slots) (s q : ℕ) (v w : Slot) → slot_at slots s ≡ Some v → slot_at (set_value (is_at (nat_cmp s)) slots w) q ≡ cond (is_at (nat_cmp s) q) (Some w) (slot_at slots q)
-set_at slots s q v w at = lookup-set_value (eq_by_cmp_equiv nat_cmp_total) (is_at (nat_cmp s)) (same_test s) q w slots (there _ v at)
+module _ {X : Type 0} where
+  pub set_at : (es : List (ℕ × X)) (s q : ℕ) (v w : X) → lookup (is_at (nat_cmp s)) es ≡ Some v
+      → lookup (is_at (nat_cmp q)) (set_value (is_at (nat_cmp s)) es w) ≡ cond (is_at (nat_cmp s) q) (Some w) (lookup (is_at (nat_cmp q)) es)
+  set_at es s q v w at = lookup-set_value (eq_by_cmp_equiv nat_cmp_total) (is_at (nat_cmp s)) (same_test s) q w es (there _ v at)
 
-pub removed_at : (slots : Slots) (s q : ℕ) → IsStrictlySortedBy nat_cmp (keys_of slots) → slot_at (remove_entry (is_at (nat_cmp s)) slots) q ≡ cond (is_at (nat_cmp s) q) None (slot_at slots q)
-removed_at slots s q rising = lookup-remove_entry (eq_by_cmp_equiv nat_cmp_total) (is_at (nat_cmp s)) (same_test s) q slots (IsDistinct-from_sorted nat_cmp _ rising)
+  pub removed_at : (es : List (ℕ × X)) (s q : ℕ) → IsStrictlySortedBy nat_cmp (keys_of es)
+      → lookup (is_at (nat_cmp q)) (remove_entry (is_at (nat_cmp s)) es) ≡ cond (is_at (nat_cmp s) q) None (lookup (is_at (nat_cmp q)) es)
+  removed_at es s q rising = lookup-remove_entry (eq_by_cmp_equiv nat_cmp_total) (is_at (nat_cmp s)) (same_test s) q es (IsDistinct-from_sorted nat_cmp _ rising)
 
-pub last_at : (slots : Slots) (s q : ℕ) (w : Slot) → slot_at (slots ++ (s, w) ∷ []) q ≡ option_map_or Some (slot_at slots q) (cond (is_at (nat_cmp q) s) (Some w) None)
-last_at [] s q w = refl
-last_at (e ∷ es) s q w = by (is_at (nat_cmp q) e.0) (last_at es s q w)
-  where
-    by : (b : Bool) → slot_at (es ++ (s, w) ∷ []) q ≡ option_map_or Some (slot_at es q) (cond (is_at (nat_cmp q) s) (Some w) None)
-        → cond b (Some e.1) (slot_at (es ++ (s, w) ∷ []) q) ≡ option_map_or Some (cond b (Some e.1) (slot_at es q)) (cond (is_at (nat_cmp q) s) (Some w) None)
-    by true rest = refl
-    by false rest = rest
+  pub last_at : (es : List (ℕ × X)) (s q : ℕ) (w : X)
+      → lookup (is_at (nat_cmp q)) (es ++ (s, w) ∷ []) ≡ option_map_or Some (lookup (is_at (nat_cmp q)) es) (cond (is_at (nat_cmp q) s) (Some w) None)
+  last_at [] s q w = refl
+  last_at (e ∷ es) s q w = by (is_at (nat_cmp q) e.0) (last_at es s q w)
+    where
+      by : (b : Bool) → lookup (is_at (nat_cmp q)) (es ++ (s, w) ∷ []) ≡ option_map_or Some (lookup (is_at (nat_cmp q)) es) (cond (is_at (nat_cmp q) s) (Some w) None)
+          → cond b (Some e.1) (lookup (is_at (nat_cmp q)) (es ++ (s, w) ∷ [])) ≡ option_map_or Some (cond b (Some e.1) (lookup (is_at (nat_cmp q)) es)) (cond (is_at (nat_cmp q) s) (Some w) None)
+      by true rest = refl
+      by false rest = rest
 
 -- What passes a test after a change
 

@@ -15,7 +15,7 @@ ghost use Rattle.buffer_state.specs.Views.{passes_at, IsEndOf};
 ghost use Rattle.buffer_state.specs.declared.chunk.Stage.TheVariants.{Staged, Queued, Claimed};
 
 use crate::chunk::{Chunk, Stage};
-use crate::limits::{AppendFault, Limits};
+use crate::limits::{AppendFault, GREATEST_SIZE, Limits};
 use crate::table::Table;
 use event_modes::Entries;
 use std::alloc::{AllocError, Allocator};
@@ -117,7 +117,7 @@ impl<A: Allocator + Copy> Chunks<A> {
         ensures free { OnOk result (chunk_at self.now self.now.next ≡ None) }
     {
         let size = entries.as_bytes().len() as u64;
-        let limit = limits.chunk.min(16_775_168);
+        let limit = limits.chunk.min(GREATEST_SIZE as u64);
         if size > limit {
             return Err(AppendFault::TooLarge);
         }

@@ -11,5 +11,5 @@ mod tags;
 
 pub use chunk::{Chunk, Stage};
 pub use chunks::{Chunks, Ready};
-pub use limits::{AppendFault, Limits};
+pub use limits::{AppendFault, GREATEST_SIZE, Limits};
 pub use live::{ChunkFacts, LiveChunks, LiveIter};

@@ -1,7 +1,10 @@
 //! How much a buffer takes, and why a step is refused.
 
+/// How many bytes of entries a chunk takes at most, whatever is set.
+pub const GREATEST_SIZE: usize = 16_775_168;
+
 /// How many bytes of entries a chunk takes, and all chunks of a buffer together.
-/// Whatever is set, a chunk takes at most 16,775,168 bytes.
+/// Whatever is set, a chunk takes at most `GREATEST_SIZE` bytes.
 #[derive(Clone, Copy, Debug, PartialEq, Eq)]
 pub struct Limits {
     pub chunk: u64,

@@ -4,12 +4,13 @@ use Rattle.std.specs.List.{concat}
 use Rattle.std.specs.Int.{w16, w32, w64, to_be_bytes}
 use Rattle.std.proofs.lemmas.List.{nil_from_length, append-nil}
 use Rattle.event_modes.specs.Rows.{AreEntries}
-use Rattle.chunk_journal.specs.Records.{Record, Seal, Append, Queue, Purge, body_of, record_bytes, numbered, longest_body, HasFields}
+use Rattle.event_modes.proofs.Stored.{no_longer}
+use Rattle.chunk_journal.specs.Records.{Record, Seal, Append, Queue, Purge, append_fixed, append_head, body_of, record_bytes, numbered, longest_body, HasFields}
 use Rattle.chunk_journal.specs.Fields.{Fields, number_at, parts_from}
 use Rattle.chunk_journal.specs.Reading.{IsAppendOf, IsFramed}
 use Rattle.chunk_journal.specs.Journal.{IsBad}
 use Rattle.chunk_journal.proofs.Numbers.{AreBytes, wide64, bytes_behind, number_parts, fields_parts, fields_again}
-use Rattle.chunk_journal.proofs.Frames.{entries_below, append_length, framed_whole, one_frame, record_framed}
+use Rattle.chunk_journal.proofs.Frames.{append_length, framed_whole, one_frame, record_framed}
 
 -- the fields that an Append is read back as
 pub record ReadsBack (item : Record) (bytes : List ℕ) : Type 0 where
@@ -23,7 +24,7 @@ pub record ReadsBack (item : Record) (bytes : List ℕ) : Type 0 where
 pub append_back : (item : Record) (bytes : List ℕ) → length bytes ≤ longest_body → IsAppendOf item bytes → ReadsBack item bytes
 append_back (Seal next) bytes le is = absurd is
 append_back (Append serial tag entries) bytes le is =
-    let k = entries_below entries is.0.stored in
+    let k = no_longer entries is.0.stored in
     let n : length bytes ≡ 14 + length tag + length (concat entries) = ap length is.1 ∙ omega (arith, append_length serial tag entries) in
     record {
       fields = record { serial = serial; tag = tag; count = length entries; stored = concat entries };
@@ -80,23 +81,45 @@ no_parse bytes body rest f none = record {
   none = λ item more is e. none item is.fields (one_frame bytes body (body_of item) rest more f (record_framed item more bytes is e)).0;
 }
 
--- the writes of an Append, one after another
-pub appended_parts : (old a b c d e f g x1 x2 x3 x4 x5 x6 : List ℕ) → a ≡ old ++ x1 → b ≡ a ++ 2 ∷ [] → c ≡ b ++ x2 → d ≡ c ++ x3 → e ≡ d ++ x4 → f ≡ e ++ x5 → g ≡ f ++ x6
-    → g ≡ old ++ (x1 ++ (2 ∷ (x2 ++ (x3 ++ (x4 ++ (x5 ++ x6))))))
-appended_parts old a b c d e f g x1 x2 x3 x4 x5 x6 p q r s t u v = rw (v, u, t, s, r, q, p) (simp append_assoc)
+-- ---- an Append as it is written
 
--- they are an Append's bytes
-pub append_written : (old a b c d e f g x1 x2 x3 x5 stored : List ℕ) (serial : ℕ) (tag : List ℕ) (entries : List (List ℕ)) (n k : ℕ)
-    → a ≡ old ++ x1 → b ≡ a ++ 2 ∷ [] → c ≡ b ++ x2 → d ≡ c ++ x3 → e ≡ d ++ tag → f ≡ e ++ x5 → g ≡ f ++ stored
-    → x1 ≡ to_be_bytes w32 n → x2 ≡ to_be_bytes w64 serial → x3 ≡ to_be_bytes w16 (length tag) → x5 ≡ to_be_bytes w32 k
-    → n ≡ 15 + length tag + length stored → k ≡ length entries → stored ≡ concat entries
-    → g ≡ old ++ record_bytes (Append serial tag entries)
-append_written old a b c d e f g x1 x2 x3 x5 stored serial tag entries n k p1 p2 p3 p4 p5 p6 p7 q1 q2 q3 q5 r s t =
-    let m : n ≡ length (body_of (Append serial tag entries)) = omega (arith, append_length serial tag entries, ap length t) in
-    appended_parts old a b c d e f g x1 x2 x3 tag x5 stored p1 p2 p3 p4 p5 p6 p7
-    ∙ written old x1 x2 x3 x5 (to_be_bytes w32 (length (body_of (Append serial tag entries)))) (to_be_bytes w64 serial) (to_be_bytes w16 (length tag)) (to_be_bytes w32 (length entries)) tag stored (concat entries)
-    (q1 ∙ ap (to_be_bytes w32) m) q2 q3 (q5 ∙ ap (to_be_bytes w32) s) t
+-- a record is what stands before its entries, and these
+pub record_split : (serial : ℕ) (tag : List ℕ) (entries : List (List ℕ))
+    → record_bytes (Append serial tag entries) ≡ append_head serial tag (length entries) (length (concat entries)) ++ concat entries
+record_split serial tag entries =
+    let a = to_be_bytes w64 serial in
+    let b = to_be_bytes w16 (length tag) in
+    let d = to_be_bytes w32 (length entries) in
+    let e = concat entries in
+    let front : List ℕ = 2 ∷ (a ++ (b ++ (tag ++ d))) in
+    let split : body_of (Append serial tag entries) ≡ front ++ e = ap (λ (z : List ℕ). 2 ∷ z)
+    (sym (append_assoc a (b ++ (tag ++ d)) e ∙ ap (λ (z : List ℕ). a ++ z) (append_assoc b (tag ++ d) e ∙ ap (λ (z : List ℕ). b ++ z) (append_assoc tag d e)))) in
+    ap (λ (n : ℕ). to_be_bytes w32 n ++ body_of (Append serial tag entries)) (append_length serial tag entries)
+    ∙ ap (λ (z : List ℕ). to_be_bytes w32 (append_fixed + length tag + length e) ++ z) split
+    ∙ sym (append_assoc (to_be_bytes w32 (append_fixed + length tag + length e)) front e)
+
+-- the writes of a head, one after another
+head_parts : (old a b c d e f x1 x2 x3 x4 x5 : List ℕ) → a ≡ old ++ x1 → b ≡ a ++ 2 ∷ [] → c ≡ b ++ x2 → d ≡ c ++ x3 → e ≡ d ++ x4 → f ≡ e ++ x5
+    → f ≡ old ++ (x1 ++ (2 ∷ (x2 ++ (x3 ++ (x4 ++ x5)))))
+head_parts old a b c d e f x1 x2 x3 x4 x5 p q r s t u = rw (u, t, s, r, q, p) (simp append_assoc)
+
+-- they are the head
+pub head_written : (old a b c d e f x1 x2 x3 x5 : List ℕ) (serial : ℕ) (tag : List ℕ) (count size : ℕ)
+    → a ≡ old ++ x1 → b ≡ a ++ 2 ∷ [] → c ≡ b ++ x2 → d ≡ c ++ x3 → e ≡ d ++ tag → f ≡ e ++ x5
+    → x1 ≡ to_be_bytes w32 (append_fixed + length tag + size) → x2 ≡ to_be_bytes w64 serial → x3 ≡ to_be_bytes w16 (length tag) → x5 ≡ to_be_bytes w32 count
+    → f ≡ old ++ append_head serial tag count size
+head_written old a b c d e f x1 x2 x3 x5 serial tag count size p1 p2 p3 p4 p5 p6 q1 q2 q3 q5 =
+    head_parts old a b c d e f x1 x2 x3 tag x5 p1 p2 p3 p4 p5 p6
+    ∙ written old x1 x2 x3 x5 (to_be_bytes w32 (append_fixed + length tag + size)) (to_be_bytes w64 serial) (to_be_bytes w16 (length tag)) (to_be_bytes w32 count) tag q1 q2 q3 q5
   where
-    written : (old x1 x2 x3 x5 y1 y2 y3 y5 tag stored all : List ℕ) → x1 ≡ y1 → x2 ≡ y2 → x3 ≡ y3 → x5 ≡ y5 → stored ≡ all
-        → old ++ (x1 ++ (2 ∷ (x2 ++ (x3 ++ (tag ++ (x5 ++ stored)))))) ≡ old ++ (y1 ++ (2 ∷ (y2 ++ (y3 ++ (tag ++ (y5 ++ all))))))
-    written old x1 x2 x3 x5 y1 y2 y3 y5 tag stored all a b c d e = cc
+    written : (old x1 x2 x3 x5 y1 y2 y3 y5 tag : List ℕ) → x1 ≡ y1 → x2 ≡ y2 → x3 ≡ y3 → x5 ≡ y5
+        → old ++ (x1 ++ (2 ∷ (x2 ++ (x3 ++ (tag ++ x5))))) ≡ old ++ (y1 ++ (2 ∷ (y2 ++ (y3 ++ (tag ++ y5)))))
+    written old x1 x2 x3 x5 y1 y2 y3 y5 tag a b c d = cc
+
+-- the head and then the entries are an Append's bytes
+pub append_written : (old mid new stored : List ℕ) (serial : ℕ) (tag : List ℕ) (entries : List (List ℕ)) (count : ℕ)
+    → mid ≡ old ++ append_head serial tag count (length stored) → new ≡ mid ++ stored → count ≡ length entries → stored ≡ concat entries → new ≡ old ++ record_bytes (Append serial tag entries)
+append_written old mid new stored serial tag entries count head rest counted all =
+    rest ∙ ap (λ (z : List ℕ). z ++ stored) head ∙ append_assoc old (append_head serial tag count (length stored)) stored
+    ∙ ap (λ (n : ℕ). old ++ (append_head serial tag n (length stored) ++ stored)) counted ∙ ap (λ (z : List ℕ). old ++ (append_head serial tag (length entries) (length z) ++ z)) all
+    ∙ ap (λ (z : List ℕ). old ++ z) (sym (record_split serial tag entries))

@@ -1,10 +1,9 @@
 -- A length and as many bytes: what it says, and that it says one thing only.
-use Rattle.std.proofs.Common.{◌≡◌, ℕ, ◌+◌, ◌^◌, ◌<◌, ◌≤◌, List, [], ◌∷◌, ◌++◌, length, take, drop, Some, refl, sym, ap, subst, ◌∙◌, arith, inl, inr}
-use Rattle.std.specs.List.{AllByRecursion, concat}
+use Rattle.std.proofs.Common.{◌≡◌, ℕ, ◌+◌, ◌^◌, ◌<◌, ◌≤◌, List, ◌++◌, length, take, drop, Some, refl, sym, ap, subst, ◌∙◌, arith, inl, inr}
+use Rattle.std.specs.List.{concat}
 use Rattle.std.specs.Int.{w32, to_be_bytes}
 use Rattle.std.proofs.lemmas.List.{take_at, drop_at, length-append, length-take-le, take-append-drop}
-use Rattle.event_modes.specs.Rows.{IsStored}
-use Rattle.chunk_journal.specs.Records.{Record, Seal, Append, Queue, Purge, framed, body_of, record_bytes, longest_body, IsRecord}
+use Rattle.chunk_journal.specs.Records.{Record, Seal, Append, Queue, Purge, append_fixed, framed, body_of, record_bytes, longest_body, IsRecord}
 use Rattle.chunk_journal.specs.Journal.{IsLength, IsTorn, IsBad, said_length}
 use Rattle.chunk_journal.specs.Reading.{IsFramed}
 use Rattle.chunk_journal.specs.Fields.{number_at}
@@ -63,14 +62,6 @@ bad_length bytes whole bad = record {
       bad (subst IsLength (sym (ap said_length e ∙ said_of (body_of item) more (omega (arith, n.short)))) n);
 }
 
--- stored entries have at least one byte each
-pub entries_below : (entries : List (List ℕ)) → AllByRecursion IsStored entries → length entries ≤ length (concat entries)
-entries_below [] all = omega arith
-entries_below (entry ∷ entries) all =
-    let e = entries_below entries all.1 in
-    let n = ap length all.0.kept.is_stored in
-    omega (arith, length-append entry (concat entries))
-
 -- as many bytes as the length says are a frame
 pub frame_split : (bytes behind front back : List ℕ) (n : ℕ) → AreBytes bytes → number_at w32 bytes ≡ Some (n, behind) → (n ≡ 0 → ⊥) → n ≤ longest_body
     → n ≤ length behind → front ≡ take n behind → back ≡ drop n behind → IsFramed bytes front back
@@ -83,5 +74,5 @@ frame_split bytes behind front back n fits e some short long f b =
     }
 
 -- how long an Append is
-pub append_length : (serial : ℕ) (tag : List ℕ) (entries : List (List ℕ)) → length (body_of (Append serial tag entries)) ≡ 15 + length tag + length (concat entries)
+pub append_length : (serial : ℕ) (tag : List ℕ) (entries : List (List ℕ)) → length (body_of (Append serial tag entries)) ≡ append_fixed + length tag + length (concat entries)
 append_length serial tag entries = omega (arith, length-append tag (to_be_bytes w32 (length entries) ++ concat entries))

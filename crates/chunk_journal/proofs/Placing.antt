@@ -4,21 +4,18 @@ use Rattle.std.specs.Prelude.{◌≢◌}
 use Rattle.std.specs.Option.{option_map_or}
 use Rattle.std.specs.List.{AllByRecursion, concat}
 use Rattle.std.specs.List.Sorted.{IsStrictlySortedBy}
-use Rattle.std.specs.Map.{lookup, set_value, remove_entry, keys_of}
+use Rattle.std.specs.Map.{keys_of}
 use Rattle.std.specs.Ordering.{nat_cmp}
 use Rattle.std.specs.BTreeMap.{is_at}
 use Rattle.std.proofs.lemmas.Bool.{true≢false}
-use Rattle.std.proofs.lemmas.Cmp.{nat_cmp_total, eq_by_cmp_equiv}
 use Rattle.std.proofs.lemmas.List.{flat_map_more, length-append, length-drop, length-take, take-append-le, drop-append-le}
 use Rattle.std.proofs.lemmas.List.Folds.{concat-append}
-use Rattle.std.proofs.lemmas.Map.{lookup-set_value, lookup-remove_entry}
-use Rattle.std.proofs.lemmas.Map.Keys.{IsDistinct-from_sorted}
 use Rattle.buffer_state.specs.declared.chunk.Stage.{Stage}
 use Rattle.buffer_state.specs.declared.chunk.Stage.TheVariants.{Staged, Queued}
 use Rattle.buffer_state.specs.State.{Chunk, State, chunk_at, size}
 use Rattle.buffer_state.specs.Steps.{with_chunk, appended, added, restaged, removed}
-use Rattle.buffer_state.proofs.Serials.{at_same, at_itself}
-use Rattle.buffer_state.proofs.Slots.{same_test, there}
+use Rattle.buffer_state.proofs.Serials.{at_same, at_itself, other_way}
+use Rattle.buffer_state.proofs.Slots.{set_at, removed_at, last_at}
 use Rattle.chunk_journal.specs.declared.places.Extent.{Extent}
 use Rattle.chunk_journal.specs.Records.{Seal, Append, Queue, Purge}
 use Rattle.chunk_journal.specs.Meaning.{after}
@@ -70,37 +67,9 @@ ends_within seen entries end ends =
     let le = ends.1 in
     omega (arith, n, t, d, le)
 
--- ---- a chunk under its serial after a change
-
-module _ {X : Type 0} where
-  set_at : (es : List (ℕ × X)) (s q : ℕ) (v w : X) → lookup (is_at (nat_cmp s)) es ≡ Some v
-      → lookup (is_at (nat_cmp q)) (set_value (is_at (nat_cmp s)) es w) ≡ cond (is_at (nat_cmp s) q) (Some w) (lookup (is_at (nat_cmp q)) es)
-  set_at es s q v w at = lookup-set_value (eq_by_cmp_equiv nat_cmp_total) (is_at (nat_cmp s)) (same_test s) q w es (there (lookup (is_at (nat_cmp s)) es) v at)
-
-  removed_at : (es : List (ℕ × X)) (s q : ℕ) → IsStrictlySortedBy nat_cmp (keys_of es)
-      → lookup (is_at (nat_cmp q)) (remove_entry (is_at (nat_cmp s)) es) ≡ cond (is_at (nat_cmp s) q) None (lookup (is_at (nat_cmp q)) es)
-  removed_at es s q rising = lookup-remove_entry (eq_by_cmp_equiv nat_cmp_total) (is_at (nat_cmp s)) (same_test s) q es (IsDistinct-from_sorted nat_cmp _ rising)
-
-  last_at : (es : List (ℕ × X)) (s q : ℕ) (w : X)
-      → lookup (is_at (nat_cmp q)) (es ++ (s, w) ∷ []) ≡ option_map_or Some (lookup (is_at (nat_cmp q)) es) (cond (is_at (nat_cmp q) s) (Some w) None)
-  last_at [] s q w = refl
-  last_at (e ∷ es) s q w = by (is_at (nat_cmp q) e.0) (last_at es s q w)
-    where
-      by : (b : Bool) → lookup (is_at (nat_cmp q)) (es ++ (s, w) ∷ []) ≡ option_map_or Some (lookup (is_at (nat_cmp q)) es) (cond (is_at (nat_cmp q) s) (Some w) None)
-          → cond b (Some e.1) (lookup (is_at (nat_cmp q)) (es ++ (s, w) ∷ [])) ≡ option_map_or Some (cond b (Some e.1) (lookup (is_at (nat_cmp q)) es)) (cond (is_at (nat_cmp q) s) (Some w) None)
-      by true rest = refl
-      by false rest = rest
-
 -- another serial, by its test
 pub others_at : (s q : ℕ) → is_at (nat_cmp s) q ≡ false → q ≢ s
 others_at s q off e = true≢false (sym (at_itself s) ∙ ap (is_at (nat_cmp s)) (sym e) ∙ off)
-
-other_way : (s q : ℕ) → is_at (nat_cmp s) q ≡ false → is_at (nat_cmp q) s ≡ false
-other_way s q off = by (is_at (nat_cmp q) s) refl
-  where
-    by : (b : Bool) → is_at (nat_cmp q) s ≡ b → b ≡ false
-    by false e = refl
-    by true e = absurd (others_at s q off (at_same q s e))
 
 -- ---- the entries of a live chunk after a record
 

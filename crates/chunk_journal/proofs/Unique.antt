@@ -4,12 +4,13 @@ use Rattle.std.specs.List.{AllByRecursion, concat}
 use Rattle.std.specs.Int.{w64, to_be_bytes}
 use Rattle.msgpack_bytes.specs.Laws.{HasOneFront}
 use Rattle.event_modes.specs.Rows.{IsStored}
+use Rattle.event_modes.proofs.Stored.{no_longer}
 use Rattle.chunk_journal.specs.Records.{Record, Seal, Append, Queue, Purge, append_fields, body_of, record_bytes, numbered, longest_body, IsAppend, IsRecord}
 use Rattle.chunk_journal.specs.Fields.{Fields}
 use Rattle.chunk_journal.specs.Journal.{IsTorn, IsJournal, journal_bytes}
 use Rattle.chunk_journal.proofs.Numbers.{wide64, same_number, is_some, fields_again}
 use Rattle.chunk_journal.specs.Fields.{parts_from}
-use Rattle.chunk_journal.proofs.Frames.{same_frame, framed_whole, record_framed, entries_below, append_length}
+use Rattle.chunk_journal.proofs.Frames.{same_frame, framed_whole, record_framed, append_length}
 
 -- ---- one record
 
@@ -33,8 +34,8 @@ other_kind a b x y e = ap (λ (z : List ℕ). get_or z 0 0) e
 same_append : HasOneFront → (s t : ℕ) (a b : List ℕ) (one other : List (List ℕ)) → IsAppend s a one → IsAppend t b other → length (body_of (Append s a one)) ≤ longest_body → length (body_of (Append t b other)) ≤ longest_body
     → append_fields s a one ≡ append_fields t b other → Append s a one ≡ Append t b other
 same_append law s t a b one other p q m n e =
-    let i = fields_again s a (length one) (concat one) p.serial_fits p.tag_fits (omega (arith, entries_below one p.stored, append_length s a one)) in
-    let j = fields_again t b (length other) (concat other) q.serial_fits q.tag_fits (omega (arith, entries_below other q.stored, append_length t b other)) in
+    let i = fields_again s a (length one) (concat one) p.serial_fits p.tag_fits (omega (arith, no_longer one p.stored, append_length s a one)) in
+    let j = fields_again t b (length other) (concat other) q.serial_fits q.tag_fits (omega (arith, no_longer other q.stored, append_length t b other)) in
     let f : fields s a one ≡ fields t b other = is_some (fields s a one) (fields t b other) (sym i ∙ ap parts_from e ∙ j) in
     let x : s ≡ t = ap (λ (z : Fields). z.serial) f in
     let y : a ≡ b = ap (λ (z : Fields). z.tag) f in

@@ -1,5 +1,5 @@
 -- The records of a journal, and how each is spelled.
-use Rattle.std.specs.Prelude.{ℕ, ◌<◌, ◌≤◌, ◌^◌, List, ◌∷◌, ◌++◌, length}
+use Rattle.std.specs.Prelude.{ℕ, ◌+◌, ◌<◌, ◌≤◌, ◌^◌, List, ◌∷◌, ◌++◌, length}
 use Rattle.std.specs.List.{AllByRecursion, concat}
 use Rattle.std.specs.Int.{w16, w32, w64, to_be_bytes}
 use Rattle.event_modes.specs.Message.{longest_tag}
@@ -16,16 +16,19 @@ pub data Record : Type 0 where
 abbrev pub longest_body : ℕ
 longest_body = 16777216
 
--- a record's kind is the first byte behind its length
+-- the kind of a Seal; a record's kind is the first byte behind its length
 abbrev pub seal_kind : ℕ
 seal_kind = 1
 
+-- the kind of an Append
 abbrev pub append_kind : ℕ
 append_kind = 2
 
+-- the kind of a Queue
 abbrev pub queue_kind : ℕ
 queue_kind = 3
 
+-- the kind of a Purge
 abbrev pub purge_kind : ℕ
 purge_kind = 4
 
@@ -37,6 +40,15 @@ numbered kind number = kind ∷ to_be_bytes w64 number
 abbrev pub append_fields : ℕ → List ℕ → List (List ℕ) → List ℕ
 append_fields serial tag entries =
     to_be_bytes w64 serial ++ (to_be_bytes w16 (length tag) ++ (tag ++ (to_be_bytes w32 (length entries) ++ concat entries)))
+
+-- how many bytes an Append has behind its length beside its tag and its entries: the kind, the serial, the tag's length, and the entries' count
+abbrev pub append_fixed : ℕ
+append_fixed = 15
+
+-- what an Append has before its entries, which are so many and have so many bytes
+abbrev pub append_head : ℕ → List ℕ → ℕ → ℕ → List ℕ
+append_head serial tag count size =
+    to_be_bytes w32 (append_fixed + length tag + size) ++ (append_kind ∷ (to_be_bytes w64 serial ++ (to_be_bytes w16 (length tag) ++ (tag ++ to_be_bytes w32 count))))
 
 -- what stands behind the length: the kind, and then the fields; each number has its highest byte first
 abbrev pub body_of : Record → List ℕ

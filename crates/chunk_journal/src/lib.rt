@@ -18,6 +18,6 @@ pub use laws::{
 };
 pub use outline::{Outline, Outlined};
 pub use places::{Extent, Places};
-pub use record::{APPEND_KIND, Record};
+pub use record::Record;
 pub use replaying::{Replayed, replay};
-pub use writing::put_record;
+pub use writing::{put_append_head, put_record};

@@ -12,11 +12,9 @@ ghost use Rattle.chunk_journal.specs.declared.fault.ReplayError.TheVariants.{Not
 
 use crate::fault::ReplayError;
 use crate::reading::{Next, Parsed, next_record};
-use buffer_state::{Chunks, Stage};
+use buffer_state::{Chunks, GREATEST_SIZE, Stage};
 use event_modes::Entries;
 use std::alloc::{AllocError, Allocator};
-
-const GREATEST_SIZE: usize = 16_775_168;
 
 /// What a journal means, and how far it reaches.
 #[derive(Drop)]
@@ -105,6 +103,7 @@ fn take_record<A: Allocator + Copy>(
     }
 }
 
+// Ends the chunks that the generation begins with, unless one Seal was there, or the next serial falls.
 pub fn take_seal<A: Allocator + Copy>(draft: &mut Draft<A>, next: u64) -> bool
     ensures { Takes (place_of draft.old) (Seal next) (place_of draft.new) result }
 {
@@ -116,6 +115,7 @@ pub fn take_seal<A: Allocator + Copy>(draft: &mut Draft<A>, next: u64) -> bool
     true
 }
 
+// Appends the entries, unless the serial is out of order or the chunk doesn't take them.
 pub fn take_append<A: Allocator + Copy>(
     draft: &mut Draft<A>,
     serial: u64,
@@ -139,6 +139,7 @@ pub fn take_append<A: Allocator + Copy>(
     Ok(true)
 }
 
+// Queues the chunk, unless it isn't staged or, before the Seal, isn't the last one told.
 pub fn take_queue<A: Allocator + Copy>(
     draft: &mut Draft<A>,
     serial: u64,
@@ -156,6 +157,7 @@ pub fn take_queue<A: Allocator + Copy>(
     Ok(true)
 }
 
+// Removes the chunk, unless there was no Seal or it isn't queued.
 pub fn take_purge<A: Allocator + Copy>(draft: &mut Draft<A>, serial: u64) -> bool
     ensures { Takes (place_of draft.old) (Purge serial) (place_of draft.new) result }
 {

@@ -2,12 +2,18 @@
 
 ghost use Rattle.std.specs.Prelude.{◌≡◌, ◌≤◌, ◌<◌, ◌+◌, ◌++◌, ℕ, List, length, OnOk, OnErr, vec_len, vec_capacity};
 ghost use Rattle.event_modes.specs.Message.{longest_tag};
-ghost use Rattle.chunk_journal.specs.Records.{Append, numbered, framed, body_of, record_bytes, longest_body, IsRecord};
+ghost use Rattle.chunk_journal.specs.Records.{Append, append_fixed, append_head, numbered, framed, body_of, record_bytes, longest_body, IsRecord};
 ghost use Rattle.chunk_journal.specs.Spelled.{record_of, HasShortTag};
 
 use crate::record::{APPEND_KIND, PURGE_KIND, QUEUE_KIND, Record, SEAL_KIND};
 use event_modes::Entries;
 use std::alloc::{AllocError, Allocator};
+
+// A record's length has so many bytes.
+const LENGTH_SIZE: usize = 4;
+
+// An Append has so many bytes behind its length beside its tag and its entries: the kind, the serial, the tag's length and the entries' count.
+const APPEND_FIXED: usize = 15;
 
 /// Appends a record: a length of four bytes, the kind, and the fields, each number with its highest byte first.
 /// Asks for a tag of at most 1,024 bytes and for at most 16,777,216 bytes behind the length.
@@ -65,14 +71,39 @@ fn put_append<A: Allocator, B: Allocator>(
     ensures means { IsRecord (Append serial tag.now entries.now) }
 {
     let stored = entries.as_bytes();
-    let length = 15 + tag.len() + stored.len();
-    out.reserve(4 + length)?;
+    out.reserve(LENGTH_SIZE + APPEND_FIXED + tag.len() + stored.len())?;
+    put_append_head(out, serial, tag, entries.count(), stored.len())?;
+    out.extend_from_slice(stored)?;
+    Ok(())
+}
+
+/// Appends what an Append has before its entries, which are so many and have so many bytes.
+/// Asks for a tag of at most 1,024 bytes, for at most 16,777,216 bytes behind the length, and for no more entries than bytes.
+///
+/// The error is want of memory, comes only where `out` had no room, and leaves `out` as it was.
+pub fn put_append_head<A: Allocator>(
+    out: &mut Vec<u8, A>,
+    serial: u64,
+    tag: &[u8],
+    count: usize,
+    size: usize,
+) -> Result<(), AllocError>
+    requires tag { length tag.now ≤ longest_tag }
+    requires short { append_fixed + length tag.now + size ≤ longest_body }
+    requires count { count ≤ size }
+    ensures ok { OnOk result (out.new.items ≡ out.old.items ++ append_head serial tag.now count size) }
+    ensures err { OnErr result (out.new.items ≡ out.old.items) }
+    ensures full { OnErr result (vec_capacity out.old
+        < vec_len out.old + length (append_head serial tag.now count size)) }
+    ensures kept { vec_capacity out.old ≤ vec_capacity out.new }
+{
+    let length = APPEND_FIXED + tag.len() + size;
+    out.reserve(LENGTH_SIZE + APPEND_FIXED + tag.len())?;
     out.extend_from_slice(&(length as u32).to_be_bytes())?;
     out.push_reserved(APPEND_KIND);
     out.extend_from_slice(&serial.to_be_bytes())?;
     out.extend_from_slice(&(tag.len() as u16).to_be_bytes())?;
     out.extend_from_slice(tag)?;
-    out.extend_from_slice(&(entries.count() as u32).to_be_bytes())?;
-    out.extend_from_slice(stored)?;
+    out.extend_from_slice(&(count as u32).to_be_bytes())?;
     Ok(())
 }

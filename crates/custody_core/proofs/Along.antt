@@ -1,6 +1,7 @@
 -- Events that are kept along a branch above a rank: in a sink, in a chunk which ranks so high, or by all to which a chunk that ranks so high was passed on.
 use Rattle.std.proofs.Common.{◌≡◌, ℕ, ◌+◌, ◌<◌, ◌≤◌, true, List, Some, slice_get, refl, sym, subst, inl, inr, arith, Contains}
 use Rattle.custody_store.specs.Buffers.{Event, IsInChunk}
+use Rattle.custody_store.proofs.Members.{get-contains}
 use Rattle.message_book.specs.Book.{Message}
 use Rattle.message_book.specs.declared.sender.Sender.{Sender}
 use Rattle.message_book.specs.declared.sender.Sender.TheVariants as sender
@@ -8,7 +9,6 @@ use Rattle.relay_net.specs.Addresses.{Address}
 use Rattle.relay_net.specs.Network.{Network}
 use Rattle.kept_branches.specs.Branches.{Reaches, IsFromBuffer, KeepsAlong, has, passed, EachKeeps}
 use Rattle.custody_core.proofs.Serials.{event_of, and_some}
-use Rattle.custody_core.proofs.Lists.{get-contains}
 use Rattle.custody_core.proofs.Safe.{Buffers, Ranking, KeepsAt, IsHeldFrom, lower}
 
 -- The message of this number was sent from the chunk with this id, with the entry under this tag, and acknowledged.

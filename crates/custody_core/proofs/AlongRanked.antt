@@ -10,7 +10,8 @@ use Rattle.relay_net.specs.Addresses.{Address}
 use Rattle.relay_net.specs.Network.{Network, address_of_client}
 use Rattle.relay_net.specs.declared.address.Entrance.{Entrance}
 use Rattle.custody_steps.specs.World.{World}
-use Rattle.custody_core.proofs.Serials.{event_of, some_and, and_some}
+use Rattle.kept_branches.proofs.Lists.{some_and}
+use Rattle.custody_core.proofs.Serials.{event_of, and_some}
 use Rattle.custody_core.proofs.Safe.{Buffers, Ranking, KeepsAt}
 use Rattle.custody_core.proofs.Ranked.{Labelling, rank_of, Counts, IsRanked}
 use Rattle.custody_core.proofs.Sendings.{Follow}

@@ -6,6 +6,7 @@ use Rattle.std.proofs.lemmas.List.Elements.{Contains-append_right}
 use Rattle.std.specs.Option.{option_and_then, option_map_or}
 use Rattle.custody_store.specs.declared.chunk.Stage.TheVariants.{Staged, Claimed}
 use Rattle.custody_store.specs.Buffers.{Chunk, BufferState, events_of, started_again}
+use Rattle.custody_store.proofs.Members.{get-contains}
 use Rattle.message_book.specs.Book.{Delivery, ended}
 use Rattle.message_book.specs.declared.sender.Sender.TheVariants as sender
 use Rattle.relay_conf.specs.declared.output.Output.{Output}
@@ -16,9 +17,11 @@ use Rattle.custody_steps.specs.World.{World, with_buffer}
 use Rattle.custody_steps.specs.Steps.{Allowed, effect, Forwards, Stores, DropsOldest, HasQueued, with_stored, forwarded_to, output_named}
 use Rattle.step_lines.specs.declared.step.ChunkName.{ChunkName}
 use Rattle.step_lines.specs.declared.step.Step.TheVariants as step
-use Rattle.custody_core.proofs.Serials.{event_of, some_and}
+use Rattle.kept_branches.proofs.Lists.{some_and}
+use Rattle.loss_rules.proofs.Members.{contains-map}
+use Rattle.custody_core.proofs.Serials.{event_of}
 use Rattle.routed_tags.specs.Routed.{SendsTo}
-use Rattle.custody_core.proofs.Lists.{get-map, get-contains, map-contains}
+use Rattle.custody_core.proofs.Lists.{get-map}
 use Rattle.custody_core.proofs.Safe.{Ranking, KeepsAt}
 use Rattle.custody_core.proofs.Ranked.{Labelling, IsTaken, IsKnownDelivery, IsIdOf, IsRanked}
 use Rattle.custody_core.proofs.Going.{IsLike}
@@ -86,7 +89,7 @@ written_at net labelled ranks clock w is name P place chunk is_place at claimed 
         buffer = name.buffer;
         tag = chunk.tag;
         borne = borne;
-        held = inl (rw sink_is (Contains-append_right (w.buffers place name.buffer).sink (events_of chunk.tag chunk.entries) (event_of chunk.tag origin.entry) (map-contains (λ e. event_of chunk.tag e) chunk.entries origin.entry inside)));
+        held = inl (rw sink_is (Contains-append_right (w.buffers place name.buffer).sink (events_of chunk.tag chunk.entries) (event_of chunk.tag origin.entry) (contains-map (λ e. event_of chunk.tag e) chunk.entries origin.entry inside)));
       },
     ))
 

@@ -6,6 +6,7 @@ use Rattle.std.specs.Option.{option_and_then, option_map_or}
 use Rattle.custody_store.specs.declared.chunk.Stage.{Stage}
 use Rattle.custody_store.specs.declared.chunk.Stage.TheVariants.{Staged, Queued, Claimed}
 use Rattle.custody_store.specs.Buffers.{Chunk, BufferState, events_of, without_oldest, started_again}
+use Rattle.custody_store.proofs.Members.{contains-get}
 use Rattle.message_book.specs.Book.{Message, Delivery, Told, ended}
 use Rattle.message_book.specs.declared.sender.Sender.TheVariants as sender
 use Rattle.relay_conf.specs.declared.output.Server.{Server}
@@ -18,8 +19,10 @@ use Rattle.step_lines.specs.declared.step.ChunkName.{ChunkName}
 use Rattle.step_lines.specs.declared.step.Step.TheVariants as step
 use Rattle.custody_steps.specs.World.{World, with_buffer}
 use Rattle.custody_steps.specs.Steps.{Allowed, effect, CanBegin, IsAnswered, Forwards, Stores, GivesUp, DropsOldest, HasQueued, with_named, with_stored, output_named, forwarded_to, tag_of}
-use Rattle.custody_core.proofs.Serials.{event_of, some_and}
-use Rattle.custody_core.proofs.Lists.{get-push, get-more, get-set, get-after_set, get-map, contains-get, map-contains}
+use Rattle.kept_branches.proofs.Lists.{some_and}
+use Rattle.loss_rules.proofs.Members.{contains-map}
+use Rattle.custody_core.proofs.Serials.{event_of}
+use Rattle.custody_core.proofs.Lists.{get-push, get-more, get-set, get-after_set, get-map}
 use Rattle.custody_core.proofs.Safe.{Ranking, KeepsAt}
 use Rattle.custody_core.proofs.Ranked.{Labelling, IsRanked}
 use Rattle.custody_core.proofs.Going.{IsLike}
@@ -262,7 +265,7 @@ module _ {A : Type 0} (net : Network A) (labelled : Labelling) (ranks : Ranking)
       ap (λ (s : BufferState). s.sink) state_is ∙ ap (λ (o : Option Chunk). (w.buffers place name.buffer).sink ++ option_map_or (λ c. events_of c.tag c.entries) o []) at in
       let m : IsNamed net v name Claimed P = record { place = place; is_place = is_place; chunk = chunk; is_chunk = ap (λ (s : BufferState). s.chunks name.serial) state_is ∙ at; stage_is = claimed; holds = holds } in
       evident_each net labelled ranks clock v (stored net labelled ranks clock w is name P n (λ entries. entries)) (stored_each net labelled ranks clock w is each name P n (λ entries. entries)) name P m
-      (λ entry inside. rw sink_is (Contains-append_right (w.buffers place name.buffer).sink (events_of chunk.tag chunk.entries) (event_of chunk.tag entry) (map-contains (λ e. event_of chunk.tag e) chunk.entries entry inside)))
+      (λ entry inside. rw sink_is (Contains-append_right (w.buffers place name.buffer).sink (events_of chunk.tag chunk.entries) (event_of chunk.tag entry) (contains-map (λ e. event_of chunk.tag e) chunk.entries entry inside)))
 
   pub written_each : Allowed net w (step.Write name) → IsEach net ranks (effect net w (step.Write name))
   written_each h =

@@ -10,18 +10,22 @@ use Rattle.relay_net.specs.Addresses.{Address}
 use Rattle.relay_net.specs.Network.{Network, entrance, tag_at, address_of_client}
 use Rattle.relay_net.specs.declared.address.Entrance.{Entrance}
 use Rattle.routed_tags.specs.Routed.{ComesTo}
+use Rattle.routed_tags.proofs.Growing.{only_in}
 use Rattle.step_lines.specs.declared.step.Step.{Step}
 use Rattle.step_lines.specs.declared.step.Step.TheVariants as step
 use Rattle.kept_branches.specs.Branches.{EachKeeps}
+use Rattle.kept_branches.proofs.Lists.{some_and}
 use Rattle.custody_steps.specs.World.{World, initial_world, with_buffer}
 use Rattle.custody_steps.specs.Steps.{Allowed, effect, Steps, CanAppend, CanAcknowledge}
+use Rattle.custody_steps.proofs.Keeping.{is_of}
+use Rattle.loss_rules.proofs.Members.{map-contains}
 use Rattle.custody_core.specs.Custody.{EachBranchKeeps}
-use Rattle.custody_core.proofs.Serials.{some_and, and_some}
-use Rattle.custody_core.proofs.Lists.{get-set, contains-map}
+use Rattle.custody_core.proofs.Serials.{and_some}
+use Rattle.custody_core.proofs.Lists.{get-set}
 use Rattle.custody_core.proofs.Safe.{Buffers, Ranking}
 use Rattle.custody_core.proofs.Ranked.{Labelling, LeadOn, IsSentFrom, Counts, rank_of, IsRanked}
 use Rattle.custody_core.proofs.AppendMoves.{append_here, append_ranked}
-use Rattle.custody_core.proofs.Sendings.{told_entry, of_delivery, answered_ranked, told_ranked, newly_safe, whole_safe, never_foreign}
+use Rattle.custody_core.proofs.Sendings.{told_entry, answered_ranked, told_ranked, newly_safe, whole_safe, never_foreign}
 use Rattle.custody_core.proofs.NamedMoves.{enqueued}
 use Rattle.custody_core.proofs.EveryNetwork.{IsKept, step_keeps, opening_kept}
 use Rattle.custody_core.proofs.Along.{KeepsFrom, EachFrom, AnsweredStay, moved, each_along}
@@ -29,15 +33,12 @@ use Rattle.custody_core.proofs.AlongRanked.{ArePassedAlong, IsToldAlong, IsEach,
 use Rattle.custody_core.proofs.AlongMoves.{same_moves, held_here, append_each}
 use Rattle.custody_core.proofs.EachStep.{LeavesKeep, old_delivery, deliveries_each, ended_each, stays_answered, answered_each, told_each, claimed_each, given_back_each, purged_each, done_each, discarded_each, enqueued_each, seen_each, parted_each, oldest_each, sent_each, begun_each, abandoned_each, written_each, forwarded_each, restarted_each}
 
-only_one : (x y : ℕ) → Contains (x ∷ []) y → y ≡ x
-only_one x y c = let e : c.0 ≡ 0 = (let less = c.1 in omega arith) in sym (rw e at c.2)
-
 -- what becomes acknowledged to a client is kept along each branch
 newly_along : {A : Type 0} (net : Network A) (ranks : Ranking) (buffers : Buffers) (messages : List Message) (s : Sender) (address : Address) (before : Bool) (tag : List ℕ) (entries : List (List ℕ)) → IsSentFrom net s address
     → (Counts net s → (entry : List ℕ) → Contains entries entry → EachFrom net ranks buffers messages (rank_of ranks s) address tag entry) → (told : Told) → Contains (newly_acknowledged s before tag entries) told → IsToldAlong net ranks buffers messages told
 newly_along net ranks buffers messages (sender.Client client) address false tag entries from passed told inside =
-    let e = contains-map (λ entry. told_entry client tag entry) entries told inside in
-    rw e.2 (and_some (slice_get net.clients client) (λ found. EachFrom net ranks buffers messages 0 (address_of_client net found) tag e.0) from.0 from.1 (rw from.2 at (passed tt e.0 e.1)))
+    let e = map-contains (λ entry. told_entry client tag entry) entries told inside in
+    rw (← e.2) (and_some (slice_get net.clients client) (λ found. EachFrom net ranks buffers messages 0 (address_of_client net found) tag e.0) from.0 from.1 (rw from.2 at (passed tt e.0 e.1)))
 newly_along net ranks buffers messages (sender.Client client) address true tag entries from passed told inside = absurd (let less = inside.1 in omega arith)
 newly_along net ranks buffers messages (sender.Chunk place buffer serial) address before tag entries from passed told inside = absurd (let less = inside.1 in omega arith)
 
@@ -65,7 +66,7 @@ module _ {A : Type 0} (net : Network A) (labelled : Labelling) (leads : LeadOn n
               let inside_d : Contains (d.appended ++ buffer ∷ []) b = subst (λ (y : Delivery). Contains y.appended b) new.1 inside in
               elim (Contains-append_cases d.appended (buffer ∷ []) b inside_d) [
                 | inl before ↦ inl (rw new.1 (old_delivery net labelled ranks clock v ranked each_then number d at found is_d b before))
-                | inr last ↦ (let b_is = only_one buffer b last in
+                | inr last ↦ (let b_is = only_in buffer b last in
                     inr (rw (new.1, b_is) (λ counts entry among. held_here net labelled ranks clock w is ranks 0 d.entrance.relay buffer change (λ p q other s. refl) entry (rank_of ranks found.sender) d.tag keeps
                     (append_here net labelled ranks clock w is d.entrance.relay buffer d.tag m.entries serial sends can.can_take (rank_of ranks found.sender) entry (rw (← same) at among)))))
               ])
@@ -73,8 +74,8 @@ module _ {A : Type 0} (net : Network A) (labelled : Labelling) (leads : LeadOn n
 
     pub appended_each : (number buffer serial : ℕ) → Allowed net w (step.Append number buffer serial) → IsEach net ranks (effect net w (step.Append number buffer serial))
     appended_each number buffer serial h =
-        let o = of_delivery w number (λ d m. CanAppend net w d m buffer serial) h in
-        rw o.is_delivery (rw o.is_message (appended_at number buffer serial o.delivery o.message o.is_delivery o.is_message o.holds))
+        let o = is_of w number (λ d m. CanAppend net w d m buffer serial) h in
+        rw o.delivery_is (rw o.message_is (appended_at number buffer serial o.delivery o.message o.delivery_is o.message_is o.holds))
 
     sender_below : (number : ℕ) (m : Message) (s : Sender) → slice_get w.messages number ≡ Some m → m.sender ≡ s → Counts net s → rank_of ranks s ≤ clock
     sender_below number m (sender.Client client) at from counts = omega arith
@@ -107,21 +108,21 @@ module _ {A : Type 0} (net : Network A) (labelled : Labelling) (leads : LeadOn n
 
     pub acknowledged_each : (number : ℕ) → Allowed net w (step.Ack number) → IsEach net ranks (effect net w (step.Ack number))
     acknowledged_each number h =
-        let o = of_delivery w number (CanAcknowledge net) h in
-        let passed = whole_along number o.delivery o.message o.is_delivery o.is_message o.holds in
-        let safe = whole_safe net labelled leads ranks clock w is number o.delivery o.message o.is_delivery o.is_message o.holds in
-        let from = (is.messages o.delivery.message o.message o.is_message).from in
+        let o = is_of w number (CanAcknowledge net) h in
+        let passed = whole_along number o.delivery o.message o.delivery_is o.message_is o.holds in
+        let safe = whole_safe net labelled leads ranks clock w is number o.delivery o.message o.delivery_is o.message_is o.holds in
+        let from = (is.messages o.delivery.message o.message o.message_is).from in
         let more = newly_acknowledged o.message.sender o.message.acknowledged o.message.tag o.message.entries in
         let marked : World = record w { messages = slice_set w.messages o.delivery.message (record o.message { acknowledged = true }) } in
         let after : World = record marked { acknowledged = w.acknowledged ++ more } in
-        let marked_ranked : IsRanked net labelled ranks clock marked = answered_ranked net labelled ranks clock w is o.delivery.message o.message o.is_message safe in
-        let marked_each : IsEach net ranks marked = answered_each net labelled ranks clock w is each o.delivery.message o.message o.is_message passed in
+        let marked_ranked : IsRanked net labelled ranks clock marked = answered_ranked net labelled ranks clock w is o.delivery.message o.message o.message_is safe in
+        let marked_each : IsEach net ranks marked = answered_each net labelled ranks clock w is each o.delivery.message o.message o.message_is passed in
         let after_ranked : IsRanked net labelled ranks clock after = told_ranked net labelled ranks clock marked marked_ranked more
         (newly_safe net labelled ranks clock w o.message.sender o.message.address o.message.acknowledged o.message.tag o.message.entries from safe) in
         let after_each : IsEach net ranks after = told_each net labelled ranks clock marked marked_ranked marked_each more
         (newly_along net ranks w.buffers marked.messages o.message.sender o.message.address o.message.acknowledged o.message.tag o.message.entries from
-        (passed marked.messages (stays_answered net labelled ranks clock w is each o.delivery.message o.message o.is_message))) in
-        rw o.is_delivery (rw o.is_message (ended_each net labelled ranks clock after after_ranked after_each number o.delivery o.is_delivery))
+        (passed marked.messages (stays_answered net labelled ranks clock w is each o.delivery.message o.message o.message_is))) in
+        rw o.delivery_is (rw o.message_is (ended_each net labelled ranks clock after after_ranked after_each number o.delivery o.delivery_is))
 
   step_each : (w : World) (next : Step A) (kept : IsKept net labelled w) → IsEach net kept.ranks w → (h : Allowed net w next) → IsEach net (step_keeps net labelled leads w next kept h).ranks (effect net w next)
   unfolding step_keeps enqueued

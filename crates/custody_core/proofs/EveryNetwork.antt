@@ -7,8 +7,9 @@ use Rattle.custody_steps.specs.World.{World, initial_world}
 use Rattle.custody_steps.specs.Steps.{Allowed, effect, Steps}
 use Rattle.step_lines.specs.declared.step.Step.{Step}
 use Rattle.step_lines.specs.declared.step.Step.TheVariants as step
+use Rattle.kept_branches.proofs.Lists.{some_and}
 use Rattle.custody_core.specs.Custody.{NothingIsLost}
-use Rattle.custody_core.proofs.Serials.{some_and, and_some}
+use Rattle.custody_core.proofs.Serials.{and_some}
 use Rattle.custody_core.proofs.Safe.{Ranking, safe_held}
 use Rattle.custody_core.proofs.Ranked.{Labelling, LeadOn, IsRanked}
 use Rattle.custody_core.proofs.Sendings.{sent, begun, appended, acknowledged, abandoned, never_foreign}

@@ -8,8 +8,9 @@ use Rattle.message_book.specs.declared.sender.Sender.TheVariants as sender
 use Rattle.relay_net.specs.Addresses.{Address}
 use Rattle.relay_net.specs.Network.{Network, address_of_client}
 use Rattle.custody_steps.specs.World.{World, with_buffer}
+use Rattle.kept_branches.proofs.Lists.{some_and}
 use Rattle.custody_core.proofs.Borne.{Origin, Bears}
-use Rattle.custody_core.proofs.Serials.{event_of, some_and, and_some}
+use Rattle.custody_core.proofs.Serials.{event_of, and_some}
 use Rattle.custody_core.proofs.Safe.{Buffers, Ranking, KeepsAt, IsHeldFrom, IsSafe, IsOther, changed, at_buffer, safe_changed}
 use Rattle.custody_core.proofs.Ranked.{Labelling, IsIdOf, ArePassedOn, IsToldSafe, HasId, IsKnown, IsKnownChunk, IsKnownDelivery, IsRanked}
 

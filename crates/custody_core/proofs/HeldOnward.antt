@@ -6,12 +6,13 @@ use Rattle.relay_net.specs.Network.{Network, address_of_client}
 use Rattle.custody_steps.specs.Steps.{Steps}
 use Rattle.custody_steps.specs.World.{World, initial_world}
 use Rattle.step_lines.specs.declared.step.Step.{Step}
+use Rattle.kept_branches.proofs.Lists.{some_and}
 use Rattle.custody_core.specs.Onward.{Hands, IsHeldFrom, AreHeldOnward, since}
 use Rattle.custody_core.proofs.Borne.{Origin, borne_routed}
 use Rattle.custody_core.proofs.EveryNetwork.{opening_kept, run_keeps}
 use Rattle.custody_core.proofs.Ranked.{Counts, Labelling, LeadOn, rank_of}
 use Rattle.custody_core.proofs.Safe.{IsSafe, Ranking}
-use Rattle.custody_core.proofs.Serials.{and_some, some_and}
+use Rattle.custody_core.proofs.Serials.{and_some}
 
 module _ {A : Type 0} (net : Network A) (w : World) (ranks : Ranking) where
   -- what is safe above a rank is held from it on

@@ -20,8 +20,9 @@ use Rattle.loss_rules.specs.declared.label.Reach.{Reach}
 use Rattle.loss_rules.proofs.Passing.{entered-tag}
 use Rattle.loss_rules.proofs.Sites.{site-of}
 use Rattle.loss_rules.specs.SafeWays.{LabelledTagsAreSafe}
-use Rattle.custody_core.proofs.Serials.{some_and, and_some}
-use Rattle.custody_core.proofs.Lists.{get-contains}
+use Rattle.kept_branches.proofs.Lists.{some_and}
+use Rattle.custody_store.proofs.Members.{get-contains}
+use Rattle.custody_core.proofs.Serials.{and_some}
 use Rattle.custody_core.proofs.Ranked.{Labelling, IsTaken, IsSentOn, LeadOn}
 
 -- a tag of a pattern that fits a label, both with this in front, is one of the label

@@ -1,6 +1,8 @@
 -- What stands at a place of a list after the list changed.
 use Rattle.std.proofs.Common.{◌≡◌, ℕ, zero, suc, List, [], ◌∷◌, ◌++◌, map, take, Some, slice_get, slice_set, refl, sym, ap, ◌⊎◌, inl, inr, arith, Contains}
 use Rattle.std.proofs.lemmas.Option.{same_Some}
+-- where an element stands, passed on to crates above
+pub use Rattle.custody_store.proofs.Members.{contains-get, get-contains}
 
 -- an element of a list that grew by one was there, or is the new one
 pub get-push : {X : Type 0} (xs : List X) (x y : X) (k : ℕ) → slice_get (xs ++ x ∷ []) k ≡ Some y → (slice_get xs k ≡ Some y) ⊎ (y ≡ x)
@@ -42,28 +44,6 @@ pub get-map : {X Y : Type 0} (f : X → Y) (xs : List X) (y : Y) (k : ℕ) → s
 get-map f [] y k e = absurd (cc)
 get-map f (x ∷ xs) y zero e = (x, refl, sym (same_Some (f x) y e))
 get-map f (x ∷ xs) y (suc k) e = get-map f xs y k e
-
--- an element of a list stands somewhere
-pub contains-get : {X : Type 0} (xs : List X) (x : X) → Contains xs x → (k : ℕ) × (slice_get xs k ≡ Some x)
-contains-get [] x (k, less, is) = absurd (omega arith)
-contains-get (y ∷ xs) x (zero, less, is) = (0, ap Some is)
-contains-get (y ∷ xs) x (suc k, less, is) = let r = contains-get xs x (k, omega arith, is) in (suc r.0, r.1)
-
-pub get-contains : {X : Type 0} (xs : List X) (x : X) (k : ℕ) → slice_get xs k ≡ Some x → Contains xs x
-get-contains [] x k e = absurd (cc)
-get-contains (y ∷ xs) x zero e = (0, omega arith, same_Some y x e)
-get-contains (y ∷ xs) x (suc k) e = let r = get-contains xs x k e in (suc r.0, omega arith, r.2)
-
-pub contains-map : {X Y : Type 0} (f : X → Y) (xs : List X) (y : Y) → Contains (map f xs) y → (x : X) × Contains xs x × (y ≡ f x)
-contains-map f xs y c =
-    let at = contains-get (map f xs) y c in
-    let r = get-map f xs y at.0 at.1 in
-    (r.0, get-contains xs r.0 at.0 r.1, r.2)
-
-pub map-contains : {X Y : Type 0} (f : X → Y) (xs : List X) (x : X) → Contains xs x → Contains (map f xs) (f x)
-map-contains f [] x (k, less, is) = absurd (omega arith)
-map-contains f (y ∷ xs) x (zero, less, is) = (0, omega arith, ap f is)
-map-contains f (y ∷ xs) x (suc k, less, is) = let r = map-contains f xs x (k, omega arith, is) in (suc r.0, omega arith, r.2)
 
 -- what is among the first elements is among them all
 pub contains-take : {X : Type 0} (n : ℕ) (xs : List X) (x : X) → Contains (take n xs) x → Contains xs x

@@ -12,6 +12,7 @@ use Rattle.relay_net.specs.Outputs.{servers_of}
 use Rattle.relay_net.specs.Ways.{HasLoop}
 use Rattle.routed_tags.specs.Routed.{SendsTo, Follows, sent}
 use Rattle.custody_store.specs.Buffers.{Event, Chunk, BufferState, with_chunk, events_of, started_again, without_oldest, appended_to}
+use Rattle.custody_store.proofs.Members.{get-contains}
 use Rattle.message_book.specs.Book.{Message, Delivery, Told, ended}
 use Rattle.custody_steps.specs.World.{World, initial_world, with_buffer}
 use Rattle.custody_steps.specs.Steps.{Allowed, effect, Steps, CanBegin, CanAppend, tag_of, with_named, with_stored, with_delivery, forwarded_to, chunk_named}
@@ -21,7 +22,7 @@ use Rattle.step_lines.specs.declared.step.ChunkName.{ChunkName}
 use Rattle.step_lines.specs.declared.step.Step.{Step}
 use Rattle.step_lines.specs.declared.step.Step.TheVariants as step
 use Rattle.custody_core.proofs.Borne.{IsBorne, borne_first, borne_on, borne_onward, borne_routed}
-use Rattle.custody_core.proofs.Lists.{get-push, get-more, get-set, get-after_set, get-map, get-contains, contains-take}
+use Rattle.custody_core.proofs.Lists.{get-push, get-more, get-set, get-after_set, get-map, contains-take}
 use Rattle.custody_core.proofs.Sendings.{Follow}
 use Rattle.custody_core.proofs.Deliverings.{server_of}
 use Rattle.custody_core.proofs.Sourced.{AllSent, IsSourced, sourced_more, chunk_changes, sink_takes, takes_sent, oldest_goes, starts_again}

@@ -4,6 +4,7 @@ use Rattle.std.specs.Option.{option_and_then, option_map_or}
 use Rattle.custody_store.specs.declared.chunk.Stage.{Stage}
 use Rattle.custody_store.specs.declared.chunk.Stage.TheVariants.{Staged, Queued, Claimed}
 use Rattle.custody_store.specs.Buffers.{Chunk, events_of}
+use Rattle.custody_store.proofs.Members.{contains-get}
 use Rattle.message_book.specs.declared.sender.Sender.TheVariants as sender
 use Rattle.relay_conf.specs.declared.output.Output.{Output}
 use Rattle.relay_conf.specs.declared.output.Output.TheVariants as output
@@ -14,9 +15,8 @@ use Rattle.custody_steps.specs.Steps.{Allowed, effect, OfChunk, IsAnswered, Forw
 use Rattle.step_lines.specs.declared.step.ChunkName.{ChunkName}
 use Rattle.step_lines.specs.declared.step.Step.TheVariants as step
 use Rattle.routed_tags.specs.Routed.{SendsTo, Follows}
+use Rattle.kept_branches.proofs.Lists.{some_and}
 use Rattle.custody_core.proofs.Borne.{borne_onward, borne_on}
-use Rattle.custody_core.proofs.Serials.{some_and}
-use Rattle.custody_core.proofs.Lists.{contains-get}
 use Rattle.custody_core.proofs.Safe.{Ranking, KeepsAt}
 use Rattle.custody_core.proofs.Ranked.{Labelling, AreSafeOnward, IsRanked}
 use Rattle.custody_core.proofs.Going.{IsLike}

@@ -1,5 +1,5 @@
 -- The steps that send, deliver and acknowledge messages keep what is known of a network whose messages all lead to outputs that keep.
-use Rattle.std.proofs.Common.{◌≡◌, ◌≢◌, ℕ, ◌<◌, ◌≤◌, Bool, true, false, List, [], ◌∷◌, ◌++◌, Some, None, slice_get, slice_set, refl, sym, ap, ◌∙◌, inl, inr, arith, length, Contains, IsSomeAnd}
+use Rattle.std.proofs.Common.{◌≡◌, ◌≢◌, ℕ, ◌<◌, ◌≤◌, Bool, true, false, List, [], ◌∷◌, ◌++◌, Some, None, slice_get, slice_set, refl, sym, ap, ◌∙◌, inl, inr, arith, length, Contains}
 use Rattle.std.proofs.lemmas.Option.{same_Some}
 use Rattle.std.proofs.lemmas.List.Elements.{Contains-append_cases}
 use Rattle.custody_store.specs.Buffers.{appended_to}
@@ -11,11 +11,15 @@ use Rattle.relay_net.specs.Network.{Network, entrance, address_of_client}
 use Rattle.relay_net.specs.Ways.{HasLoop, table_at}
 use Rattle.route_graph.specs.Ways.{HaveTag, IsLeaf}
 use Rattle.custody_steps.specs.World.{World, with_buffer}
-use Rattle.custody_steps.specs.Steps.{Allowed, effect, CanBegin, CanAppend, CanAcknowledge, OfDelivery, tag_of}
+use Rattle.custody_steps.specs.Steps.{Allowed, effect, CanBegin, CanAppend, CanAcknowledge, tag_of}
 use Rattle.step_lines.specs.declared.step.Step.TheVariants as step
+use Rattle.kept_branches.proofs.Lists.{some_and}
+use Rattle.loss_rules.proofs.Members.{map-contains}
+use Rattle.routed_tags.proofs.Growing.{only_in}
+use Rattle.custody_steps.proofs.Keeping.{is_of}
 use Rattle.custody_core.proofs.Borne.{IsBorne, borne_first}
-use Rattle.custody_core.proofs.Serials.{some_and, and_some}
-use Rattle.custody_core.proofs.Lists.{get-push, get-more, get-set, get-after_set, contains-map}
+use Rattle.custody_core.proofs.Serials.{and_some}
+use Rattle.custody_core.proofs.Lists.{get-push, get-more, get-set, get-after_set}
 use Rattle.custody_core.proofs.Safe.{Ranking, IsSafe}
 use Rattle.custody_core.proofs.Ranked.{Labelling, LeadOn, IsSentFrom, ArePassedOn, IsToldSafe, IsKnown, IsKnownDelivery, IsRanked}
 use Rattle.custody_core.proofs.AppendMoves.{append_ranked}
@@ -36,20 +40,6 @@ Follow old new = (number : ℕ) (message : Message) → slice_get old number ≡
 -- an entry that was acknowledged to a client
 abbrev pub told_entry : ℕ → List ℕ → List ℕ → Told
 told_entry client tag entry = record { client = client; event = record { tag = tag; entry = entry } }
-
--- the delivery of this number, with its message
-pub record IsOf (w : World) (number : ℕ) (P : Delivery → Message → Type 0) : Type 0 where
-  pub delivery : Delivery
-  pub is_delivery : slice_get w.deliveries number ≡ Some delivery
-  pub message : Message
-  pub is_message : slice_get w.messages delivery.message ≡ Some message
-  pub holds : P delivery message
-
-pub of_delivery : (w : World) (number : ℕ) (P : Delivery → Message → Type 0) → OfDelivery w number P → IsOf w number P
-of_delivery w number P h =
-    let d = some_and (slice_get w.deliveries number) (λ delivery. IsSomeAnd (slice_get w.messages delivery.message) (P delivery)) h in
-    let m = some_and (slice_get w.messages d.0.message) (P d.0) d.2 in
-    record { delivery = d.0; is_delivery = d.1; message = m.0; is_message = m.1; holds = m.2 }
 
 module _ {A : Type 0} (net : Network A) (labelled : Labelling) (ranks : Ranking) (clock : ℕ) where
   -- the list of deliveries changed
@@ -116,8 +106,8 @@ module _ {A : Type 0} (net : Network A) (labelled : Labelling) (ranks : Ranking)
   pub newly_safe : (w : World) (s : Sender) (address : Address) (before : Bool) (tag : List ℕ) (entries : List (List ℕ)) → IsSentFrom net s address → ArePassedOn net ranks clock w.buffers s address tag entries
       → (told : Told) → Contains (newly_acknowledged s before tag entries) told → IsToldSafe net ranks clock w.buffers told
   newly_safe w (sender.Client client) address false tag entries from passed told inside =
-      let e = contains-map (λ entry. told_entry client tag entry) entries told inside in
-      rw e.2 (and_some (slice_get net.clients client) (λ found. IsSafe net ranks w.buffers 0 (record { address = address_of_client net found; tag = tag; entry = e.0 })) from.0 from.1 (rw from.2 at (passed tt e.0 e.1)))
+      let e = map-contains (λ entry. told_entry client tag entry) entries told inside in
+      rw (← e.2) (and_some (slice_get net.clients client) (λ found. IsSafe net ranks w.buffers 0 (record { address = address_of_client net found; tag = tag; entry = e.0 })) from.0 from.1 (rw from.2 at (passed tt e.0 e.1)))
   newly_safe w (sender.Client client) address true tag entries from passed told inside = absurd (let less = inside.1 in omega arith)
   newly_safe w (sender.Chunk place buffer serial) address before tag entries from passed told inside = absurd (let less = inside.1 in omega arith)
 
@@ -193,18 +183,15 @@ module _ {A : Type 0} (net : Network A) (labelled : Labelling) (leads : LeadOn n
               taken = known.taken;
               appended = λ b inside keeps. elim (Contains-append_cases d.appended (buffer ∷ []) b inside) [
                 | inl old ↦ known.appended b old keeps
-                | inr last ↦ (let b_is = only_one buffer b last in λ counts entry among. rw same (a.safe (rw b_is at keeps) _ (record { address = m.address; tag = m.tag; entry = entry }) (bears_there number buffer d m at there can.is_leaf.1) (rw same at among)))
+                | inr last ↦ (let b_is = only_in buffer b last in λ counts entry among. rw same (a.safe (rw b_is at keeps) _ (record { address = m.address; tag = m.tag; entry = entry }) (bears_there number buffer d m at there can.is_leaf.1) (rw same at among)))
               ];
             }))
       ])
-    where
-      only_one : (x y : ℕ) → Contains (x ∷ []) y → y ≡ x
-      only_one x y c = let e : c.0 ≡ 0 = (let less = c.1 in omega arith) in sym (rw e at c.2)
 
   pub appended : (number buffer serial : ℕ) → Allowed net w (step.Append number buffer serial) → IsRanked net labelled ranks clock (effect net w (step.Append number buffer serial))
   appended number buffer serial h =
-      let o = of_delivery w number (λ d m. CanAppend net w d m buffer serial) h in
-      rw o.is_delivery (rw o.is_message (appended_at number buffer serial o.delivery o.message o.is_delivery o.is_message o.holds))
+      let o = is_of w number (λ d m. CanAppend net w d m buffer serial) h in
+      rw o.delivery_is (rw o.message_is (appended_at number buffer serial o.delivery o.message o.delivery_is o.message_is o.holds))
 
   -- The events of a message whose delivery was appended to each leaf are safe: one of the leaves keeps.
   pub whole_safe : (number : ℕ) (d : Delivery) (m : Message) → slice_get w.deliveries number ≡ Some d → slice_get w.messages d.message ≡ Some m → CanAcknowledge net d m → ArePassedOn net ranks clock w.buffers m.sender m.address m.tag m.entries
@@ -218,16 +205,16 @@ module _ {A : Type 0} (net : Network A) (labelled : Labelling) (leads : LeadOn n
 
   pub acknowledged : (number : ℕ) → Allowed net w (step.Ack number) → IsRanked net labelled ranks clock (effect net w (step.Ack number))
   acknowledged number h =
-      let o = of_delivery w number (CanAcknowledge net) h in
-      let passed = whole_safe number o.delivery o.message o.is_delivery o.is_message o.holds in
+      let o = is_of w number (CanAcknowledge net) h in
+      let passed = whole_safe number o.delivery o.message o.delivery_is o.message_is o.holds in
       let more = newly_acknowledged o.message.sender o.message.acknowledged o.message.tag o.message.entries in
       let marked : World = record w { messages = slice_set w.messages o.delivery.message (record o.message { acknowledged = true }) } in
       let after : World = record marked { acknowledged = w.acknowledged ++ more } in
-      let answered : IsRanked net labelled ranks clock marked = answered_ranked net labelled ranks clock w is o.delivery.message o.message o.is_message passed in
+      let answered : IsRanked net labelled ranks clock marked = answered_ranked net labelled ranks clock w is o.delivery.message o.message o.message_is passed in
       let told : IsRanked net labelled ranks clock after = told_ranked net labelled ranks clock marked answered more
-      (newly_safe net labelled ranks clock w o.message.sender o.message.address o.message.acknowledged o.message.tag o.message.entries (is.messages o.delivery.message o.message o.is_message).from passed) in
-      rw o.is_delivery (rw o.is_message (deliveries_ranked net labelled ranks clock after told (slice_set w.deliveries number (ended o.delivery))
+      (newly_safe net labelled ranks clock w o.message.sender o.message.address o.message.acknowledged o.message.tag o.message.entries (is.messages o.delivery.message o.message o.message_is).from passed) in
+      rw o.delivery_is (rw o.message_is (deliveries_ranked net labelled ranks clock after told (slice_set w.deliveries number (ended o.delivery))
       (λ k x e. elim (get-set w.deliveries (ended o.delivery) x number k e) [
         | inl old ↦ told.deliveries k x old
-        | inr new ↦ rw new.1 (ended_known net labelled ranks clock after o.delivery (told.deliveries number o.delivery o.is_delivery))
+        | inr new ↦ rw new.1 (ended_known net labelled ranks clock after o.delivery (told.deliveries number o.delivery o.delivery_is))
       ])))

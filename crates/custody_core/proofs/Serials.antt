@@ -9,10 +9,6 @@ abbrev pub event_of : List ℕ → List ℕ → Event
 event_of tag entry = record { tag = tag; entry = entry }
 
 -- an option with a value of which something holds
-pub some_and : {X : Type 0} (o : Option X) (P : X → Type 0) → IsSomeAnd o P → (x : X) × (o ≡ Some x) × P x
-some_and None P h = absurd h
-some_and (Some x) P h = (x, refl, h)
-
 pub and_some : {X : Type 0} (o : Option X) (P : X → Type 0) (x : X) → o ≡ Some x → P x → IsSomeAnd o P
 and_some None P x e h = absurd (cc)
 and_some (Some y) P x e h = rw (same_Some y x e) h

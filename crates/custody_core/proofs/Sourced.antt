@@ -5,8 +5,8 @@ use Rattle.std.proofs.lemmas.Bool.{eqb-true}
 use Rattle.std.specs.Option.{option_and_then, option_map_or}
 use Rattle.std.proofs.lemmas.List.Elements.{Contains-append_cases}
 use Rattle.custody_store.specs.Buffers.{Event, Chunk, BufferState, with_chunk, CanTake, chunk_with, next_after, appended_to, events_of, is_queued, none_queued_below, without_oldest, restarted, started_again}
+use Rattle.loss_rules.proofs.Members.{map-contains}
 use Rattle.custody_core.proofs.Serials.{event_of}
-use Rattle.custody_core.proofs.Lists.{contains-map}
 
 -- this holds of each of these entries under this tag, as of what was sent
 abbrev pub AllSent : (Event → Type 0) → List ℕ → List (List ℕ) → Type 0
@@ -61,8 +61,8 @@ module _ (Sent : Event → Type 0) (state : BufferState) (is : IsSourced Sent st
       → (event : Event) → Contains (option_map_or (λ chunk. events_of chunk.tag (those chunk.entries)) o []) event → Sent event
   first_events None those among sent event inside = absurd (let less = inside.1 in omega arith)
   first_events (Some chunk) those among sent event inside =
-      let e = contains-map (λ entry. event_of chunk.tag entry) (those chunk.entries) event inside in
-      rw e.2 (sent chunk refl e.0 (among chunk.entries e.0 e.1))
+      let e = map-contains (λ entry. event_of chunk.tag entry) (those chunk.entries) event inside in
+      rw (← e.2) (sent chunk refl e.0 (among chunk.entries e.0 e.1))
 
   -- entries of a chunk are stored in the sink
   pub sink_takes : (serial : ℕ) (those : List (List ℕ) → List (List ℕ)) → ((entries : List (List ℕ)) (entry : List ℕ) → Contains (those entries) entry → Contains entries entry)

@@ -8,6 +8,7 @@ use Rattle.custody_store.specs.Buffers.{CanTake, appended_to}
 use Rattle.custody_store.specs.Contents.{Contents, flag_at, taken_in, buffer_of, IsAnsweredToo}
 use Rattle.custody_store.specs.Places.{contents_at, closed_at, IsChangedAt, AreSame}
 use Rattle.custody_store.specs.declared.places.Places.{Places}
+use Rattle.kept_branches.proofs.Lists.{some_and}
 use Rattle.message_book.specs.Book.{Message, Delivery, Told, Book, changed_at, acknowledged_message, appended_to_buffer}
 use Rattle.message_book.specs.declared.sender.Sender.TheVariants as sender
 use Rattle.relay_net.specs.Network.{Network}
@@ -153,14 +154,10 @@ pub record IsOf (w : World) (number : ℕ) (P : Delivery → Message → Type 0)
   pub message_is : slice_get w.messages delivery.message ≡ Some message
   pub holds : P delivery message
 
-pub some_of : {X : Type 0} (o : Option X) (P : X → Type 0) → IsSomeAnd o P → (x : X) × (o ≡ Some x) × P x
-some_of None P h = absurd h
-some_of (Some x) P h = (x, refl, h)
-
 pub is_of : (w : World) (number : ℕ) (P : Delivery → Message → Type 0) → OfDelivery w number P → IsOf w number P
 is_of w number P h =
-    let d = some_of (slice_get w.deliveries number) (λ (d : Delivery). IsSomeAnd (slice_get w.messages d.message) (P d)) h in
-    let m = some_of (slice_get w.messages d.0.message) (P d.0) d.2 in
+    let d = some_and (slice_get w.deliveries number) (λ (d : Delivery). IsSomeAnd (slice_get w.messages d.message) (P d)) h in
+    let m = some_and (slice_get w.messages d.0.message) (P d.0) d.2 in
     record { delivery = d.0; message = m.0; delivery_is = d.1; message_is = m.1; holds = m.2 }
 
 pub of_is : (w : World) (number : ℕ) (P : Delivery → Message → Type 0) → IsOf w number P → OfDelivery w number P

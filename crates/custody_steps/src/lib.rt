@@ -8,7 +8,6 @@ mod found;
 mod message_steps;
 mod outputs;
 mod restarting;
-mod tags;
 mod world;
 
 pub use custody_store::{Event, Stage};

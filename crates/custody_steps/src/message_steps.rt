@@ -5,13 +5,12 @@ ghost use Rattle.tag_pattern.specs.Parts.{most_tag_bytes};
 
 use crate::fault::StepFault;
 use crate::found::Found;
-use crate::tags::have_tag;
 use crate::world::World;
 use custody_store::Stage;
 use message_book::{Delivery, Message, Sender};
 use relay_conf::{BufferNo, Server};
 use relay_net::{Address, Entrance, server};
-use route_graph::Way;
+use route_graph::{Way, have_tag};
 use std::alloc::{AllocError, Allocator};
 use step_lines::{ChunkName, Step};
 use tag_pattern::{Tag, TagError};

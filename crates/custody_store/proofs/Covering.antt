@@ -1,6 +1,6 @@
 -- A list of tags that comes to have all of which something holds.
-use Rattle.std.proofs.Common.{◌≡◌, ℕ, ◌+◌, ◌<◌, Bool, List, [], ◌∷◌, ◌++◌, take, get_or, length, Option, Some, None, sym, ap, subst, ◌∙◌, ◌⊎◌, inl, inr, arith, map, Contains, IsSomeAnd}
-use Rattle.std.proofs.lemmas.List.{take_more, map-append}
+use Rattle.std.proofs.Common.{◌≡◌, ℕ, Bool, List, [], ◌∷◌, ◌++◌, Option, Some, None, sym, ap, subst, ◌∙◌, ◌⊎◌, inl, inr, arith, map, Contains, IsSomeAnd}
+use Rattle.std.proofs.lemmas.List.{map-append}
 use Rattle.std.proofs.lemmas.List.Elements.{Contains-append_cases, Contains-append_left, Contains-append_right}
 use Rattle.std.specs.declared.vec.Vec.{Vec}
 use Rattle.step_lines.specs.Texts.{texts_of}
@@ -13,11 +13,7 @@ use Rattle.custody_store.specs.declared.event.Event.{Event as Stored}
 use Rattle.custody_store.proofs.Members.{shown_contains}
 use Rattle.custody_store.proofs.Slots.{slot_shown}
 
--- the elements up to the place and the one there
-pub taken_more : {X : Type 0} (xs : List X) (place : ℕ) (x : X) → place < length xs → x ≡ get_or xs place x → take (place + 1) xs ≡ take place xs ++ x ∷ []
-taken_more xs place x less is = take_more xs place x less ∙ ap (λ y. take place xs ++ y ∷ []) (sym is)
-
-only_in : {X : Type 0} (x y : X) → Contains (x ∷ []) y → x ≡ y
+pub only_in : {X : Type 0} (x y : X) → Contains (x ∷ []) y → x ≡ y
 only_in x y c = let e : c.0 ≡ 0 = (let less = c.1 in omega arith) in rw e at c.2
 
 pub covers_none : {X : Type 0} (P : X → List ℕ → Type 0) (old : List (List ℕ)) → Covers (OfOne P []) old old

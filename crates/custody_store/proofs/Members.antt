@@ -2,20 +2,20 @@
 use Rattle.std.proofs.Common.{◌≡◌, ℕ, zero, suc, ◌<◌, List, [], ◌∷◌, map, length, get_or, Option, Some, None, IfSome, option_map, slice_get, refl, ap, ◌∙◌, arith, Contains}
 use Rattle.std.proofs.lemmas.Option.{slice_get-map, slice_get_read, same_Some}
 
-pub get_from_contains : {X : Type 0} (xs : List X) (x : X) → Contains xs x → (k : ℕ) × (slice_get xs k ≡ Some x)
-get_from_contains [] x c = absurd (omega arith)
-get_from_contains (y ∷ xs) x (zero, h, e) = (zero, ap Some e)
-get_from_contains (y ∷ xs) x (suc k, h, e) = let more = get_from_contains xs x (k, omega arith, e) in (suc more.0, more.1)
+pub contains-get : {X : Type 0} (xs : List X) (x : X) → Contains xs x → (k : ℕ) × (slice_get xs k ≡ Some x)
+contains-get [] x c = absurd (omega arith)
+contains-get (y ∷ xs) x (zero, h, e) = (zero, ap Some e)
+contains-get (y ∷ xs) x (suc k, h, e) = let more = contains-get xs x (k, omega arith, e) in (suc more.0, more.1)
 
-pub contains_from_get : {X : Type 0} (xs : List X) (k : ℕ) (x : X) → slice_get xs k ≡ Some x → Contains xs x
-contains_from_get [] k x e = cc
-contains_from_get (y ∷ xs) zero x e = (zero, omega arith, same_Some y x e)
-contains_from_get (y ∷ xs) (suc k) x e = let c = contains_from_get xs k x e in (suc c.0, omega arith, c.2)
+pub get-contains : {X : Type 0} (xs : List X) (x : X) (k : ℕ) → slice_get xs k ≡ Some x → Contains xs x
+get-contains [] x k e = cc
+get-contains (y ∷ xs) x zero e = (zero, omega arith, same_Some y x e)
+get-contains (y ∷ xs) x (suc k) e = let c = get-contains xs x k e in (suc c.0, omega arith, c.2)
 
 -- an element, as it is shown in another list
 pub contains_shown : {X Y : Type 0} (show : X → Y) (xs : List X) (k : ℕ) (x : X) (y : Y) → k < length xs → x ≡ get_or xs k x → show x ≡ y → Contains (map show xs) y
 contains_shown show xs k x y within is e =
-    contains_from_get (map show xs) k y (slice_get-map show xs k ∙ ap (option_map show) (slice_get_read xs (length xs) k x refl within is) ∙ ap Some e)
+    get-contains (map show xs) y k (slice_get-map show xs k ∙ ap (option_map show) (slice_get_read xs (length xs) k x refl within is) ∙ ap Some e)
 
 -- what is shown in another list comes from an element
 pub shown_contains : {X Y : Type 0} (show : X → Y) (xs : List X) (y : Y) → Contains (map show xs) y → (k : ℕ) × (x : X) × (k < length xs) × (get_or xs k x ≡ x) × (show x ≡ y)

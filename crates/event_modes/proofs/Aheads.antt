@@ -17,7 +17,7 @@ use Rattle.event_modes.proofs.Scans.{not_open}
 abbrev pub ahead_of : Scanning → ℕ → Ahead
 ahead_of scanner given = record { scanner = scanner; given = given }
 
-none_open : IsOpen []
+pub none_open : IsOpen []
 none_open = missing_open [] (record { n = 1; missing = run_empty 64; least = omega arith })
 
 pub given_none : (scanner : Scanning) (unread : List ℕ) → IsAfter scanner [] → IsGiven (ahead_of scanner 0) unread

@@ -324,7 +324,7 @@ faultless bytes parts f m (inr p) =
     no_frame_fault m.frame parts f m.tag m.entries m.ack (subst (λ (h : Frame). FrameFault h f) (frame_one bytes p.0 m.frame p.1 m.framed) p.2)
 
 -- nor has a nil
-nil_faultless : (bytes : List ℕ) (f : ModeFault) → IsNil bytes → ItemFault bytes f → ⊥
+pub nil_faultless : (bytes : List ℕ) (f : ModeFault) → IsNil bytes → ItemFault bytes f → ⊥
 nil_faultless bytes f n (inl p) = p.1 n
 nil_faultless bytes f n (inr p) = no_array_nil p.1.elements bytes p.1.array n
 
@@ -346,12 +346,12 @@ fault_of_item bytes f b (inl p) = absurd (not_faulty p.0 bytes b p.2)
 fault_of_item bytes f b (inr p) =
     subst (λ (z : List ℕ). ItemFault z f) (one_front bytes (record { front = p.0; back = p.1; is = p.2; whole = p.4 }) b) p.3
 
-stream_one : (bytes : List ℕ) (f g : ModeFault) → StreamFault bytes f → StreamFault bytes g → f ≡ g
+pub stream_one : (bytes : List ℕ) (f g : ModeFault) → StreamFault bytes f → StreamFault bytes g → f ≡ g
 stream_one bytes f g (inl p) (inl q) = p.1 ∙ ap (λ (x : MsgFault). Bytes x) (fault_one bytes p.0 q.0 p.2 q.2) ∙ sym q.1
 stream_one bytes f g (inl p) (inr q) = absurd (not_faulty p.0 bytes (record { front = q.0; back = q.1; is = q.2; whole = q.4 }) p.2)
 stream_one bytes f g (inr p) q = item_one p.0 f g p.3 (fault_of_item bytes g (record { front = p.0; back = p.1; is = p.2; whole = p.4 }) q)
 
-open_unfaulted : (bytes : List ℕ) (f : ModeFault) → IsOpen bytes → StreamFault bytes f → ⊥
+pub open_unfaulted : (bytes : List ℕ) (f : ModeFault) → IsOpen bytes → StreamFault bytes f → ⊥
 open_unfaulted bytes f o (inl p) = open_faultless bytes p.0 o p.2
 open_unfaulted bytes f o (inr p) = not_open bytes (record { front = p.0; back = p.1; is = p.2; whole = p.4 }) o
 

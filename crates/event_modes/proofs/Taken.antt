@@ -1,26 +1,22 @@
 -- Taking what was read off the front of a stream.
-use Rattle.std.proofs.Common.{ℕ, ◌≡◌, ◌+◌, ◌<◌, List, [], ◌∷◌, ◌++◌, length, take, drop, refl, ap, sym, ◌∙◌, arith, Option, Some, None}
+use Rattle.std.proofs.Common.{ℕ, ◌≡◌, ◌+◌, List, [], ◌∷◌, ◌++◌, length, take, drop, refl, ap, sym, ◌∙◌, arith, Option, Some, None}
 use Rattle.std.proofs.lemmas.List.{take-append-drop, drop-drop, length-append}
 use Rattle.event_modes.specs.declared.fault.ModeFault.{ModeFault}
 use Rattle.event_modes.specs.Message.{Parts}
 use Rattle.event_modes.specs.Stream.{Arrival, Sent, Heartbeat, IsArrival}
 use Rattle.event_modes.specs.Reading.{Means, Beats, Answers}
 use Rattle.event_modes.specs.Feeding.{Feeding, TakesOff}
-use Rattle.event_modes.proofs.Parting.{some_item, text_item}
 use Rattle.event_modes.proofs.One.{arrival_text}
+use Rattle.event_modes.proofs.Again.{some_byte}
 
 abbrev pub feeding : List ℕ → Option ModeFault → Feeding
 feeding held fault = record { held = held; fault = fault }
-
-some_bytes : (front : List ℕ) (a : Arrival) → IsArrival front a → 0 < length front
-some_bytes [] a p = absurd (some_item (text_item [] (arrival_text [] a p)))
-some_bytes (x ∷ front) a p = omega arith
 
 -- the first n bytes of what is held are taken off
 taken_off : (bytes front : List ℕ) (start n : ℕ) (a : Arrival) (fault : Option ModeFault) → fault ≡ None → IsArrival front a → drop start bytes ≡ front ++ drop (start + n) bytes
     → TakesOff (feeding (drop start bytes) fault) a (feeding (drop (start + n) bytes) fault)
 taken_off bytes front start n a fault f p e =
-    let s = some_bytes front a p in
+    let s = some_byte front (arrival_text front a p) in
     let l = ap length e in
     record { was = f; front = front; is = p; some = omega (arith, length-append front (drop (start + n) bytes)); whole = e; none = f }
 

@@ -5,13 +5,16 @@ use Rattle.std.proofs.lemmas.List.{take-append-drop, drop-drop, length-drop, len
 use Rattle.msgpack_bytes.specs.declared.answers.Scan.TheVariants.{End}
 use Rattle.msgpack_bytes.specs.Answers.{IsScanned}
 use Rattle.msgpack_bytes.specs.Item.{IsItemWithin, IsOpen}
+use Rattle.msgpack_bytes.proofs.Walk.{all_with}
 use Rattle.event_modes.specs.declared.chunk_id.ChunkId.{ChunkId}
 use Rattle.event_modes.specs.ChunkIds.{chunk_text}
 use Rattle.event_modes.specs.Acknowledgement.{IsAcknowledgement}
 use Rattle.event_modes.specs.Acks.{IsAckAt, AckFault}
 use Rattle.event_modes.specs.declared.fault.ModeFault.{ModeFault}
 use Rattle.event_modes.specs.declared.fault.ModeFault.TheVariants.{NotAMessage, BadTag, BadTime, BadRecord, BadEntry, TornPacked, Compressed, BadOption, Bytes}
-use Rattle.event_modes.proofs.Parting.{some_item, text_item, same_front}
+use Rattle.event_modes.proofs.Parting.{text_item, same_front}
+use Rattle.event_modes.proofs.Stored.{concat-push}
+use Rattle.event_modes.proofs.Again.{some_byte}
 use Rattle.event_modes.proofs.Only.{no_begin}
 use Rattle.std.specs.Prelude.{slice_range}
 use Rattle.buffer_book.specs.Evidences.{Shows, Acknowledged}
@@ -28,28 +31,16 @@ pub record Passing (chunk : Option ChunkId) (bytes : List ℕ) (n : ℕ) : Type 
 pub passing_none : (chunk : Option ChunkId) (bytes : List ℕ) → Passing chunk bytes 0
 passing_none chunk bytes = record { within = omega arith; items = []; passed = tt; whole = refl }
 
-all_more : {X : Type 0} (P : X → Type 0) (xs : List X) (x : X) → AllByRecursion P xs → P x → AllByRecursion P (xs ++ x ∷ [])
-all_more P [] x a p = (p, tt)
-all_more P (y ∷ xs) x a p = (a.0, all_more P xs x a.1 p)
-
-concat_more : (xs : List (List ℕ)) (x : List ℕ) → concat (xs ++ x ∷ []) ≡ concat xs ++ x
-concat_more [] x = append-nil x
-concat_more (y ∷ xs) x = ap (λ (z : List ℕ). y ++ z) (concat_more xs x) ∙ sym (append_assoc y (concat xs) x)
-
--- a text item at the front of what is left
+-- an item within the limits at the front of what is left
 pub record Front (bytes : List ℕ) (n end : ℕ) : Type 0 where
   pub whole : drop n bytes ≡ take end (drop n bytes) ++ drop (n + end) bytes
   pub some : 0 < end
   pub within : n + end ≤ length bytes
 
-some_bytes : (item : List ℕ) → IsItemWithin item → 0 < length item
-some_bytes [] p = absurd (some_item (text_item [] p))
-some_bytes (x ∷ item) p = omega arith
-
 pub front_at : (bytes : List ℕ) (n end : ℕ) → n ≤ length bytes → end ≤ length (drop n bytes) → IsItemWithin (take end (drop n bytes)) → Front bytes n end
 front_at bytes n end w e p = record {
   whole = sym (take-append-drop end (drop n bytes)) ∙ ap (λ (z : List ℕ). take end (drop n bytes) ++ z) (drop-drop end n bytes);
-  some = subst (λ (k : ℕ). 0 < k) (length-take-le end (drop n bytes) e) (some_bytes (take end (drop n bytes)) p);
+  some = subst (λ (k : ℕ). 0 < k) (length-take-le end (drop n bytes) e) (some_byte (take end (drop n bytes)) p);
   within = omega (arith, e, w, length-drop n bytes);
 }
 
@@ -62,9 +53,9 @@ passing_more chunk bytes n end p f q =
     record {
       within = f.within;
       items = p.items ++ item ∷ [];
-      passed = all_more (IsPassed chunk) p.items item p.passed q;
+      passed = all_with (IsPassed chunk) p.items item p.passed q;
       whole = p.whole ∙ ap (λ (z : List ℕ). concat p.items ++ z) f.whole ∙ sym (append_assoc (concat p.items) item rest)
-          ∙ ap (λ (z : List ℕ). z ++ rest) (sym (concat_more p.items item));
+          ∙ ap (λ (z : List ℕ). z ++ rest) (sym (concat-push p.items item));
     }
 
 -- what is heard where nothing whole is left

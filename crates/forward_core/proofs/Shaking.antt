@@ -8,10 +8,10 @@ use Rattle.auth_handshake.specs.declared.answers.HeloError.TheVariants.{Memory, 
 use Rattle.auth_handshake.specs.Ends.{ClientEnd}
 use Rattle.event_modes.specs.declared.chunk_id.ChunkId.{ChunkId}
 use Rattle.forward_core.specs.declared.fault.SessionFault.TheVariants.{Handshake}
-use Rattle.forward_core.specs.declared.client_handshake.Met.TheVariants.{Taken, Refused}
+use Rattle.forward_core.specs.declared.client_handshake.First.TheVariants.{Taken, Refused}
 use Rattle.forward_core.specs.declared.client.Phase.{Phase}
 use Rattle.forward_core.specs.declared.client.Phase.TheVariants.{Shaking}
-use Rattle.forward_core.specs.Client.{ClientPhase, AwaitsHelo, AwaitsPong, Ended, ClientState, Said, Fails, Listens, IsHeard, ReadsHelo, ReadsPong, MeetsHelo, MeetsPong, awaited, phase_if, phase_of, greeted}
+use Rattle.forward_core.specs.Client.{ClientPhase, AwaitsHelo, AwaitsPong, Ended, ClientState, Said, Fails, Listens, IsHeard, ReadsHelo, ReadsPong, TakesHelo, TakesPong, awaited, phase_if, phase_of, greeted}
 
 -- the client whose PONG is awaited
 pub pong_client : {A : Type 0} (phase : Phase A) (was_greeted : Bool) (inside client : ClientEnd)
@@ -45,21 +45,21 @@ listened chunk old bytes n says phase held outgoing h b k p d o =
 
 -- a PONG that is refused
 pub pong_refused : (client inside : ClientEnd) (old : ClientState) (bytes outgoing held : List ℕ) (fault : HandshakeFault)
-    → inside ≡ client → bytes ≡ old.held → outgoing ≡ old.outgoing → held ≡ old.held → MeetsPong inside bytes (Refused fault)
+    → inside ≡ client → bytes ≡ old.held → outgoing ≡ old.outgoing → held ≡ old.held → TakesPong inside bytes (Refused fault)
     → ReadsPong client old (Fails (Handshake fault)) (record { phase = Ended; held = held; outgoing = outgoing })
 pong_refused client inside old bytes outgoing held fault i b o h m =
-    let at : MeetsPong client old.held (Refused fault) = subst (λ (z : ClientEnd). MeetsPong z old.held (Refused fault)) i (subst (λ (z : List ℕ). MeetsPong inside z (Refused fault)) b m) in
+    let at : TakesPong client old.held (Refused fault) = subst (λ (z : ClientEnd). TakesPong z old.held (Refused fault)) i (subst (λ (z : List ℕ). TakesPong inside z (Refused fault)) b m) in
     inr (inr (at.0, at.1, fault, at.2, at.3, (refl, rw (o, h) refl)))
 
 -- a HELO that was taken, and what is behind it
 pub helo_taken : (client inside new_client : ClientEnd) (old new : ClientState) (bytes outgoing sends rest : List ℕ) (n : ℕ) (says : Said)
-    → inside ≡ client → bytes ≡ old.held → outgoing ≡ old.outgoing → MeetsHelo inside outgoing bytes (Taken n) new_client sends → rest ≡ drop n bytes
+    → inside ≡ client → bytes ≡ old.held → outgoing ≡ old.outgoing → TakesHelo inside outgoing bytes (Taken n) new_client sends → rest ≡ drop n bytes
     → ReadsPong new_client (record { phase = AwaitsPong new_client; held = rest; outgoing = sends }) says new → ReadsHelo client old says new
 helo_taken client inside new_client old new bytes outgoing sends rest n says i b o m r p =
-    let at : MeetsHelo client old.outgoing old.held (Taken n) new_client sends =
-    subst (λ (z : ClientEnd). MeetsHelo z old.outgoing old.held (Taken n) new_client sends) i
-    (subst (λ (z : List ℕ). MeetsHelo inside z old.held (Taken n) new_client sends) o
-    (subst (λ (z : List ℕ). MeetsHelo inside outgoing z (Taken n) new_client sends) b m)) in
+    let at : TakesHelo client old.outgoing old.held (Taken n) new_client sends =
+    subst (λ (z : ClientEnd). TakesHelo z old.outgoing old.held (Taken n) new_client sends) i
+    (subst (λ (z : List ℕ). TakesHelo inside z old.held (Taken n) new_client sends) o
+    (subst (λ (z : List ℕ). TakesHelo inside outgoing z (Taken n) new_client sends) b m)) in
     let w = at.1 in
     let state : record { phase = AwaitsPong new_client; held = rest; outgoing = sends } ≡ greeted client w.0 (drop n old.held) old =
     rw (r, w.3, w.4, b) refl in
@@ -75,7 +75,7 @@ helo_taken client inside new_client old new bytes outgoing sends rest n says i b
 
 -- a HELO that is refused
 pub helo_refused : (client inside new_client : ClientEnd) (old : ClientState) (bytes outgoing sends held : List ℕ) (fault : HandshakeFault)
-    → inside ≡ client → bytes ≡ old.held → outgoing ≡ old.outgoing → held ≡ old.held → MeetsHelo inside outgoing bytes (Refused fault) new_client sends
+    → inside ≡ client → bytes ≡ old.held → outgoing ≡ old.outgoing → held ≡ old.held → TakesHelo inside outgoing bytes (Refused fault) new_client sends
     → ReadsHelo client old (Fails (Handshake fault)) (record { phase = Ended; held = held; outgoing = sends })
 helo_refused client inside new_client old bytes outgoing sends held fault i b o h m =
     let w = m.1 in

@@ -7,8 +7,8 @@ use Rattle.event_modes.specs.Message.{Parts}
 use Rattle.event_modes.specs.Stream.{Arrival, Sent, Heartbeat, IsArrival, Splits}
 use Rattle.event_modes.specs.Faults.{StreamFault}
 use Rattle.event_modes.specs.Reading.{Means, Beats, Answers}
-use Rattle.event_modes.proofs.Parting.{some_item, text_item}
 use Rattle.event_modes.proofs.One.{arrival_text}
+use Rattle.event_modes.proofs.Again.{some_byte}
 use Rattle.forward_core.specs.declared.fault.SessionFault.TheVariants.{BadStream}
 use Rattle.forward_core.specs.Demands.{Wanted, Delivers, Closes}
 use Rattle.forward_core.specs.Streams.{messages_in}
@@ -41,10 +41,6 @@ messages_beat [] = refl
 messages_beat (Sent p ∷ arrivals) = ap (λ (z : List Parts). p ∷ z) (messages_beat arrivals)
 messages_beat (Heartbeat ∷ arrivals) = messages_beat arrivals
 
-pub some_bytes : (front : List ℕ) (a : Arrival) → IsArrival front a → 0 < length front
-some_bytes [] a p = absurd (some_item (text_item [] (arrival_text [] a p)))
-some_bytes (x ∷ front) a p = omega arith
-
 -- where the arrival that was read lies in the bytes
 record Behind (bytes : List ℕ) (len n : ℕ) (arrival : Arrival) : Type 0 where
   pub front : List ℕ
@@ -61,7 +57,7 @@ behind bytes len n arrival l f p =
       front = t;
       is = p;
       whole = sym (take-append-drop n (drop len bytes)) ∙ ap (λ (z : List ℕ). t ++ z) (drop-drop n len bytes);
-      some = subst (λ (z : ℕ). 0 < z) k (some_bytes t arrival p);
+      some = subst (λ (z : ℕ). 0 < z) k (some_byte t (arrival_text t arrival p));
       fits = omega (arith, f, l, length-drop len bytes);
     }
 

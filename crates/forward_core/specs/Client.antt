@@ -21,8 +21,8 @@ use Rattle.forward_core.specs.declared.replies.Reply.{Reply}
 use Rattle.forward_core.specs.declared.replies.Reply.TheVariants as reply
 use Rattle.forward_core.specs.declared.replies.Heard.{Heard}
 use Rattle.forward_core.specs.declared.replies.Heard.TheVariants as heard
-use Rattle.forward_core.specs.declared.client_handshake.Met.{Met}
-use Rattle.forward_core.specs.declared.client_handshake.Met.TheVariants as met
+use Rattle.forward_core.specs.declared.client_handshake.First.{First}
+use Rattle.forward_core.specs.declared.client_handshake.First.TheVariants as first
 use Rattle.forward_core.specs.declared.client.Phase.{Phase}
 use Rattle.forward_core.specs.declared.client.Phase.TheVariants as phase
 use Rattle.forward_core.specs.Handshakes.{IsShown}
@@ -184,16 +184,16 @@ pub record IsHeard (chunk : Option ChunkId) (bytes : List ℕ) (n : ℕ) (says :
       → Listens chunk old says (record old { phase = phase_if says old.phase; held = drop n bytes })
 
 -- what a client makes of what should be a HELO
-abbrev pub MeetsHelo : ClientEnd → List ℕ → List ℕ → Met → ClientEnd → List ℕ → Type 0
-MeetsHelo client outgoing bytes (met.Taken n) new sends = (n ≤ length bytes) × ((nonce : List ℕ) × IsShown bytes (take n bytes) (drop n bytes)
+abbrev pub TakesHelo : ClientEnd → List ℕ → List ℕ → First → ClientEnd → List ℕ → Type 0
+TakesHelo client outgoing bytes (first.Taken n) new sends = (n ≤ length bytes) × ((nonce : List ℕ) × IsShown bytes (take n bytes) (drop n bytes)
     × IsHelo (take n bytes) nonce × (new ≡ record client { nonce = Some nonce })
     × (sends ≡ outgoing ++ ping_bytes client.host client.salt (client_digest client nonce)))
-MeetsHelo client outgoing bytes met.Waits new sends = IsOpen bytes × (new ≡ client) × (sends ≡ outgoing)
-MeetsHelo client outgoing bytes (met.Refused fault) new sends = (fault ≡ NotHelo) × ((item : List ℕ) × (more : List ℕ) × IsShown bytes item more
+TakesHelo client outgoing bytes first.Waits new sends = IsOpen bytes × (new ≡ client) × (sends ≡ outgoing)
+TakesHelo client outgoing bytes (first.Refused fault) new sends = (fault ≡ NotHelo) × ((item : List ℕ) × (more : List ℕ) × IsShown bytes item more
     × ((nonce : List ℕ) → IsHelo item nonce → ⊥)) × (new ≡ client) × (sends ≡ outgoing)
 
 -- what a client makes of what should be a PONG
-abbrev pub MeetsPong : ClientEnd → List ℕ → Met → Type 0
-MeetsPong client bytes (met.Taken n) = (n ≤ length bytes) × IsShown bytes (take n bytes) (drop n bytes) × IsVerdict client (take n bytes) (Ok tt)
-MeetsPong client bytes met.Waits = IsOpen bytes
-MeetsPong client bytes (met.Refused fault) = (item : List ℕ) × (more : List ℕ) × IsShown bytes item more × IsVerdict client item (Err fault)
+abbrev pub TakesPong : ClientEnd → List ℕ → First → Type 0
+TakesPong client bytes (first.Taken n) = (n ≤ length bytes) × IsShown bytes (take n bytes) (drop n bytes) × IsVerdict client (take n bytes) (Ok tt)
+TakesPong client bytes first.Waits = IsOpen bytes
+TakesPong client bytes (first.Refused fault) = (item : List ℕ) × (more : List ℕ) × IsShown bytes item more × IsVerdict client item (Err fault)

@@ -10,7 +10,7 @@ ghost use Rattle.event_modes.specs.Packed.{packed_message};
 ghost use Rattle.forward_core.specs.Handshakes.{IsHosted};
 ghost use Rattle.forward_core.specs.Client.{AwaitsHelo, AwaitsPong, ClientReads, Ended, HasNonce, HasSent, Listens, Ready, ReadsAll, ReadsHelo, ReadsPong, awaited, named, initial_client, phase_if, phase_of, said};
 
-use crate::client_handshake::{Met, take_helo, take_pong};
+use crate::client_handshake::{First, take_helo, take_pong};
 use crate::fault::SessionFault;
 use crate::outbox::Outbox;
 use crate::replies::{Heard, listen_to};
@@ -110,7 +110,8 @@ impl<A: Allocator + Copy> ClientSession<A> {
     }
 
     /// Sends the message with these entries, under the chunk's name where it is to ask for an acknowledgement.
-    /// Each session sends one, once it is ready. The tag has at most 1,024 bytes, and the entries fewer than 2^32.
+    /// Each session sends one, once it is ready. The tag has at most 1,024 bytes, and the entries have fewer than
+    /// 2^32 bytes together.
     ///
     /// The error is want of memory, and changes nothing.
     pub fn send<B: Allocator>(
@@ -188,13 +189,13 @@ impl<A: Allocator + Copy> ClientSession<A> {
             return Ok(Heard::Wait);
         };
         match take_helo(client, &mut self.outgoing, self.held.as_slice())? {
-            Met::Taken(n) => {
+            First::Taken(n) => {
                 self.greeted = true;
                 self.held.drop_front(n);
                 Ok(self.hear_pong())
             }
-            Met::Waits => Ok(Heard::Wait),
-            Met::Refused(fault) => {
+            First::Waits => Ok(Heard::Wait),
+            First::Refused(fault) => {
                 self.phase = Phase::Closed;
                 Ok(Heard::Fault(SessionFault::Handshake(fault)))
             }
@@ -212,13 +213,13 @@ impl<A: Allocator + Copy> ClientSession<A> {
             return Heard::Wait;
         }
         match take_pong(client, self.held.as_slice()) {
-            Met::Taken(n) => {
+            First::Taken(n) => {
                 self.phase = Phase::Ready;
                 self.held.drop_front(n);
                 self.listen()
             }
-            Met::Waits => Heard::Wait,
-            Met::Refused(fault) => {
+            First::Waits => Heard::Wait,
+            First::Refused(fault) => {
                 self.phase = Phase::Closed;
                 Heard::Fault(SessionFault::Handshake(fault))
             }

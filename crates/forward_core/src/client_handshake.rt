@@ -1,7 +1,7 @@
 //! The handshake of the end that connects.
 
 ghost use Rattle.std.specs.Prelude.{◌≡◌, IsSome, IfOk, OnErr};
-ghost use Rattle.forward_core.specs.Client.{MeetsHelo, MeetsPong};
+ghost use Rattle.forward_core.specs.Client.{TakesHelo, TakesPong};
 
 use crate::first::first_len;
 use crate::outbox::Outbox;
@@ -10,7 +10,7 @@ use std::alloc::{AllocError, Allocator};
 
 /// What became of the first item.
 #[derive(Clone, Copy)]
-pub enum Met {
+pub enum First {
     /// It was what it should be, and has so many bytes.
     Taken(usize),
     /// More of it has to come.
@@ -25,31 +25,31 @@ pub fn take_helo<A: Allocator + Copy, B: Allocator>(
     client: &mut Client<A>,
     outgoing: &mut Outbox<B>,
     bytes: &[u8],
-) -> Result<Met, AllocError>
-    ensures meets { IfOk result (λ met. MeetsHelo client.old outgoing.old bytes.now met client.new outgoing.new) }
+) -> Result<First, AllocError>
+    ensures takes { IfOk result (λ first. TakesHelo client.old outgoing.old bytes.now first client.new outgoing.new) }
     ensures client { OnErr result (client.new ≡ client.old) }
     ensures outgoing { OnErr result (outgoing.new ≡ outgoing.old) }
 {
     let Some(end) = first_len(bytes) else {
-        return Ok(Met::Waits);
+        return Ok(First::Waits);
     };
     match outgoing.helo(client, bytes.split_at(end).0) {
-        Ok(()) => Ok(Met::Taken(end)),
-        Err(HeloError::Fault(fault)) => Ok(Met::Refused(fault)),
+        Ok(()) => Ok(First::Taken(end)),
+        Err(HeloError::Fault(fault)) => Ok(First::Refused(fault)),
         Err(HeloError::Memory) => Err(AllocError),
     }
 }
 
 /// Looks at the PONG that the bytes have to begin with.
-pub fn take_pong<A: Allocator>(client: &Client<A>, bytes: &[u8]) -> Met
+pub fn take_pong<A: Allocator>(client: &Client<A>, bytes: &[u8]) -> First
     requires { IsSome client.now.nonce }
-    ensures { MeetsPong client.now bytes.now result }
+    ensures { TakesPong client.now bytes.now result }
 {
     let Some(end) = first_len(bytes) else {
-        return Met::Waits;
+        return First::Waits;
     };
     match client.pong(bytes.split_at(end).0) {
-        Ok(()) => Met::Taken(end),
-        Err(fault) => Met::Refused(fault),
+        Ok(()) => First::Taken(end),
+        Err(fault) => First::Refused(fault),
     }
 }

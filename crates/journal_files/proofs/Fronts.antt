@@ -2,19 +2,16 @@
 use Rattle.std.proofs.Common.{◌≡◌, ℕ, ◌+◌, List, [], ◌∷◌, ◌++◌, length, inl, inr, sym, ap, subst, ◌∙◌, append-nil, append_assoc, arith}
 use Rattle.std.specs.Prelude.{◌⊎◌, Result, Ok, Err, IfOk}
 use Rattle.std.specs.List.{AllByRecursion, concat}
-use Rattle.std.specs.Int.{w32, to_be_bytes}
 use Rattle.std.proofs.lemmas.List.{flat_map_more, length-append}
 use Rattle.buffer_state.specs.declared.chunk.Stage.{Stage}
 use Rattle.buffer_state.specs.declared.chunk.Stage.TheVariants.{Queued, Claimed}
 use Rattle.buffer_state.specs.State.{Chunk, size}
-use Rattle.chunk_journal.specs.Records.{Record, Append, Queue, record_bytes, IsRecord}
+use Rattle.chunk_journal.specs.Records.{Record, Append, Queue, append_head, record_bytes, IsRecord}
 use Rattle.chunk_journal.specs.Journal.{journal_bytes}
 use Rattle.chunk_journal.specs.Meaning.{chunk_records, queueing}
 use Rattle.file_pieces.specs.Pieces.{AreWithin, CanTake, piece_bytes, pieces_bytes}
 use Rattle.file_pieces.specs.declared.piece.Piece.{Piece}
-use Rattle.chunk_journal.proofs.Frames.{append_length}
-use Rattle.journal_files.specs.Fronts.{front_within}
-use Rattle.journal_files.proofs.Placed.{record_split}
+use Rattle.chunk_journal.proofs.Appends.{record_split}
 
 -- ---- one more piece
 
@@ -31,25 +28,17 @@ module _ {A : Type 0} (old new : List (Piece A)) (piece : Piece A) (pushed : new
 
 -- ---- an Append
 
--- what it has before its entries, as it is spelled
-abbrev pub front_of : ℕ → List ℕ → ℕ → ℕ → List ℕ
-front_of serial tag count bytes = to_be_bytes w32 (15 + length tag + bytes) ++ front_within serial tag count
-
-append_whole : (serial : ℕ) (tag : List ℕ) (entries : List (List ℕ)) → front_of serial tag (length entries) (size entries) ++ concat entries ≡ record_bytes (Append serial tag entries)
-append_whole serial tag entries =
-    ap (λ n. (to_be_bytes w32 n ++ front_within serial tag (length entries)) ++ concat entries) (sym (append_length serial tag entries)) ∙ sym (record_split serial tag entries)
-
-front_is : (serial : ℕ) (tag found : List ℕ) (entries : List (List ℕ)) (count bytes : ℕ) → found ≡ tag → count ≡ length entries → bytes ≡ size entries → front_of serial found count bytes ≡ front_of serial tag (length entries) (size entries)
+front_is : (serial : ℕ) (tag found : List ℕ) (entries : List (List ℕ)) (count bytes : ℕ) → found ≡ tag → count ≡ length entries → bytes ≡ size entries → append_head serial found count bytes ≡ append_head serial tag (length entries) (size entries)
 front_is serial tag found entries count bytes tag_is count_is size_is =
-    ap (λ t. front_of serial t count bytes) tag_is ∙ ap (λ n. front_of serial tag n bytes) count_is ∙ ap (front_of serial tag (length entries)) size_is
+    ap (λ t. append_head serial t count bytes) tag_is ∙ ap (λ n. append_head serial tag n bytes) count_is ∙ ap (append_head serial tag (length entries)) size_is
 
 -- bytes with the front and then the entries at their end
 pub told_append : (old new front behind : List ℕ) (serial : ℕ) (tag found : List ℕ) (entries : List (List ℕ)) (count bytes : ℕ) → found ≡ tag → count ≡ length entries → bytes ≡ size entries
-    → front ≡ front_of serial found count bytes → new ≡ old ++ (front ++ behind) → behind ≡ concat entries → new ≡ old ++ record_bytes (Append serial tag entries)
+    → front ≡ append_head serial found count bytes → new ≡ old ++ (front ++ behind) → behind ≡ concat entries → new ≡ old ++ record_bytes (Append serial tag entries)
 told_append old new front behind serial tag found entries count bytes tag_is count_is size_is spelled added all =
     added ∙ ap (λ l. old ++ (front ++ l)) all
     ∙ ap (λ l. old ++ (l ++ concat entries)) (spelled ∙ front_is serial tag found entries count bytes tag_is count_is size_is)
-    ∙ ap (λ l. old ++ l) (append_whole serial tag entries)
+    ∙ ap (λ l. old ++ l) (sym (record_split serial tag entries))
 
 -- ---- a chunk that isn't staged
 

@@ -15,7 +15,7 @@ use Rattle.file_pieces.specs.Adding.{IsLeftOf}
 use Rattle.journal_files.specs.Pieces.{AreOlder, ChangesBelow, IsAbove, IsGoneBut}
 use Rattle.journal_files.proofs.Names.{same_number, apart, numbers_apart}
 use Rattle.journal_files.proofs.Renewing.{is_some_name, removed_gone}
-use Rattle.journal_files.proofs.Searched.{at_same}
+use Rattle.buffer_state.proofs.Serials.{at_same}
 use Rattle.journal_files.proofs.Steps.{either}
 use Rattle.journal_files.proofs.Strays.{not_some}
 

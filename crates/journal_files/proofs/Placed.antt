@@ -1,16 +1,15 @@
 -- Where the entries of live chunks lie as a journal goes on.
 use Rattle.std.proofs.Common.{◌≡◌, ℕ, ◌+◌, ◌-◌, List, [], ◌∷◌, ◌++◌, length, take, drop, sym, ap, subst, ◌∙◌, append_assoc, arith}
-use Rattle.std.specs.Int.{w16, w32, w64, to_be_bytes}
 use Rattle.std.specs.List.{concat}
 use Rattle.std.proofs.lemmas.List.{length-append, take_all}
 use Rattle.std.proofs.Math.Seq.{drop-append_seam}
-use Rattle.chunk_journal.specs.Records.{Record, Seal, Append, Queue, Purge, body_of, record_bytes}
+use Rattle.chunk_journal.specs.Records.{Record, Seal, Append, Queue, Purge, append_head, record_bytes}
 use Rattle.chunk_journal.specs.Journal.{journal_bytes}
 use Rattle.chunk_journal.specs.Meaning.{after}
 use Rattle.chunk_journal.specs.Places.{Spots, ArePlaced, EndsAt, MovesPlaces, bytes_from, extent_before}
 use Rattle.chunk_journal.specs.Laws.{PlacesFollow, LeadsInOrder}
+use Rattle.chunk_journal.proofs.Appends.{record_split}
 use Rattle.chunk_journal.proofs.Standing.{after_more}
-use Rattle.journal_files.specs.Fronts.{front_within}
 use Rattle.journal_files.specs.Placings.{placing_of, MovesBy}
 use Rattle.journal_files.specs.JournalLogs.{JournalLog, records_of, state_at_seal, state_of, IsJournalLog, begun}
 use Rattle.journal_files.proofs.Cuts.{leads_of}
@@ -25,26 +24,10 @@ ends_there seen front body bytes is =
     ap (λ (n : ℕ). drop n (seen ++ body)) at ∙ ap (drop (length (seen ++ front))) all ∙ drop-append_seam (seen ++ front) bytes in
     sym (ap (take (length bytes)) behind ∙ take_all (length bytes) bytes (omega arith))
 
-pub body_split : (serial : ℕ) (tag : List ℕ) (entries : List (List ℕ)) → body_of (Append serial tag entries) ≡ front_within serial tag (length entries) ++ concat entries
-body_split serial tag entries =
-    let a = to_be_bytes w64 serial in
-    let b = to_be_bytes w16 (length tag) in
-    let d = to_be_bytes w32 (length entries) in
-    let e = concat entries in
-    ap (λ (z : List ℕ). 2 ∷ z)
-    (sym (append_assoc a (b ++ (tag ++ d)) e ∙ ap (λ (z : List ℕ). a ++ z) (append_assoc b (tag ++ d) e ∙ ap (λ (z : List ℕ). b ++ z) (append_assoc tag d e))))
-
-pub record_split : (serial : ℕ) (tag : List ℕ) (entries : List (List ℕ))
-    → record_bytes (Append serial tag entries) ≡ (to_be_bytes w32 (length (body_of (Append serial tag entries))) ++ front_within serial tag (length entries)) ++ concat entries
-record_split serial tag entries =
-    let n = to_be_bytes w32 (length (body_of (Append serial tag entries))) in
-    ap (λ (z : List ℕ). n ++ z) (body_split serial tag entries) ∙ sym (append_assoc n (front_within serial tag (length entries)) (concat entries))
-
 pub ends_so : (seen : List ℕ) (item : Record) → EndsAt (seen ++ record_bytes item) item (length (seen ++ record_bytes item))
 ends_so seen (Seal next) = tt
 ends_so seen (Append serial tag entries) =
-    let n = to_be_bytes w32 (length (body_of (Append serial tag entries))) in
-    (ends_there seen (n ++ front_within serial tag (length entries)) (record_bytes (Append serial tag entries)) (concat entries) (record_split serial tag entries), omega arith)
+    (ends_there seen (append_head serial tag (length entries) (length (concat entries))) (record_bytes (Append serial tag entries)) (concat entries) (record_split serial tag entries), omega arith)
 ends_so seen (Queue serial) = tt
 ends_so seen (Purge serial) = tt
 

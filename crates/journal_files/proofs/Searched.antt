@@ -1,15 +1,15 @@
 -- The generations of a folder are looked at from the greatest down.
 use Rattle.std.proofs.Common.{◌≡◌, ◌⊎◌, ⊎_elim, ℕ, ◌<◌, ◌≤◌, ◌^◌, Bool, true, false, cond, List, Option, Some, None, refl, sym, ap, subst, ◌∙◌, arith, inl, inr}
 use Rattle.std.specs.Prelude.{IsTrue, IsSome, ◌↔◌}
-use Rattle.std.specs.Ordering.{nat_cmp, is_lt, is_eq}
-use Rattle.std.specs.declared.cmp.Ordering.TheVariants.{Less, Greater}
-use Rattle.std.proofs.lemmas.Bool.{cases_lt}
+use Rattle.std.specs.Ordering.{nat_cmp, is_lt}
+use Rattle.std.specs.declared.cmp.Ordering.TheVariants.{Less}
 use Rattle.std.specs.Cmp.{nat_cmp_is}
 use Rattle.std.specs.BTreeMap.{is_at}
 use Rattle.std.specs.BTreeSet.{BTreeSet, contains}
 use Rattle.disk_files.specs.Disk.{Folder, SameDisk, reads}
 use Rattle.disk_files.specs.Moments.{History, Elapses, now}
 use Rattle.buffer_state.specs.State.{State, empty}
+use Rattle.buffer_state.proofs.Serials.{at_same}
 use Rattle.chunk_journal.specs.Meaning.{EndsUnsealed, IsDamaged}
 use Rattle.chunk_journal.specs.Places.{Spots}
 use Rattle.journal_files.specs.Folders.{journal_name, IsPassedOver, PassesAbove, IsHighest, Opens, IsDamagedFolder}
@@ -49,16 +49,6 @@ pub record IsTaken (k : ℕ) (old new : BTreeSet ℕ) : Type 0 where
 
 not_above : (k q : ℕ) → is_lt (nat_cmp k q) ≡ false → k < q → ⊥
 not_above k q not lt = let less : is_lt (nat_cmp k q) ≡ true = ap is_lt (sym (nat_cmp_is k q Less lt)) in cc (not, less)
-
-pub at_same : (k n : ℕ) → is_at (nat_cmp k) n ≡ true → k ≡ n
-at_same k n at =
-    elim (cases_lt k n) [
-      | inl lt ↦ absurd (let other : is_at (nat_cmp k) n ≡ false = ap is_eq (sym (nat_cmp_is k n Less lt)) in cc (at, other))
-      | inr le ↦ elim (cases_lt n k) [
-        | inl gt ↦ absurd (let other : is_at (nat_cmp k) n ≡ false = ap is_eq (sym (nat_cmp_is k n Greater gt)) in cc (at, other))
-        | inr ge ↦ omega (arith, le, ge)
-      ]
-    ]
 
 was : (b old new : Bool) → new ≡ cond b false old → new ≡ true → old ≡ true
 was true old new is t = absurd (cc (is, t))

@@ -5,7 +5,6 @@ pub mod Placings
 pub mod Views
 pub mod Faults
 pub mod Pieces
-pub mod Fronts
 pub mod Sources
 pub mod Found
 pub mod Laws

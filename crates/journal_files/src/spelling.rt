@@ -1,24 +1,22 @@
 //! What a generation begins with: pieces that tell its chunks, whose entries another file has, and where they lie then.
 
 ghost use Rattle.std.specs.Prelude.{◌≡◌, ◌+◌, ◌<◌, ◌≤◌, ◌^◌, ◌++◌, ℕ, List, length, OnOk, IfOk};
-ghost use Rattle.std.specs.Int.{w32, to_be_bytes};
 ghost use Rattle.std.specs.List.{AllByRecursion, concat, flat_map};
 ghost use Rattle.event_modes.specs.Message.{longest_tag};
 ghost use Rattle.buffer_state.specs.State.{size};
 ghost use Rattle.buffer_state.specs.Steps.{greatest_size};
-ghost use Rattle.chunk_journal.specs.Records.{Seal, Append, Queue, record_bytes, IsRecord};
+ghost use Rattle.chunk_journal.specs.Records.{Seal, Append, Queue, append_head, record_bytes, IsRecord};
 ghost use Rattle.chunk_journal.specs.Journal.{journal_bytes};
 ghost use Rattle.chunk_journal.specs.Meaning.{chunk_records, AreTold};
 ghost use Rattle.chunk_journal.specs.Places.{ArePlaced, AddsPlace, IsWithin, LieAt, bytes_at, extent_before, places_at};
 ghost use Rattle.file_pieces.specs.Pieces.{AreWithin, pieces_bytes};
-ghost use Rattle.journal_files.specs.Fronts.{front_within};
 ghost use Rattle.journal_files.specs.JournalLogs.{new_generation, records_of, state_of};
 ghost use Rattle.journal_files.specs.Views.{HasShortTags};
 
 use crate::placing::last_extent;
 use buffer_state::{Chunk, Chunks, Stage};
 use chunk_journal::{
-    APPEND_KIND, Extent, Places, Record, leads_in_order, places_follow, put_record,
+    Extent, Places, Record, leads_in_order, places_follow, put_append_head, put_record,
 };
 use file_pieces::Piece;
 use std::alloc::{AllocError, Allocator};
@@ -175,16 +173,10 @@ fn spell_front<A: Allocator>(
     requires tag { length tag.now ≤ longest_tag }
     requires small { size ≤ greatest_size }
     requires count { count ≤ size }
-    ensures { IfOk result (λ front. front.items ≡ to_be_bytes w32 (15 + length tag.now + size) ++ front_within serial tag.now count) }
+    ensures { IfOk result (λ front. front.items ≡ append_head serial tag.now count size) }
 {
-    let length = 15 + tag.len() + size;
-    let mut front = Vec::with_capacity(alloc, 19 + tag.len())?;
-    front.extend_from_slice(&(length as u32).to_be_bytes())?;
-    front.push(APPEND_KIND)?;
-    front.extend_from_slice(&serial.to_be_bytes())?;
-    front.extend_from_slice(&(tag.len() as u16).to_be_bytes())?;
-    front.extend_from_slice(tag)?;
-    front.extend_from_slice(&(count as u32).to_be_bytes())?;
+    let mut front = Vec::new(alloc);
+    put_append_head(&mut front, serial, tag, count, size)?;
     Ok(front)
 }
 

@@ -12,9 +12,9 @@ use Rattle.relay_net.specs.declared.address.Entrance.{Entrance}
 use Rattle.route_graph.specs.Listing.{numbers_of}
 use Rattle.route_graph.specs.Ways.{IsLeaf, IsLoop}
 use Rattle.routed_tags.specs.Routed.{ComesTo}
+use Rattle.routed_tags.proofs.Sending.{number_in, leaf_of}
 use Rattle.kept_branches.specs.Branches.{Reaches}
 use Rattle.kept_branches.specs.Searches.{KeepsSoFar, EachSoFar}
-use Rattle.kept_branches.proofs.Lists.{number_in, leaf_of}
 use Rattle.tag_pattern.specs.Parts.{most_tag_bytes}
 
 first_of : (leaves : List BufferNo) → leaves ≢ [] → (leaf : BufferNo) × Contains leaves leaf

@@ -3,12 +3,14 @@ use Rattle.std.proofs.Common.{◌≡◌, ℕ, List, [], ◌∷◌, ◌++◌, Som
 use Rattle.std.proofs.lemmas.List.Elements.{Contains-append_cases}
 use Rattle.std.proofs.lemmas.Option.{same_Some}
 use Rattle.custody_store.specs.Buffers.{BufferState}
+use Rattle.custody_store.proofs.Covering.{only_in}
+use Rattle.custody_store.proofs.Members.{contains-get, get-contains}
 use Rattle.message_book.specs.Book.{Message}
 use Rattle.relay_net.specs.Addresses.{Address}
 use Rattle.relay_net.specs.Network.{Network}
 use Rattle.kept_branches.specs.Branches.{IsPassedOn, KeepsAlong, has, passed, EachKeeps}
 use Rattle.kept_branches.specs.Searches.{KeepsSoFar, EachSoFar, IsNew, IsDone, AreSettled}
-use Rattle.kept_branches.proofs.Lists.{contains-get, get-contains, only_in, some_and}
+use Rattle.kept_branches.proofs.Lists.{some_and}
 
 module _ {A : Type 0} (net : Network A) (buffers : ℕ → ℕ → BufferState) (messages : List Message) (entry : List ℕ) (kept : List ℕ) where
   -- what is kept as far as is known is kept

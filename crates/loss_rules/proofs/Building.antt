@@ -11,15 +11,16 @@ use Rattle.relay_conf.specs.declared.output.Output.TheVariants as output
 use Rattle.relay_conf.specs.declared.relay.MatchRule.{MatchRule}
 use Rattle.relay_conf.specs.declared.relay.Relay.{Relay}
 use Rattle.relay_conf.specs.declared.relay.Scope.{Scope}
+use Rattle.relay_net.proofs.Pairing.{taken_more}
 use Rattle.relay_net.specs.Network.{Network, relay_at}
 use Rattle.loss_rules.specs.Labels.{IsReached}
 use Rattle.loss_rules.specs.Sites.{rule_at, matches_at, output_in_rule, line_of, RelabelsTo, scope_count_of}
 use Rattle.loss_rules.specs.declared.label.Reach.{Reach}
-use Rattle.loss_rules.specs.Graphs.{relabel_of, relabels_at, HasRelabel, HasReachedRelabel, IsGraphOf}
+use Rattle.loss_rules.specs.Graphs.{relabel_of, relabels_at, HasRelabel, IsGraphOf}
+use Rattle.loss_rules.specs.Rules.{HasReachedRelabel}
 use Rattle.loss_rules.specs.declared.relabel.Relabel.{Relabel}
 use Rattle.route_graph.proofs.Members.{cons-cases, cons-head, cons-tail, nil-none}
 use Rattle.loss_rules.proofs.Matches.{rule_listed}
-use Rattle.loss_rules.proofs.Members.{one-more}
 
 -- ---- outputs
 
@@ -68,7 +69,7 @@ outputs-relabels (first ∷ outputs) (suc place) found relabel at is = kept-late
 -- one output more
 pub relabels-more : {A : Type 0} (outputs : List (Output A)) (count : ℕ) (output : Output A) (before held more : List Relabel) → count < length outputs → output ≡ get_or outputs count output → held ≡ before ++ filter_map relabel_of (take count outputs) → more ≡ held ++ filter_map relabel_of (output ∷ []) → more ≡ before ++ filter_map relabel_of (take (count + 1) outputs)
 relabels-more {A} outputs count output before held more less is old new =
-    let cut : take (count + 1) outputs ≡ take count outputs ++ output ∷ [] = one-more outputs count output less is in
+    let cut : take (count + 1) outputs ≡ take count outputs ++ output ∷ [] = taken_more outputs count output less is in
     let all : filter_map relabel_of (take (count + 1) outputs) ≡ filter_map relabel_of (take count outputs) ++ filter_map relabel_of (output ∷ []) = ap (filter_map relabel_of) cut ∙ filter_map-append relabel_of (take count outputs) (output ∷ []) in
     new ∙ ap (λ (x : List Relabel). x ++ filter_map relabel_of (output ∷ [])) old ∙ append_assoc before (filter_map relabel_of (take count outputs)) (filter_map relabel_of (output ∷ [])) ∙ ap (λ (x : List Relabel). before ++ x) (sym all)
 

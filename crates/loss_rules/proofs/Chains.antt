@@ -1,10 +1,9 @@
 -- Chains of relabels, in a network and in the graph of one of its relays.
-use Rattle.std.proofs.Common.{ℕ, ◌<◌, List, [], length, refl, subst, inl, inr, Contains}
+use Rattle.std.proofs.Common.{ℕ, ◌<◌, List, [], length, subst, inl, inr, Contains}
 use Rattle.std.proofs.lemmas.Bool.{cases_lt}
 use Rattle.std.proofs.lemmas.List.{get_or_past}
 use Rattle.relay_net.specs.Network.{Network}
 use Rattle.loss_rules.specs.Rules.{GoesOn}
-use Rattle.loss_rules.specs.Sites.{line_of}
 use Rattle.loss_rules.specs.declared.label.Reach.{Reach}
 use Rattle.loss_rules.specs.Graphs.{HasRelabel, Leads, IsGraphOf}
 use Rattle.loss_rules.specs.declared.relabel.Relabel.{Relabel}
@@ -22,12 +21,10 @@ leads-within graph scope target line has = elim (cases_lt scope (length graph)) 
 pub goes-leads : {A : Type 0} (net : Network A) (reaches : List (Reach A)) (place : ℕ) (graph : List (List Relabel)) → IsGraphOf net reaches place graph → {scope last : ℕ} → Chain (GoesOn net reaches place) scope last → Chain (Leads graph) scope last
 goes-leads net reaches place graph is here = here
 goes-leads net reaches place graph is (onward {start = scope} {next = target} g k) =
-    let line = line_of g.2 in
-    onward (line, (is scope target line).1 (g.0, g.1, g.2, g.3, g.4, g.5, refl)) (goes-leads net reaches place graph is k)
+    onward (g.0, (is scope target g.0).1 g.1) (goes-leads net reaches place graph is k)
 
 -- and the other way round
 pub leads-goes : {A : Type 0} (net : Network A) (reaches : List (Reach A)) (place : ℕ) (graph : List (List Relabel)) → IsGraphOf net reaches place graph → {scope last : ℕ} → Chain (Leads graph) scope last → Chain (GoesOn net reaches place) scope last
 leads-goes net reaches place graph is here = here
 leads-goes net reaches place graph is (onward {start = scope} {next = target} h k) =
-    let r = (is scope target h.0).0 h.1 in
-    onward (r.0, r.1, r.2, r.3, r.4, r.5) (leads-goes net reaches place graph is k)
+    onward (h.0, (is scope target h.0).0 h.1) (leads-goes net reaches place graph is k)

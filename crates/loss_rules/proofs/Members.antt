@@ -1,7 +1,6 @@
 -- Who is in a list that is made from another.
-use Rattle.std.proofs.Common.{◌≡◌, ◌∙◌, ℕ, List, [], ◌∷◌, ◌++◌, ◌+◌, ◌<◌, length, get_or, take, map, sym, ap, subst, ◌⊎◌, inl, inr, Contains}
+use Rattle.std.proofs.Common.{◌≡◌, List, [], ◌∷◌, ◌++◌, map, sym, subst, ◌⊎◌, inl, inr, Contains}
 use Rattle.std.specs.Prelude.{Any}
-use Rattle.std.proofs.lemmas.List.{take_more}
 use Rattle.std.proofs.lemmas.List.Elements.{Contains-append_left, Contains-push_cases}
 use Rattle.route_graph.proofs.Members.{cons-cases, cons-head, cons-tail, nil-none}
 
@@ -30,7 +29,3 @@ any-cases P xs y (k, x, less, is, holds) = elim (Contains-push_cases xs y x (k, 
   | inl c ↦ inl (c.0, x, c.1, c.2, holds)
   | inr e ↦ inr (subst P (sym e) holds)
 ]
-
--- the first elements of a list, with one more
-pub one-more : {X : Type 0} (xs : List X) (count : ℕ) (x : X) → count < length xs → x ≡ get_or xs count x → take (count + 1) xs ≡ take count xs ++ x ∷ []
-one-more {X} xs count x less is = take_more xs count x less ∙ ap (λ (y : X). take count xs ++ y ∷ []) (sym is)

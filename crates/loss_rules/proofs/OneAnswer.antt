@@ -1,10 +1,10 @@
 -- That a plan has one answer.
-use Rattle.std.proofs.Common.{◌≡◌, ℕ, ◌<◌, List, slice_get, refl, sym, ap, subst, ◌∙◌, arith, inl, inr, All}
+use Rattle.std.proofs.Common.{◌≡◌, ℕ, ◌<◌, List, slice_get, refl, sym, ap, subst, ◌∙◌, arith, inl, inr}
 use Rattle.std.proofs.lemmas.Bool.{cases_lt}
 use Rattle.std.proofs.lemmas.Option.{same_Some, slice_get_within, get_or_from_slice_get}
 use Rattle.relay_net.specs.Network.{Network}
 use Rattle.loss_rules.specs.Breaks.{Subject, IsFirstLine, IsInConf, IsInPlan, BreaksAtSource, IsFirstTwice, IsKept, IsBrokenAt, IsAnswer, rule_number}
-use Rattle.loss_rules.specs.Rules.{RelayIsNew, AddressesAreDistinct, IsLabelledClient, IsMatched, ReachesCoverLabel}
+use Rattle.loss_rules.specs.Rules.{RelayIsNew, AddressesAreDistinct, IsLabelledClient, IsMatchedLabel, IsCoveredLabel}
 use Rattle.loss_rules.specs.declared.answer.Answer.TheVariants as answer
 use Rattle.loss_rules.specs.declared.answer.Place.{Place}
 use Rattle.loss_rules.specs.declared.answer.Place.TheVariants as place
@@ -98,8 +98,8 @@ module _ {A : Type 0} where
   unbroken s rule.AddressesAreDistinct at kept = never_twice s.net s.relay_lines at kept
   unbroken s rule.ServersAreSources at kept = conf_unbroken s.net _ at (λ p l b. b.8 (kept p b.0 b.1 b.2 b.3 b.5 b.4 b.6))
   unbroken s rule.ClientsAreLabelled at kept = plan_unbroken _ at (λ l b. b.4 (subst (λ c. IsLabelledClient s.net s.labels c) (get_or_from_slice_get s.net.clients b.0 b.1 b.1 b.2) (kept b.0 b.1 (slice_get_within s.net.clients b.0 b.1 b.2))))
-  unbroken s rule.LabelsAreMatched at kept = plan_unbroken _ at (λ l b. b.4.1 (subst (λ label. All (IsMatched s.net label.place label.scope) label.patterns.items) b.3 (kept b.0 b.1 b.2)))
-  unbroken s rule.ReachesCover at kept = plan_unbroken _ at (λ l b. b.4.1 (subst (λ label. All (ReachesCoverLabel s.net s.reaches label.place label.scope) label.patterns.items) b.3 (kept b.0 b.1 b.2)))
+  unbroken s rule.LabelsAreMatched at kept = plan_unbroken _ at (λ l b. b.4.1 (subst (IsMatchedLabel s.net) b.3 (kept b.0 b.1 b.2)))
+  unbroken s rule.ReachesCover at kept = plan_unbroken _ at (λ l b. b.4.1 (subst (IsCoveredLabel s.net s.reaches) b.3 (kept b.0 b.1 b.2)))
   unbroken s rule.ReachedMatchesKeep at kept = conf_unbroken s.net _ at (λ p l b. b.5 (kept p b.0 b.1 b.2 b.3))
   unbroken s rule.RelabelsAreLabelled at kept = conf_unbroken s.net _ at (λ p l b. b.6 (kept p b.0 b.1 b.2 b.3 b.4))
   unbroken s rule.ForwardsAreLabelled at kept = conf_unbroken s.net _ at (λ p l b. b.8 (kept p b.0 b.1 b.2 b.3 b.5 b.4 b.6))

@@ -10,7 +10,7 @@ use Rattle.tag_pattern.proofs.Sets.{subset, common_meets}
 use Rattle.relay_net.specs.Network.{Network}
 use Rattle.route_graph.specs.Ways.{HaveTag}
 use Rattle.loss_rules.specs.Labels.{IsReachOf, FitsLabelWith, IsReached, EachReach, IsLabelledTag, IsReachedTag}
-use Rattle.loss_rules.specs.Rules.{IsMatched, LabelsAreMatched, IsCovered, FitsNoneBefore, ReachesCoverLabel, ReachesCover}
+use Rattle.loss_rules.specs.Rules.{IsMatched, IsMatchedLabel, LabelsAreMatched, IsCovered, IsCoveredLabel, FitsNoneBefore, ReachesCoverLabel, ReachesCover}
 use Rattle.loss_rules.specs.declared.label.Label.{Label}
 use Rattle.loss_rules.specs.declared.label.Reach.{Reach}
 use Rattle.loss_rules.specs.SafeWays.{IsFirstTaker}
@@ -46,8 +46,8 @@ pub record IsLabelPattern {A : Type 0} (net : Network A) (reaches : List (Reach 
 pub label-pattern : {A : Type 0} (net : Network A) (labels : List (Label A)) (reaches : List (Reach A)) → LabelsAreMatched net labels → ReachesCover net labels reaches → (place scope : ℕ) (tag : List ℕ) → IsLabelledTag labels place scope tag
     → IsLabelPattern net reaches place scope tag
 label-pattern net labels reaches matched covered place scope tag (k, label, less, is, (of, (i, p, within, here, h))) =
-    let all_matched = All-contains (λ l. All (IsMatched net l.place l.scope) l.patterns.items) labels label matched (k, less, is) in
-    let all_covered = All-contains (λ l. All (ReachesCoverLabel net reaches l.place l.scope) l.patterns.items) labels label covered (k, less, is) in
+    let all_matched = All-contains (IsMatchedLabel net) labels label matched (k, less, is) in
+    let all_covered = All-contains (IsCoveredLabel net reaches) labels label covered (k, less, is) in
     record {
       pattern = p;
       has = h;

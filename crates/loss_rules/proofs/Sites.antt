@@ -66,12 +66,6 @@ is-numbered found buffer e = subst (λ x. is_numbered x buffer ≡ true) (sym e)
 abbrev pub output_within : {A : Type 0} → Option (Relay A) → ℕ → ℕ → ℕ → Option (Output A)
 output_within found scope rule output = option_and_then (λ r. slice_get r.outputs.items output) (option_and_then (λ s. slice_get s.matches.items rule) (option_and_then (λ relay. slice_get relay.scopes.items scope) found))
 
-places-agree : {A : Type 0} (scope : Option (Scope A)) (rule output : ℕ)
-    → option_and_then (λ s. option_and_then (λ (r : MatchRule A). slice_get r.outputs.items output) (slice_get s.matches.items rule)) scope
-    ≡ option_and_then (λ (r : MatchRule A). slice_get r.outputs.items output) (option_and_then (λ s. slice_get s.matches.items rule) scope)
-places-agree None rule output = refl
-places-agree (Some s) rule output = refl
-
 -- Where an output with this buffer stands.
 pub record IsSite {A : Type 0} (relay : Option (Relay A)) (found : Output A) (buffer : ℕ) : Type 0 where
   pub scope : ℕ
@@ -87,7 +81,7 @@ found-site {A} relay found buffer e =
       scope = place.scope;
       rule = place.rule;
       output = place.output;
-      there = sym (places-agree (slice_get relay.scopes.items place.scope) place.rule place.output) ∙ here;
+      there = here;
       number = numbered-is (buffer_number found) buffer (find-passes (has buffer) (outputs_of relay) found e);
     })
 

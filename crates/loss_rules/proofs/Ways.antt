@@ -16,7 +16,7 @@ use Rattle.route_graph.proofs.Members.{cons-cases, nil-none}
 use Rattle.route_graph.proofs.WalkLaws.{leads-on}
 use Rattle.loss_rules.specs.Labels.{IsLabelledTag, IsReachedTag}
 use Rattle.loss_rules.specs.Rules.{AreKeepingRulesKept, GoesOn, KeepsOrRelabels, AllKeepOrRelabel, EachOutputKeeps}
-use Rattle.loss_rules.specs.Sites.{rule_at, output_in_rule, BuffersAreDistinct, RelabelsTo}
+use Rattle.loss_rules.specs.Sites.{rule_at, output_in_rule, line_of, BuffersAreDistinct, RelabelsTo}
 use Rattle.loss_rules.specs.declared.label.Label.{Label}
 use Rattle.loss_rules.specs.declared.label.Reach.{Reach}
 use Rattle.loss_rules.specs.SafeWays.{IsFirstTaker, IsLabelledOnward, IsSafeWay}
@@ -85,7 +85,7 @@ module _ {A : Type 0} (net : Network A) (labels : List (Label A)) (reaches : Lis
   relabel-goes : (scope target : ℕ) → IsLabelledTag labels place scope tag → IsRelabelled (table_at net place) tag scope target → GoesOn net reaches place scope target
   relabel-goes scope target labelled relabelled =
       let by = handed-by scope (to_scope target) labelled relabelled in
-      (by.rule, by.output, by.found, by.there, reached-tag reaches place scope by.rule tag by.reached, scope-relabel by.found target by.is)
+      (line_of by.found, (by.rule, by.output, by.found, by.there, reached-tag reaches place scope by.rule tag by.reached, scope-relabel by.found target by.is, refl))
 
   relabel-labelled : (scope target : ℕ) → IsLabelledTag labels place scope tag → IsRelabelled (table_at net place) tag scope target → IsLabelledTag labels place target tag
   relabel-labelled scope target labelled relabelled =
@@ -103,7 +103,7 @@ module _ {A : Type 0} (net : Network A) (labels : List (Label A)) (reaches : Lis
   -- no chain of relabels comes back
   not_back : (scope next : ℕ) → IsLabelledTag labels place scope tag → IsRelabelled (table_at net place) tag scope next → Chain (IsRelabelled (table_at net place) tag) next scope → ⊥
   not_back scope next labelled relabelled back =
-      let goes = relabel-goes scope next labelled relabelled in
+      let goes = (relabel-goes scope next labelled relabelled).1 in
       kept.no_cycle place scope goes.0 goes.1 goes.2 goes.3 goes.4 next goes.5 (leads-goes back (relabel-labelled scope next labelled relabelled))
 
   no_loop : (scope : ℕ) → IsLabelledTag labels place scope tag → ¬ IsLoop (table_at net place) tag scope

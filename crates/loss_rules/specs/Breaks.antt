@@ -1,5 +1,5 @@
 -- Where a rule is broken first, and what the checker's answer means.
-use Rattle.std.specs.Prelude.{◌≡◌, ◌<◌, ℕ, List, Some, slice_get, All, Any, Contains, IsSome}
+use Rattle.std.specs.Prelude.{◌≡◌, ◌<◌, ℕ, List, Some, slice_get, Any, Contains, IsSome}
 use Rattle.relay_conf.specs.declared.output.Output.{Output}
 use Rattle.relay_conf.specs.declared.output.Server.{Server}
 use Rattle.relay_conf.specs.declared.relay.MatchRule.{MatchRule}
@@ -10,7 +10,7 @@ use Rattle.relay_net.specs.declared.node.Client.{Client}
 use Rattle.relay_net.specs.declared.node.Node.{Node}
 use Rattle.loss_rules.specs.Labels.{IsReached}
 use Rattle.loss_rules.specs.Sites.{rule_at, output_in_rule, line_of}
-use Rattle.loss_rules.specs.Rules.{RelayIsNew, source_in, SourceIsNew, AddressesAreDistinct, ServersAreSources, IsLabelledClient, ClientsAreLabelled, IsMatched, LabelsAreMatched, ReachesCoverLabel, ReachesCover, DoesDuty, ReachedMatchesDo, IsLabelledRelabel, RelabelsAreLabelled, IsLabelledServer, ForwardsAreLabelled, SharePath, PathsAreDistinct, IsOnNoCycle, NoRelabelCycle}
+use Rattle.loss_rules.specs.Rules.{RelayIsNew, source_in, SourceIsNew, AddressesAreDistinct, ServersAreSources, IsLabelledClient, ClientsAreLabelled, IsMatchedLabel, LabelsAreMatched, IsCoveredLabel, ReachesCover, DoesDuty, ReachedMatchesDo, IsLabelledRelabel, RelabelsAreLabelled, IsLabelledServer, ForwardsAreLabelled, SharePath, PathsAreDistinct, IsOnNoCycle, NoRelabelCycle}
 use Rattle.loss_rules.specs.declared.answer.Answer.{Answer}
 use Rattle.loss_rules.specs.declared.answer.Answer.TheVariants as answer
 use Rattle.loss_rules.specs.declared.answer.Place.{Place}
@@ -128,8 +128,8 @@ abbrev pub IsBrokenAt : {A : Type 0} → Subject A → Rule → Place → Type 0
 IsBrokenAt s rule.AddressesAreDistinct = IsFirstTwice s.net s.relay_lines
 IsBrokenAt s rule.ServersAreSources = IsInConf s.net (BreaksAtServer s.net (λ p scope r server. IsSome (entrance s.net (address_of_server server))))
 IsBrokenAt s rule.ClientsAreLabelled = IsInPlan (BreaksAtClient s.net s.client_lines (IsLabelledClient s.net s.labels))
-IsBrokenAt s rule.LabelsAreMatched = IsInPlan (BreaksAtLabel s.labels (λ label. All (IsMatched s.net label.place label.scope) label.patterns.items))
-IsBrokenAt s rule.ReachesCover = IsInPlan (BreaksAtLabel s.labels (λ label. All (ReachesCoverLabel s.net s.reaches label.place label.scope) label.patterns.items))
+IsBrokenAt s rule.LabelsAreMatched = IsInPlan (BreaksAtLabel s.labels (IsMatchedLabel s.net))
+IsBrokenAt s rule.ReachesCover = IsInPlan (BreaksAtLabel s.labels (IsCoveredLabel s.net s.reaches))
 IsBrokenAt s rule.ReachedMatchesKeep = IsInConf s.net (BreaksAtMatch s.net (λ p scope r found. IsReached s.reaches p scope r → DoesDuty s.duty found))
 IsBrokenAt s rule.RelabelsAreLabelled = IsInConf s.net (BreaksAtOutput s.net (λ p scope r output found. IsLabelledRelabel s.labels s.reaches p scope r found))
 IsBrokenAt s rule.ForwardsAreLabelled = IsInConf s.net (BreaksAtServer s.net (λ p scope r server. IsLabelledServer s.net s.labels s.reaches p scope r (address_of_server server)))

@@ -1,11 +1,10 @@
 -- The relabels of a relay's reached matches, as a graph of its scopes: for each scope the relabels from there.
-use Rattle.std.specs.Prelude.{◌≡◌, ℕ, List, [], Option, Some, None, Contains, ◌↔◌, slice_index_or}
+use Rattle.std.specs.Prelude.{ℕ, List, [], Option, Some, None, Contains, ◌↔◌, slice_index_or}
 use Rattle.relay_conf.specs.declared.output.Output.{Output}
 use Rattle.relay_conf.specs.declared.output.Output.TheVariants as output
 use Rattle.relay_net.specs.Network.{Network}
 use Rattle.route_graph.specs.Chains.{Chain}
-use Rattle.loss_rules.specs.Labels.{IsReached}
-use Rattle.loss_rules.specs.Sites.{output_in_rule, line_of, RelabelsTo}
+use Rattle.loss_rules.specs.Rules.{HasReachedRelabel}
 use Rattle.loss_rules.specs.declared.label.Reach.{Reach}
 use Rattle.loss_rules.specs.declared.relabel.Relabel.{Relabel}
 
@@ -35,11 +34,6 @@ IsOnCycleFrom graph scope line = (target : ℕ) × HasRelabel graph scope target
 -- In this line some scope has such a relabel.
 abbrev pub IsOnCycle : List (List Relabel) → ℕ → Type 0
 IsOnCycle graph line = (scope : ℕ) × IsOnCycleFrom graph scope line
-
--- In this line of the relay a reached match of the scope has a relabel to that target.
-abbrev pub HasReachedRelabel : {A : Type 0} → Network A → List (Reach A) → ℕ → ℕ → ℕ → ℕ → Type 0
-HasReachedRelabel {A} net reaches place scope target line = (rule output : ℕ) × (found : Output A) × (output_in_rule net place scope rule output ≡ Some found)
-    × IsReached reaches place scope rule × RelabelsTo found target × (line_of found ≡ line)
 
 -- The graph has the relabels of the reached matches of the relay at this place, and no others.
 abbrev pub IsGraphOf : {A : Type 0} → Network A → List (Reach A) → ℕ → List (List Relabel) → Type 0

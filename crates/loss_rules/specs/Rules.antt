@@ -2,8 +2,7 @@
 -- tags, steps or buffers' contents.
 use Rattle.std.specs.Prelude.{◌≡◌, ◌≢◌, ◌<◌, ℕ, List, Option, Some, None, slice_get, string_bytes, All, Any, IsSome, IsSomeAnd, ◌⊎◌}
 use Rattle.std.specs.Option.{option_and_then}
-use Rattle.relay_conf.specs.declared.buffer.BufferKind.{BufferKind}
-use Rattle.relay_conf.specs.declared.buffer.BufferKind.TheVariants as kind
+use Rattle.relay_conf.specs.Views.{kind_view}
 use Rattle.relay_conf.specs.declared.output.Output.{Output}
 use Rattle.relay_conf.specs.declared.output.Output.TheVariants as output
 use Rattle.relay_conf.specs.declared.relay.MatchRule.{MatchRule}
@@ -17,7 +16,7 @@ use Rattle.route_graph.specs.Chains.{Chain}
 use Rattle.tag_pattern.specs.Items.{Item}
 use Rattle.tag_pattern.specs.Patterns.{Fits, Meets}
 use Rattle.loss_rules.specs.Labels.{FitsLabel, FitsLabelWith, FitsReach, IsReached, EachReach}
-use Rattle.loss_rules.specs.Sites.{rule_at, output_in_rule, EachMatch, EachOutput, EachServer, RelabelsTo}
+use Rattle.loss_rules.specs.Sites.{rule_at, output_in_rule, EachMatch, EachOutput, EachServer, line_of, RelabelsTo}
 use Rattle.loss_rules.specs.declared.label.Duty.{Duty}
 use Rattle.loss_rules.specs.declared.label.Duty.TheVariants as duty
 use Rattle.loss_rules.specs.declared.label.Label.{Label}
@@ -81,9 +80,13 @@ FitsMatch pattern rule = Any (Fits pattern) rule.patterns.items
 abbrev pub IsMatched : {A : Type 0} → Network A → ℕ → ℕ → List Item → Type 0
 IsMatched {A} net place scope pattern = (rule : ℕ) × (found : MatchRule A) × (rule_at net place scope rule ≡ Some found) × FitsMatch pattern found
 
--- Each pattern of each label is.
+-- Each pattern of the label is.
+abbrev pub IsMatchedLabel : {A : Type 0} → Network A → Label A → Type 0
+IsMatchedLabel net label = All (IsMatched net label.place label.scope) label.patterns.items
+
+-- This is so of all labels.
 abbrev pub LabelsAreMatched : {A : Type 0} → Network A → List (Label A) → Type 0
-LabelsAreMatched net labels = All (λ label. All (IsMatched net label.place label.scope) label.patterns.items) labels
+LabelsAreMatched net labels = All (IsMatchedLabel net) labels
 
 -- 5. Reaches cover.
 
@@ -101,9 +104,13 @@ abbrev pub ReachesCoverLabel : {A : Type 0} → Network A → List (Reach A) →
 ReachesCoverLabel {A} net reaches place scope label = IsMatched net place scope label → (rule : ℕ) (found : MatchRule A) → rule_at net place scope rule ≡ Some found
     → FitsNoneBefore net place scope rule label → All (IsCovered reaches place scope rule label) found.patterns.items
 
--- This is so of each pattern of each label.
+-- This is so of each pattern of the label.
+abbrev pub IsCoveredLabel : {A : Type 0} → Network A → List (Reach A) → Label A → Type 0
+IsCoveredLabel net reaches label = All (ReachesCoverLabel net reaches label.place label.scope) label.patterns.items
+
+-- This is so of all labels.
 abbrev pub ReachesCover : {A : Type 0} → Network A → List (Label A) → List (Reach A) → Type 0
-ReachesCover net labels reaches = All (λ label. All (ReachesCoverLabel net reaches label.place label.scope) label.patterns.items) labels
+ReachesCover net labels reaches = All (IsCoveredLabel net reaches) labels
 
 -- 6. Reached matches keep.
 
@@ -155,14 +162,9 @@ ForwardsAreLabelled net labels reaches = EachServer net (λ place scope rule ser
 
 -- 9. Paths are distinct.
 
--- the path of a buffer, if it is a file
-abbrev pub path_of : {A : Type 0} → BufferKind A → Option (List ℕ)
-path_of kind.Memory = None
-path_of (kind.File path) = Some (string_bytes path)
-
 -- the path of an output's buffer, if it has one that is a file
 abbrev pub buffer_path : {A : Type 0} → Output A → Option (List ℕ)
-buffer_path found = option_and_then (λ settings. path_of settings.kind) (settings_of found)
+buffer_path found = option_and_then (λ settings. kind_view settings.kind) (settings_of found)
 
 -- the path of an output's sink, if it has one
 abbrev pub sink_path : {A : Type 0} → Output A → Option (List ℕ)
@@ -182,10 +184,14 @@ PathsAreDistinct {A} net = EachOutput net (λ place scope rule output found. (s 
 
 -- 10. Relabels don't come back.
 
--- A reached match of the scope sends events on to the other scope.
+-- In this line of the relay a reached match of the scope has a relabel to that target.
+abbrev pub HasReachedRelabel : {A : Type 0} → Network A → List (Reach A) → ℕ → ℕ → ℕ → ℕ → Type 0
+HasReachedRelabel {A} net reaches place scope target line = (rule output : ℕ) × (found : Output A) × (output_in_rule net place scope rule output ≡ Some found)
+    × IsReached reaches place scope rule × RelabelsTo found target × (line_of found ≡ line)
+
+-- A reached match of the scope sends events on to the other scope, in whatever line.
 abbrev pub GoesOn : {A : Type 0} → Network A → List (Reach A) → ℕ → ℕ → ℕ → Type 0
-GoesOn {A} net reaches place scope target = (rule output : ℕ) × (found : Output A) × (output_in_rule net place scope rule output ≡ Some found)
-    × IsReached reaches place scope rule × RelabelsTo found target
+GoesOn net reaches place scope target = (line : ℕ) × HasReachedRelabel net reaches place scope target line
 
 -- Where the output is a relabel of a reached match, no chain of such relabels leads from its target back to its scope.
 abbrev pub IsOnNoCycle : {A : Type 0} → Network A → List (Reach A) → ℕ → ℕ → ℕ → Output A → Type 0

@@ -13,7 +13,7 @@ use std::alloc::Allocator;
 use tag_pattern::{Plain, Prefix, fits, fits_entered};
 
 /// Whether the pattern fits one of the others.
-pub(crate) fn fits_any<A: Allocator>(pattern: &Plain<A>, others: &[Plain<A>]) -> bool
+pub fn fits_any<A: Allocator>(pattern: &Plain<A>, others: &[Plain<A>]) -> bool
     ensures { IsTrue result ↔ Any (Fits pattern.now) others.now }
 {
     for other in others {

@@ -4,7 +4,8 @@ ghost use Rattle.std.specs.Prelude.{◌≡◌, ◌<◌, ◌↔◌, ℕ, ◌++◌
 ghost use Rattle.std.specs.List.{filter_map};
 ghost use Rattle.route_graph.specs.Chains.{Chain};
 ghost use Rattle.loss_rules.specs.Firsts.{IsLeast};
-ghost use Rattle.loss_rules.specs.Graphs.{relabel_of, relabels_at, Leads, HasReachedRelabel, IsGraphOf, IsOnCycle, IsOnCycleFrom};
+ghost use Rattle.loss_rules.specs.Graphs.{relabel_of, relabels_at, Leads, IsGraphOf, IsOnCycle, IsOnCycleFrom};
+ghost use Rattle.loss_rules.specs.Rules.{HasReachedRelabel};
 
 use crate::by_site::Reaches;
 use crate::fitting::is_reached;

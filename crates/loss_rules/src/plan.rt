@@ -3,7 +3,7 @@
 ghost use Rattle.std.specs.Prelude.{◌≡◌, ◌↔◌, IfNone, IfSome, IsTrue, All, Any, IsSomeAnd, length, slice_get};
 ghost use Rattle.loss_rules.specs.Breaks.{IsInPlan, BreaksAtClient, BreaksAtLabel};
 ghost use Rattle.loss_rules.specs.Matches.{AreCovered};
-ghost use Rattle.loss_rules.specs.Rules.{ClientsAreLabelled, IsLabelledClient, LabelsAreMatched, IsMatched, FitsMatch, ReachesCover, ReachesCoverLabel, IsCovered};
+ghost use Rattle.loss_rules.specs.Rules.{ClientsAreLabelled, IsLabelledClient, LabelsAreMatched, IsMatchedLabel, FitsMatch, ReachesCover, IsCoveredLabel, IsCovered};
 
 use crate::answer::Place;
 use crate::by_site::{Labels, Reaches};
@@ -39,7 +39,7 @@ pub fn clients_are_labelled<A: Allocator + Copy>(
 /// Each pattern of a label is compared with those of all matches of its scope.
 pub fn labels_are_matched<A: Allocator + Copy>(net: &Net<A>, labels: &[Label<A>]) -> Option<Place>
     ensures kept { IfNone result (LabelsAreMatched net.now labels.now) }
-    ensures broken { IfSome result (IsInPlan (BreaksAtLabel labels.now (λ label. All (IsMatched net.now label.place label.scope) label.patterns.items))) }
+    ensures broken { IfSome result (IsInPlan (BreaksAtLabel labels.now (IsMatchedLabel net.now))) }
 {
     let mut first = None;
     for label in labels {
@@ -57,7 +57,7 @@ pub fn reaches_cover<A: Allocator + Copy>(
     reaches: &Reaches<'_, A>,
 ) -> Option<Place>
     ensures kept { IfNone result (ReachesCover net.now labels.now reaches.now) }
-    ensures broken { IfSome result (IsInPlan (BreaksAtLabel labels.now (λ label. All (ReachesCoverLabel net.now reaches.now label.place label.scope) label.patterns.items))) }
+    ensures broken { IfSome result (IsInPlan (BreaksAtLabel labels.now (IsCoveredLabel net.now reaches.now))) }
 {
     let mut first = None;
     for label in labels {
@@ -87,7 +87,7 @@ fn is_labelled<A: Allocator + Copy>(net: &Net<A>, labels: &Labels<'_, A>, number
 
 // Whether each pattern of the label fits a pattern of a match of its scope.
 fn all_matched<A: Allocator + Copy>(net: &Net<A>, label: &Label<A>) -> bool
-    ensures { IsTrue result ↔ All (IsMatched net.now label.now.place label.now.scope) label.now.patterns.items }
+    ensures { IsTrue result ↔ IsMatchedLabel net.now label.now }
 {
     let matches = matches_at(net, label.place, label.scope);
     for pattern in &label.patterns {
@@ -116,7 +116,7 @@ fn all_covered<A: Allocator + Copy>(
     reaches: &Reaches<'_, A>,
     label: &Label<A>,
 ) -> bool
-    ensures { IsTrue result ↔ All (ReachesCoverLabel net.now reaches.now label.now.place label.now.scope) label.now.patterns.items }
+    ensures { IsTrue result ↔ IsCoveredLabel net.now reaches.now label.now }
 {
     let matches = matches_at(net, label.place, label.scope);
     let at = Site {

@@ -20,8 +20,8 @@ pub(crate) struct Site {
     pub output: usize,
 }
 
-/// The line of the output.
-pub(crate) fn line_of<A: Allocator>(output: &Output<A>) -> usize
+/// The line of the output: that of its `<store>`, or of its `<match>` without a copy.
+pub fn line_of<A: Allocator>(output: &Output<A>) -> usize
     ensures { result ≡ line_of_output output.now }
 {
     match output {

@@ -4,7 +4,7 @@ use Rattle.std.proofs.lemmas.List.{length-replicate}
 use Rattle.msgpack_bytes.specs.Format.{items_in}
 use Rattle.msgpack_bytes.specs.Item.{Row, Item, longest, deepest, IsItemWithin, IsOpen}
 use Rattle.msgpack_bytes.specs.Fault.{EndsReserved, EndsTooDeep}
-use Rattle.msgpack_bytes.specs.Laws.{IsPrefixFree, HasOneFront, HasParts, HasTextParts, IsItemDeeper, IsOpenForZeros, IsLongOnly, IsItemRead, IsOpenRead, IsReservedRead, IsDeepRead}
+use Rattle.msgpack_bytes.specs.Laws.{IsPrefixFree, HasOneFront, HasParts, HasPartsWithin, IsItemDeeper, IsOpenForZeros, IsLongOnly, IsItemRead, IsOpenRead, IsReservedRead, IsDeepRead}
 use Rattle.msgpack_bytes.specs.Run.{Missing, Reserved, Deep, run}
 use Rattle.msgpack_bytes.proofs.Slices.{less, not_less}
 use Rattle.msgpack_bytes.proofs.Stack.{run_empty}
@@ -54,18 +54,18 @@ parts depth n container header inner h i =
     let same : inner ≡ r.front = r.whole ∙ append-nil r.front in
     rw same r.is
 
-row_text : (n : ℕ) (bytes : List ℕ) → length bytes ≤ longest → Row (Item 63) n bytes → Row IsItemWithin n bytes
-row_text zero bytes h r = r
-row_text (suc n) bytes h r =
+row_within : (n : ℕ) (bytes : List ℕ) → length bytes ≤ longest → Row (Item 63) n bytes → Row IsItemWithin n bytes
+row_within zero bytes h r = r
+row_within (suc n) bytes h r =
     let l = length-append r.0 r.1 in
     let m = ap length r.4 in
-    (r.0, r.1, record { item = deeper 63 r.0 r.2; short = omega arith }, row_text n r.1 (omega arith) r.3, r.4)
+    (r.0, r.1, record { item = deeper 63 r.0 r.2; short = omega arith }, row_within n r.1 (omega arith) r.3, r.4)
 
-pub text_parts : HasTextParts
-text_parts n container header inner h i =
+pub parts_within : HasPartsWithin
+parts_within n container header inner h i =
     let short = i.short in
     let l = length-append header inner in
-    row_text (items_in container n) inner (omega arith) (parts 63 n container header inner h i.item)
+    row_within (items_in container n) inner (omega arith) (parts 63 n container header inner h i.item)
 
 pub open_for_zeros : IsOpenForZeros
 open_for_zeros bytes o =

@@ -108,7 +108,7 @@ item_shortest fault bytes item [] f i e = f.unended (let same : item ≡ f.short
 item_shortest fault bytes item (byte ∷ back) f i e =
     f.closed (record { more = byte ∷ back; some = omega arith; ends = rw e at i; unended = f.unended })
 
--- what begins with a text item has no fault
+-- what begins with an item within the limits has no fault
 item_faultless : (fault : MsgFault) (item rest bytes : List ℕ) → IsItemWithin item → bytes ≡ item ++ rest → IsFaulty fault bytes → ⊥
 item_faultless fault item rest bytes i e f =
     elim (compare_fronts f.shortest item f.rest rest (sym f.whole ∙ e)) [

@@ -9,6 +9,7 @@ use Rattle.msgpack_bytes.specs.declared.answers.MsgFault.TheVariants as fault
 use Rattle.msgpack_bytes.specs.declared.format.ScanStep.{ScanStep}
 use Rattle.msgpack_bytes.specs.declared.format.ScanStep.TheVariants as step
 use Rattle.msgpack_bytes.specs.declared.scanner.Place.{Place}
+use Rattle.msgpack_bytes.specs.declared.scanner.Scanner.TheInside.{Inside}
 use Rattle.msgpack_bytes.specs.declared.scanner.Went.{Went}
 use Rattle.msgpack_bytes.specs.declared.scanner.Went.TheVariants.{Ended, Bad, Cut}
 use Rattle.msgpack_bytes.specs.Item.{longest, IsItemWithin, IsOpen}
@@ -201,8 +202,9 @@ begun_stands s seen piece front b fill =
       cut = λ some. record { first = refl; begins = rw (drop-append-le b.done seen piece (omega arith)) filled; part = b.part some };
     }
 
-abbrev pub scanning : List ℕ → Place → List ℕ → Option PieceScan → Scanning
-scanning missing place front over = record { missing = missing; place = place; front = front; over = over }
+-- what a scanner keeps, of its fields
+abbrev pub scanning : Inside → Scanning
+scanning s = record { missing = s.missing; place = s.place; front = s.front; over = s.over }
 
 -- nothing was seen yet
 pub begun_none : (missing front : List ℕ) → length missing ≡ 65 → slice_index missing 0 ≡ 1 → BeginsSame 5 front [] → IsAfter (record { missing = missing; place = place_of 1 16777215 0; front = front; over = None }) []
@@ -276,7 +278,8 @@ scanned_more bytes more end s =
     let all = length-append bytes more in
     (s.0, omega arith, subst IsItemWithin (sym (take-append-le (end - 0) bytes more (omega arith))) s.2)
 
-faulty_more : (fault : MsgFault) (bytes more : List ℕ) → IsFaulty fault bytes → IsFaulty fault (bytes ++ more)
+-- a fault stays, whatever follows
+pub faulty_more : (fault : MsgFault) (bytes more : List ℕ) → IsFaulty fault bytes → IsFaulty fault (bytes ++ more)
 faulty_more fault bytes more f = record {
   shortest = f.shortest;
   rest = f.rest ++ more;
@@ -308,72 +311,64 @@ tells_kept view old piece answer same e = λ seen a. (let t = tells_over view pi
 
 -- ---- and before
 
--- from wherever the scanner is, the scan goes so far
-abbrev pub GoesFrom : Scanning → List ℕ → List ℕ → List ℕ → Went → Type 0
-GoesFrom s piece front missing went = (seen : List ℕ) → IsBegun s seen → Goes seen piece front missing went
-
--- as `fill` and `go_on` say
-pub goes_from : (s : Scanning) (piece front missing : List ℕ) (went : Went) → ((part : List ℕ) → length part ≡ s.place.came → BeginsSame 5 s.front part → BeginsSame 5 front (part ++ piece))
-    → ((seen : List ℕ) → Stands seen piece front s.missing s.place 0 → Goes seen piece front missing went) → GoesFrom s piece front missing went
-goes_from s piece front missing went fill goes = λ seen b. goes seen (begun_stands s seen piece front b fill)
-
-pub begun_of : (s : Scanning) (seen : List ℕ) → s.over ≡ None → IsAfter s seen → IsBegun s seen
-unfolding IsAfter
-begun_of s seen e a = subst (λ (o : Option PieceScan). IsAfterBy o s seen) e a
-
-pub stands_some : (s : Scanning) (piece front : List ℕ) → s.over ≡ None → (seen : List ℕ) × IsAfter s seen → ((part : List ℕ) → length part ≡ s.place.came → BeginsSame 5 s.front part → BeginsSame 5 front (part ++ piece))
-    → (seen : List ℕ) × Stands seen piece front s.missing s.place 0
-stands_some s piece front none some fill = (some.0, begun_stands s some.0 piece front (begun_of s some.0 none some.1) fill)
-
-pub tells_ended : (s new : Scanning) (piece front missing : List ℕ) (n : ℕ) → s.over ≡ None → new.over ≡ Some (taken.End 0) → GoesFrom s piece front missing (Ended n) → Tells s new piece (taken.End n)
-unfolding IsAfter
-tells_ended s new piece front missing n none over goes = λ seen a. (
-    let g = goes seen (begun_of s seen none a) in
-    ((scan.End g.0, g.1, ap taken.End g.2), subst (λ (o : Option PieceScan). IsAfterBy o new (seen ++ piece)) (sym over) (refl, (g.0, g.1)))
-    )
-
-pub tells_bad : (s new : Scanning) (piece front missing : List ℕ) (fault : MsgFault) → s.over ≡ None → new.over ≡ Some (taken.Bad fault) → GoesFrom s piece front missing (Bad fault) → Tells s new piece (taken.Bad fault)
-unfolding IsAfter
-tells_bad s new piece front missing fault none over goes = λ seen a. (
-    let g = goes seen (begun_of s seen none a) in
-    ((scan.Bad fault, g, refl), subst (λ (o : Option PieceScan). IsAfterBy o new (seen ++ piece)) (sym over) g)
-    )
-
--- a scan that is cut stays within the piece, and within the limit
-pub cut_within : (s : Scanning) (piece front missing : List ℕ) (place : Place) (at : ℕ) → s.over ≡ None → (seen : List ℕ) × IsAfter s seen → GoesFrom s piece front missing (Cut place at) → (at ≤ length piece) × (place.came ≤ longest)
-cut_within s piece front missing place at none some goes =
-    let g = goes some.0 (begun_of s some.0 none some.1) in
-    (g.0.within, g.0.short)
-
-module _ (s new : Scanning) (piece front missing rest : List ℕ) (place : Place) (at : ℕ) (goes : GoesFrom s piece front missing (Cut place at)) (rest_is : rest ≡ drop at piece)
-    (missing_is : new.missing ≡ missing) (place_is : new.place ≡ place_of place.levels place.room (place.came + length rest))
-    (kept : (all : List ℕ) → (place.came ≡ 0 → all ≡ rest) → (0 < place.came → BeginsSame 5 front all) → BeginsSame 5 new.front all) where
-  cut_begun : (seen : List ℕ) → IsBegun s seen → IsBegun new (seen ++ piece)
-  cut_begun seen b =
-      let g = goes seen b in
-      let stands = g.0 in
-      let lies = stands.lies in
-      let within = stands.within in
-      let all = length-append seen piece in
-      let size = ap length rest_is ∙ length-drop at piece in
-      let o = open_missing (seen ++ piece) g.2 in
-      let least = o.least in
-      let came_is : new.place.came ≡ place.came + length rest = ap (λ (p : Place). p.came) place_is in
-      let state : State (seen ++ piece) 0 stands.done new.missing new.place.levels new.place.room =
-      subst (λ (p : Place). State (seen ++ piece) 0 stands.done new.missing p.levels p.room) (sym place_is) (subst (λ (m : List ℕ). State (seen ++ piece) 0 stands.done m place.levels place.room) (sym missing_is) stands.state) in
-      record {
-        done = stands.done;
-        state = state;
-        lies = omega arith;
-        short = omega arith;
-        begins = kept (drop stands.done (seen ++ piece)) (λ none. drop_on seen piece stands.done at (omega arith) ∙ sym rest_is) (λ some. (stands.cut some).begins);
-        part = λ some. g.1;
-      }
-
-  pub tells_cut : s.over ≡ None → new.over ≡ None → Tells s new piece taken.Need
+-- where nothing is answered yet, and `fill` was called
+module _ (s : Scanning) (piece front : List ℕ) (none : s.over ≡ None) (fill : (part : List ℕ) → length part ≡ s.place.came → BeginsSame 5 s.front part → BeginsSame 5 front (part ++ piece)) where
+  stands_at : (seen : List ℕ) → IsAfter s seen → Stands seen piece front s.missing s.place 0
   unfolding IsAfter
-  tells_cut none still = λ seen a. (
-      let b = begun_of s seen none a in
-      let g = goes seen b in
-      ((scan.Need, g.2, refl), subst (λ (o : Option PieceScan). IsAfterBy o new (seen ++ piece)) (sym still) (cut_begun seen b))
+  stands_at seen a = begun_stands s seen piece front (subst (λ (o : Option PieceScan). IsAfterBy o s seen) none a) fill
+
+  pub stands_some : (seen : List ℕ) × IsAfter s seen → (seen : List ℕ) × Stands seen piece front s.missing s.place 0
+  stands_some some = (some.0, stands_at some.0 some.1)
+
+  -- as `go_on` says
+  abbrev pub GoesTo : List ℕ → Went → Type 0
+  GoesTo missing went = (seen : List ℕ) → Stands seen piece front s.missing s.place 0 → Goes seen piece front missing went
+
+  pub tells_ended : (new : Scanning) (n : ℕ) → new.over ≡ Some (taken.End 0) → GoesTo new.missing (Ended n) → Tells s new piece (taken.End n)
+  unfolding IsAfter
+  tells_ended new n over goes = λ seen a. (
+      let g = goes seen (stands_at seen a) in
+      ((scan.End g.0, g.1, ap taken.End g.2), subst (λ (o : Option PieceScan). IsAfterBy o new (seen ++ piece)) (sym over) (refl, (g.0, g.1)))
       )
+
+  pub tells_bad : (new : Scanning) (fault : MsgFault) → new.over ≡ Some (taken.Bad fault) → GoesTo new.missing (Bad fault) → Tells s new piece (taken.Bad fault)
+  unfolding IsAfter
+  tells_bad new fault over goes = λ seen a. (
+      let g = goes seen (stands_at seen a) in
+      ((scan.Bad fault, g, refl), subst (λ (o : Option PieceScan). IsAfterBy o new (seen ++ piece)) (sym over) g)
+      )
+
+  -- a scan that is cut stays within the piece, and within the limit
+  pub cut_within : (missing : List ℕ) (place : Place) (at : ℕ) → (seen : List ℕ) × IsAfter s seen → GoesTo missing (Cut place at) → (at ≤ length piece) × (place.came ≤ longest)
+  cut_within missing place at some goes =
+      let g = goes some.0 (stands_at some.0 some.1) in
+      (g.0.within, g.0.short)
+
+  module _ (new : Scanning) (rest : List ℕ) (place : Place) (at : ℕ) (goes : GoesTo new.missing (Cut place at)) (rest_is : rest ≡ drop at piece)
+      (place_is : new.place ≡ place_of place.levels place.room (place.came + length rest))
+      (kept : (all : List ℕ) → (place.came ≡ 0 → all ≡ rest) → (0 < place.came → BeginsSame 5 front all) → BeginsSame 5 new.front all) where
+    cut_begun : (seen : List ℕ) → Goes seen piece front new.missing (Cut place at) → IsBegun new (seen ++ piece)
+    cut_begun seen g =
+        let stands = g.0 in
+        let lies = stands.lies in
+        let within = stands.within in
+        let all = length-append seen piece in
+        let size = ap length rest_is ∙ length-drop at piece in
+        let o = open_missing (seen ++ piece) g.2 in
+        let least = o.least in
+        let came_is : new.place.came ≡ place.came + length rest = ap (λ (p : Place). p.came) place_is in
+        record {
+          done = stands.done;
+          state = subst (λ (p : Place). State (seen ++ piece) 0 stands.done new.missing p.levels p.room) (sym place_is) stands.state;
+          lies = omega arith;
+          short = omega arith;
+          begins = kept (drop stands.done (seen ++ piece)) (λ none. drop_on seen piece stands.done at (omega arith) ∙ sym rest_is) (λ some. (stands.cut some).begins);
+          part = λ some. g.1;
+        }
+
+    pub tells_cut : new.over ≡ None → Tells s new piece taken.Need
+    unfolding IsAfter
+    tells_cut still = λ seen a. (
+        let g = goes seen (stands_at seen a) in
+        ((scan.Need, g.2, refl), subst (λ (o : Option PieceScan). IsAfterBy o new (seen ++ piece)) (sym still) (cut_begun seen g))
+        )

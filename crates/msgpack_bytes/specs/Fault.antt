@@ -57,7 +57,7 @@ EndsIn TooDeep bytes = EndsTooDeep bytes
 EndsIn TooLong bytes = (EndsReserved bytes → ⊥) × (EndsTooDeep bytes → ⊥)
 
 -- the shortest beginning of the bytes that has no continuation, and what is wrong with it:
--- it is neither a text item nor open, and each shorter beginning is open
+-- it is neither an item within the limits nor open, and each shorter beginning is open
 pub record IsFaulty (fault : MsgFault) (bytes : List ℕ) : Type 0 where
   pub shortest : List ℕ
   pub rest : List ℕ

@@ -78,7 +78,7 @@ pub record IsItemWithin (bytes : List ℕ) : Type 0 where
   pub item : Item deepest bytes
   pub short : length bytes ≤ longest
 
--- no text item, and a proper beginning of one
+-- no item within the limits, and a proper beginning of one
 pub record IsOpen (bytes : List ℕ) : Type 0 where
   pub more : List ℕ
   pub some : 0 < length more

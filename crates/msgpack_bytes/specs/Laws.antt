@@ -7,11 +7,11 @@ use Rattle.msgpack_bytes.specs.Item.{IsContainerHeader, Row, Item, longest, deep
 use Rattle.msgpack_bytes.specs.Fault.{EndsReserved, EndsTooDeep, IsFaulty}
 use Rattle.msgpack_bytes.specs.Run.{Missing, Reserved, Deep, run}
 
--- no text item is a proper beginning of another
+-- no item within the limits is a proper beginning of another
 abbrev pub IsPrefixFree : Type 0
 IsPrefixFree = (item more : List ℕ) → IsItemWithin item → IsItemWithin (item ++ more) → more ≡ []
 
--- so bytes begin with one text item at most
+-- so bytes begin with one item within the limits at most
 abbrev pub HasOneFront : Type 0
 HasOneFront = (a b x y : List ℕ) → IsItemWithin a → IsItemWithin b → a ++ x ≡ b ++ y → (a ≡ b) × (x ≡ y)
 
@@ -20,16 +20,16 @@ abbrev pub HasParts : Type 0
 HasParts =
     (depth n : ℕ) (container : Container) (header inner : List ℕ) → IsContainerHeader container n header → Item (suc depth) (header ++ inner) → Row (Item depth) (items_in container n) inner
 
--- the parts of a text item are text items
-abbrev pub HasTextParts : Type 0
-HasTextParts =
+-- the parts of an item within the limits are within them too
+abbrev pub HasPartsWithin : Type 0
+HasPartsWithin =
     (n : ℕ) (container : Container) (header inner : List ℕ) → IsContainerHeader container n header → IsItemWithin (header ++ inner) → Row IsItemWithin (items_in container n) inner
 
 -- an item may nest less deep than it might
 abbrev pub IsItemDeeper : Type 0
 IsItemDeeper = (depth : ℕ) (bytes : List ℕ) → Item depth bytes → Item (suc depth) bytes
 
--- open bytes become a text item by so many zeros, and by nothing shorter
+-- open bytes become an item within the limits by so many zeros, and by nothing shorter
 abbrev pub IsOpenForZeros : Type 0
 IsOpenForZeros = (bytes : List ℕ) → IsOpen bytes → (n : ℕ) × IsItemWithin (bytes ++ replicate n 0) × ((more : List ℕ) → IsItemWithin (bytes ++ more) → n ≤ length more)
 

@@ -1,22 +1,22 @@
 //! What holds of items, for the crates above; specs/Laws.antt and specs/Spelling.antt say it.
 
-ghost use Rattle.msgpack_bytes.specs.Laws.{IsPrefixFree, HasOneFront, HasParts, HasTextParts, IsItemDeeper, IsOpenForZeros, IsLongOnly, IsItemRead, IsOpenRead, IsReservedRead, IsDeepRead};
+ghost use Rattle.msgpack_bytes.specs.Laws.{IsPrefixFree, HasOneFront, HasParts, HasPartsWithin, IsItemDeeper, IsOpenForZeros, IsLongOnly, IsItemRead, IsOpenRead, IsReservedRead, IsDeepRead};
 ghost use Rattle.msgpack_bytes.specs.Spelling.{IsUintSpelled, IsStrSpelled, IsBinSpelled, IsArraySpelled, IsMapSpelled, IsBoolSpelled};
 
-/// No text item is a proper beginning of another, so bytes begin with one at most.
+/// No item within the limits is a proper beginning of another, so bytes begin with one at most.
 pub fn prefix_free()
     ensures free { IsPrefixFree }
     ensures one_front { HasOneFront }
 {}
 
-/// The parts of a container are items that nest one less deep; those of a text item are text items.
+/// The parts of a container are items that nest one less deep; those of an item within the limits are within them too.
 pub fn parts()
     ensures deeper { IsItemDeeper }
     ensures parts { HasParts }
-    ensures text_parts { HasTextParts }
+    ensures parts_within { HasPartsWithin }
 {}
 
-/// Open bytes become a text item by some zeros, and by nothing shorter.
+/// Open bytes become an item within the limits by some zeros, and by nothing shorter.
 pub fn open_for_zeros()
     ensures { IsOpenForZeros }
 {}

@@ -1,11 +1,13 @@
 -- From what is read and written to what `check` and `replay` print.
-use Rattle.std.proofs.Common.{◌≡◌, ◌<◌, ◌⊎◌, ℕ, List, [], ◌++◌, length, map, refl, sym, ap, ◌∙◌, subst, inl, inr, append_assoc, append-nil}
+use Rattle.std.proofs.Common.{◌≡◌, ◌<◌, ◌⊎◌, ℕ, List, [], ◌++◌, length, refl, sym, ap, ◌∙◌, subst, inl, inr, append_assoc, append-nil}
 use Rattle.std.specs.Prelude.{Option}
 use Rattle.std.specs.Borrow.{Bor}
 use Rattle.std.specs.List.{AllZip}
 use Rattle.std.proofs.KnownBytes.{Appends-trans}
 use Rattle.loss_rules.specs.Breaks.{Subject}
 use Rattle.loss_rules.specs.declared.answer.Answer.{Answer}
+use Rattle.plan_lines.proofs.LinesRead.{bytes_of}
+pub use Rattle.plan_lines.proofs.LinesRead.{bytes_of as bytes}
 use Rattle.plan_lines.specs.Forms.{confs_named}
 use Rattle.plan_lines.specs.declared.error.PlanError.{PlanError}
 use Rattle.plan_answers.specs.declared.network.Stop.{Stop}
@@ -28,13 +30,9 @@ answered_check A net named old new plan found lines status answered is printed =
   printed = printed;
 }
 
--- the names as bytes
-abbrev pub bytes : List (Bor (List ℕ)) → List (List ℕ)
-bytes names = map (λ (name : Bor (List ℕ)). name.now) names
-
 -- the texts were read by the names in the plan's text
 pub are_read : (net : Option (List ℕ)) (named : List ℕ → Option (List ℕ)) (text : List ℕ) (names : List (Bor (List ℕ))) (confs : List (List ℕ))
-    → IsTextOf net text → bytes names ≡ confs_named text → AllZip (λ name conf. IsTextOf (named name) conf) (bytes names) confs → AreRead net named text confs
+    → IsTextOf net text → bytes_of names ≡ confs_named text → AllZip (λ name conf. IsTextOf (named name) conf) (bytes_of names) confs → AreRead net named text confs
 are_read net named text names confs net_is is zip = record {
   net_is = net_is;
   confs_are = subst (λ (n : List (List ℕ)). AllZip (λ name conf. IsTextOf (named name) conf) n confs) is zip;

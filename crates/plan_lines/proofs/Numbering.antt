@@ -7,9 +7,8 @@ use Rattle.std.proofs.lemmas.Grind.{common_steps}
 use Rattle.std.proofs.lemmas.List.{length-append}
 use Rattle.std.proofs.lemmas.List.Folds.{position_or_len_push, find_at}
 use Rattle.std.proofs.lemmas.Option.{slice_get_past}
-use Rattle.relay_net.specs.Network.{node_of}
+use Rattle.relay_net.specs.Network.{node_of, place_among}
 use Rattle.relay_net.specs.declared.node.Node.{Node}
-use Rattle.plan_lines.specs.Plans.{place_among}
 
 module _ {X : Type 0} (p : X → Bool) where
   at_most : (xs : List X) → position_or_len p xs ≤ length xs

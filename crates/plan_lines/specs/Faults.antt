@@ -8,7 +8,7 @@ use Rattle.conf_values.specs.Numbers.{number_of}
 use Rattle.relay_faults.specs.Faults.{IsRefusal as IsRelayRefusal}
 use Rattle.relay_faults.specs.declared.fault.RelayError.TheVariants as relay_error
 use Rattle.relay_faults.specs.declared.fault.RelayFault.{RelayFault}
-use Rattle.relay_net.specs.Network.{Network, node_of, source_of_port}
+use Rattle.relay_net.specs.Network.{Network, place_among, node_of, source_of_port}
 use Rattle.relay_net.specs.declared.node.Node.{Node}
 use Rattle.tag_pattern.specs.Grammar.{Slot, IsPattern, AnyByRecursion}
 use Rattle.loss_rules.specs.Breaks.{Subject}
@@ -17,7 +17,7 @@ use Rattle.text_lines.specs.Lines.{text_lines}
 use Rattle.plan_lines.specs.declared.error.PlanError.{PlanError}
 use Rattle.plan_lines.specs.declared.error.PlanError.TheVariants as error
 use Rattle.plan_lines.specs.Forms.{LineForm, a_relay, a_client, a_label, a_reach, no_form, line_form, relay_number}
-use Rattle.plan_lines.specs.Plans.{Say, place_among, scope_at}
+use Rattle.plan_lines.specs.Plans.{Say, scope_at}
 
 -- a field that should be a number is none: a relay's number, a port or an index
 abbrev pub HasBadNumber : LineForm → Type 0

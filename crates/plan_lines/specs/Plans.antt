@@ -1,5 +1,5 @@
 -- What a plan's text says.
-use Rattle.std.specs.Prelude.{◌≡◌, ℕ, ◌+◌, ◌==◌, true, List, [], ◌∷◌, ◌++◌, length, map, position, slice_get, string_bytes, Option, Some, IsSome, if◌then◌else◌}
+use Rattle.std.specs.Prelude.{◌≡◌, ℕ, ◌+◌, true, List, [], ◌∷◌, ◌++◌, length, map, position, slice_get, string_bytes, Option, Some, IsSome, if◌then◌else◌}
 use Rattle.std.specs.Option.{option_and_then}
 use Rattle.std.specs.Str.{bytes_eq}
 use Rattle.std.specs.declared.vec.Vec.{Vec}
@@ -9,7 +9,7 @@ use Rattle.conf_values.specs.Numbers.{number_of}
 use Rattle.relay_faults.specs.Faults.{HasNoFault}
 use Rattle.relay_conf.specs.declared.relay.Relay.{Relay}
 use Rattle.relay_conf.specs.Relays.{IsRelayOf, AreOfWords}
-use Rattle.relay_net.specs.Network.{Network, enters}
+use Rattle.relay_net.specs.Network.{Network, place_among, enters}
 use Rattle.relay_net.specs.declared.node.Client.{Client}
 use Rattle.relay_net.specs.declared.node.Node.{Node}
 use Rattle.loss_rules.specs.Breaks.{Subject}
@@ -31,10 +31,6 @@ empty_plan A = record { net = network [] []; relay_lines = []; client_lines = []
 
 -- Where the relay, the scope or the match stands that a line names. Relays and matches are counted from 0, and so are
 -- scopes, of which the main one is the first.
-
--- the place of the relay that a number means: of equal numbers the first
-abbrev pub place_among : {A : Type 0} → List (Node A) → ℕ → Option ℕ
-place_among nodes number = position (λ node. node.number == number) nodes
 
 -- the name of the scope that a field means: `.` is the main scope, whose name is empty
 abbrev pub scope_name : List ℕ → List ℕ

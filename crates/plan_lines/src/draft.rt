@@ -9,7 +9,7 @@ ghost use Rattle.relay_net.specs.Network.{node_of, source_of_port};
 ghost use Rattle.loss_rules.specs.Sites.{rule_at};
 ghost use Rattle.plan_lines.specs.Forms.{a_relay, a_client, a_label, a_reach, form_of as form_by, line_form};
 ghost use Rattle.plan_lines.specs.Views.{form_view};
-ghost use Rattle.plan_lines.specs.Plans.{texts, empty_plan, place_among, scope_name as name_of_scope, scope_of as meant_scope, scope_at, IsRelayOfText, Adds};
+ghost use Rattle.plan_lines.specs.Plans.{texts, empty_plan, scope_name as name_of_scope, scope_of as meant_scope, scope_at, IsRelayOfText, Adds};
 ghost use Rattle.plan_lines.specs.Faults.{IsTextFault, IsPatternFault, Refuses};
 ghost use Rattle.plan_lines.specs.Drafts.{draft_of, HasItsConf};
 

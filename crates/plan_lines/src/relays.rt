@@ -4,8 +4,7 @@ ghost use Rattle.std.specs.Prelude.{◌≡◌, [], ◌∷◌, ◌++◌, ℕ, ◌
 ghost use Rattle.std.specs.BTreeMap.{get};
 ghost use Rattle.std.specs.Option.{option_copied, option_or};
 ghost use Rattle.std.specs.Ordering.{nat_cmp};
-ghost use Rattle.relay_net.specs.Network.{node_of};
-ghost use Rattle.plan_lines.specs.Plans.{place_among};
+ghost use Rattle.relay_net.specs.Network.{node_of, place_among};
 
 use relay_net::Node;
 use std::alloc::{AllocError, Allocator};
@@ -23,7 +22,7 @@ impl<A: Allocator> Model for Relays<A> {
     ghost use Rattle.std.specs.Prelude.{◌≡◌, ℕ, List};
     ghost use Rattle.std.specs.BTreeMap.{get};
     ghost use Rattle.std.specs.Ordering.{nat_cmp};
-    ghost use Rattle.plan_lines.specs.Plans.{place_among};
+    ghost use Rattle.relay_net.specs.Network.{place_among};
     ghost use Rattle.relay_net.specs.declared.node.Node.{Node};
 
     ghost Value = { List (Node A) };

@@ -63,7 +63,7 @@ module _ {A : Type 0} (f : OutputPlace → Option (Output A)) (buffer : ℕ) whe
 
   at_scopes : (place : ℕ) (scopes : List (Scope A))
       → ((i j k : ℕ) → f (record { scope = place + i; rule = j; output = k })
-      ≡ option_and_then (λ scope. option_and_then (λ rule. slice_get rule.outputs.items k) (slice_get scope.matches.items j)) (slice_get scopes i))
+      ≡ option_and_then (λ rule. slice_get rule.outputs.items k) (option_and_then (λ scope. slice_get scope.matches.items j) (slice_get scopes i)))
       → Agree f (among_scopes place scopes buffer) (find (has buffer) (flat_map (λ scope. flat_map (λ rule. rule.outputs.items) scope.matches.items) scopes))
   at_scopes place [] h = tt
   at_scopes place (scope ∷ scopes) h = subst (Agree f (among_scopes place (scope ∷ scopes) buffer))

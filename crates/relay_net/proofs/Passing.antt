@@ -3,10 +3,6 @@ use Rattle.std.proofs.Common.{◌≡◌, ℕ, suc, ◌+◌, ◌<◌, ◌≤◌, 
 use Rattle.std.specs.Option.{option_or}
 use Rattle.std.proofs.lemmas.List.{drop_more, drop_all}
 
--- what is left from the place on is the element there and what is left behind it
-pub cut_at : {X : Type 0} (xs : List X) (place : ℕ) (x : X) → place < length xs → x ≡ get_or xs place x → drop place xs ≡ x ∷ drop (place + 1) xs
-cut_at xs place x less is = drop_more xs place x less ∙ ap (λ y. y ∷ drop (place + 1) xs) (sym is)
-
 pub or_assoc : {X : Type 0} (a b c : Option X) → option_or (option_or a b) c ≡ option_or a (option_or b c)
 or_assoc None b c = refl
 or_assoc (Some x) b c = refl
@@ -28,7 +24,7 @@ one_turn found first step xs place x less is before after all grown h =
     let rest = drop (place + 1) xs in
     let next : found (place + 1) rest ≡ found (suc place) rest = ap (λ n. found n rest) (omega arith) in
     ap (λ a. option_or a (found (place + 1) rest)) grown ∙ ap (option_or (option_or before (first place x))) next ∙ or_assoc before (first place x) (found (suc place) rest)
-    ∙ ap (option_or before) (sym (ap (found place) (cut_at xs place x less is) ∙ step place x rest)) ∙ h
+    ∙ ap (option_or before) (sym (ap (found place) (drop_more xs place x less ∙ ap (λ y. y ∷ rest) (sym is)) ∙ step place x rest)) ∙ h
 
 -- the end of a search
 pub no_turn : {X Y : Type 0} (found : ℕ → List X → Option Y) → ((place : ℕ) → found place [] ≡ None) → (xs : List X) (place : ℕ) → length xs ≤ place → (before all : Option Y)

@@ -1,5 +1,5 @@
 -- Where the outputs of a relay stand.
-use Rattle.std.specs.Prelude.{◌≡◌, ℕ, suc, cond, List, [], ◌∷◌, Option, Some, None, slice_get}
+use Rattle.std.specs.Prelude.{◌≡◌, ℕ, suc, cond, List, [], ◌∷◌, Option, Some, None}
 use Rattle.std.specs.Option.{option_and_then, option_or}
 use Rattle.std.specs.Ordering.{nat_cmp}
 use Rattle.std.specs.BTreeMap.{get_by}
@@ -8,18 +8,14 @@ use Rattle.relay_conf.specs.declared.relay.Scope.{Scope}
 use Rattle.relay_conf.specs.declared.relay.MatchRule.{MatchRule}
 use Rattle.relay_conf.specs.declared.output.Output.{Output}
 use Rattle.relay_net.specs.Network.{output_of}
-use Rattle.relay_conf.specs.Buffers.{buffer_number}
+use Rattle.relay_conf.specs.Buffers.{buffer_number, output_in_relay}
 use Rattle.relay_net.specs.Outputs.{is_numbered}
 use Rattle.relay_net.specs.declared.index.OutputIndex.{OutputIndex}
 use Rattle.relay_net.specs.declared.index.OutputPlace.{OutputPlace}
 
--- the output that stands at this place, whose scope is this one
-abbrev pub output_within : {A : Type 0} → Scope A → OutputPlace → Option (Output A)
-output_within scope place = option_and_then (λ rule. slice_get rule.outputs.items place.output) (slice_get scope.matches.items place.rule)
-
 -- the output that stands at this place of a relay
 abbrev pub output_in : {A : Type 0} → Relay A → OutputPlace → Option (Output A)
-output_in relay place = option_and_then (λ scope. output_within scope place) (slice_get relay.scopes.items place.scope)
+output_in relay place = output_in_relay relay place.scope place.rule place.output
 
 -- the place of the first of these outputs with this buffer, where this is the place of the first of them
 abbrev pub among_outputs : {A : Type 0} → ℕ → ℕ → ℕ → List (Output A) → ℕ → Option OutputPlace

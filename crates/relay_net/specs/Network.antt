@@ -1,5 +1,5 @@
 -- The network: where an address leads, and what outputs a relay has.
-use Rattle.std.specs.Prelude.{◌==◌, ℕ, suc, Bool, false, cond, List, [], ◌∷◌, Option, Some, None, option_map, slice_get, find, is_some, string_bytes}
+use Rattle.std.specs.Prelude.{◌==◌, ℕ, suc, Bool, false, cond, List, [], ◌∷◌, Option, Some, None, option_map, slice_get, find, position, is_some, string_bytes}
 use Rattle.std.specs.List.{flat_map, list_all}
 use Rattle.std.specs.Option.{option_and_then, option_map_or}
 use Rattle.std.specs.Str.{bytes_eq}
@@ -22,14 +22,13 @@ pub record Network (A : Type 0) : Type 0 where
 
 -- Relays are numbered, and of equal numbers the first is meant.
 
--- the place of the first relay of this number, where this is the place of the first of them
-abbrev pub place_from : {A : Type 0} → ℕ → List (Node A) → ℕ → Option ℕ
-place_from place [] number = None
-place_from place (node ∷ nodes) number = cond (node.number == number) (Some place) (place_from (suc place) nodes number)
+-- the place of the first of these relays with this number
+abbrev pub place_among : {A : Type 0} → List (Node A) → ℕ → Option ℕ
+place_among nodes number = position (λ node. node.number == number) nodes
 
 -- the place of the relay that this number means
 abbrev pub place_of : {A : Type 0} → Network A → ℕ → Option ℕ
-place_of net number = place_from 0 net.relays number
+place_of net number = place_among net.relays number
 
 -- the relay at this place
 abbrev pub relay_at : {A : Type 0} → Network A → ℕ → Option (Relay A)

@@ -1,7 +1,7 @@
 //! Where the outputs of a relay stand, by the numbers of their buffers.
 
-ghost use Rattle.std.specs.Prelude.{◌≡◌, ℕ, Some, None, [], ◌∷◌, cond, IfOk, OnOk};
-ghost use Rattle.std.specs.Option.{option_copied, option_or};
+ghost use Rattle.std.specs.Prelude.{◌≡◌, ℕ, Some, None, [], ◌∷◌, cond, slice_get, IfOk, OnOk};
+ghost use Rattle.std.specs.Option.{option_and_then, option_copied, option_or};
 ghost use Rattle.relay_conf.specs.Buffers.{buffer_number};
 ghost use Rattle.relay_net.specs.Outputs.{is_numbered};
 
@@ -20,7 +20,7 @@ pub(crate) struct OutputPlace {
 }
 
 impl OutputPlace {
-    ghost use Rattle.relay_net.specs.Index.{output_in, output_within};
+    ghost use Rattle.relay_net.specs.Index.{output_in};
 
     /// The output that stands there.
     pub fn output<A: Allocator>(self, relay: &Relay<A>) -> Option<&Output<A>>
@@ -34,7 +34,7 @@ impl OutputPlace {
 
     // The output that stands there, in its scope.
     fn output_within<A: Allocator>(self, scope: &Scope<A>) -> Option<&Output<A>>
-        ensures { option_copied result ≡ output_within scope.now self }
+        ensures { option_copied result ≡ option_and_then (λ rule. slice_get rule.outputs.items self.output) (slice_get scope.now.matches.items self.rule) }
     {
         match scope.matches.get(self.rule) {
             Some(rule) => rule.outputs.get(self.output),

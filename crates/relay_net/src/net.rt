@@ -116,12 +116,9 @@ impl<A: Allocator + Copy> Net<A> {
     pub fn place(&self, number: u64) -> Option<usize>
         ensures { result ≡ place_of self.now number }
     {
-        for (place, node) in self.relays.iter().enumerate() {
-            if u64::from(node.number) == number {
-                return Some(place);
-            }
-        }
-        None
+        self.relays
+            .iter()
+            .position(|node| u64::from(node.number) == number)
     }
 
     /// Where a message to this host and port comes in: at the first source with that address, in the order of the

@@ -11,4 +11,5 @@ mod way;
 pub use hop::Hop;
 pub use laws::{taker_is_unique, walk_is_no_loop, walk_is_unique, walk_reaches_leaves};
 pub use routes::Routes;
+pub use table::have_tag;
 pub use way::Way;

@@ -3,7 +3,6 @@
 ghost use Rattle.std.specs.Prelude.{◌≡◌, ◌↔◌, IfOk, IsTrue, MatchOption, map, List};
 ghost use Rattle.std.specs.List.{filter_map};
 ghost use Rattle.std.specs.Option.{option_copied};
-ghost use Rattle.tag_pattern.specs.Items.{item_of};
 ghost use Rattle.route_graph.specs.Table.{Rule, hop_of, rule_of, rules_of};
 ghost use Rattle.route_graph.specs.Ways.{HaveTag, IsTakenBy};
 
@@ -11,7 +10,7 @@ use crate::hop::Hop;
 use relay_conf::{MatchRule, Output, Scope};
 use std::alloc::{AllocError, Allocator};
 use std::marker::Model;
-use tag_pattern::{PatternItem, Plain, Tag, matches};
+use tag_pattern::{Plain, Tag, copied_item, matches};
 
 /// A match: its patterns, and where its outputs take an event.
 #[derive(Drop)]
@@ -100,8 +99,8 @@ impl<A: Allocator + Copy> RouteScope<A> {
     }
 }
 
-// Whether one of the patterns has the tag.
-fn have_tag<A: Allocator, B: Allocator>(patterns: &[Plain<A>], tag: &Tag<B>) -> bool
+/// Whether one of the patterns has the tag.
+pub fn have_tag<A: Allocator, B: Allocator>(patterns: &[Plain<A>], tag: &Tag<B>) -> bool
     ensures { IsTrue result ↔ HaveTag patterns.now tag.now }
 {
     for pattern in patterns {
@@ -167,18 +166,4 @@ fn copied_plain<A: Allocator + Copy, B: Allocator>(
         copies.push(copied_item(alloc, item)?)?;
     }
     Ok(Plain::new(copies))
-}
-
-// The item, in memory of its own.
-fn copied_item<A: Allocator, B: Allocator>(
-    alloc: A,
-    item: &PatternItem<Vec<u8, B>>,
-) -> Result<PatternItem<Vec<u8, A>>, AllocError>
-    ensures { IfOk result (λ copy. item_of copy ≡ item_of item.now) }
-{
-    Ok(match item {
-        PatternItem::Literal(text) => PatternItem::Literal(Vec::from_slice(alloc, text)?),
-        PatternItem::AnyPart => PatternItem::AnyPart,
-        PatternItem::AnyParts => PatternItem::AnyParts,
-    })
 }

@@ -2,11 +2,9 @@
 use Rattle.std.proofs.Common.{◌≡◌, ℕ, List, [], ◌∷◌, ◌++◌, refl, sym, ap, ◌∙◌, ◌⊎◌, inl, inr, arith, Contains, append_assoc, subst}
 use Rattle.std.proofs.lemmas.List.{append-nil}
 use Rattle.std.proofs.lemmas.List.Elements.{Contains-append_cases, Contains-append_left, Contains-append_right}
+use Rattle.route_graph.proofs.Members.{nil-none}
 use Rattle.routed_tags.specs.Arrivals.{Grows, Through}
 use Rattle.routed_tags.specs.declared.arrival.Arrival.{Arrival}
-
-pub none_in : {X : Type 0} (x : X) → Contains [] x → ⊥
-none_in x c = let less = c.1 in omega arith
 
 pub only_in : {X : Type 0} (x y : X) → Contains (x ∷ []) y → y ≡ x
 only_in x y c = let e : c.0 ≡ 0 = (let less = c.1 in omega arith) in sym (rw e at c.2)
@@ -30,8 +28,8 @@ pub grows_none : {X : Type 0} (P : X → Arrival → Type 0) (old : List Arrival
 grows_none P old = record {
   more = [];
   new_is = sym (append-nil old);
-  only = λ a c. absurd (none_in a c);
-  all = λ a h. absurd (none_in h.0 h.1);
+  only = λ a c. absurd (nil-none a c);
+  all = λ a h. absurd (nil-none h.0 h.1);
 }
 
 -- what comes through one more thing came
@@ -55,11 +53,11 @@ grows_as P Q old new to from g = record { more = g.more; new_is = g.new_is; only
 
 -- nothing comes
 pub grows_never : (P : Arrival → Type 0) (old : List Arrival) → ((a : Arrival) → P a → ⊥) → Grows P old old
-grows_never P old never = record { more = []; new_is = sym (append-nil old); only = λ a c. absurd (none_in a c); all = λ a p. absurd (never a p) }
+grows_never P old never = record { more = []; new_is = sym (append-nil old); only = λ a c. absurd (nil-none a c); all = λ a p. absurd (never a p) }
 
 -- what comes is there already
 pub grows_there : (P : Arrival → Type 0) (old : List Arrival) → ((a : Arrival) → P a → Contains old a) → Grows P old old
-grows_there P old there = record { more = []; new_is = sym (append-nil old); only = λ a c. absurd (none_in a c); all = there }
+grows_there P old there = record { more = []; new_is = sym (append-nil old); only = λ a c. absurd (nil-none a c); all = there }
 
 -- one more came, which wasn't there
 pub grows_one : (old : List Arrival) (a : Arrival) → Grows (λ other. a ≡ other) old (old ++ a ∷ [])

@@ -131,7 +131,7 @@ module _ {A : Type 0} (net : Network A) (address : Address) (tag wanted : List �
 
 -- Tags only grow.
 
-entered_longer : (prefix : Option (List ℕ)) (tag : List ℕ) → length tag ≤ length (entered_tag prefix tag)
+pub entered_longer : (prefix : Option (List ℕ)) (tag : List ℕ) → length tag ≤ length (entered_tag prefix tag)
 entered_longer None tag = omega arith
 entered_longer (Some prefix) tag = go prefix
   where

@@ -26,12 +26,12 @@ module _ {A : Type 0} (net : Network A) (wanted : List ℕ) (place buffer : ℕ)
       (h.sends.server, subst (λ (o : Output A). Contains (servers_of o) h.sends.server) same h.sends.among, subst (λ d. IsArrival net wanted d tag a) h.sends.address_is h.arrives)
 
 -- the number of a buffer among the leaves
-number_in : (leaves : List BufferNo) (leaf : BufferNo) → Contains leaves leaf → Contains (numbers_of leaves) leaf.0
+pub number_in : (leaves : List BufferNo) (leaf : BufferNo) → Contains leaves leaf → Contains (numbers_of leaves) leaf.0
 number_in [] leaf c = absurd (let less = c.1 in omega arith)
 number_in (x ∷ leaves) leaf (zero, less, is) = (0, omega arith, ap (λ (n : BufferNo). n.0) is)
 number_in (x ∷ leaves) leaf (suc k, less, is) = let r = number_in leaves leaf (k, omega arith, is) in (suc r.0, (let l = r.1 in omega arith), r.2)
 
-leaf_of : (leaves : List BufferNo) (number : ℕ) → Contains (numbers_of leaves) number → (leaf : BufferNo) × Contains leaves leaf × (leaf.0 ≡ number)
+pub leaf_of : (leaves : List BufferNo) (number : ℕ) → Contains (numbers_of leaves) number → (leaf : BufferNo) × Contains leaves leaf × (leaf.0 ≡ number)
 leaf_of [] number c = absurd (let less = c.1 in omega arith)
 leaf_of (x ∷ leaves) number (zero, less, is) = (x, (0, omega arith, refl), is)
 leaf_of (x ∷ leaves) number (suc k, less, is) = let r = leaf_of leaves number (k, omega arith, is) in (r.0, (suc r.1.0, (let l = r.1.1 in omega arith), r.1.2), r.2)

@@ -1,15 +1,14 @@
 //! What stands where a rule is broken: the address that isn't there, what stands twice, the match that has no reach.
 
 use crate::front::Subject;
-use crate::keeping::line_of;
 use crate::site::match_at;
 use crate::story::put_note;
-use loss_rules::{Label, Place, RelayLine, Rule};
+use loss_rules::{Label, Place, RelayLine, Rule, fits_any, line_of};
 use plan_lines::Plan;
 use relay_conf::{BufferKind, MatchRule, Output, Server};
 use relay_net::{Node, settings};
 use std::alloc::{AllocError, Allocator};
-use tag_pattern::{Plain, apart, fits};
+use tag_pattern::{Plain, apart};
 
 // How many outputs of a relay are looked at.
 const MOST_OUTPUTS: usize = 65_536;
@@ -239,7 +238,7 @@ impl<A: Allocator + Copy> Subject<'_, A> {
                     line: rule.line,
                 });
             }
-            if fits_one(pattern, &rule.patterns) {
+            if fits_any(pattern, &rule.patterns) {
                 return None;
             }
         }
@@ -274,23 +273,13 @@ impl<A: Allocator + Copy> Subject<'_, A> {
             if reach.place == label.place
                 && reach.scope == label.scope
                 && reach.rule == index
-                && (fits_one(pattern, &reach.patterns) || fits_one(taken, &reach.patterns))
+                && (fits_any(pattern, &reach.patterns) || fits_any(taken, &reach.patterns))
             {
                 return true;
             }
         }
         false
     }
-}
-
-// Whether the pattern fits one of these.
-fn fits_one<A: Allocator>(pattern: &Plain<A>, others: &[Plain<A>]) -> bool {
-    for other in others {
-        if fits(pattern, other) {
-            return true;
-        }
-    }
-    false
 }
 
 // The relay at this place of the plan.

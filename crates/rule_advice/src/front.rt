@@ -1,11 +1,11 @@
 //! What is said of a broken rule in front of the steps.
 
-use crate::keeping::{lacks, line_of, words_of};
+use crate::keeping::{lacks, words_of};
 use crate::site::{Texts, match_at};
 use crate::story::{put_headed, put_note};
 use crate::ways::Ways;
 use crate::words::{advice, asks_for_lines, meaning};
-use loss_rules::{Place, Rule};
+use loss_rules::{Place, Rule, line_of};
 use plan_lines::Plan;
 use relay_conf::Output;
 use relay_net::Entrance;

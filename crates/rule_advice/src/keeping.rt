@@ -4,16 +4,6 @@ use relay_conf::{BufferKind, BufferSettings, Output, OverflowAction};
 use relay_net::settings;
 use std::alloc::{AllocError, Allocator};
 
-/// The line that opens the output.
-pub(crate) fn line_of<A: Allocator>(output: &Output<A>) -> usize {
-    match output {
-        Output::Null { line } => *line,
-        Output::Relabel { target: _, line } => *line,
-        Output::Forward { settings: _, line } => *line,
-        Output::File { settings: _, line } => *line,
-    }
-}
-
 /// One thing that an output lacks to keep what it takes.
 #[derive(Clone, Copy, Debug, PartialEq, Eq)]
 pub(crate) enum Lack {

@@ -1,7 +1,7 @@
 //! Steps as lines of a text, with what some of them mean in front.
 
-use crate::keeping::line_of;
 use crate::site::Texts;
+use loss_rules::line_of;
 use loss_search::put_step;
 use plan_lines::Plan;
 use relay_conf::Output;

@@ -4,10 +4,11 @@ use Rattle.event_modes.specs.declared.fault.ModeFault.{ModeFault}
 use Rattle.event_modes.specs.Stream.{Arrival, Splits, IsRest}
 use Rattle.event_modes.specs.Faults.{StreamFault}
 use Rattle.event_modes.proofs.One.{reads_one_way}
+use Rattle.event_modes.proofs.Only.{stream_one}
 use Rattle.stream_listing.specs.HexText.{digits_of, IsBroken}
 use Rattle.stream_listing.specs.Listing.{Ending, Rest, Fault, BadHex, ending_lines, status_of, lines_of, IsPending, EndsIn, Holds}
 use Rattle.stream_listing.specs.Laws.{HasOneListing}
-use Rattle.stream_listing.proofs.FaultLaws.{fault_rest, fault_not_pending, fault_one, fault_stays}
+use Rattle.stream_listing.proofs.FaultLaws.{fault_rest, fault_not_pending, fault_stays}
 use Rattle.stream_listing.proofs.ArrivalSteps.{Splits-more}
 use Rattle.stream_listing.proofs.HexReadings.{GoesOn, compare, ends_whole, ends_broken}
 
@@ -41,7 +42,7 @@ met bytes left held others_left rest arrivals others (Fault f) (Rest m) h k same
     absurd (fault_not_pending held f p (subst IsPending (sym s.1) q.1))
 met bytes left held others_left rest arrivals others (Fault f) (Fault g) h k same p q =
     let s = same_split bytes arrivals others held rest h k (fault_rest held f p) (fault_rest rest g q) in
-    (s.0, ap Fault (fault_one held f g p (subst (λ b. StreamFault b g) (sym s.1) q)))
+    (s.0, ap Fault (stream_one held f g p (subst (λ b. StreamFault b g) (sym s.1) q)))
 met bytes left held others_left rest arrivals others (Fault f) BadHex h k same p q =
     let s = same_split bytes arrivals others held rest h k (fault_rest held f p) (pending_rest rest q.1) in
     absurd (fault_not_pending held f p (subst IsPending (sym s.1) q.1))
@@ -72,7 +73,7 @@ past_fault bytes more held others_left rest arrivals others fault other h p k q 
           absurd (fault_not_pending (held ++ more) fault still (subst IsPending (sym s.1) q.1))
       go (Fault g) q =
           let s = same_split (bytes ++ more) arrivals others (held ++ more) rest longer k (fault_rest (held ++ more) fault still) (fault_rest rest g q) in
-          (s.0, ap Fault (fault_one (held ++ more) fault g still (subst (λ b. StreamFault b g) (sym s.1) q)))
+          (s.0, ap Fault (stream_one (held ++ more) fault g still (subst (λ b. StreamFault b g) (sym s.1) q)))
       go BadHex q =
           let s = same_split (bytes ++ more) arrivals others (held ++ more) rest longer k (fault_rest (held ++ more) fault still) (pending_rest rest q.1) in
           absurd (fault_not_pending (held ++ more) fault still (subst IsPending (sym s.1) q.1))

@@ -17,7 +17,7 @@ mod survey;
 mod tag;
 
 pub use comparison::{apart, fits, fits_entered, matches};
-pub use item::PatternItem;
+pub use item::{PatternItem, copied_item};
 pub use laws::{
     common_tag_meets, fits_is_subset, parts_are_unique, prefixed_tags_are_of_prefixed,
     slots_are_unique,

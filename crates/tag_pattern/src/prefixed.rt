@@ -1,14 +1,14 @@
 //! Plain patterns with a prefix in front.
 
 ghost use Rattle.std.specs.Prelude.{◌≡◌, ◌++◌, ◌↔◌, ℕ, List, map, IfOk, OnOk, IsTrue};
-ghost use Rattle.tag_pattern.specs.Items.{item_of, items_of};
+ghost use Rattle.tag_pattern.specs.Items.{items_of};
 ghost use Rattle.tag_pattern.specs.Parts.{parts_of};
 ghost use Rattle.tag_pattern.specs.Patterns.{Fits, IsTagOf};
 ghost use Rattle.tag_pattern.specs.Prefixes.{prefixed_items, IsSameBehind};
 ghost use Rattle.tag_pattern.specs.declared.item.PatternItem.TheVariants.{Literal};
 
 use crate::cut::first_piece;
-use crate::item::PatternItem;
+use crate::item::{PatternItem, copied_item};
 use crate::plain::Plain;
 use crate::prefix::Prefix;
 use crate::row::{Relation, compare};
@@ -94,18 +94,4 @@ fn push_copies<A: Allocator + Copy, B: Allocator>(
         items.push(copied_item(alloc, other)?)?;
     }
     Ok(())
-}
-
-// The item, in memory of its own.
-fn copied_item<A: Allocator, B: Allocator>(
-    alloc: A,
-    item: &PatternItem<Vec<u8, B>>,
-) -> Result<PatternItem<Vec<u8, A>>, AllocError>
-    ensures { IfOk result (λ copy. item_of copy ≡ item_of item.now) }
-{
-    Ok(match item {
-        PatternItem::Literal(text) => PatternItem::Literal(Vec::from_slice(alloc, text)?),
-        PatternItem::AnyPart => PatternItem::AnyPart,
-        PatternItem::AnyParts => PatternItem::AnyParts,
-    })
 }

@@ -1,13 +1,13 @@
 use Rattle.std.proofs.Common.{length, sym, ap, subst, ◌∙◌, arith}
 use Rattle.std.specs.List.{AllByRecursion}
 use Rattle.chunk_journal.specs.Places.{IsWithin, bytes_at}
-use Rattle.chunk_journal.proofs.Frames.{entries_below}
+use Rattle.event_modes.proofs.Stored.{no_longer}
 use Rattle.file_pieces.specs.Pieces.{pieces_bytes}
 use Rattle.journal_files.proofs.Fronts.{told_append}
 use Rattle.journal_files.proofs.spelling.tell_entries.Goals as goal
 
 pub spell_front-requires-clause-count : goal.spell_front-requires-clause-count
-spell_front-requires-clause-count g c = omega (arith, c.count.ensures, c.size.ensures, entries_below c.args.chunk.now.chunk.entries c.stays_stored.ensures)
+spell_front-requires-clause-count g c = omega (arith, c.count.ensures, c.size.ensures, no_longer c.args.chunk.now.chunk.entries c.stays_stored.ensures)
 
 pub returns-clause-bytes : goal.returns-clause-bytes
 returns-clause-bytes g c = λ seen are.

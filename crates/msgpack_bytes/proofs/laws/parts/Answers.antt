@@ -1,4 +1,4 @@
-use Rattle.msgpack_bytes.proofs.Lawful.{deeper, parts, text_parts}
+use Rattle.msgpack_bytes.proofs.Lawful.{deeper, parts, parts_within}
 use Rattle.msgpack_bytes.proofs.laws.parts.Goals as goal
 
 pub returns-clause-deeper : goal.returns-clause-deeper
@@ -7,5 +7,5 @@ returns-clause-deeper c = deeper
 pub returns-clause-parts : goal.returns-clause-parts
 returns-clause-parts c = parts
 
-pub returns-clause-text_parts : goal.returns-clause-text_parts
-returns-clause-text_parts c = text_parts
+pub returns-clause-parts_within : goal.returns-clause-parts_within
+returns-clause-parts_within c = parts_within

@@ -3,6 +3,7 @@ use Rattle.custody_store.specs.Buffers.{Chunk}
 use Rattle.custody_store.specs.Contents.{parts_of}
 use Rattle.custody_store.specs.Copies.{copied_parts}
 use Rattle.custody_store.specs.declared.chunk.Stage.TheVariants.{Claimed}
+use Rattle.kept_branches.proofs.Lists.{some_and}
 use Rattle.message_book.specs.Book.{Message}
 use Rattle.message_book.specs.declared.sender.Sender.TheVariants as sender
 use Rattle.step_lines.specs.Texts.{texts_of}
@@ -36,7 +37,7 @@ pub returns-clause-ok : goal.returns-clause-ok
 returns-clause-ok g c =
     let w = c.args.self.now in
     let f = c.args.found in
-    let live = keeping.some_of (chunk_of (world_of w) f) (λ (chunk : Chunk). chunk.stage ≡ Claimed) c.requires in
+    let live = some_and (chunk_of (world_of w) f) (λ (chunk : Chunk). chunk.stage ≡ Claimed) c.requires in
     let parts : Some (copied_parts c.in-Some.copied) ≡ Some (parts_of live.0) = rw (c.in-Some.is, live.1) at c.in_ok-copied.ensures in
     let parts_are : copied_parts c.in-Some.copied ≡ parts_of live.0 = cc in
     let m : Message = record { sender = sender.Chunk f.place f.buffer f.serial; address = c.args.address; tag = c.in-Some.copied.tag; entries = texts_of c.as_slice.result.now; acknowledged = false } in

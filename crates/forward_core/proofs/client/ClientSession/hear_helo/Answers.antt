@@ -1,6 +1,6 @@
 use Rattle.std.proofs.Common.{drop, refl, ap, sym, ◌∙◌, subst}
-use Rattle.forward_core.specs.declared.client_handshake.Met.{Met}
-use Rattle.forward_core.specs.Client.{ClientState, MeetsHelo}
+use Rattle.forward_core.specs.declared.client_handshake.First.{First}
+use Rattle.forward_core.specs.Client.{ClientState, TakesHelo}
 use Rattle.forward_core.proofs.Shaking.{helo_client, helo_taken, helo_refused}
 use Rattle.forward_core.proofs.client.ClientSession.hear_helo.Goals as goal
 
@@ -10,7 +10,7 @@ returns-in-Taken-clause-reads g c client e =
     helo_taken client c.in-Shaking.client c.take_helo.new.client c.args.self.now _ c.as_slice.result.now c.self.inside.outgoing c.take_helo.new.outgoing c.drop_front.new.self c.in-Taken.n _
     (helo_client c.self.inside.phase c.self.inside.greeted c.in-Shaking.client client c.in-Shaking.is (ap (λ (s : ClientState). s.phase) view ∙ e))
     (c.as_slice.ensures ∙ ap (λ (s : ClientState). s.held) view) (ap (λ (s : ClientState). s.outgoing) view)
-    (subst (λ (z : Met). MeetsHelo c.in-Shaking.client c.self.inside.outgoing c.as_slice.result.now z c.take_helo.new.client c.take_helo.new.outgoing) c.in-Taken.is c.in_ok-n.ensures.meets)
+    (subst (λ (z : First). TakesHelo c.in-Shaking.client c.self.inside.outgoing c.as_slice.result.now z c.take_helo.new.client c.take_helo.new.outgoing) c.in-Taken.is c.in_ok-n.ensures.takes)
     (c.drop_front.ensures ∙ ap (drop c.in-Taken.n) (sym c.as_slice.ensures))
     (c.hear_pong.ensures c.take_helo.new.client refl)
 
@@ -20,4 +20,4 @@ returns-in-Refused-clause-reads g c client e =
     helo_refused client c.in-Shaking.client c.take_helo.new.client c.args.self.now c.as_slice.result.now c.self.inside.outgoing c.take_helo.new.outgoing c.self.inside.held c.in-Refused.fault
     (helo_client c.self.inside.phase c.self.inside.greeted c.in-Shaking.client client c.in-Shaking.is (ap (λ (s : ClientState). s.phase) view ∙ e))
     (c.as_slice.ensures ∙ ap (λ (s : ClientState). s.held) view) (ap (λ (s : ClientState). s.outgoing) view) (ap (λ (s : ClientState). s.held) view)
-    (subst (λ (z : Met). MeetsHelo c.in-Shaking.client c.self.inside.outgoing c.as_slice.result.now z c.take_helo.new.client c.take_helo.new.outgoing) c.in-Refused.is c.in_ok-n.ensures.meets)
+    (subst (λ (z : First). TakesHelo c.in-Shaking.client c.self.inside.outgoing c.as_slice.result.now z c.take_helo.new.client c.take_helo.new.outgoing) c.in-Refused.is c.in_ok-n.ensures.takes)

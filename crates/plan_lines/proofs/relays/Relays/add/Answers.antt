@@ -1,6 +1,6 @@
 use Rattle.std.proofs.Common.{◌≡◌, ◌==◌, ◌++◌, ◌∷◌, [], length, cond, Some, None, sym, ap, ◌∙◌, arith}
 use Rattle.std.specs.Option.{option_or}
-use Rattle.plan_lines.specs.Plans.{place_among}
+use Rattle.relay_net.specs.Network.{place_among}
 use Rattle.plan_lines.proofs.Numbering.{place_more}
 use Rattle.plan_lines.proofs.relays.Relays.add.Goals as goal
 
