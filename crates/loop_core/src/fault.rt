@@ -12,6 +12,9 @@ pub enum LoopFault {
     /// The relay can't listen at the address of one of its sources.
     #[error("Bind")]
     Bind,
+    /// Two outputs of the relay share the path of their buffers, or of their sinks.
+    #[error("Path")]
+    Path,
     /// The system can't wait for sockets.
     #[error("Poll")]
     Poll,

@@ -3,13 +3,13 @@
 ghost use Rattle.std.specs.Prelude.{◌≡◌, [], map, IfOk};
 ghost use Rattle.std.specs.Arc.{arc_value};
 ghost use Rattle.relay_buffers.specs.Buffers.{AreBuffersOf};
+ghost use Rattle.relay_buffers.specs.Paths.{HaveOwnPaths};
 ghost use Rattle.mio_relay.specs.Loops.{Stays, entries_of};
 
 use crate::listener::{Listener, listen};
 use crate::socket::Socket;
 use ack_receipt::{Numbers, SharedBuffer, Stub};
 use buffer_lanes::Lanes;
-use buffer_store::BufferFault;
 use disk_files::Dir;
 use loop_core::{LoopFault, Peer};
 use mio::{Events, Poll};
@@ -93,8 +93,8 @@ where
     /// Listens at each source of the relay, and then opens its buffers, those with files in the folder of this path, which is
     /// made where it isn't there.
     ///
-    /// `Bind`: an address can't be had; no file was touched then. `Buffer`: a buffer, or the folder, can't be opened. `Poll`: the
-    /// system gives no sockets or no random bytes. `Memory`.
+    /// `Bind`: an address can't be had. `Path`: two outputs share the path of their buffers, or of their sinks. No file was touched
+    /// then. `Buffer`: a buffer, or the folder, can't be opened. `Poll`: the system gives no sockets or no random bytes. `Memory`.
     pub fn open(
         rt: R,
         alloc: A,
@@ -105,6 +105,7 @@ where
         ensures sources { IfOk result (λ opened. opened.entries ≡ entries_of number relay) }
         ensures none { IfOk result (λ opened. opened.peers ≡ []) }
         ensures buffers { IfOk result (λ opened. AreBuffersOf relay.scopes.items number opened.buffers) }
+        ensures paths { IfOk result (λ _. HaveOwnPaths relay) }
     {
         let theirs = match rt.clone() {
             Ok(theirs) => theirs,
@@ -131,6 +132,7 @@ impl<D: Dir + Drop, A: Allocator + Copy> InLoop<D, A> {
         ensures sources { IfOk result (λ opened. opened.entries ≡ entries_of number relay) }
         ensures none { IfOk result (λ opened. opened.peers ≡ []) }
         ensures buffers { IfOk result (λ opened. AreBuffersOf relay.scopes.items number opened.buffers) }
+        ensures paths { IfOk result (λ _. HaveOwnPaths relay) }
     {
         let Ok(poll) = Poll::new(rt) else {
             return Err(LoopFault::Poll);
@@ -141,9 +143,6 @@ impl<D: Dir + Drop, A: Allocator + Copy> InLoop<D, A> {
         let routes = Arc::new(alloc, Routes::new(alloc, &relay)?)?;
         let Relay { sources, scopes } = relay;
         let listeners = listen(alloc, rt, poll.registry(), number, &routes, sources)?;
-        if !folders.make_ready() {
-            return Err(LoopFault::Buffer(BufferFault::Fault));
-        }
         let rest = Relay {
             sources: Vec::new(alloc),
             scopes,

@@ -4,7 +4,9 @@
 mod delivering;
 mod folders;
 mod opening;
+mod paths;
 
 pub use delivering::{Aim, Delivering, delivering_of};
 pub use folders::{Folders, MemoryFolders, SystemDir, SystemFolders};
 pub use opening::{Opened, lanes_of, open_all};
+pub use paths::have_own_paths;

@@ -4,8 +4,10 @@ ghost use Rattle.std.specs.Prelude.{◌≡◌, map, IfOk};
 ghost use Rattle.std.specs.Arc.{arc_value};
 ghost use Rattle.relay_ports.specs.Outlets.{AreTakesOf, settings_of};
 ghost use Rattle.relay_buffers.specs.Buffers.{AreBuffersOf, IsScheduledBy, IsSetAs, limits_of};
+ghost use Rattle.relay_buffers.specs.Paths.{HaveOwnPaths};
 
 use crate::folders::Folders;
+use crate::paths::have_own_paths;
 use ack_receipt::{Leaf, SharedBuffer};
 use buffer_lanes::{Lane, Lanes, Schedule};
 use buffer_state::{Limits, Stage};
@@ -27,9 +29,11 @@ pub struct Opened<D: Dir + Drop, A: Allocator> {
     pub schedule: Schedule<A>,
 }
 
-/// Opens the relay's buffers, in the order of their numbers.
+/// Makes the folders of the relay's buffers ready, and opens the buffers, in the order of their numbers.
 ///
-/// `Buffer` where one can't be opened, and `Memory`: those before it are closed then, and keep what they have.
+/// `Path` where two outputs share the path of their buffers, or of their sinks: no file or folder is touched then. `Buffer` where the
+/// folders can't be made ready or a buffer can't be opened, and `Memory`: the buffers before it are closed then, and keep what they
+/// have.
 pub fn open_all<D: Dir + Drop, A: Allocator + Copy, F: Folders<D, A>>(
     alloc: A,
     relay: &Relay<A>,
@@ -37,8 +41,15 @@ pub fn open_all<D: Dir + Drop, A: Allocator + Copy, F: Folders<D, A>>(
     folders: &F,
     now: u64,
 ) -> Result<Vec<Opened<D, A>, A>, LoopFault>
-    ensures { IfOk result (λ all. AreBuffersOf relay.now.scopes.items number (map (λ opened. arc_value opened.buffer) all.items)) }
+    ensures buffers { IfOk result (λ all. AreBuffersOf relay.now.scopes.items number (map (λ opened. arc_value opened.buffer) all.items)) }
+    ensures paths { IfOk result (λ _. HaveOwnPaths relay.now) }
 {
+    if !have_own_paths(alloc, relay)? {
+        return Err(LoopFault::Path);
+    }
+    if !folders.make_ready() {
+        return Err(LoopFault::Buffer(BufferFault::Fault));
+    }
     let mut all = Vec::new(alloc);
     for at in 0..u32::MAX {
         let Some(outlet) = outlet_of(relay, BufferNo(at as usize)) else {

@@ -1,13 +1,15 @@
 -- What a relay is started with, and what it prints.
 use Rattle.std.specs.Prelude.{◌⊎◌, ℕ, List, [], ◌++◌, codes, decimal, Option, Some, None}
 use Rattle.std.specs.List.{flat_map}
+use Rattle.std.specs.contracts.alloc.Global as heap
 use Rattle.loop_core.specs.declared.fault.LoopFault.{LoopFault}
 use Rattle.loop_core.specs.declared.fault.LoopFault.TheVariants as ends
 use Rattle.program_text.specs.declared.status.Status.{Status}
 use Rattle.program_text.specs.declared.status.Status.TheVariants.{Done, Usage}
 use Rattle.program_text.specs.Lines.{line, memory_line}
 use Rattle.program_text.specs.Output.{TakesPart, IsPrinted}
-use Rattle.relay_reading.specs.Stops.{PrintsNoRelay}
+use Rattle.relay_conf.specs.declared.relay.Relay.{Relay}
+use Rattle.relay_reading.specs.Stops.{IsRelayRead, PrintsNoRelay}
 
 -- a source takes connections at this port
 abbrev pub ready_line : ℕ → List ℕ
@@ -20,6 +22,7 @@ ready_lines ports = flat_map ready_line ports
 -- why a relay ended
 abbrev pub fault_line : LoopFault → List ℕ
 fault_line ends.Bind = line (codes "fault Bind")
+fault_line ends.Path = line (codes "fault Path")
 fault_line ends.Poll = line (codes "fault Poll")
 fault_line (ends.Buffer _) = line (codes "fault Buffer")
 fault_line ends.NoNumber = line (codes "fault NoNumber")
@@ -48,6 +51,12 @@ pub record PrintsRun (old new : Option (List ℕ)) (status : Status) : Type 0 wh
   pub ended : Option LoopFault
   pub printed : IsPrinted between new (end_line ended) (end_status ended) status
 
--- all that `relay` does to a writer, and its status
+-- A relay was read from the configuration, and ended so.
+pub record PrintsRunOf (conf old new : Option (List ℕ)) (status : Status) : Type 0 where
+  pub relay : Relay heap.the_row.Denot
+  pub read : IsRelayRead conf relay
+  pub prints : PrintsRun old new status
+
+-- all that `relay` does to a writer, and its status: it runs the relay that the configuration describes, or says why there is none
 abbrev pub PrintsRelay : Option (List ℕ) → Option (List ℕ) → Option (List ℕ) → Status → Type 0
-PrintsRelay conf old new status = PrintsRun old new status ⊎ PrintsNoRelay conf old new status
+PrintsRelay conf old new status = PrintsRunOf conf old new status ⊎ PrintsNoRelay conf old new status

@@ -168,6 +168,7 @@ fn fault_line(fault: LoopFault) -> &'static str
 {
     match fault {
         LoopFault::Bind => "fault Bind\n",
+        LoopFault::Path => "fault Path\n",
         LoopFault::Poll => "fault Poll\n",
         LoopFault::Buffer(_) => "fault Buffer\n",
         LoopFault::NoNumber => "fault NoNumber\n",

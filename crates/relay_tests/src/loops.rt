@@ -1,10 +1,11 @@
 //! A loop with clients on sockets, turned by hand.
 
-use crate::relays::{LOOPING, SINK, SMALL, relay_of};
+use crate::relays::{LOOPING, SHARED, SINK, SMALL, relay_of};
 use disk_files::Dir;
 use loop_core::LoopFault;
 use mio_relay::{Ended, InLoop};
 use relay_buffers::{Folders, MemoryFolders};
+use relay_conf::Relay;
 use std::alloc::Global;
 use std::io::{ErrorKind, Read, Write};
 use std::net::{Ipv4Addr, Net, OpenStream, SocketAddr, TcpStream};
@@ -223,23 +224,19 @@ fn what_goes_round_is_no_delivery(rt: HostRuntime) -> Result<(), Fail> {
     Ok(())
 }
 
-// Why another relay at this port isn't opened.
-fn fault_at<R, D, F>(rt: &R, port: Option<u16>, folders: &F) -> Result<Option<LoopFault>, Fail>
+// Why a relay isn't opened.
+fn fault_of<R, D, F>(rt: &R, relay: Relay<Global>, folders: &F) -> Option<LoopFault>
 where
     R: Wait + Clock + Net + RandomSource + AllocGlobal,
     D: Dir + Drop,
     F: Folders<D, Global>,
 {
-    let mut relay = relay_of(rt.alloc(), SINK)?;
-    for source in relay.sources.iter_mut() {
-        source.port = port.unwrap_or(1);
-    }
     match InLoop::open_in(rt, rt.alloc(), relay, 2, folders) {
         Ok(other) => {
             ended(rt, other, 0);
-            Ok(None)
+            None
         }
-        Err(fault) => Ok(Some(fault)),
+        Err(fault) => Some(fault),
     }
 }
 
@@ -250,10 +247,14 @@ where
     D: Dir + Drop,
     F: Folders<D, Global>,
 {
+    let mut relay = relay_of(rt.alloc(), SINK)?;
     let turning = open(rt, SINK, folders)?;
-    let fault = fault_at(rt, turning.port(0), folders);
+    for source in relay.sources.iter_mut() {
+        source.port = turning.port(0).unwrap_or(1);
+    }
+    let fault = fault_of(rt, relay, folders);
     ended(rt, turning, 0);
-    fault
+    Ok(fault)
 }
 
 // A relay whose source is taken isn't opened.
@@ -261,5 +262,14 @@ where
 fn a_taken_source_is_bind(rt: HostRuntime) -> Result<(), Fail> {
     let folders = MemoryFolders { alloc: rt.alloc() };
     assert_eq!(rt; fault_of_another(&rt, &folders)?, Some(LoopFault::Bind));
+    Ok(())
+}
+
+// A relay two of whose buffers have one path isn't opened.
+#[test]
+fn a_shared_path_is_path(rt: HostRuntime) -> Result<(), Fail> {
+    let folders = MemoryFolders { alloc: rt.alloc() };
+    let relay = relay_of(rt.alloc(), SHARED)?;
+    assert_eq!(rt; fault_of(&rt, relay, &folders), Some(LoopFault::Path));
     Ok(())
 }

@@ -20,6 +20,10 @@ pub const LOOPING: &str =
 pub const FORWARD: &str =
     "<source>\n  @type forward\n  bind 127.0.0.1\n</source>\n<match **>\n  @type forward\n  require_ack_response true\n  ack_response_timeout 1\n  <server>\n    host 127.0.0.1\n    port 1\n  </server>\n  <buffer>\n    retry_forever true\n    flush_mode immediate\n  </buffer>\n</match>\n";
 
+// Two sinks, whose buffers have one path.
+pub const SHARED: &str =
+    "<source>\n  @type forward\n  bind 127.0.0.1\n</source>\n<match a>\n  @type file\n  path a\n  <buffer>\n    @type file\n    path x\n  </buffer>\n</match>\n<match **>\n  @type file\n  path b\n  <buffer>\n    @type file\n    path x\n  </buffer>\n</match>\n";
+
 // The relay that the text describes; each of its sources takes any port that is free.
 pub fn relay_of(alloc: Global, text: &str) -> Result<Relay<Global>, Fail> {
     let Ok(elements) = conf_text::read(alloc, text.as_bytes()) else {

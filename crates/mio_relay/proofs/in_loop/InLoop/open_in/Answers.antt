@@ -13,4 +13,4 @@ returns-clause-sources g c =
 
 pub returns-clause-buffers : goal.returns-clause-buffers
 returns-clause-buffers g c =
-    subst (λ (buffers : List (Terms _)). AreBuffersOf c.args.relay.scopes.items c.args.number buffers) (sym c.in_ok-lanes.ensures) c.in_ok-opened.ensures
+    subst (λ (buffers : List (Terms _)). AreBuffersOf c.args.relay.scopes.items c.args.number buffers) (sym c.in_ok-lanes.ensures) c.in_ok-opened.ensures.buffers
