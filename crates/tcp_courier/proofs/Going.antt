@@ -2,8 +2,8 @@
 use Rattle.std.proofs.Common.{ℕ, ◌≡◌, List, [], ◌++◌, take, drop, refl, sym, ap, ◌∙◌, subst, append-nil, append_assoc, take-append-drop, Option, Some, None, Bool, true, false, option_map, Result, Ok, Err}
 use Rattle.std.specs.Prelude.{OnOk}
 use Rattle.std.specs.List.{concat}
-use Rattle.std.specs.Io.KnownBytes.{Keeps}
-use Rattle.std.proofs.KnownBytes.{Appends-kept, Appends-nil, Appends-trans, Consumes-kept, Consumes-nil, Consumes-trans}
+use Rattle.std.specs.Io.KnownBytes.{Appends, Keeps}
+use Rattle.std.proofs.KnownBytes.{Appends-kept, Appends-nil, Appends-trans, Consumes-kept, Consumes-nil}
 use Rattle.std.proofs.lemmas.List.Folds.{concat-append}
 use Rattle.event_modes.specs.declared.chunk_id.ChunkId.{ChunkId}
 use Rattle.event_modes.specs.ChunkIds.{chunk_text}
@@ -14,27 +14,36 @@ use Rattle.forward_core.specs.Client.{ClientPhase, Ready, HasSent, ClientState, 
 use Rattle.forward_core.specs.declared.security.Security.{Security}
 use Rattle.tcp_courier.specs.declared.wire.Moved.{Moved}
 use Rattle.tcp_courier.specs.declared.wire.Moved.TheVariants as moved
-use Rattle.tcp_courier.specs.Talks.{IsNothing, IsReadFrom, IsWrittenTo, Traffic, Conveys, Hears, IsGreeting, AreItems, Credentials, IsBare, begun, credentials_in, TalksOn, Acknowledges, ConveysChunk}
+use Rattle.tcp_courier.specs.Talks.{IsNothing, IsReadFrom, IsReadOff, IsWrittenTo, Traffic, Conveys, Hears, IsGreeting, AreItems, Credentials, IsBare, begun, credentials_in, TalksOn, Acknowledges, ConveysChunk}
 use Rattle.tcp_courier.proofs.Hearing.{items_append, hears_heed, sent_waits, sent_sees}
 
 pub Conveys-none : (a : Traffic) → Conveys a a [] []
-Conveys-none a = (Appends-nil a.taken, Consumes-nil a.coming)
+Conveys-none a = (Appends-nil a.taken, Appends-nil a.given)
 
 pub Conveys-trans : (a b c : Traffic) (s u t v : List ℕ) → Conveys a b s u → Conveys b c t v → Conveys a c (s ++ t) (u ++ v)
-Conveys-trans a b c s u t v p q = (Appends-trans a.taken b.taken c.taken s t p.0 q.0, Consumes-trans a.coming b.coming c.coming u v p.1 q.1)
+Conveys-trans a b c s u t v p q = (Appends-trans a.taken b.taken c.taken s t p.0 q.0, Appends-trans a.given b.given c.given u v p.1 q.1)
+
+nothing_passed : (old new : Option (List ℕ)) → Keeps old new → Appends old new []
+nothing_passed old new k = Appends-kept old old new [] (Appends-nil old) k
 
 -- where neither side moves, nothing passes
-pub Conveys-kept : (a b : Traffic) → Keeps a.taken b.taken → Keeps a.coming b.coming → Conveys a b [] []
-Conveys-kept a b t c = (Appends-kept a.taken a.taken b.taken [] (Appends-nil a.taken) t, Consumes-kept a.coming a.coming b.coming [] (Consumes-nil a.coming) c)
+pub Conveys-kept : (a b : Traffic) → Keeps a.taken b.taken → Keeps a.given b.given → Conveys a b [] []
+Conveys-kept a b t g = (nothing_passed a.taken b.taken t, nothing_passed a.given b.given g)
 
 -- nothing was read
-pub nothing_read : (a b : Traffic) (piece : List ℕ) (came : Moved) → IsNothing came → Keeps a.taken b.taken → Keeps a.coming b.coming → IsReadFrom a b piece came
+pub nothing_read : (a b : Traffic) (piece : List ℕ) (came : Moved) → IsNothing came → Keeps a.taken b.taken → Keeps a.given b.given → IsReadFrom a b piece came
 nothing_read a b piece (moved.Some n) i t c = absurd i
 nothing_read a b piece moved.None i t c = Conveys-kept a b t c
 nothing_read a b piece moved.Over i t c = Conveys-kept a b t c
 
+-- nothing was read off a stream
+pub nothing_off : (old new : Option (List ℕ)) (piece : List ℕ) (came : Moved) → IsNothing came → Keeps old new → IsReadOff old new piece came
+nothing_off old new piece (moved.Some n) i k = absurd i
+nothing_off old new piece moved.None i k = Consumes-kept old old new [] (Consumes-nil old) k
+nothing_off old new piece moved.Over i k = Consumes-kept old old new [] (Consumes-nil old) k
+
 -- nothing was written
-pub nothing_written : (a b : Traffic) (bytes : List ℕ) (went : Moved) → IsNothing went → Keeps a.taken b.taken → Keeps a.coming b.coming → IsWrittenTo a b bytes went
+pub nothing_written : (a b : Traffic) (bytes : List ℕ) (went : Moved) → IsNothing went → Keeps a.taken b.taken → Keeps a.given b.given → IsWrittenTo a b bytes went
 nothing_written a b bytes (moved.Some n) i t c = absurd i
 nothing_written a b bytes moved.None i t c = Conveys-kept a b t c
 nothing_written a b bytes moved.Over i t c = Conveys-kept a b t c

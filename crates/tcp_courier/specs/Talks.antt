@@ -18,31 +18,34 @@ use Rattle.forward_core.specs.Client.{ClientPhase, AwaitsHelo, AwaitsPong, Ready
 use Rattle.tcp_courier.specs.declared.wire.Moved.{Moved}
 use Rattle.tcp_courier.specs.declared.wire.Moved.TheVariants as moved
 
--- a connection: the bytes that it took, and those that it has yet to give, where they are known
+-- a connection: the bytes that it took so far, and those that it gave, where they are known
 pub record Traffic : Type 0 where
   pub taken : Option (List ℕ)
-  pub coming : Option (List ℕ)
+  pub given : Option (List ℕ)
 
 -- a connection of which nothing is known
 abbrev pub unknown_traffic : Traffic
-unknown_traffic = record { taken = None; coming = None }
+unknown_traffic = record { taken = None; given = None }
 
--- one of which is known only what it took, or what it has yet to give
+-- one of which is known only what it took
 abbrev pub taking : (taken : Option (List ℕ)) → Traffic
-taking taken = record { taken = taken; coming = None }
-
-abbrev pub giving : (coming : Option (List ℕ)) → Traffic
-giving coming = record { taken = None; coming = coming }
+taking taken = record { taken = taken; given = None }
 
 -- a connection took the bytes that were sent, and gave those that came
 abbrev pub Conveys : Traffic → Traffic → (sent came : List ℕ) → Type 0
-Conveys old new sent came = Appends old.taken new.taken sent × Consumes old.coming new.coming came
+Conveys old new sent came = Appends old.taken new.taken sent × Appends old.given new.given came
 
 -- a read: so many bytes came, which begin the piece, or none did, for now or since the connection is over
 abbrev pub IsReadFrom : Traffic → Traffic → (piece : List ℕ) → Moved → Type 0
 IsReadFrom old new piece (moved.Some n) = (n ≤ length piece) × Conveys old new [] (take n piece)
 IsReadFrom old new piece moved.None = Conveys old new [] []
 IsReadFrom old new piece moved.Over = Conveys old new [] []
+
+-- a read of a stream that has these bytes yet to give, if they are known: so many of them came, which begin the piece, or none did
+abbrev pub IsReadOff : (old new : Option (List ℕ)) → (piece : List ℕ) → Moved → Type 0
+IsReadOff old new piece (moved.Some n) = (n ≤ length piece) × Consumes old new (take n piece)
+IsReadOff old new piece moved.None = Consumes old new []
+IsReadOff old new piece moved.Over = Consumes old new []
 
 -- a write: the connection took so many of the bytes, or none, for now or since it is over
 abbrev pub IsWrittenTo : Traffic → Traffic → (bytes : List ℕ) → Moved → Type 0

@@ -4,7 +4,6 @@ ghost use Rattle.std.specs.Prelude.{◌≡◌, List, ℕ, IfOk};
 ghost use Rattle.tcp_courier.specs.Carrying.{NamesChunk};
 ghost use Rattle.tcp_courier.specs.Talks.{begun, credentials_of};
 
-use crate::address::resolve;
 use crate::chance::Nonces;
 use crate::clock::now_after;
 use crate::exchange::deliver;
@@ -19,12 +18,12 @@ use relay_conf::{ForwardSettings, Security as Secret, Server};
 use std::alloc::{AllocError, Allocator};
 use std::io::{Read, Write};
 use std::marker::Model;
-use std::net::{Net, OpenStream, TcpStream};
+use std::net::{IpAddr, Net, OpenStream, SocketAddr, TcpStream, ToSocketAddrs};
 use std::sync::atomic::AtomicBool;
 use std::sync::{Arc, Mutex, Wait};
 use std::time::{Clock, Duration};
 
-/// How long a server may take to accept a connection, in milliseconds, before the next one is tried.
+/// How long an address may take to accept a connection, in milliseconds, before the next one is tried.
 const LONGEST_CONNECT: u64 = 10_000;
 
 /// How many bytes are read at once: the answers are short.
@@ -37,7 +36,31 @@ struct Target<A: Allocator> {
     port: u16,
 }
 
-/// Sends chunks to the first of its servers that takes a connection, one connection for each chunk. Contracts see whether it
+impl<A: Allocator> Target<A> {
+    // A connection to the first of its addresses that takes one.
+    fn connect<R: Net + Clock>(&self, rt: &R, until: u64) -> Option<R::Stream> {
+        let host = self.host.as_str();
+        if let Ok(ip) = host.parse::<IpAddr>() {
+            return connect_to(rt, &SocketAddr::new(ip, self.port), until);
+        }
+        let addresses = (host, self.port).to_socket_addrs(rt).ok()?;
+        for address in addresses {
+            if let Some(stream) = connect_to(rt, &address, until) {
+                return Some(stream);
+            }
+        }
+        None
+    }
+}
+
+// A connection to this address, if it takes one.
+fn connect_to<R: Net + Clock>(rt: &R, address: &SocketAddr, until: u64) -> Option<R::Stream> {
+    let left = until.saturating_sub(now_after(rt, 0));
+    let wait = Duration::from_millis(left.min(LONGEST_CONNECT).max(1));
+    TcpStream::connect_timeout(rt, address, wait).ok()
+}
+
+/// Sends chunks to the first address of its servers that takes a connection, one connection for each chunk. Contracts see whether it
 /// asks for acknowledgements, and the name and key that it shows in handshakes.
 #[derive(Drop)]
 pub struct TcpCourier<A: Allocator> {
@@ -95,12 +118,7 @@ impl<A: Allocator + Copy> TcpCourier<A> {
     // A connection to the first server that takes one.
     fn connect<R: Net + Clock>(&self, rt: &R, until: u64) -> Result<R::Stream, CarryFault> {
         for target in &self.targets {
-            let Ok(Some(address)) = resolve(rt, target.host.as_str(), target.port) else {
-                continue;
-            };
-            let left = until.saturating_sub(now_after(rt, 0));
-            let wait = Duration::from_millis(left.min(LONGEST_CONNECT).max(1));
-            if let Ok(stream) = TcpStream::connect_timeout(rt, &address, wait) {
+            if let Some(stream) = target.connect(rt, until) {
                 return Ok(stream);
             }
         }
@@ -141,7 +159,7 @@ impl<A: Allocator + Copy> TcpCourier<A> {
 }
 
 impl<R: Wait + Net + Clock, D: Dir, A: Allocator + Copy> Courier<R, D, A> for TcpCourier<A> {
-    /// Connects to the first server that takes a connection, shakes hands where there is a key, sends the chunk and, where the
+    /// Connects to the first server that takes a connection, at the first of its addresses that does, shakes hands where there is a key, sends the chunk and, where the
     /// output requires it, waits for its acknowledgement.
     ///
     /// `NoServer`: no server took a connection, or it was lost. `Timeout`: the time for an answer has passed, or the relay

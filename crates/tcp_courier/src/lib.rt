@@ -14,4 +14,6 @@ pub use address::resolve;
 pub use chance::Nonces;
 pub use clock::now_after;
 pub use courier::TcpCourier;
+pub use exchange::deliver;
 pub use secret::shown;
+pub use wire::{Moved, Wire};

@@ -1,6 +1,6 @@
 //! A stream as a connection.
 
-ghost use Rattle.tcp_courier.specs.Talks.{IsNothing, IsReadFrom, IsWrittenTo, giving, taking, unknown_traffic};
+ghost use Rattle.tcp_courier.specs.Talks.{IsNothing, IsReadFrom, IsReadOff, IsWrittenTo, taking, unknown_traffic};
 
 use crate::clock::now_after;
 use crate::wire::{Moved, Wire};
@@ -38,7 +38,7 @@ impl<'a, R: Clock, S: Read + Write + OpenStream, A: Allocator> Line<'a, R, S, A>
 impl<'a, R: Clock, S: Read + Write + OpenStream, A: Allocator> Wire for Line<'a, R, S, A> {
     fn get(&mut self, piece: &mut [u8]) -> Moved
         ensures wire { IsReadFrom unknown_traffic unknown_traffic piece.new result }
-        ensures stream { IsReadFrom (giving (S.Read.remaining self.old.stream)) (giving (S.Read.remaining self.new.stream)) piece.new result }
+        ensures stream { IsReadOff (S.Read.remaining self.old.stream) (S.Read.remaining self.new.stream) piece.new result }
     {
         if self.stream.set_read_timeout(Some(self.slice())).is_err() {
             return Moved::Over;

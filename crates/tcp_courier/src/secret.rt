@@ -4,12 +4,10 @@ ghost use Rattle.std.specs.Prelude.{◌≡◌, IfOk};
 ghost use Rattle.forward_core.specs.Handshakes.{IsHosted};
 ghost use Rattle.tcp_courier.specs.Talks.{credentials_in, credentials_of};
 
+use auth_handshake::LONGEST_HOST;
 use forward_core::Security;
 use relay_conf::Security as Secret;
 use std::alloc::{AllocError, Allocator};
-
-/// The most bytes of a host's name in a handshake.
-const LONGEST_HOST: usize = 1_024;
 
 /// What this end shows in a handshake, if there is one; `Err` where its name is too long for one.
 pub fn shown<A: Allocator>(secret: &Option<Secret<A>>) -> Result<Option<Security<'_>>, ()>

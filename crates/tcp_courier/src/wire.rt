@@ -15,7 +15,7 @@ pub enum Moved {
 pub trait Wire {
     ghost use Rattle.tcp_courier.specs.Talks.{IsReadFrom, IsWrittenTo, Traffic, unknown_traffic};
 
-    // the bytes that it took, and those that it has yet to give, where they are known
+    // the bytes that it took so far, and those that it gave, where they are known
     ghost traffic: { Self → Traffic } = { λ _. unknown_traffic };
 
     /// Reads bytes into the piece, waiting for a little.

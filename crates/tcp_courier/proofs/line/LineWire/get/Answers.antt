@@ -1,5 +1,5 @@
-use Rattle.tcp_courier.specs.Talks.{giving, unknown_traffic}
-use Rattle.tcp_courier.proofs.Going.{nothing_read}
+use Rattle.tcp_courier.specs.Talks.{unknown_traffic}
+use Rattle.tcp_courier.proofs.Going.{nothing_off, nothing_read}
 use Rattle.tcp_courier.proofs.line.LineWire.get.Goals as goal
 
 pub returns-in-Err-clause-wire : goal.returns-in-Err-clause-wire
@@ -8,4 +8,4 @@ returns-in-Err-clause-wire g c = nothing_read unknown_traffic unknown_traffic c.
 pub returns-in-Err-clause-stream : goal.returns-in-Err-clause-stream
 returns-in-Err-clause-stream g c =
     let remaining = g.S.Read.remaining in
-    nothing_read (giving (remaining c.args.self.now.stream)) (giving (remaining c.read.new.self)) c.read.new.buf c.moved_none.result c.moved_none.ensures tt c.in-Err.ensures.bytes
+    nothing_off (remaining c.args.self.now.stream) (remaining c.read.new.self) c.read.new.buf c.moved_none.result c.moved_none.ensures c.in-Err.ensures.bytes
