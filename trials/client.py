@@ -10,32 +10,34 @@ Ends with 1 where an acknowledgement doesn't come in time, and with 3 where the 
 """
 import argparse, base64, hashlib, os, socket, struct, sys, time
 
+HOST = "127.0.0.1"
+
+
+def sized(data, heads):
+    """Bytes behind the first of these heads, of 1, 2 and 4 bytes of length, that has room for them."""
+    for head, form in zip(heads, (">B", ">H", ">I")):
+        if head and len(data) < 1 << 8 * struct.calcsize(form):
+            return bytes([head]) + struct.pack(form, len(data)) + data
+    raise ValueError("too many bytes")
+
 
 def text(value):
     data = value.encode() if isinstance(value, str) else value
-    if len(data) < 32:
-        return bytes([0xA0 | len(data)]) + data
-    if len(data) < 256:
-        return bytes([0xD9, len(data)]) + data
-    if len(data) < 65536:
-        return b"\xda" + struct.pack(">H", len(data)) + data
-    return b"\xdb" + struct.pack(">I", len(data)) + data
+    return bytes([0xA0 | len(data)]) + data if len(data) < 32 else sized(data, (0xD9, 0xDA, 0xDB))
 
 
 def binary(data):
-    if len(data) < 256:
-        return bytes([0xC4, len(data)]) + data
-    if len(data) < 65536:
-        return b"\xc5" + struct.pack(">H", len(data)) + data
-    return b"\xc6" + struct.pack(">I", len(data)) + data
+    return sized(data, (0xC4, 0xC5, 0xC6))
 
 
 def number(n):
     if n < 128:
         return bytes([n])
-    if n < 2**32:
-        return b"\xce" + struct.pack(">I", n)
-    return b"\xcf" + struct.pack(">Q", n)
+    return b"\xce" + struct.pack(">I", n) if n < 2**32 else b"\xcf" + struct.pack(">Q", n)
+
+
+def event_time(seconds, nanoseconds):
+    return b"\xd7\x00" + struct.pack(">II", seconds, nanoseconds)
 
 
 def array(items):
@@ -47,64 +49,91 @@ def table(pairs):
     return bytes([0x80 | len(pairs)]) + b"".join(text(k) + v for k, v in pairs)
 
 
-def stored(n):
-    """The entry of event N, as relays store it."""
-    return b"\x92" + number(n) + table([("n", text(str(n)))])
-
-
 def record(n):
     return table([("n", text(str(n)))])
 
 
+def stored(n):
+    """The entry of event N, as relays store it."""
+    return array([number(n), record(n)])
+
+
 def message(mode, tag, numbers, chunk):
+    """The events of these numbers in this mode."""
+    return spelled(mode, text(tag), [(number(n), record(n)) for n in numbers], chunk)
+
+
+def spelled(mode, tag, events, chunk):
+    """Events, each as the items of its time and its record, in this mode under the tag's item."""
     option = [] if chunk is None else [table([("chunk", text(chunk))])]
     if mode in ("message", "plain"):
-        return b"".join(array([text(tag), number(n), record(n)] + option) for n in numbers)
-    entries = [array([number(n), record(n)]) for n in numbers]
+        return b"".join(array([tag, *event, *option]) for event in events)
+    entries = [array(event) for event in events]
     if mode == "forward":
-        return array([text(tag), array(entries)] + option)
+        return array([tag, array(entries), *option])
     packed = b"".join(entries)
-    return array([text(tag), binary(packed) if mode == "packed_bin" else text(packed)] + option)
+    return array([tag, binary(packed) if mode == "packed_bin" else text(packed), *option])
+
+
+# Behind the first byte of an item: how many bytes it has, or how many bytes its length has, and how many more than that.
+PLAIN = {0xCA: 4, 0xCB: 8, 0xCC: 1, 0xCD: 2, 0xCE: 4, 0xCF: 8, 0xD0: 1, 0xD1: 2, 0xD2: 4, 0xD3: 8}
+PLAIN.update({0xD4: 2, 0xD5: 3, 0xD6: 5, 0xD7: 9, 0xD8: 17})
+SIZED = {0xC4: (1, 0), 0xC5: (2, 0), 0xC6: (4, 0), 0xD9: (1, 0), 0xDA: (2, 0), 0xDB: (4, 0), 0xC7: (1, 1), 0xC8: (2, 1), 0xC9: (4, 1)}
+COUNTED = {0xDC: 2, 0xDD: 4, 0xDE: 2, 0xDF: 4}
 
 
 def take(data, at):
-    """The value at `at`, and where it ends. IndexError where it isn't whole."""
-    first = data[at]
-    at += 1
-    if first < 0x80:
+    """The value at `at`, and where it ends: a number, text or extension as its bytes. IndexError where it isn't whole."""
+    first, at = data[at], at + 1
+    if first < 0x80 or first >= 0xE0:
         return first, at
-    if first < 0x90:
-        count = first & 0x0F
-        found = {}
-        for _ in range(count):
-            key, at = take(data, at)
-            value, at = take(data, at)
-            found[key] = value
-        return found, at
-    if first < 0xA0:
-        found = []
-        for _ in range(first & 0x0F):
-            value, at = take(data, at)
-            found.append(value)
-        return found, at
+    if first < 0x90 or first in (0xDE, 0xDF):
+        count, at = counted(data, first, at)
+        items, at = taken(data, at, 2 * count)
+        return dict(zip(items[::2], items[1::2])), at
+    if first < 0xA0 or first in (0xDC, 0xDD):
+        count, at = counted(data, first, at)
+        return taken(data, at, count)
     if first in (0xC0, 0xC2, 0xC3):
         return {0xC0: None, 0xC2: False, 0xC3: True}[first], at
     if first < 0xC0:
-        size = first & 0x1F
-    elif first in (0xD9, 0xC4):
-        size, at = data[at], at + 1
-    elif first in (0xDA, 0xC5):
-        size, at = struct.unpack(">H", data[at : at + 2])[0], at + 2
-    else:
+        return piece(data, at, first & 0x1F)
+    if first in PLAIN:
+        return piece(data, at, PLAIN[first])
+    if first not in SIZED:
         raise ValueError("a first byte %02x" % first)
+    width, more = SIZED[first]
+    size, at = piece(data, at, width)
+    return piece(data, at, int.from_bytes(size, "big") + more)
+
+
+def counted(data, first, at):
+    """How many items a container has, and where they begin."""
+    if first not in COUNTED:
+        return first & 0x0F, at
+    count, at = piece(data, at, COUNTED[first])
+    return int.from_bytes(count, "big"), at
+
+
+def taken(data, at, count):
+    found = []
+    for _ in range(count):
+        value, at = take(data, at)
+        found.append(value)
+    return found, at
+
+
+def piece(data, at, size):
     if at + size > len(data):
         raise IndexError
     return bytes(data[at : at + size]), at + size
 
 
-class Client:
-    def __init__(self, port, wait=10.0, host="127.0.0.1"):
-        self.socket = socket.create_connection((host, port), timeout=wait)
+class Stream:
+    """Either end of a connection, as the values that come over it."""
+
+    def __init__(self, connected, wait):
+        self.socket = connected
         self.socket.setsockopt(socket.IPPROTO_TCP, socket.TCP_NODELAY, 1)
         self.wait = wait
         self.held = b""
@@ -123,36 +152,47 @@ class Client:
             if left <= 0:
                 raise TimeoutError
             self.socket.settimeout(left)
-            piece = self.socket.recv(65536)
-            if not piece:
-                raise ConnectionError("the relay closed the connection")
-            self.held += piece
+            more = self.socket.recv(1 << 20)
+            if not more:
+                raise ConnectionError("the other end closed the connection")
+            self.held += more
 
-    def shake(self, name, key):
-        helo = self.value()
-        assert helo[0] == b"HELO", helo
-        nonce = helo[1][b"nonce"]
-        salt = os.urandom(16)
-        digest = hashlib.sha512(salt + name + nonce + key).hexdigest()
-        self.send(array([text("PING"), text(name), text(salt), text(digest), text(""), text("")]), "whole")
-        pong = self.value()
-        assert pong[0] == b"PONG", pong
-        if pong[1] is not True:
-            return False
-        wanted = hashlib.sha512(salt + pong[3] + nonce + key).hexdigest().encode()
-        assert pong[4] == wanted, "the relay doesn't show the key"
-        return True
-
-    def send(self, data, cut):
+    def send(self, data, cut="whole"):
         if cut == "bytes":
             for byte in data:
                 self.socket.sendall(bytes([byte]))
         else:
             self.socket.sendall(data)
 
+    def close(self):
+        self.socket.close()
+
+
+def digest(salt, name, nonce, key):
+    return hashlib.sha512(salt + name + nonce + key).hexdigest()
+
+
+class Client(Stream):
+    def __init__(self, port, wait=10.0, host=HOST):
+        super().__init__(socket.create_connection((host, port), timeout=wait), wait)
+        self.nonce = None
+
+    def shake(self, name, key):
+        helo = self.value()
+        assert helo[0] == b"HELO", helo
+        self.nonce = helo[1][b"nonce"]
+        salt = os.urandom(16)
+        shown = digest(salt, name, self.nonce, key)
+        self.send(array([text("PING"), text(name), text(salt), text(shown), text(""), text("")]))
+        pong = self.value()
+        assert pong[0] == b"PONG", pong
+        if pong[1] is not True:
+            return False
+        assert pong[4] == digest(salt, pong[3], self.nonce, key).encode(), "the relay doesn't show the key"
+        return True
+
     def acknowledged(self, chunk):
-        answer = self.value()
-        return answer == {b"ack": chunk.encode()}
+        return self.value() == {b"ack": chunk.encode()}
 
 
 def chunk_id():
@@ -189,7 +229,7 @@ def main():
                 assert client.acknowledged(chunk), "another acknowledgement"
                 print("acknowledged", n, flush=True)
         if words.cut == "together":
-            client.send(together, "whole")
+            client.send(together)
             for n, chunk in asked:
                 if chunk is not None:
                     assert client.acknowledged(chunk), "another acknowledgement"

@@ -1,42 +1,102 @@
-"""Relays in folders of their own, for the trials: standard library alone, and 127.0.0.1 alone."""
-import os, shutil, socket, subprocess, tempfile, time
+"""Relays in folders of their own, for the trials: standard library alone, and loopback alone."""
+import os, shutil, signal, socket, subprocess, tempfile, time
+from client import HOST, Client, chunk_id, message, stored, take
 
-BUFFER = """  <buffer>
-    @type file
-    path %s
-    retry_forever true
-    retry_wait 1
-    retry_max_interval 1
-    flush_mode immediate
-%s  </buffer>
-"""
-
-SECURITY = """  <security>
-    self_hostname %s
-    shared_key %s
-  </security>
-"""
+TAG = "app.x"
+# Connections come from HOST: so none of them takes the port of a relay that is down and listens here.
+OTHER = "127.0.0.2"
+RUNNING = set()
 
 
-def free_port():
+def end_all(*_):
+    """Ends all relays where a trial is told to end."""
+    for process in list(RUNNING):
+        process.kill()
+    os._exit(1)
+
+
+signal.signal(signal.SIGTERM, end_all)
+
+
+def section(name, lines, argument=""):
+    """A section, with its lines set in."""
+    inner = ["  " + line for text in lines for line in text.splitlines()]
+    return "\n".join(["<%s>" % " ".join([name, argument]).strip(), *inner, "</%s>" % name]) + "\n"
+
+
+def security(name, key):
+    return section("security", ["self_hostname " + name, "shared_key " + key])
+
+
+def source(port, *more, host=HOST):
+    return section("source", ["@type forward", "bind " + host, "port %d" % port, *more])
+
+
+def buffer(path, *more):
+    """A buffer in files that keeps all, or one in memory where there is no path. Later lines count."""
+    kind = ["@type file", "path " + path] if path else ["@type memory"]
+    return section("buffer", [*kind, "retry_forever true", "retry_wait 1", "retry_max_interval 1", "flush_mode immediate", *more])
+
+
+def to_file(path, kept):
+    return ["@type file", "path " + path, kept]
+
+
+def to_servers(addresses, kept, *more):
+    servers = [section("server", ["host " + host, "port %d" % port]) for host, port in addresses]
+    return ["@type forward", "require_ack_response true", "ack_response_timeout 10", *servers, kept, *more]
+
+
+def copy(*outputs):
+    return ["@type copy", *[section("store", output) for output in outputs]]
+
+
+def match(pattern, output):
+    return section("match", output, pattern)
+
+
+def label(name, *matches):
+    return section("label", matches, name)
+
+
+def hub_conf(port, *its, kept=(), host=HOST):
+    """A relay that stores events, with these lines in its source and its buffer."""
+    return source(port, *its, host=host) + match("app.**", to_file("all", buffer("store", *kept)))
+
+
+def edge_conf(port, to, *its, more=(), host=HOST):
+    """A relay that forwards events there, with these lines in its source and its output."""
+    return source(port, *its) + match("app.**", to_servers([(host, to)], buffer("out"), *more))
+
+
+def free_port(host=HOST):
     with socket.socket() as found:
-        found.setsockopt(socket.SOL_SOCKET, socket.SO_REUSEADDR, 1)
-        found.bind(("127.0.0.1", 0))
+        found.bind((host, 0))
         return found.getsockname()[1]
 
 
-def source(port, security=""):
-    return "<source>\n  @type forward\n  bind 127.0.0.1\n  port %d\n%s</source>\n" % (port, security)
+def away(host=HOST):
+    """An address where nothing listens, and what keeps it so."""
+    held = socket.socket()
+    held.bind((host, 0))
+    return (host, held.getsockname()[1]), held
 
 
-def hub_conf(port, security="", more=""):
-    return source(port, security) + "<match app.**>\n  @type file\n  path all\n" + BUFFER % ("store", more) + "</match>\n"
-
-
-def edge_conf(port, to, security="", theirs="", more=""):
-    server = "  <server>\n    host 127.0.0.1\n    port %d\n  </server>\n" % to
-    head = "<match app.**>\n  @type forward\n  require_ack_response true\n  ack_response_timeout 10\n"
-    return source(port, security) + head + server + theirs + BUFFER % ("out", more) + "</match>\n"
+def stored_in(path):
+    """The events that stand whole in a sink's file, as (tag, entry) in bytes."""
+    with open(path, "rb") as file:
+        data = file.read()
+    found, at = [], 0
+    while at < len(data):
+        assert data[at] == 0x93, "a sink's message of other than three parts"
+        try:
+            tag, begin = take(data, at + 1)
+            _, middle = take(data, begin)
+            _, at = take(data, middle)
+        except IndexError:
+            break
+        found.append((tag, b"\x92" + data[begin:at]))
+    return found
 
 
 class Relay:
@@ -51,69 +111,120 @@ class Relay:
             text.write(conf)
         self.process = None
 
-    def start(self, wait=60.0):
-        out = open(self.said, "w")
+    def start(self, wait=60.0, is_limited=False):
+        """Starts it, and waits until it is ready. Where its files are to be limited, a write past the limit is an error and no signal."""
         words = [self.program, "relay", self.conf, str(self.number), self.folder]
-        self.process = subprocess.Popen(words, stdout=out, stderr=subprocess.STDOUT)
-        out.close()
+        with open(self.said, "w") as out, open(self.said + ".err", "a") as err:
+            self.process = subprocess.Popen(words, stdout=out, stderr=err, restore_signals=not is_limited)
+        RUNNING.add(self.process)
         until = time.monotonic() + wait
         while time.monotonic() < until:
-            if self.lines()[:1] and self.lines()[0].startswith("ready "):
+            if self.lines() and self.lines()[0].startswith("ready "):
                 return True
             if self.process.poll() is not None:
                 return False
             time.sleep(0.005)
         return False
 
+    def run(self, number=None, folder=None, wait=20):
+        """Runs it to its end: its status, and what it prints."""
+        words = [self.program, "relay", self.conf, str(number or self.number), folder or self.folder]
+        ran = subprocess.run(words, capture_output=True, text=True, timeout=wait)
+        return ran.returncode, ran.stdout
+
+    def ended(self, wait=20):
+        """Its status, once it has ended by itself."""
+        try:
+            return self.process.wait(wait)
+        except subprocess.TimeoutExpired:
+            return None
+
     def lines(self):
         with open(self.said) as text:
             return text.read().splitlines()
+
+    def printed(self):
+        """All that it wrote on both outputs."""
+        with open(self.said + ".err") as text:
+            return "\n".join(self.lines()) + text.read()
 
     def kill(self):
         if self.process is not None:
             self.process.kill()
             self.process.wait()
+            RUNNING.discard(self.process)
             self.process = None
 
+    def sink_files(self, path=None):
+        """The paths of its sinks' files, or of those of one sink, in their order."""
+        names = sorted(name for name in os.listdir(self.folder) if name.endswith(".sink") and path in (None, name.split(".")[0]))
+        return [os.path.join(self.folder, name) for name in names]
+
     def sink(self, path="all"):
-        """The events of a sink, as (tag, entry) in bytes, read by `decode`."""
-        names = sorted(n for n in os.listdir(self.folder) if n.startswith(path + ".") and n.endswith(".sink"))
-        found = []
-        for name in names:
-            with open(os.path.join(self.folder, name), "rb") as text:
-                data = text.read()
-            said = subprocess.run([self.program, "decode"], input=data.hex().encode(), capture_output=True)
-            tag = None
-            for line in said.stdout.decode().splitlines():
-                words = line.split()
-                if words[0] == "message":
-                    tag = b"" if words[1] == "-" else bytes.fromhex(words[1])
-                elif words[0] == "entry":
-                    found.append((tag, bytes.fromhex(words[1])))
-                elif words[0] == "rest":
-                    pass
-                else:
-                    raise ValueError("a sink that decode refuses: " + line)
-        return found
+        """The events of a sink, as (tag, entry) in bytes."""
+        return [event for file in self.sink_files(path) for event in stored_in(file)]
 
 
-def comes(hub, wanted, wait=20):
-    """Whether these events come to stand in the hub's sink."""
+def becomes(holds, wait=20.0):
+    """Whether this comes to hold."""
     until = time.monotonic() + wait
-    while time.monotonic() < until:
-        if set(wanted) <= set(hub.sink()):
-            return True
-        time.sleep(0.1)
-    return False
+    while not holds():
+        if time.monotonic() > until:
+            return False
+        time.sleep(0.05)
+    return True
+
+
+def comes(relay, wanted, path="all", wait=20.0):
+    """Whether these events come to stand in the relay's sink."""
+    return becomes(lambda: set(wanted) <= set(relay.sink(path)), wait)
+
+
+def sends(port, n, tag=TAG, key=None, host=HOST):
+    """Whether event N is acknowledged that a client sends there."""
+    try:
+        client = Client(port, wait=5, host=host)
+        if key is not None and not client.shake(b"client", key.encode()):
+            return False
+        chunk = chunk_id()
+        client.send(message("message", tag, [n], chunk))
+        return client.acknowledged(chunk)
+    except (OSError, TimeoutError):
+        return False
+
+
+def event(n, tag=TAG):
+    """Event N as sinks have it."""
+    return tag.encode(), stored(n)
+
+
+class Report:
+    """Prints `ok NAME` or `failed NAME` for each case."""
+
+    def __init__(self):
+        self.failed = 0
+
+    def case(self, name, holds, why=""):
+        self.failed += not holds
+        print("ok" if holds else "failed", name, "" if holds else why, flush=True)
+
+    def run(self, trial, room):
+        """A trial with its cases, of which the last is that it doesn't break off."""
+        try:
+            trial(room)
+        except Exception as fault:
+            self.case(trial.__name__ + " breaks off", False, repr(fault))
 
 
 class Room:
     """A folder for one trial, and the relays in it, which end with it."""
 
-    def __init__(self, program):
+    def __init__(self, program, keep=None):
         self.program = os.path.abspath(program)
-        self.path = tempfile.mkdtemp()
+        self.path = keep or tempfile.mkdtemp()
+        self.is_kept = keep is not None
         self.relays = []
+        os.makedirs(self.path, exist_ok=True)
 
     def relay(self, name, number, conf):
         made = Relay(self.program, self.path, name, number, conf)
@@ -126,4 +237,5 @@ class Room:
     def __exit__(self, *_):
         for relay in self.relays:
             relay.kill()
-        shutil.rmtree(self.path, ignore_errors=True)
+        if not self.is_kept:
+            shutil.rmtree(self.path, ignore_errors=True)

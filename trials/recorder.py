@@ -1,0 +1,57 @@
+"""Servers of the Forward Protocol that keep what relays send them, for the trials: standard library alone."""
+import base64, os, socket, struct, threading
+from client import HOST, Stream, array, digest, table, text
+
+
+class Recorder(threading.Thread):
+    """A server at a free port, which acknowledges each message but on its first `silent` connections, where it says nothing."""
+
+    def __init__(self, key=None, silent=0, host=HOST):
+        super().__init__(daemon=True)
+        self.key, self.silent, self.host = key, silent, host
+        self.chunks, self.salts, self.connections = [], [], []
+        self.socket = socket.create_server((host, 0), backlog=128)
+        self.port = self.socket.getsockname()[1]
+        self.start()
+
+    def run(self):
+        try:
+            while True:
+                connected, _ = self.socket.accept()
+                self.connections.append(connected)
+                threading.Thread(target=self.serve, args=(Stream(connected, 60), len(self.connections)), daemon=True).start()
+        except OSError:
+            pass
+
+    def serve(self, stream, place):
+        try:
+            if self.key is not None:
+                self.shake(stream)
+            while True:
+                tag, packed, option = stream.value()
+                self.chunks.append((tag, packed, option[b"chunk"]))
+                if place > self.silent:
+                    stream.send(table([("ack", text(option[b"chunk"]))]))
+        except (OSError, TimeoutError):
+            stream.close()
+
+    def shake(self, stream):
+        nonce, name = os.urandom(16), b"recorder"
+        stream.send(array([text("HELO"), table([("nonce", text(nonce)), ("auth", text("")), ("keepalive", b"\xc3")])]))
+        ping = stream.value()
+        self.salts.append(ping[2])
+        stream.send(array([text("PONG"), b"\xc3", text(""), text(name), text(digest(ping[2], name, nonce, self.key.encode()))]))
+
+    def ids(self):
+        """The relay, the buffer and the serial that the name of each chunk says."""
+        return [struct.unpack(">IIQ", base64.b64decode(name)) for _, _, name in self.chunks]
+
+    def refuse(self):
+        """Takes no further connection; those that there are stay."""
+        self.socket.shutdown(socket.SHUT_RDWR)
+        self.socket.close()
+
+    def close(self):
+        self.refuse()
+        for connected in self.connections:
+            connected.close()
