@@ -92,12 +92,11 @@ class RelayDrawn:
         self.is_killed = False
 
     def text(self):
-        scopes = [(scope, "".join(each.text() for each in matches)) for scope, matches in self.scopes.items()]
-        named = "".join(label(scope, matches) for scope, matches in scopes if scope)
-        return "".join(each.text() for each in self.sources) + self.top(scopes) + named
-
-    def top(self, scopes):
-        return next(matches for scope, matches in scopes if scope is None)
+        texts = [each.text() for each in self.sources]
+        for scope, matches in self.scopes.items():
+            inner = [each.text() for each in matches]
+            texts += [label(scope, *inner)] if scope else inner
+        return "".join(texts)
 
     def ends(self, scope, tag, above=()):
         """The outputs with buffers that an event reaches from this scope; None where its way comes back to one."""
@@ -145,8 +144,9 @@ class Network:
 
     def __init__(self, seed):
         self.draw = random.Random(seed)
+        self.has_kills = seed % 3 == 0
         self.hosts = ["127.%d.%d.%d" % tuple(self.draw.randint(1, 250) for _ in range(3)) for _ in range(2)]
-        self.held, self.gone = [], []
+        self.held, self.gone, self.paths = [], [], 0
         self.limit = self.draw.choice([[], ["chunk_limit_size 600"]])
         self.relays = [RelayDrawn("relay_%d" % place, self.draw.choice([place, 2**32 - 1 - place])) for place in range(self.draw.randint(2, 4))]
         for place, relay in enumerate(self.relays):
@@ -172,7 +172,7 @@ class Network:
             held.close()
 
     def fill(self, relay, later):
-        self.paths = 0
+        """Draws the matches of each scope."""
         for scope, matches in relay.scopes.items():
             for _ in range(self.draw.randint(1, 3)):
                 is_copy = self.draw.random() < 0.4
@@ -213,31 +213,31 @@ class Network:
         self.draw.shuffle(found)
         return found
 
+    def may_come(self, at, tag):
+        """The sinks, as relay, path and tag, that an event may come to which comes in at this source with this tag."""
+        entered = at.enter(tag)
+        found = set()
+        for output in at.relay.ends(at.scope, entered) or []:
+            if output.kind == "file":
+                found.add((at.relay.name, output.path, entered))
+            for target in output.targets():
+                found |= self.may_come(target, entered)
+        return found
 
-def may_come(at, tag):
-    """The sinks, as relay, path and tag, that an event may come to which comes in at this source with this tag."""
-    entered = at.enter(tag)
-    found = set()
-    for output in at.relay.ends(at.scope, entered) or []:
+    def is_kept(self, at, tag, has):
+        """Whether an event that was answered there stands in each sink that it has to come to, where `has` says in which it stands.
+
+        A server at which its way comes back never answers."""
+        entered = at.enter(tag)
+        ends = at.relay.ends(at.scope, entered)
+        return ends is None or all(self.ends_well(at.relay, output, entered, has) for output in ends)
+
+    def ends_well(self, relay, output, tag, has):
+        """The same of one output. A buffer in memory of a relay that was killed may lose it; where some relay was killed, a later server
+        may have it in place of the first that there is."""
+        if relay.is_killed and output.is_in_memory():
+            return True
         if output.kind == "file":
-            found.add((at.relay.name, output.path, entered))
-        for target in output.targets():
-            found |= may_come(target, entered)
-    return found
-
-
-def is_kept(at, tag, has):
-    """Whether an event that was answered there stands in each sink that it has to come to, where `has` says in which it stands.
-
-    A buffer in memory of a relay that was killed may lose it, and a server at which its way comes back never answers."""
-    entered = at.enter(tag)
-    ends = at.relay.ends(at.scope, entered)
-    return ends is None or all(ends_well(at.relay, output, entered, has) for output in ends)
-
-
-def ends_well(relay, output, tag, has):
-    if relay.is_killed and output.is_in_memory():
-        return True
-    if output.kind == "file":
-        return has((relay.name, output.path, tag))
-    return any(is_kept(target, tag, has) for target in output.targets())
+            return has((relay.name, output.path, tag))
+        targets = output.targets() if self.has_kills else output.targets()[:1]
+        return any(self.is_kept(target, tag, has) for target in targets)
