@@ -60,12 +60,12 @@ def stored(n):
 
 def message(mode, tag, numbers, chunk):
     """The events of these numbers in this mode."""
-    return spelled(mode, text(tag), [(number(n), record(n)) for n in numbers], chunk)
+    return spelled(mode, text(tag), [(number(n), record(n)) for n in numbers], chunk and text(chunk))
 
 
 def spelled(mode, tag, events, chunk):
-    """Events, each as the items of its time and its record, in this mode under the tag's item."""
-    option = [] if chunk is None else [table([("chunk", text(chunk))])]
+    """Events in this mode, of which the tag, the chunk, if there is one, and each event's time and record are given as items."""
+    option = [] if chunk is None else [table([("chunk", chunk)])]
     if mode in ("message", "plain"):
         return b"".join(array([tag, *event, *option]) for event in events)
     entries = [array(event) for event in events]

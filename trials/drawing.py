@@ -124,8 +124,8 @@ class Message:
         events = [self.event(draw, first + n) for n in range(count)]
         self.entries = [b"\x92" + time + fields for time, fields in events]
         self.chunk = chunk_id() if draw.random() < 0.85 else None
-        item = text(self.tag) if draw.random() < 0.8 else binary(self.tag.encode())
-        self.data = spelled(mode, item, events, self.chunk)
+        item = lambda words: text(words) if draw.random() < 0.8 else binary(words.encode())
+        self.data = spelled(mode, item(self.tag), events, self.chunk and item(self.chunk))
 
     def event(self, draw, n):
         time = number(draw.choice([n, 2**31 + n, 2**33 + n])) if draw.random() < 0.5 else event_time(n, draw.randrange(10**9))
