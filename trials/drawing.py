@@ -30,8 +30,8 @@ class Source:
 class Output:
     """One output: its type, and the sink, the servers or the label that it names."""
 
-    def __init__(self, kind, path=None, servers=(), scope=None, kept=None):
-        self.kind, self.path, self.servers, self.scope, self.kept = kind, path, servers, scope, kept
+    def __init__(self, kind, path=None, servers=(), scope=None, kept=None, asks=True):
+        self.kind, self.path, self.servers, self.scope, self.kept, self.asks = kind, path, servers, scope, kept, asks
 
     def lines(self):
         if self.kind == "null":
@@ -42,7 +42,7 @@ class Output:
         if self.kind == "file":
             return to_file(self.path, kept)
         keys = {server.key for server in self.servers if isinstance(server, Source)}
-        more = [security("sender", key) for key in keys if key]
+        more = [security("sender", key) for key in keys if key] + ["require_ack_response " + str(self.asks).lower()]
         addresses = [server.address if isinstance(server, Source) else server for server in self.servers]
         return to_servers(addresses, kept, *more, "ack_response_timeout 2")
 
@@ -197,7 +197,7 @@ class Network:
         kept = self.kept("b%d" % self.paths)
         if kind == "file":
             return Output(kind, path="s%d" % self.paths, kept=kept)
-        return Output(kind, servers=self.servers(later), kept=kept)
+        return Output(kind, servers=self.servers(later), kept=kept, asks=self.draw.random() < 0.85)
 
     def kept(self, path):
         flush = self.draw.choice([[], ["flush_mode interval", "flush_interval 1"]])
@@ -233,9 +233,9 @@ class Network:
         return ends is None or all(self.ends_well(at.relay, output, entered, has) for output in ends)
 
     def ends_well(self, relay, output, tag, has):
-        """The same of one output. A buffer in memory of a relay that was killed may lose it; where some relay was killed, a later server
-        may have it in place of the first that there is."""
-        if relay.is_killed and output.is_in_memory():
+        """The same of one output. A buffer in memory of a relay that was killed may lose it. Where some relay was killed, what asks for no
+        acknowledgement may, and a later server may have it in place of the first that there is."""
+        if relay.is_killed and output.is_in_memory() or self.has_kills and not output.asks:
             return True
         if output.kind == "file":
             return has((relay.name, output.path, tag))
