@@ -180,10 +180,10 @@ def comes(relay, wanted, path="all", wait=20.0):
     return becomes(lambda: set(wanted) <= set(relay.sink(path)), wait)
 
 
-def sends(port, n, tag=TAG, key=None, host=HOST):
+def sends(port, n, tag=TAG, key=None, host=HOST, wait=5.0):
     """Whether event N is acknowledged that a client sends there."""
     try:
-        client = Client(port, wait=5, host=host)
+        client = Client(port, wait=wait, host=host)
         if key is not None and not client.shake(b"client", key.encode()):
             return False
         chunk = chunk_id()
