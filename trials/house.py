@@ -5,17 +5,6 @@ from client import HOST, Client, chunk_id, message, stored, take
 TAG = "app.x"
 # Connections come from HOST: so none of them takes the port of a relay that is down and listens here.
 OTHER = "127.0.0.2"
-RUNNING = set()
-
-
-def end_all(*_):
-    """Ends all relays where a trial is told to end."""
-    for process in list(RUNNING):
-        process.kill()
-    os._exit(1)
-
-
-signal.signal(signal.SIGTERM, end_all)
 
 
 def section(name, lines, argument=""):
@@ -116,7 +105,6 @@ class Relay:
         words = [self.program, "relay", self.conf, str(self.number), self.folder]
         with open(self.said, "w") as out, open(self.said + ".err", "a") as err:
             self.process = subprocess.Popen(words, stdout=out, stderr=err, restore_signals=not is_limited)
-        RUNNING.add(self.process)
         until = time.monotonic() + wait
         while time.monotonic() < until:
             if self.lines() and self.lines()[0].startswith("ready "):
@@ -152,7 +140,6 @@ class Relay:
         if self.process is not None:
             self.process.kill()
             self.process.wait()
-            RUNNING.discard(self.process)
             self.process = None
 
     def sink_files(self, path=None):
@@ -217,14 +204,14 @@ class Report:
 
 
 class Room:
-    """A folder for one trial, and the relays in it, which end with it."""
+    """A folder for one trial, and the relays in it, which end with it, also where the trial is told to end."""
 
-    def __init__(self, program, keep=None):
-        self.program = os.path.abspath(program)
-        self.path = keep or tempfile.mkdtemp()
-        self.is_kept = keep is not None
+    open = set()
+
+    def __init__(self, program, name="trial", is_kept=False):
+        self.program, self.is_kept = os.path.abspath(program), is_kept
+        self.path = tempfile.mkdtemp(prefix=name + "_")
         self.relays = []
-        os.makedirs(self.path, exist_ok=True)
 
     def relay(self, name, number, conf):
         made = Relay(self.program, self.path, name, number, conf)
@@ -232,10 +219,21 @@ class Room:
         return made
 
     def __enter__(self):
+        Room.open.add(self)
         return self
 
     def __exit__(self, *_):
-        for relay in self.relays:
+        for relay in list(self.relays):
             relay.kill()
         if not self.is_kept:
             shutil.rmtree(self.path, ignore_errors=True)
+        Room.open.discard(self)
+
+
+def end_all(*_):
+    for room in list(Room.open):
+        room.__exit__()
+    os._exit(1)
+
+
+signal.signal(signal.SIGTERM, end_all)
