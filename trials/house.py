@@ -24,7 +24,8 @@ def source(port, *more, host=HOST):
 def buffer(path, *more):
     """A buffer in files that keeps all, or one in memory where there is no path. Later lines count."""
     kind = ["@type file", "path " + path] if path else ["@type memory"]
-    return section("buffer", [*kind, "retry_forever true", "retry_wait 1", "retry_max_interval 1", "flush_mode immediate", *more])
+    usual = ["retry_forever true", "retry_wait 1", "retry_max_interval 1", "flush_mode immediate"]
+    return section("buffer", [*kind, *usual, *more])
 
 
 def to_file(path, kept):
@@ -33,7 +34,8 @@ def to_file(path, kept):
 
 def to_servers(addresses, kept, *more):
     servers = [section("server", ["host " + host, "port %d" % port]) for host, port in addresses]
-    return ["@type forward", "require_ack_response true", "ack_response_timeout 10", *servers, kept, *more]
+    usual = ["require_ack_response true", "ack_response_timeout 10"]
+    return ["@type forward", *usual, *servers, kept, *more]
 
 
 def copy(*outputs):
@@ -48,14 +50,14 @@ def label(name, *matches):
     return section("label", matches, name)
 
 
-def hub_conf(port, *its, kept=(), host=HOST):
+def hub_conf(port, *its, kept=(), host=HOST, pattern="app.**"):
     """A relay that stores events, with these lines in its source and its buffer."""
-    return source(port, *its, host=host) + match("app.**", to_file("all", buffer("store", *kept)))
+    return source(port, *its, host=host) + match(pattern, to_file("all", buffer("store", *kept)))
 
 
-def edge_conf(port, to, *its, more=(), host=HOST):
-    """A relay that forwards events there, with these lines in its source and its output."""
-    return source(port, *its) + match("app.**", to_servers([(host, to)], buffer("out"), *more))
+def edge_conf(port, servers, *its, more=()):
+    """A relay that forwards events to these, with these lines in its source and its output."""
+    return source(port, *its) + match("app.**", to_servers(servers, buffer("out"), *more))
 
 
 def free_port(host=HOST):
@@ -101,10 +103,12 @@ class Relay:
         self.process = None
 
     def start(self, wait=60.0, is_limited=False):
-        """Starts it, and waits until it is ready. Where its files are to be limited, a write past the limit is an error and no signal."""
+        """Starts it, and waits until it is ready. Where its files are to be limited, a write past the
+        limit is an error and no signal."""
         words = [self.program, "relay", self.conf, str(self.number), self.folder]
         with open(self.said, "w") as out, open(self.said + ".err", "a") as err:
-            self.process = subprocess.Popen(words, stdout=out, stderr=err, restore_signals=not is_limited)
+            outputs = {"stdout": out, "stderr": err}
+            self.process = subprocess.Popen(words, **outputs, restore_signals=not is_limited)
         until = time.monotonic() + wait
         while time.monotonic() < until:
             if self.lines() and self.lines()[0].startswith("ready "):
@@ -144,8 +148,9 @@ class Relay:
 
     def sink_files(self, path=None):
         """The paths of its sinks' files, or of those of one sink, in their order."""
-        names = sorted(name for name in os.listdir(self.folder) if name.endswith(".sink") and path in (None, name.split(".")[0]))
-        return [os.path.join(self.folder, name) for name in names]
+        names = sorted(name for name in os.listdir(self.folder) if name.endswith(".sink"))
+        its = [name for name in names if path in (None, name.split(".")[0])]
+        return [os.path.join(self.folder, name) for name in its]
 
     def sink(self, path="all"):
         """The events of a sink, as (tag, entry) in bytes."""
@@ -204,7 +209,7 @@ class Report:
 
 
 class Room:
-    """A folder for one trial, and the relays in it, which end with it, also where the trial is told to end."""
+    """A folder for one trial, and the relays in it: they end with it, and where the trial is told to."""
 
     open = set()
 
