@@ -1,4 +1,4 @@
-"""Random networks of relays, and where events go in them, read from the configuration's page and not from the program."""
+"""Random networks of relays, and where events go in them, by docs/CONFIGURATION.md and not by the program."""
 import random
 from client import binary, chunk_id, event_time, number, spelled, table, text
 from house import away, buffer, copy, label, match, security, source, to_file, to_servers
@@ -7,7 +7,8 @@ WORDS = ["a", "b", "c"]
 PREFIXES = [None, None, "a", "b.c", "site-1"]
 KEYS = [None, None, "one key", "another key"]
 MODES = ["message", "forward", "packed", "packed_bin"]
-RECORDS = [[], [("more", b"\x93\x01\xc0\xcb" + bytes(8))], [("bin", b"\xc4\x02\x00\xff"), ("wide", b"\xd9\x01x")]]
+TYPES = {"file": 4, "forward": 4, "relabel": 3, "null": 1}
+MORE = [[], [("more", b"\x93\x01\xc0\xcb" + bytes(8))], [("bin", b"\xc4\x02\x00\xff"), ("wide", b"\xd9\x01x")]]
 
 
 class Source:
@@ -27,11 +28,19 @@ class Source:
         return source(self.address[1], *more, host=self.address[0])
 
 
+class Nobody:
+    """An address where nobody listens."""
+
+    def __init__(self, address):
+        self.address = address
+
+
 class Output:
     """One output: its type, and the sink, the servers or the label that it names."""
 
     def __init__(self, kind, path=None, servers=(), scope=None, kept=None, asks=True):
-        self.kind, self.path, self.servers, self.scope, self.kept, self.asks = kind, path, servers, scope, kept, asks
+        self.kind, self.path, self.servers, self.scope = kind, path, servers, scope
+        self.kept, self.asks = kept, asks
 
     def lines(self):
         if self.kind == "null":
@@ -41,12 +50,12 @@ class Output:
         kept = buffer(*self.kept)
         if self.kind == "file":
             return to_file(self.path, kept)
-        keys = {server.key for server in self.servers if isinstance(server, Source)}
-        more = [security("sender", key) for key in keys if key] + ["require_ack_response " + str(self.asks).lower()]
-        addresses = [server.address if isinstance(server, Source) else server for server in self.servers]
-        return to_servers(addresses, kept, *more, "ack_response_timeout 2")
+        more = ["ack_response_timeout 2", "require_ack_response " + str(self.asks).lower()]
+        more += [security("sender", key) for key in {server.key for server in self.targets()} if key]
+        return to_servers([server.address for server in self.servers], kept, *more)
 
     def targets(self):
+        """The sources among its servers; at the others nobody is."""
         return [server for server in self.servers if isinstance(server, Source)]
 
     def is_in_memory(self):
@@ -58,11 +67,12 @@ class Match:
         self.patterns, self.outputs, self.is_copy = patterns, outputs, is_copy
 
     def takes(self, tag):
-        return any(fits(plain, tag.split(".")) for pattern in self.patterns for plain in multiplied(pattern))
+        plain = [each for pattern in self.patterns for each in multiplied(pattern)]
+        return any(fits(each, tag.split(".")) for each in plain)
 
     def text(self):
-        lines = copy(*[output.lines() for output in self.outputs]) if self.is_copy else self.outputs[0].lines()
-        return match(" ".join(self.patterns), lines)
+        outputs = [output.lines() for output in self.outputs]
+        return match(" ".join(self.patterns), copy(*outputs) if self.is_copy else outputs[0])
 
 
 def multiplied(pattern):
@@ -71,7 +81,8 @@ def multiplied(pattern):
     if not brace:
         return [pattern.split(".")]
     choices, _, behind = rest.partition("}")
-    return [plain for choice in choices.split(",") for plain in multiplied(before + choice + behind)]
+    texts = [before + choice + behind for choice in choices.split(",")]
+    return [plain for text in texts for plain in multiplied(text)]
 
 
 def fits(plain, parts):
@@ -99,16 +110,19 @@ class RelayDrawn:
         return "".join(texts)
 
     def ends(self, scope, tag, above=()):
-        """The outputs with buffers that an event reaches from this scope; None where its way comes back to one."""
+        """The outputs with buffers that an event reaches from this scope; None where its way is a loop."""
         if scope in above:
             return None
         taker = next((each for each in self.scopes[scope] if each.takes(tag)), None)
         found = []
         for output in taker.outputs if taker else []:
-            more = self.ends(output.scope, tag, (*above, scope)) if output.kind == "relabel" else [output]
-            if more is None:
-                return None
-            found += [each for each in more if each.kind in ("file", "forward")]
+            if output.kind in ("file", "forward"):
+                found.append(output)
+            elif output.kind == "relabel":
+                more = self.ends(output.scope, tag, (*above, scope))
+                if more is None:
+                    return None
+                found += more
         return found
 
 
@@ -128,8 +142,9 @@ class Message:
         self.data = spelled(mode, item(self.tag), events, self.chunk and item(self.chunk))
 
     def event(self, draw, n):
-        time = number(draw.choice([n, 2**31 + n, 2**33 + n])) if draw.random() < 0.5 else event_time(n, draw.randrange(10**9))
-        return time, table([("n", text(str(n)))] + draw.choice(RECORDS))
+        times = [number(n), number(2**31 + n), number(2**33 + n)]
+        times += [event_time(n, draw.randrange(10**9)) for _ in range(3)]
+        return draw.choice(times), table([("n", text(str(n)))] + draw.choice(MORE))
 
     def is_answered(self, at):
         """Whether the relay of this source is to answer it."""
@@ -145,17 +160,25 @@ class Network:
     def __init__(self, seed):
         self.draw = random.Random(seed)
         self.has_kills = seed % 3 == 0
-        self.hosts = ["127.%d.%d.%d" % tuple(self.draw.randint(1, 250) for _ in range(3)) for _ in range(2)]
+        self.hosts = [self.host(), self.host()]
         self.held, self.gone, self.paths = [], [], 0
         self.limit = self.draw.choice([[], ["chunk_limit_size 600"]])
-        self.relays = [RelayDrawn("relay_%d" % place, self.draw.choice([place, 2**32 - 1 - place])) for place in range(self.draw.randint(2, 4))]
-        for place, relay in enumerate(self.relays):
-            labels = ["@L%d" % n for n in range(self.draw.randint(0, 3))]
-            relay.sources = [Source(self.draw, relay, self.address(self.held), self.draw.choice([None, *labels])) for _ in range(self.draw.randint(1, 3))]
-            relay.scopes = {scope: [] for scope in (None, *labels)}
+        self.relays = [self.relay(place) for place in range(self.draw.randint(2, 4))]
         for place, relay in enumerate(self.relays):
             later = [each for other in self.relays[place + 1 :] for each in other.sources]
             self.fill(relay, later)
+
+    def host(self):
+        return "127.%d.%d.%d" % tuple(self.draw.randint(1, 250) for _ in range(3))
+
+    def relay(self, place):
+        """A relay with its sources and its scopes, in which no matches are yet."""
+        made = RelayDrawn("relay_%d" % place, self.draw.choice([place, 2**32 - 1 - place]))
+        made.scopes = {scope: [] for scope in (None, "@L0", "@L1", "@L2")[: self.draw.randint(1, 4)]}
+        for _ in range(self.draw.randint(1, 3)):
+            scope = self.draw.choice(list(made.scopes))
+            made.sources.append(Source(self.draw, made, self.address(self.held), scope))
+        return made
 
     def address(self, kept):
         found, held = away(self.draw.choice(self.hosts))
@@ -163,7 +186,7 @@ class Network:
         return found
 
     def release(self):
-        """Lets go the ports of the relays; where none is to listen, the ports stay held to the end."""
+        """Lets go the ports of the relays; those where nobody listens stay held to the end."""
         for held in self.held:
             held.close()
 
@@ -175,20 +198,23 @@ class Network:
         """Draws the matches of each scope."""
         for scope, matches in relay.scopes.items():
             for _ in range(self.draw.randint(1, 3)):
-                is_copy = self.draw.random() < 0.4
-                outputs = [self.output(relay, scope, later) for _ in range(self.draw.randint(1, 3) if is_copy else 1)]
-                matches.append(Match([self.pattern() for _ in range(self.draw.randint(1, 2))], outputs, is_copy))
+                patterns = [self.pattern() for _ in range(self.draw.randint(1, 2))]
+                stores = self.draw.choice([0, 0, 0, 1, 2, 3])
+                outputs = [self.output(relay, scope, later) for _ in range(stores or 1)]
+                matches.append(Match(patterns, outputs, stores > 0))
             if self.draw.random() < 0.7:
                 matches.append(Match(["**"], [self.output(relay, scope, later)], False))
 
     def pattern(self):
-        parts = [self.draw.choice(WORDS + ["*", "**", "{a,b}", "{b,a.c}"]) for _ in range(self.draw.randint(1, 2))]
+        parts = self.draw.choices(WORDS + ["*", "**", "{a,b}", "{b,a.c}"], k=self.draw.randint(1, 2))
         return ".".join(parts + self.draw.choice([[], ["**"]]))
 
     def output(self, relay, scope, later):
-        """An output of a random type. Relabels go to later labels mostly, so that few ways come back."""
-        labels = [name for name in relay.scopes if name and (self.draw.random() < 0.15 or name > (scope or ""))]
-        kind = self.draw.choice(["file"] * 4 + ["forward"] * 4 * bool(later) + ["relabel"] * 3 * bool(labels) + ["null"])
+        """An output of a random type. Relabels go to later labels mostly, so that few ways are loops."""
+        is_back = self.draw.random() < 0.15
+        labels = [name for name in relay.scopes if name and (is_back or name > (scope or ""))]
+        kinds = {"forward": later, "relabel": labels, "file": True, "null": True}
+        kind = self.draw.choice([kind for kind, needs in kinds.items() if needs for _ in range(TYPES[kind])])
         if kind == "null":
             return Output(kind)
         if kind == "relabel":
@@ -197,7 +223,8 @@ class Network:
         kept = self.kept("b%d" % self.paths)
         if kind == "file":
             return Output(kind, path="s%d" % self.paths, kept=kept)
-        return Output(kind, servers=self.servers(later), kept=kept, asks=self.draw.random() < 0.85)
+        asks = self.draw.random() < 0.85
+        return Output(kind, servers=self.servers(later), kept=kept, asks=asks)
 
     def kept(self, path):
         flush = self.draw.choice([[], ["flush_mode interval", "flush_interval 1"]])
@@ -209,12 +236,13 @@ class Network:
         first = self.draw.choice(later)
         others = [each for each in later if each.key == first.key and each is not first]
         found = [first, *self.draw.sample(others, min(len(others), self.draw.choice([0, 0, 1])))]
-        found += [self.address(self.gone) for _ in range(self.draw.choice([0, 0, 1, 3 - len(found)]))]
+        absent = self.draw.choice([0, 0, 1, 3 - len(found)])
+        found += [Nobody(self.address(self.gone)) for _ in range(absent)]
         self.draw.shuffle(found)
         return found
 
     def may_come(self, at, tag):
-        """The sinks, as relay, path and tag, that an event may come to which comes in at this source with this tag."""
+        """The sinks, as relay, path and tag, that an event with this tag may come to from this source."""
         entered = at.enter(tag)
         found = set()
         for output in at.relay.ends(at.scope, entered) or []:
@@ -225,16 +253,16 @@ class Network:
         return found
 
     def is_kept(self, at, tag, has):
-        """Whether an event that was answered there stands in each sink that it has to come to, where `has` says in which it stands.
-
-        A server at which its way comes back never answers."""
+        """Whether an event that was answered there stands in each sink that it has to come to, where `has`
+        says in which it stands. A server at which its way is a loop never answers."""
         entered = at.enter(tag)
         ends = at.relay.ends(at.scope, entered)
         return ends is None or all(self.ends_well(at.relay, output, entered, has) for output in ends)
 
     def ends_well(self, relay, output, tag, has):
-        """The same of one output. A buffer in memory of a relay that was killed may lose it. Where some relay was killed, what asks for no
-        acknowledgement may, and a later server may have it in place of the first that there is."""
+        """The same of one output. A buffer in memory of a relay that was killed may lose it. Where some
+        relay was killed, what asks for no acknowledgement may, and a later server may have it in place of
+        the first that there is."""
         if relay.is_killed and output.is_in_memory() or self.has_kills and not output.asks:
             return True
         if output.kind == "file":

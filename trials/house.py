@@ -3,7 +3,7 @@ import os, shutil, signal, socket, subprocess, tempfile, time
 from client import HOST, Client, chunk_id, message, stored, take
 
 TAG = "app.x"
-# Connections come from HOST: so none of them takes the port of a relay that is down and listens here.
+# Connections come from HOST: so none of them takes the port of a relay here that is down.
 OTHER = "127.0.0.2"
 
 
@@ -22,7 +22,7 @@ def source(port, *more, host=HOST):
 
 
 def buffer(path, *more):
-    """A buffer in files that keeps all, or one in memory where there is no path. Later lines count."""
+    """A buffer in files that keeps all, or one in memory where there is no path. Of lines the last counts."""
     kind = ["@type file", "path " + path] if path else ["@type memory"]
     usual = ["retry_forever true", "retry_wait 1", "retry_max_interval 1", "flush_mode immediate"]
     return section("buffer", [*kind, *usual, *more])
@@ -103,8 +103,8 @@ class Relay:
         self.process = None
 
     def start(self, wait=60.0, is_limited=False):
-        """Starts it, and waits until it is ready. Where its files are to be limited, a write past the
-        limit is an error and no signal."""
+        """Starts it, and waits until it is ready. Where its files are limited later, a write past the limit
+        is an error and no signal."""
         words = [self.program, "relay", self.conf, str(self.number), self.folder]
         with open(self.said, "w") as out, open(self.said + ".err", "a") as err:
             outputs = {"stdout": out, "stderr": err}
@@ -118,10 +118,10 @@ class Relay:
             time.sleep(0.005)
         return False
 
-    def run(self, number=None, folder=None, wait=20):
+    def run(self, folder=None):
         """Runs it to its end: its status, and what it prints."""
-        words = [self.program, "relay", self.conf, str(number or self.number), folder or self.folder]
-        ran = subprocess.run(words, capture_output=True, text=True, timeout=wait)
+        words = [self.program, "relay", self.conf, str(self.number), folder or self.folder]
+        ran = subprocess.run(words, capture_output=True, text=True, timeout=20)
         return ran.returncode, ran.stdout
 
     def ended(self, wait=20):
@@ -209,7 +209,7 @@ class Report:
 
 
 class Room:
-    """A folder for one trial, and the relays in it: they end with it, and where the trial is told to."""
+    """A folder for one trial, and the relays in it, which end with it."""
 
     open = set()
 

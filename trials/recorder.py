@@ -1,10 +1,10 @@
-"""Servers of the Forward Protocol that keep what relays send them, for the trials: standard library alone."""
+"""Servers of the Forward Protocol that keep what relays send: standard library alone."""
 import base64, os, socket, struct, threading
 from client import HOST, Stream, array, digest, table, text
 
 
 class Recorder(threading.Thread):
-    """A server at a free port, which acknowledges each message but on its first `silent` connections, where it says nothing."""
+    """A server at a free port, which acknowledges each message, but says nothing on its first connections."""
 
     def __init__(self, key=None, silent=0, host=HOST):
         super().__init__(daemon=True)
@@ -19,7 +19,8 @@ class Recorder(threading.Thread):
             while True:
                 connected, _ = self.socket.accept()
                 self.connections.append(connected)
-                threading.Thread(target=self.serve, args=(Stream(connected, 60), len(self.connections)), daemon=True).start()
+                words = Stream(connected, 60), len(self.connections)
+                threading.Thread(target=self.serve, args=words, daemon=True).start()
         except OSError:
             pass
 
@@ -37,10 +38,12 @@ class Recorder(threading.Thread):
 
     def shake(self, stream):
         nonce, name = os.urandom(16), b"recorder"
-        stream.send(array([text("HELO"), table([("nonce", text(nonce)), ("auth", text("")), ("keepalive", b"\xc3")])]))
+        asked = table([("nonce", text(nonce)), ("auth", text("")), ("keepalive", b"\xc3")])
+        stream.send(array([text("HELO"), asked]))
         ping = stream.value()
         self.salts.append(ping[2])
-        stream.send(array([text("PONG"), b"\xc3", text(""), text(name), text(digest(ping[2], name, nonce, self.key.encode()))]))
+        shown = digest(ping[2], name, nonce, self.key.encode())
+        stream.send(array([text("PONG"), b"\xc3", text(""), text(name), text(shown)]))
 
     def ids(self):
         """The relay, the buffer and the serial that the name of each chunk says."""
