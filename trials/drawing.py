@@ -236,7 +236,7 @@ class Network:
         first = self.draw.choice(later)
         others = [each for each in later if each.key == first.key and each is not first]
         found = [first, *self.draw.sample(others, min(len(others), self.draw.choice([0, 0, 1])))]
-        absent = self.draw.choice([0, 0, 1, 3 - len(found)])
+        absent = self.draw.choice([0, 1, 1, 3 - len(found)])
         found += [Nobody(self.address(self.gone)) for _ in range(absent)]
         self.draw.shuffle(found)
         return found
