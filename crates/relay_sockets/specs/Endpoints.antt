@@ -1,0 +1,17 @@
+-- Where sockets are, and where connections come from.
+use Rattle.std.specs.Prelude.{ℕ, List, Bool, ◌&&◌, nat_eq}
+use Rattle.std.specs.Str.{bytes_eq}
+
+-- a host, by its number or its name, and a port
+pub record Endpoint : Type 0 where
+  pub host : List ℕ
+  pub port : ℕ
+
+-- where a connection comes from: it came in at the listener with this number, or it went to the endpoint that was asked for
+pub data Origin : Type 0 where
+  CameAt : ℕ → Origin
+  WentTo : Endpoint → Origin
+
+-- whether two endpoints are the same: hosts are compared as texts
+abbrev pub same_endpoint : Endpoint → Endpoint → Bool
+same_endpoint a b = bytes_eq a.host b.host && nat_eq a.port b.port

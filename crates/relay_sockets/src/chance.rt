@@ -1,0 +1,44 @@
+//! Random bytes for handshakes.
+
+ghost use Rattle.std.specs.Prelude.{◌≡◌};
+ghost use Rattle.rand_core.specs.Stream.{fill_bytes};
+ghost use Rattle.relay_sockets.specs.Drawing.{next_nonce, nonce_length};
+
+use rand::make_rng;
+use rand_chacha::ChaCha20Rng;
+use rand_core::Rng;
+use std::io;
+use std::marker::Model;
+use std::random::RandomSource;
+
+/// Nonces and salts, drawn from a generator that the system seeds.
+#[derive(Drop)]
+pub struct Nonces {
+    rng: ChaCha20Rng,
+}
+
+impl Model for Nonces {
+    ghost use Rattle.rand_chacha.specs.ChaCha.{ChaCha};
+
+    ghost Value = { ChaCha };
+
+    ghost view = { λ n. n.rng };
+}
+
+impl Nonces {
+    /// The error is the system's.
+    pub fn new(rt: &impl RandomSource) -> io::Result<Nonces> {
+        let rng: ChaCha20Rng = make_rng(rt)?;
+        Ok(Nonces { rng })
+    }
+
+    /// The next one. The generator goes on to what it has left.
+    pub fn draw(&mut self) -> [u8; 16]
+        ensures drawn { result ≡ next_nonce self.old }
+        ensures rest { ⟦<ChaCha20Rng as Rng>⟧.stream self.new ≡ (fill_bytes nonce_length (⟦<ChaCha20Rng as Rng>⟧.stream self.old)).1 }
+    {
+        let mut nonce = [0u8; 16];
+        self.rng.fill_bytes(&mut nonce);
+        nonce
+    }
+}

@@ -1,0 +1,131 @@
+//! The system's sockets that go out. What the system does can't be stated: `dial` is trusted to hand it the endpoint that is noted
+//! beside the socket.
+
+ghost use Rattle.relay_sockets.specs.Traffics.{IsReadFrom, IsReadOff, IsWrittenTo, taking, unknown_traffic};
+ghost use Rattle.std.specs.Prelude.{◌≡◌};
+
+use crate::clock::{Time, now_after};
+use crate::dialer::Dialer;
+use crate::endpoint::Endpoint;
+use crate::wire::{Moved, Wire, nothing};
+use std::alloc::{AllocError, Allocator};
+use std::io::{Read, Write};
+use std::net::{IpAddr, Net, OpenStream, SocketAddr, TcpStream, ToSocketAddrs};
+use std::time::{Clock, Duration};
+
+/// How long an address may take to accept a connection, in milliseconds, before the next one is tried.
+const LONGEST_CONNECT: u64 = 10_000;
+
+/// Connects by the system.
+#[derive(Drop)]
+pub struct SystemDialer<R, A: Allocator> {
+    rt: R,
+    alloc: A,
+}
+
+/// A connection that went out, and the endpoint that was asked for.
+///
+/// A read says nothing of what the stream took, and a write nothing of what it has to give; so nothing of it is known over both.
+#[derive(Drop)]
+pub struct SystemWire<S, A: Allocator> {
+    stream: S,
+    asked: Endpoint<A>,
+}
+
+impl<R: Net + Clock, A: Allocator + Copy> SystemDialer<R, A> {
+    /// Over the sockets, and with the clock, of this handle.
+    pub fn new(rt: R, alloc: A) -> SystemDialer<R, A> {
+        SystemDialer { rt, alloc }
+    }
+}
+
+// TRUSTED: a connection to this host and port, at the first of its addresses that takes one.
+fn dial<R: Net + Clock>(rt: &R, host: &str, port: u16, until: u64) -> Option<R::Stream> {
+    if let Ok(ip) = host.parse::<IpAddr>() {
+        return connect_to(rt, &SocketAddr::new(ip, port), until);
+    }
+    let addresses = (host, port).to_socket_addrs(rt).ok()?;
+    for address in addresses {
+        if let Some(stream) = connect_to(rt, &address, until) {
+            return Some(stream);
+        }
+    }
+    None
+}
+
+// How long the system is to wait: it takes no time of zero.
+fn wait_of(most: Duration) -> Option<Duration> {
+    Some(most.max(Duration::from_millis(1)))
+}
+
+// A connection to this address, if it takes one.
+fn connect_to<R: Net + Clock>(rt: &R, address: &SocketAddr, until: u64) -> Option<R::Stream> {
+    let left = until.saturating_sub(now_after(rt, 0));
+    let wait = Duration::from_millis(left.min(LONGEST_CONNECT).max(1));
+    TcpStream::connect_timeout(rt, address, wait).ok()
+}
+
+impl<R: Clock, A: Allocator> Time for SystemDialer<R, A> {
+    fn now_after(&self, before: u64) -> u64 {
+        now_after(&self.rt, before)
+    }
+}
+
+impl<R: Net + Clock, A: Allocator + Copy> Dialer for SystemDialer<R, A> {
+    ghost use Rattle.std.specs.Prelude.{false};
+
+    type Stream = SystemWire<R::Stream, A>;
+
+    ghost is_known = { λ _. ⊥ };
+
+    ghost takes = { λ _ _. false };
+
+    fn connect(
+        &self,
+        host: &str,
+        port: u16,
+        until: u64,
+    ) -> Result<Option<SystemWire<R::Stream, A>>, AllocError> {
+        let asked = Endpoint::new(self.alloc, host, port)?;
+        match dial(&self.rt, host, port, until) {
+            Some(stream) => Ok(Some(SystemWire { stream, asked })),
+            None => Ok(None),
+        }
+    }
+}
+
+impl<S: Read + Write + OpenStream, A: Allocator> Wire for SystemWire<S, A> {
+    ghost use Rattle.relay_sockets.specs.Endpoints.{WentTo};
+
+    ghost origin = { λ w. WentTo w.asked };
+
+    fn get(&mut self, piece: &mut [u8], most: Duration) -> Moved
+        ensures origin { self.new.asked ≡ self.old.asked }
+        ensures bytes { IsReadFrom unknown_traffic unknown_traffic piece.new result }
+        ensures stream { IsReadOff (S.Read.remaining self.old.stream) (S.Read.remaining self.new.stream) piece.new result }
+    {
+        if self.stream.set_read_timeout(wait_of(most)).is_err() {
+            return Moved::Broken;
+        }
+        match self.stream.read(piece) {
+            Ok(0) => Moved::Ended,
+            Ok(n) => Moved::Some(n),
+            Err(e) => nothing(e.kind()),
+        }
+    }
+
+    fn put(&mut self, bytes: &[u8], most: Duration) -> Moved
+        ensures origin { self.new.asked ≡ self.old.asked }
+        ensures bytes { IsWrittenTo unknown_traffic unknown_traffic bytes.now result }
+        ensures stream { IsWrittenTo (taking (S.Write.contents self.old.stream)) (taking (S.Write.contents self.new.stream)) bytes.now result }
+    {
+        if self.stream.set_write_timeout(wait_of(most)).is_err() {
+            return Moved::Broken;
+        }
+        match self.stream.write(bytes) {
+            Ok(0) => Moved::Broken,
+            Ok(n) => Moved::Some(n),
+            Err(e) => nothing(e.kind()),
+        }
+    }
+}

@@ -1,0 +1,57 @@
+//! A connection, as a session sees it.
+
+ghost use Rattle.relay_sockets.specs.Traffics.{IsNothing};
+
+use std::io::ErrorKind;
+use std::time::Duration;
+
+/// What came of a read or a write.
+#[derive(Clone, Copy, Debug, PartialEq, Eq)]
+pub enum Moved {
+    /// So many bytes were moved.
+    Some(usize),
+    /// None for now.
+    None,
+    /// None, since the call was interrupted: the next one may move some at once.
+    Again,
+    /// None any more: the other end has ended its sending.
+    Ended,
+    /// None any more: the connection has failed.
+    Broken,
+}
+
+/// A connection that is read and written.
+///
+/// Where it comes from goes with it, through a list, an option or a thread, and no read or write changes it.
+pub trait Wire {
+    ghost use Rattle.std.specs.Prelude.{◌≡◌};
+    ghost use Rattle.relay_sockets.specs.Endpoints.{Origin};
+    ghost use Rattle.relay_sockets.specs.Traffics.{IsReadFrom, IsWrittenTo, Traffic, unknown_traffic};
+
+    // where it comes from
+    ghost origin: { Self → Origin };
+
+    // the bytes that it took so far, and those that it gave, where they are known
+    ghost traffic: { Self → Traffic } = { λ _. unknown_traffic };
+
+    /// Reads bytes into the piece. Where it waits for some, it waits no longer than this.
+    fn get(&mut self, piece: &mut [u8], most: Duration) -> Moved
+        ensures origin { origin self.new ≡ origin self.old }
+        ensures bytes { IsReadFrom (traffic self.old) (traffic self.new) piece.new result };
+
+    /// Writes some of the bytes. Where it waits for room, it waits no longer than this.
+    fn put(&mut self, bytes: &[u8], most: Duration) -> Moved
+        ensures origin { origin self.new ≡ origin self.old }
+        ensures bytes { IsWrittenTo (traffic self.old) (traffic self.new) bytes.now result };
+}
+
+/// What an error of the system says, by which no byte was moved.
+pub(crate) fn nothing(kind: ErrorKind) -> Moved
+    ensures { IsNothing result }
+{
+    match kind {
+        ErrorKind::WouldBlock | ErrorKind::TimedOut => Moved::None,
+        ErrorKind::Interrupted => Moved::Again,
+        _ => Moved::Broken,
+    }
+}
