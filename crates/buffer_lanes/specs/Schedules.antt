@@ -1,5 +1,8 @@
 -- When the staged chunks of a buffer are queued (Fluentd, "Config: Buffer Section", flush_mode, flush_interval).
-use Rattle.std.specs.Prelude.{ℕ, ◌-◌, Bool, List, [], ◌∷◌, ◌++◌, length, slice_get, Option, None, Some, if◌then◌else◌, nat_lt, not, true}
+use Rattle.std.specs.Prelude.{ℕ, ◌-◌, Bool, List, [], ◌∷◌, ◌++◌, length, map, slice_get, Option, None, Some, if◌then◌else◌, nat_lt, not, true}
+use Rattle.std.specs.List.{flat_map}
+use Rattle.buffer_state.specs.Shown.{Facts, numbered_facts}
+use Rattle.buffer_state.specs.State.{State, is_staged}
 use Rattle.relay_conf.specs.declared.buffer.FlushMode.{FlushMode}
 use Rattle.relay_conf.specs.declared.buffer.FlushMode.TheVariants.{Interval, Immediate}
 use Rattle.buffer_lanes.specs.declared.schedule.Staged.{Staged}
@@ -10,6 +13,14 @@ pub record Plan : Type 0 where
   pub interval : ℕ
   pub chunks : List Staged
   pub room : ℕ
+
+-- what is staged of a chunk that a buffer shows when it is opened: the chunk where it still grows, since now
+abbrev pub staged_since : ℕ → Facts → List Staged
+staged_since now facts = if is_staged facts.stage then record { serial = facts.serial; since = now } ∷ [] else []
+
+-- the staged chunks of a buffer that is opened now: each that still grows, of whatever tag, by rising serial
+abbrev pub staged_at : ℕ → State → List Staged
+staged_at now state = flat_map (staged_since now) (map numbered_facts state.chunks)
 
 -- the last of them, if there is one
 abbrev pub newest : List Staged → Option Staged

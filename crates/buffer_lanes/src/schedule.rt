@@ -1,8 +1,9 @@
 //! When the staged chunks of a buffer are queued.
 
-ghost use Rattle.std.specs.Prelude.{◌≡◌, ◌<◌, ◌-◌, ◌*◌, ◌^◌, [], drop, min, OnOk};
-ghost use Rattle.buffer_lanes.specs.Schedules.{due_in, noted};
+ghost use Rattle.std.specs.Prelude.{◌≡◌, ◌<◌, ◌-◌, ◌*◌, ◌^◌, ◌++◌, ◌∷◌, [], drop, min, IfOk, OnOk};
+ghost use Rattle.buffer_lanes.specs.Schedules.{due_in, noted, staged_at};
 
+use buffer_state::{LiveChunks, Stage};
 use relay_conf::FlushMode;
 use std::alloc::{AllocError, Allocator};
 use std::collections::VecDeque;
@@ -33,6 +34,37 @@ impl<A: Allocator> Model for Schedule<A> {
     ghost Value = { Plan };
 
     ghost view = { λ s. record { mode = s.mode; interval = s.interval; chunks = s.chunks.items; room = deque_capacity s.chunks - deque_len s.chunks } };
+}
+
+impl<A: Allocator + Copy> Schedule<A> {
+    /// The schedule of a buffer that is opened now and has these live chunks: each staged one, of
+    /// whatever tag, is there since now. The interval is in seconds.
+    ///
+    /// The error is want of memory.
+    pub fn of_staged(
+        alloc: A,
+        mode: FlushMode,
+        interval: u64,
+        chunks: &LiveChunks<'_, A>,
+        now: u64,
+    ) -> Result<Self, AllocError>
+        ensures mode { IfOk result (λ schedule. schedule.mode ≡ mode) }
+        ensures chunks { IfOk result (λ schedule. schedule.chunks ≡ staged_at now chunks.now) }
+        ensures interval { IfOk result (λ schedule. schedule.interval
+            ≡ min (interval * 1000) (2 ^ 64 - 1)) }
+    {
+        let mut schedule = Schedule::new(alloc, mode, interval);
+        for shown in chunks.iter() {
+            match shown.stage {
+                Stage::Staged => {
+                    schedule.reserve()?;
+                    schedule.push(shown.serial, now);
+                }
+                Stage::Queued | Stage::Claimed => {}
+            }
+        }
+        Ok(schedule)
+    }
 }
 
 impl<A: Allocator> Schedule<A> {
@@ -68,9 +100,20 @@ impl<A: Allocator> Schedule<A> {
             None => false,
         };
         if !known {
-            self.chunks
-                .push_back_reserved(Staged { serial, since: now });
+            self.push(serial, now);
         }
+    }
+
+    // This chunk is staged too, and comes last.
+    fn push(&mut self, serial: u64, now: u64)
+        requires { 0 < self.old.room }
+        ensures chunks { self.new.chunks
+            ≡ self.old.chunks ++ record { serial = serial; since = now } ∷ [] }
+        ensures rest { self.new
+            ≡ record self.old { chunks = self.new.chunks; room = self.new.room } }
+    {
+        self.chunks
+            .push_back_reserved(Staged { serial, since: now });
     }
 
     /// The first chunk, if it is to be queued now.
