@@ -109,7 +109,7 @@ impl<S: Read + Write + OpenStream, A: Allocator> Wire for SystemWire<S, A> {
         }
         match self.stream.read(piece) {
             Ok(0) => Moved::Ended,
-            Ok(n) => Moved::Some(n),
+            Ok(given) => Moved::Some(given),
             Err(e) => nothing(e.kind()),
         }
     }
@@ -124,7 +124,7 @@ impl<S: Read + Write + OpenStream, A: Allocator> Wire for SystemWire<S, A> {
         }
         match self.stream.write(bytes) {
             Ok(0) => Moved::Broken,
-            Ok(n) => Moved::Some(n),
+            Ok(taken) => Moved::Some(taken),
             Err(e) => nothing(e.kind()),
         }
     }
