@@ -3,6 +3,7 @@
 ghost use Rattle.std.specs.Prelude.{◌≡◌};
 
 use buffer_store::BufferFault;
+use relay_ports::SetupFault;
 use std::alloc::{AllocError, AllocFailed};
 use thiserror::Error;
 
@@ -21,7 +22,7 @@ pub enum LoopFault {
     /// A buffer's device failed, and the buffer is to be opened again; or it can't be opened.
     #[error("Buffer")]
     Buffer(BufferFault),
-    /// The numbers of deliveries have run out.
+    /// The numbers of deliveries have run out; or a buffer hasn't the number of its place, which none has of a relay that was read.
     #[error("NoNumber")]
     NoNumber,
     /// There was no memory.
@@ -48,5 +49,20 @@ impl<T: Drop> From<AllocFailed<T>> for LoopFault {
 
     fn from(_refused: AllocFailed<T>) -> LoopFault {
         LoopFault::Memory
+    }
+}
+
+impl From<SetupFault> for LoopFault {
+    ghost use Rattle.std.specs.Prelude.{◌≡◌};
+    ghost use Rattle.loop_core.specs.Faults.{of_setup};
+
+    ghost from_gives = { λ fault e. e ≡ of_setup fault };
+
+    fn from(fault: SetupFault) -> LoopFault {
+        match fault {
+            SetupFault::Path => LoopFault::Path,
+            SetupFault::Number => LoopFault::NoNumber,
+            SetupFault::Memory => LoopFault::Memory,
+        }
     }
 }

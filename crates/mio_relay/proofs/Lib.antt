@@ -1,2 +1,2 @@
-pub mod Places
-pub mod Serving
+pub mod Listening
+pub mod Slots

@@ -1,33 +1,23 @@
 //! Connections that come in.
 
-ghost use Rattle.std.specs.Prelude.{Contains};
+ghost use Rattle.std.specs.Prelude.{◌≡◌, IsSomeAnd, slice_get};
+ghost use Rattle.relay_sockets.specs.Accepting.{IfStream};
+ghost use Rattle.relay_sockets.specs.Endpoints.{CameAt};
+ghost use Rattle.mio_relay.specs.Connections.{IsServed};
 ghost use Rattle.mio_relay.specs.Loops.{Stays};
 
+use crate::connection::{Connection, ConnectionParts};
 use crate::in_loop::InLoop;
 use crate::listener::{Listener, peer_at};
-use crate::peers;
-use crate::socket::Socket;
 use disk_files::Dir;
-use loop_core::Peer;
-use mio::net::TcpStream;
+use relay_sockets::{Accepted, Network};
 use std::alloc::{AllocError, Allocator};
-use std::io::ErrorKind;
 use std::sync::Wait;
 
 /// How many connections a loop has at most.
 const MOST_CONNECTIONS: usize = 1_024;
 
-// What comes of asking for a connection.
-#[derive(Drop)]
-enum Accepted {
-    Stream(TcpStream),
-    // There may be more.
-    Again,
-    // None waits.
-    None,
-}
-
-impl<D: Dir + Drop, A: Allocator + Copy> InLoop<D, A> {
+impl<N: Network + Drop, D: Dir + Drop, A: Allocator + Copy> InLoop<N, D, A> {
     // Takes in the connections that wait.
     pub(crate) fn accept_all<R: Wait>(&mut self, rt: &R)
         ensures { Stays self.old self.new }
@@ -42,80 +32,98 @@ impl<D: Dir + Drop, A: Allocator + Copy> InLoop<D, A> {
         ensures { Stays self.old self.new }
     {
         for _ in 0..MOST_CONNECTIONS {
-            match self.accept_one(place) {
-                Accepted::Stream(stream) => {
-                    // Without memory, and past the limit, the connection is closed at once.
-                    let _ = self.admit(rt, place, stream);
-                }
-                Accepted::Again => {}
-                Accepted::None => return,
+            if !self.accept_one(rt, place) {
+                return;
             }
         }
     }
 
-    // Takes the next connection that waits at one source.
-    fn accept_one(&mut self, place: usize) -> Accepted
+    // Takes the next connection in that waits at one source; whether there may be more.
+    fn accept_one<R: Wait>(&mut self, rt: &R, place: usize) -> bool
         ensures { Stays self.old self.new }
     {
-        let Some(listener) = self.listeners.get(place) else {
-            return Accepted::None;
-        };
-        let Some(ready) = self.ready.get_mut(place) else {
-            return Accepted::None;
-        };
-        if !*ready {
-            return Accepted::None;
+        match self.next_at(place) {
+            Accepted::Stream(stream) => {
+                // Without memory, and past the limit, the connection is closed at once.
+                let _ = self.admit(rt, place, stream);
+                true
+            }
+            Accepted::Again => true,
+            Accepted::Empty => false,
+            // The system has no more sockets for now: the next turn tries again.
+            Accepted::Refused => false,
         }
-        accept_from(listener, ready)
+    }
+
+    // The next connection that waits at one source.
+    fn next_at(&mut self, place: usize) -> Accepted<N::Stream>
+        ensures came { IfStream result (λ stream. N.Stream.origin stream ≡ CameAt place) }
+        ensures stays { Stays self.old self.new }
+    {
+        next_of(&mut self.network, &self.listeners, &mut self.ready, place)
     }
 
     // Takes a connection in that came to this source.
-    fn admit<R: Wait>(&mut self, rt: &R, place: usize, stream: TcpStream) -> Result<(), AllocError>
+    fn admit<R: Wait>(&mut self, rt: &R, place: usize, stream: N::Stream) -> Result<(), AllocError>
+        requires { N.Stream.origin stream ≡ CameAt place }
         ensures { Stays self.old self.new }
     {
-        if self.sockets.len() >= MOST_CONNECTIONS {
+        if self.connections.count() >= MOST_CONNECTIONS {
             return Ok(());
         }
-        self.sockets.reserve(1)?;
-        let key = self.sockets.vacant_key();
-        if !peers::make_place(&mut self.peers, key)? {
-            return Ok(());
-        }
-        let Some(socket) = Socket::register(stream, self.poll.registry(), key) else {
+        let Some(key) = self.connections.make_room()? else {
             return Ok(());
         };
+        let mut stream = stream;
+        if self.network.watch(&mut stream, key).is_err() {
+            return Ok(());
+        }
         let nonce = self.nonces.draw();
         let Some(peer) = peer_at(self.alloc, &self.listeners, place, nonce)? else {
             return Ok(());
         };
-        let _ = self.sockets.insert_reserved(socket);
-        self.put(rt, key, peer);
+        self.put(rt, key, Connection::new(stream, peer));
         Ok(())
     }
 
     // Puts a connection at its key, where none is.
-    fn put<R: Wait>(&mut self, rt: &R, key: usize, peer: Peer<A>)
-        requires { Contains self.old.entries peer.entry }
+    fn put<R: Wait>(&mut self, rt: &R, key: usize, connection: Connection<N::Stream, A>)
+        requires { IsServed self.old.sources connection }
         ensures { Stays self.old self.new }
     {
-        if let Some(other) = peers::put(&mut self.peers, key, peer) {
-            other.end(rt, &mut self.lanes);
+        if let Some(other) = self.connections.put(key, connection) {
+            let ConnectionParts { stream: _, peer } = other.into_parts();
+            peer.end(rt, &mut self.lanes);
         }
     }
 }
 
-// Takes the next connection that waits at this listener, or notes that none does.
-fn accept_from<A: Allocator>(listener: &Listener<A>, ready: &mut bool) -> Accepted {
-    match listener.socket.accept() {
-        Ok((stream, _)) => Accepted::Stream(stream),
-        Err(e) => match e.kind() {
-            ErrorKind::WouldBlock => {
-                *ready = false;
-                Accepted::None
-            }
-            ErrorKind::Interrupted | ErrorKind::ConnectionAborted => Accepted::Again,
-            // The system has no more sockets for now: the next turn tries again.
-            _ => Accepted::None,
-        },
+// The next connection that waits at the source with this place, if some may wait there.
+fn next_of<N: Network + Drop, A: Allocator>(
+    network: &mut N,
+    listeners: &[Listener<N, A>],
+    ready: &mut [bool],
+    place: usize,
+) -> Accepted<N::Stream>
+    ensures bound { N.bound network.new ≡ N.bound network.old }
+    ensures came { IfStream result (λ stream. IsSomeAnd (slice_get listeners.now place) (λ listener. N.Stream.origin stream ≡ CameAt listener.number)) }
+{
+    if !matches!(ready.get(place), Some(true)) {
+        return Accepted::Empty;
+    }
+    let Some(listener) = listeners.get(place) else {
+        return Accepted::Empty;
+    };
+    let accepted = network.accept(listener.socket());
+    note_accepted(&accepted, ready, place);
+    accepted
+}
+
+// Notes that none waits at this source any more, where that was said.
+fn note_accepted<S>(accepted: &Accepted<S>, ready: &mut [bool], place: usize) {
+    if let Accepted::Empty = accepted
+        && let Some(ready) = ready.get_mut(place)
+    {
+        *ready = false;
     }
 }

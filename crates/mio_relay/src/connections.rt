@@ -1,172 +1,230 @@
-//! The connections of a loop: what is ready, read, answered, written and closed.
+//! The connections of a loop, by their keys.
 
-ghost use Rattle.mio_relay.specs.Loops.{Stays};
+ghost use Rattle.std.specs.Prelude.{◌≡◌, [], List, length};
+ghost use Rattle.mio_relay.specs.Connections.{AreServed, GoOn, GoesOn, IsServed, Served};
 
-use crate::in_loop::InLoop;
-use crate::listener::FIRST_LISTENER;
-use crate::peers;
-use crate::socket::Socket;
+use crate::connection::{Connection, ConnectionParts};
+use ack_receipt::Numbers;
+use buffer_lanes::Lanes;
 use disk_files::Dir;
 use loop_core::LoopFault;
-use mio::event::Event;
-use mio::{Events, Token};
+use relay_sockets::Wire;
 use slab::Slab;
-use std::alloc::Allocator;
-use std::io::ErrorKind;
+use std::alloc::{AllocError, Allocator};
+use std::marker::Model;
 use std::sync::Wait;
-use std::time::Duration;
 
-/// How long a turn waits for sockets, in milliseconds.
-const LONGEST_WAIT: u64 = 10;
+/// Connections by keys, which a slab gives and takes back: it can't hold the connections themselves, since these can't be dropped.
+pub struct Connections<S: Wire, A: Allocator> {
+    keys: Slab<(), A>,
+    slots: Vec<Option<Connection<S, A>>, A>,
+}
 
-impl<D: Dir + Drop, A: Allocator + Copy> InLoop<D, A> {
-    // Waits for sockets, unless some are known to be ready, and notes which are.
-    pub(crate) fn wait(&mut self) -> Result<(), LoopFault>
-        ensures { Stays self.old self.new }
+impl<S: Wire, A: Allocator> Model for Connections<S, A> {
+    ghost use Rattle.std.specs.Prelude.{List, Option};
+    ghost use Rattle.mio_relay.specs.Connections.{ConnectionState};
+
+    ghost Value = { List (Option ConnectionState) };
+
+    ghost view = { λ c. c.slots.items };
+}
+
+impl<S: Wire + Drop, A: Allocator + Copy> Connections<S, A> {
+    /// None yet.
+    pub fn new(alloc: A) -> Self
+        ensures { result ≡ [] }
     {
-        let most = if self.is_busy() { 0 } else { LONGEST_WAIT };
-        let polled = self
-            .poll
-            .poll(&mut self.events, Some(Duration::from_millis(most)));
-        match polled {
-            Ok(()) => {
-                note_all(&self.events, &mut self.ready, &mut self.sockets);
-                Ok(())
-            }
-            Err(e) if e.kind() == ErrorKind::Interrupted => Ok(()),
-            Err(_) => Err(LoopFault::Poll),
+        Connections {
+            keys: Slab::new(alloc),
+            slots: Vec::new(alloc),
         }
     }
 
-    // Whether a connection is known to have more to be read.
-    fn is_busy(&self) -> bool {
-        if self.lanes.have_pendings() {
-            return false;
-        }
-        for key in 0..self.peers.len() {
-            if let Some(socket) = self.sockets.get(key)
-                && let Some(peer) = &self.peers[key]
-                && socket.wants_reading(peer)
-            {
-                return true;
-            }
-        }
-        false
+    /// How many there are.
+    pub fn count(&self) -> usize {
+        self.keys.len()
     }
 
-    // Reads a piece from each connection that has one. The error is that the numbers of deliveries have run out.
-    pub(crate) fn read_all<R: Wait>(&mut self, rt: &R) -> Result<(), LoopFault>
-        ensures { Stays self.old self.new }
+    /// Each key is below this.
+    pub fn key_end(&self) -> usize
+        ensures { result ≡ length self.now }
     {
-        for key in 0..self.peers.len() {
-            self.read_from(rt, key)?;
-        }
-        Ok(())
+        self.slots.len()
     }
 
-    fn read_from<R: Wait>(&mut self, rt: &R, key: usize) -> Result<(), LoopFault>
-        ensures { Stays self.old self.new }
+    /// Makes room for one more, and gives the key that it is to have; `None` where there is none. The error is want of memory.
+    pub fn make_room(&mut self) -> Result<Option<usize>, AllocError>
+        ensures { GoOn self.old self.new }
     {
-        let Some(socket) = self.sockets.get_mut(key) else {
+        self.keys.reserve(1)?;
+        let key = self.keys.vacant_key();
+        if self.slots.len() == key {
+            self.slots.reserve(1)?;
+            self.slots.push_reserved(None);
+        }
+        if key < self.slots.len() {
+            Ok(Some(key))
+        } else {
+            Ok(None)
+        }
+    }
+
+    /// Puts a connection at this key, which `make_room` gave, and gives back what can't stay: the one that was there, or the new one
+    /// where there is no room.
+    pub fn put(&mut self, key: usize, connection: Connection<S, A>) -> Option<Connection<S, A>>
+        ensures { (sources : List Served) → AreServed sources self.old → IsServed sources connection → AreServed sources self.new }
+    {
+        match self.keys.insert(()) {
+            Ok(given) if given == key => {}
+            _ => return Some(connection),
+        }
+        let Some(slot) = self.slots.get_mut(key) else {
+            return Some(connection);
+        };
+        slot.replace(connection)
+    }
+
+    /// Takes the connection at this key, if there is one.
+    pub fn take(&mut self, key: usize) -> Option<Connection<S, A>>
+        ensures { GoOn self.old self.new }
+    {
+        let _ = self.keys.try_remove(key);
+        let Some(slot) = self.slots.get_mut(key) else {
+            return None;
+        };
+        slot.take()
+    }
+
+    /// The network says this of the connection at this key.
+    pub fn note(&mut self, key: usize, is_readable: bool, is_writable: bool, is_ended: bool)
+        ensures { GoOn self.old self.new }
+    {
+        let Some(slot) = self.slots.get_mut(key) else {
+            return;
+        };
+        note_slot(slot, is_readable, is_writable, is_ended);
+    }
+
+    /// Whether the connection at this key is known to have more to be read.
+    pub fn wants_reading(&self, key: usize) -> bool {
+        match self.slots.get(key) {
+            Some(Some(connection)) => connection.wants_reading(),
+            _ => false,
+        }
+    }
+
+    /// Whether the connection at this key is to be closed now.
+    pub fn is_over(&self, key: usize) -> bool {
+        match self.slots.get(key) {
+            Some(Some(connection)) => connection.is_over(),
+            _ => false,
+        }
+    }
+
+    /// Reads a piece for the connection at this key, if its stream has one, and has it received. See `Connection::read`.
+    pub fn read<R: Wait, D: Dir + Drop>(
+        &mut self,
+        key: usize,
+        rt: &R,
+        alloc: A,
+        piece: &mut [u8],
+        lanes: &mut Lanes<D, A>,
+        numbers: &mut Numbers,
+    ) -> Result<(), LoopFault>
+        ensures { GoOn self.old self.new }
+    {
+        let Some(slot) = self.slots.get_mut(key) else {
             return Ok(());
         };
-        peers::read(
-            &mut self.peers,
-            key,
-            socket,
-            &mut self.piece,
-            rt,
-            self.alloc,
-            &mut self.lanes,
-            &mut self.numbers,
-        )
+        read_slot(slot, rt, alloc, piece, lanes, numbers)
     }
 
-    // Ends the deliveries that have what they wait for.
-    pub(crate) fn settle_all<R: Wait>(&mut self, rt: &R)
-        ensures { Stays self.old self.new }
+    /// Ends the deliveries of the connection at this key that have what they wait for.
+    pub fn settle<R: Wait, D: Dir + Drop>(
+        &mut self,
+        key: usize,
+        rt: &R,
+        alloc: A,
+        lanes: &mut Lanes<D, A>,
+    )
+        ensures { GoOn self.old self.new }
     {
-        for key in 0..self.peers.len() {
-            self.settle_at(rt, key);
-        }
+        let Some(slot) = self.slots.get_mut(key) else {
+            return;
+        };
+        settle_slot(slot, rt, alloc, lanes);
     }
 
-    fn settle_at<R: Wait>(&mut self, rt: &R, key: usize)
-        ensures { Stays self.old self.new }
+    /// Writes what is outgoing to the connection at this key.
+    pub fn write(&mut self, key: usize)
+        ensures { GoOn self.old self.new }
     {
-        peers::settle(&mut self.peers, key, rt, self.alloc, &mut self.lanes);
+        let Some(slot) = self.slots.get_mut(key) else {
+            return;
+        };
+        write_slot(slot);
     }
 
-    // Writes what is outgoing.
-    pub(crate) fn write_all(&mut self)
-        ensures { Stays self.old self.new }
-    {
-        for key in 0..self.peers.len() {
-            self.write_to(key);
-        }
-    }
-
-    fn write_to(&mut self, key: usize)
-        ensures { Stays self.old self.new }
-    {
-        if let Some(socket) = self.sockets.get_mut(key) {
-            peers::write(&mut self.peers, key, socket);
-        }
-    }
-
-    // Closes the connections that are over.
-    pub(crate) fn close_all<R: Wait>(&mut self, rt: &R)
-        ensures { Stays self.old self.new }
-    {
-        for key in 0..self.peers.len() {
-            if self.is_over(key) {
-                self.close(rt, key);
+    /// Ends all of them; what waits is abandoned.
+    pub fn end<R: Wait, D: Dir + Drop>(self, rt: &R, lanes: &mut Lanes<D, A>) {
+        let Connections { keys: _, slots } = self;
+        let mut rest = slots.into_iter();
+        while let Some(slot) = rest.next() {
+            if let Some(connection) = slot {
+                let ConnectionParts { stream: _, peer } = connection.into_parts();
+                peer.end(rt, lanes);
             }
         }
-    }
-
-    fn is_over(&self, key: usize) -> bool {
-        if let Some(socket) = self.sockets.get(key)
-            && let Some(Some(peer)) = self.peers.get(key)
-        {
-            return socket.is_over(peer);
-        }
-        false
-    }
-
-    fn close<R: Wait>(&mut self, rt: &R, key: usize)
-        ensures { Stays self.old self.new }
-    {
-        if let Some(socket) = self.sockets.try_remove(key) {
-            socket.close(self.poll.registry());
-        }
-        if let Some(peer) = peers::take(&mut self.peers, key) {
-            peer.end(rt, &mut self.lanes);
-        }
+        rest.destroy_empty();
     }
 }
 
-// Notes what the system says.
-fn note_all<A: Allocator>(events: &Events<A>, ready: &mut [bool], sockets: &mut Slab<Socket, A>) {
-    for event in events {
-        note(event, ready, sockets);
+fn note_slot<S: Wire, A: Allocator + Copy>(
+    slot: &mut Option<Connection<S, A>>,
+    is_readable: bool,
+    is_writable: bool,
+    is_ended: bool,
+)
+    ensures { GoesOn slot.old slot.new }
+{
+    if let Some(connection) = slot {
+        connection.note(is_readable, is_writable, is_ended);
     }
 }
 
-// Notes what the system says of a listener or a connection.
-fn note<A: Allocator>(event: &Event, ready: &mut [bool], sockets: &mut Slab<Socket, A>) {
-    let Token(token) = event.token();
-    if token >= FIRST_LISTENER {
-        if let Some(ready) = ready.get_mut(token - FIRST_LISTENER) {
-            *ready = true;
-        }
-    } else if let Some(socket) = sockets.get_mut(token) {
-        let is_over = event.is_read_closed() || event.is_error();
-        if event.is_readable() || is_over {
-            socket.note_readable(is_over);
-        }
-        if event.is_writable() || event.is_error() {
-            socket.note_writable();
-        }
+fn read_slot<S: Wire, R: Wait, D: Dir + Drop, A: Allocator + Copy>(
+    slot: &mut Option<Connection<S, A>>,
+    rt: &R,
+    alloc: A,
+    piece: &mut [u8],
+    lanes: &mut Lanes<D, A>,
+    numbers: &mut Numbers,
+) -> Result<(), LoopFault>
+    ensures { GoesOn slot.old slot.new }
+{
+    match slot {
+        Some(connection) => connection.read(rt, alloc, piece, lanes, numbers),
+        None => Ok(()),
+    }
+}
+
+fn settle_slot<S: Wire, R: Wait, D: Dir + Drop, A: Allocator + Copy>(
+    slot: &mut Option<Connection<S, A>>,
+    rt: &R,
+    alloc: A,
+    lanes: &mut Lanes<D, A>,
+)
+    ensures { GoesOn slot.old slot.new }
+{
+    if let Some(connection) = slot {
+        connection.settle(rt, alloc, lanes);
+    }
+}
+
+fn write_slot<S: Wire, A: Allocator + Copy>(slot: &mut Option<Connection<S, A>>)
+    ensures { GoesOn slot.old slot.new }
+{
+    if let Some(connection) = slot {
+        connection.write();
     }
 }

@@ -3,20 +3,22 @@
 ghost use Rattle.std.specs.Prelude.{◌≡◌, [], map, IfOk};
 ghost use Rattle.std.specs.Arc.{arc_value};
 ghost use Rattle.relay_buffers.specs.Buffers.{AreBuffersOf};
-ghost use Rattle.relay_buffers.specs.Paths.{HaveOwnPaths};
-ghost use Rattle.mio_relay.specs.Loops.{Stays, entries_of};
+ghost use Rattle.relay_ports.specs.Outputs.{outputs_in};
+ghost use Rattle.relay_ports.specs.Setups.{CanRun};
+ghost use Rattle.mio_relay.specs.Connections.{AreServed, sources_of};
+ghost use Rattle.mio_relay.specs.Loops.{Stays};
 
-use crate::listener::{Listener, listen};
-use crate::socket::Socket;
+use crate::bound::{BoundRelay, OpenRelay};
+use crate::connections::Connections;
+use crate::listener::{Listener, loop_fault};
 use ack_receipt::{Numbers, SharedBuffer, Stub};
 use buffer_lanes::Lanes;
 use disk_files::Dir;
-use loop_core::{LoopFault, Peer};
-use mio::{Events, Poll};
-use relay_buffers::{Folders, SystemDir, SystemFolders, lanes_of, open_all};
+use loop_core::LoopFault;
+use relay_buffers::{Folders, SystemDir, SystemFolders};
 use relay_conf::Relay;
-use route_graph::Routes;
-use slab::Slab;
+use relay_ports::RelaySetup;
+use relay_sockets::{Network, Nonces, Note, SocketNetwork};
 use std::alloc::Allocator;
 use std::marker::Model;
 use std::net::Net;
@@ -26,27 +28,22 @@ use std::rt::Files;
 use std::sync::atomic::{AtomicBool, Ordering};
 use std::sync::{Arc, Wait};
 use std::time::Clock;
-use tcp_courier::{Nonces, now_after};
 
 /// How many bytes are read from a connection at once.
-const PIECE: usize = 65_536;
+pub(crate) const PIECE: usize = 65_536;
 
-/// How many events a turn takes from the system.
-const EVENTS: usize = 1_024;
-
-/// The sources of a relay, their connections, and the relay's buffers.
+/// The sources of a relay, their connections, and the relay's buffers, over any network.
 ///
 /// It is no `Drop`: `run` ends it.
-pub struct InLoop<D: Dir + Drop, A: Allocator> {
+pub struct InLoop<N: Network + Drop, D: Dir + Drop, A: Allocator> {
     pub(crate) alloc: A,
-    pub(crate) poll: Poll,
-    pub(crate) events: Events<A>,
-    pub(crate) listeners: Vec<Listener<A>, A>,
+    pub(crate) network: N,
+    pub(crate) listeners: Vec<Listener<N, A>, A>,
     // At which listeners connections may wait.
     pub(crate) ready: Vec<bool, A>,
-    pub(crate) sockets: Slab<Socket, A>,
-    // By the keys of the sockets.
-    pub(crate) peers: Vec<Option<Peer<A>>, A>,
+    // What the network said last.
+    pub(crate) notes: Vec<Note, A>,
+    pub(crate) connections: Connections<N::Stream, A>,
     pub(crate) piece: Vec<u8, A>,
     pub(crate) lanes: Lanes<D, A>,
     pub(crate) buffers: Vec<Arc<SharedBuffer<D, A>, A>, A>,
@@ -56,22 +53,23 @@ pub struct InLoop<D: Dir + Drop, A: Allocator> {
     pub(crate) time: u64,
 }
 
-impl<D: Dir + Drop, A: Allocator> Model for InLoop<D, A> {
+impl<N: Network + Drop, D: Dir + Drop, A: Allocator> Model for InLoop<N, D, A> {
     ghost use Rattle.std.specs.Prelude.{map};
-    ghost use Rattle.std.specs.List.{All};
     ghost use Rattle.std.specs.Arc.{arc_value};
-    ghost use Rattle.mio_relay.specs.Loops.{IsServed, LoopState};
+    ghost use Rattle.mio_relay.specs.Connections.{AreListening, AreServed, sources_in};
+    ghost use Rattle.mio_relay.specs.Loops.{LoopState};
 
     ghost Value = { LoopState A };
 
     ghost view = { λ l. record {
-      entries = map (λ listener. arc_value listener.inlet) l.listeners.items;
-      peers = l.peers.items;
+      bound = N.bound l.network;
+      sources = sources_in l.listeners.items;
+      connections = l.connections;
       buffers = map (λ buffer. arc_value buffer) l.buffers.items;
     } };
 
-    // Each connection came in at one of the sources.
-    ghost invariant = { λ l. All (IsServed (map (λ listener. arc_value listener.inlet) l.listeners.items)) l.peers.items };
+    // Each source is bound at its address, and each connection is served as one of the source at whose listener it came in.
+    ghost invariant = { λ l. AreListening (N.bound l.network) l.listeners.items × AreServed (sources_in l.listeners.items) l.connections };
 }
 
 /// What is left of a loop.
@@ -83,18 +81,19 @@ pub struct Ended<A: Allocator> {
     pub fault: Option<LoopFault>,
 }
 
-impl<R, A> InLoop<SystemDir<R, A>, A>
+impl<R, A> InLoop<SocketNetwork<R, A>, SystemDir<R, A>, A>
 where
     R: Files + Net + Clock + RandomSource + Alloc + Clone + Drop,
     R::File: FileExt + Drop,
     R::A: Clone,
     A: Allocator + Copy,
 {
-    /// Listens at each source of the relay, and then opens its buffers, those with files in the folder of this path, which is
-    /// made where it isn't there.
+    /// Listens at each source of the relay by the system's sockets, and then opens its buffers, those with files in the folder of
+    /// this path, which is made where it isn't there.
     ///
-    /// `Bind`: an address can't be had. `Path`: two outputs share the path of their buffers, or of their sinks. No file was touched
-    /// then. `Buffer`: a buffer, or the folder, can't be opened. `Poll`: the system gives no sockets or no random bytes. `Memory`.
+    /// `Path`: two outputs share the path of their buffers, or of their sinks. `NoNumber`: a buffer hasn't the number of its place.
+    /// `Bind`: an address can't be had. No file was touched then. `Buffer`: a buffer, or the folder, can't be opened. `Poll`: the
+    /// system gives no sockets or no random bytes. `Memory`.
     pub fn open(
         rt: R,
         alloc: A,
@@ -102,14 +101,14 @@ where
         number: u32,
         path: &str,
     ) -> Result<Self, LoopFault>
-        ensures sources { IfOk result (λ opened. opened.entries ≡ entries_of number relay) }
-        ensures none { IfOk result (λ opened. opened.peers ≡ []) }
-        ensures buffers { IfOk result (λ opened. AreBuffersOf relay.scopes.items number opened.buffers) }
-        ensures paths { IfOk result (λ _. HaveOwnPaths relay) }
+        ensures sources { IfOk result (λ opened. opened.sources ≡ sources_of number relay) }
+        ensures bound { IfOk result (λ opened. opened.bound ≡ map (λ source. source.endpoint) opened.sources) }
+        ensures none { IfOk result (λ opened. opened.connections ≡ []) }
+        ensures buffers { IfOk result (λ opened. AreBuffersOf number (outputs_in relay.scopes.items) opened.buffers) }
+        ensures runs { IfOk result (λ _. CanRun (outputs_in relay.scopes.items)) }
     {
-        let theirs = match rt.clone() {
-            Ok(theirs) => theirs,
-            Err(_) => return Err(LoopFault::Memory),
+        let Ok(theirs) = rt.clone() else {
+            return Err(LoopFault::Memory);
         };
         let folders = SystemFolders {
             rt: theirs,
@@ -120,54 +119,64 @@ where
     }
 }
 
-impl<D: Dir + Drop, A: Allocator + Copy> InLoop<D, A> {
+impl<R, D: Dir + Drop, A> InLoop<SocketNetwork<R, A>, D, A>
+where
+    R: Net + Clock + RandomSource + Clone + Drop,
+    A: Allocator + Copy,
+{
     /// The same with buffers in these folders.
-    pub fn open_in<R: Net + Clock + RandomSource, F: Folders<D, A>>(
+    pub fn open_in<F: Folders<D, A>>(
         rt: &R,
         alloc: A,
         relay: Relay<A>,
         number: u32,
         folders: &F,
     ) -> Result<Self, LoopFault>
-        ensures sources { IfOk result (λ opened. opened.entries ≡ entries_of number relay) }
-        ensures none { IfOk result (λ opened. opened.peers ≡ []) }
-        ensures buffers { IfOk result (λ opened. AreBuffersOf relay.scopes.items number opened.buffers) }
-        ensures paths { IfOk result (λ _. HaveOwnPaths relay) }
+        ensures sources { IfOk result (λ opened. opened.sources ≡ sources_of number relay) }
+        ensures bound { IfOk result (λ opened. opened.bound ≡ map (λ source. source.endpoint) opened.sources) }
+        ensures none { IfOk result (λ opened. opened.connections ≡ []) }
+        ensures buffers { IfOk result (λ opened. AreBuffersOf number (outputs_in relay.scopes.items) opened.buffers) }
+        ensures runs { IfOk result (λ _. CanRun (outputs_in relay.scopes.items)) }
     {
-        let Ok(poll) = Poll::new(rt) else {
-            return Err(LoopFault::Poll);
+        let Ok(theirs) = rt.clone() else {
+            return Err(LoopFault::Memory);
         };
-        let Ok(nonces) = Nonces::new(rt) else {
-            return Err(LoopFault::Poll);
-        };
-        let routes = Arc::new(alloc, Routes::new(alloc, &relay)?)?;
-        let Relay { sources, scopes } = relay;
-        let listeners = listen(alloc, rt, poll.registry(), number, &routes, sources)?;
-        let rest = Relay {
-            sources: Vec::new(alloc),
-            scopes,
-        };
-        let time = now_after(rt, 0);
-        let opened = open_all(alloc, &rest, number, folders, time)?;
-        let ready = Vec::from_elem(alloc, true, listeners.len())?;
-        let events = Events::with_capacity(alloc, EVENTS)?;
-        let piece = Vec::from_elem(alloc, 0, PIECE)?;
-        let (lanes, buffers) = lanes_of(alloc, opened)?;
-        Ok(InLoop {
-            alloc,
-            poll,
-            events,
-            listeners,
-            ready,
-            sockets: Slab::new(alloc),
-            peers: Vec::new(alloc),
-            piece,
-            lanes,
-            buffers,
-            numbers: Numbers::new(),
-            nonces,
-            time,
-        })
+        match SocketNetwork::new(theirs, alloc) {
+            Ok(network) => InLoop::open_over(rt, alloc, network, relay, number, folders),
+            Err(fault) => Err(loop_fault(fault)),
+        }
+    }
+}
+
+impl<N: Network + Drop, D: Dir + Drop, A: Allocator + Copy> InLoop<N, D, A> {
+    /// The same over any network that has no listener yet.
+    pub fn open_over<R: RandomSource, F: Folders<D, A>>(
+        rt: &R,
+        alloc: A,
+        network: N,
+        relay: Relay<A>,
+        number: u32,
+        folders: &F,
+    ) -> Result<Self, LoopFault>
+        requires { N.bound network ≡ [] }
+        ensures sources { IfOk result (λ opened. opened.sources ≡ sources_of number relay) }
+        ensures bound { IfOk result (λ opened. opened.bound ≡ map (λ source. source.endpoint) opened.sources) }
+        ensures none { IfOk result (λ opened. opened.connections ≡ []) }
+        ensures buffers { IfOk result (λ opened. AreBuffersOf number (outputs_in relay.scopes.items) opened.buffers) }
+        ensures runs { IfOk result (λ _. CanRun (outputs_in relay.scopes.items)) }
+    {
+        let setup = RelaySetup::new(alloc, relay, number)?;
+        let bound = BoundRelay::bind(rt, alloc, network, setup)?;
+        let OpenRelay { turning, jobs: _ } = bound.open(folders)?;
+        Ok(turning)
+    }
+
+    /// Each connection is served as one of the source at whose listener it came in. The call does nothing: it stands for what the
+    /// type keeps.
+    pub fn are_served(&self)
+        ensures { AreServed self.now.sources self.now.connections }
+    {
+        let _ = &self.network;
     }
 
     /// The relay's buffers, in the order of their numbers, for the flush threads.
@@ -177,9 +186,10 @@ impl<D: Dir + Drop, A: Allocator + Copy> InLoop<D, A> {
         &self.buffers
     }
 
-    /// The port of the source with this place, as it was bound.
+    /// The port of the source with this place: where it is 0, the one that the system chose.
     pub fn port(&self, place: usize) -> Option<u16> {
-        Some(self.listeners.get(place)?.port())
+        let listener = self.listeners.get(place)?;
+        Some(self.network.port(listener.socket()))
     }
 
     /// Keeps what is left of deliveries from now on, for an audit; else the buffers' books account for it at once.
@@ -195,11 +205,11 @@ impl<D: Dir + Drop, A: Allocator + Copy> InLoop<D, A> {
     ///
     /// Each delivery that began is acknowledged or abandoned when it returns, but for those whose receipts there was no memory
     /// for: they wait for the next turn, in which nothing is read. After an error the loop is to be ended.
-    pub fn turn<R: Wait + Clock>(&mut self, rt: &R) -> Result<(), LoopFault>
+    pub fn turn<R: Wait>(&mut self, rt: &R) -> Result<(), LoopFault>
         ensures { Stays self.old self.new }
     {
         self.wait()?;
-        self.set_time(rt);
+        self.set_time();
         self.accept_all(rt);
         let read = self.take_in(rt);
         self.store(rt);
@@ -214,10 +224,10 @@ impl<D: Dir + Drop, A: Allocator + Copy> InLoop<D, A> {
         }
     }
 
-    fn set_time<R: Clock>(&mut self, rt: &R)
+    fn set_time(&mut self)
         ensures { Stays self.old self.new }
     {
-        self.time = now_after(rt, self.time);
+        self.time = self.network.now_after(self.time);
         self.lanes.set_time(self.time);
     }
 
@@ -246,13 +256,13 @@ impl<D: Dir + Drop, A: Allocator + Copy> InLoop<D, A> {
     }
 
     /// Turns until the flag is set, or a fault comes; then ends what waits, without an answer.
-    pub fn run<R: Wait + Clock>(self, rt: &R, stop: &AtomicBool) -> Ended<A> {
+    pub fn run<R: Wait>(self, rt: &R, stop: &AtomicBool) -> Ended<A> {
         let mut turning = self;
         let fault = turning.turn_until(rt, stop);
         turning.end(rt, fault)
     }
 
-    fn turn_until<R: Wait + Clock>(&mut self, rt: &R, stop: &AtomicBool) -> Option<LoopFault>
+    fn turn_until<R: Wait>(&mut self, rt: &R, stop: &AtomicBool) -> Option<LoopFault>
         ensures { Stays self.old self.new }
     {
         for _ in rt.forever() {
@@ -269,12 +279,11 @@ impl<D: Dir + Drop, A: Allocator + Copy> InLoop<D, A> {
     fn end<R: Wait>(self, rt: &R, fault: Option<LoopFault>) -> Ended<A> {
         let InLoop {
             alloc,
-            poll: _,
-            events: _,
+            network: _,
             listeners: _,
             ready: _,
-            sockets: _,
-            peers,
+            notes: _,
+            connections,
             piece: _,
             mut lanes,
             buffers: _,
@@ -282,13 +291,7 @@ impl<D: Dir + Drop, A: Allocator + Copy> InLoop<D, A> {
             nonces: _,
             time: _,
         } = self;
-        let mut rest = peers.into_iter();
-        while let Some(place) = rest.next() {
-            if let Some(peer) = place {
-                peer.end(rt, &mut lanes);
-            }
-        }
-        rest.destroy_empty();
+        connections.end(rt, &mut lanes);
         let stubs = match lanes.end(rt) {
             Some(stubs) => stubs,
             None => Vec::new(alloc),

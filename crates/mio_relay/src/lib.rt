@@ -1,11 +1,13 @@
-//! The relay on sockets: a loop that takes messages in and answers them once they are stored.
+//! The relay on sockets: a loop that takes messages in and answers them once they are stored, over any network.
 #![tactic(auto)]
 
 mod accepting;
+mod bound;
+mod connection;
 mod connections;
 mod in_loop;
 mod listener;
-mod peers;
-mod socket;
+mod serving;
 
+pub use bound::{BoundRelay, OpenRelay};
 pub use in_loop::{Ended, InLoop};

@@ -1,132 +1,139 @@
 //! What a relay listens on.
 
-ghost use Rattle.std.specs.Prelude.{◌≡◌, map, Contains, IfOk, IfSome};
+ghost use Rattle.std.specs.Prelude.{◌≡◌, ◌++◌, [], ◌∷◌, map, length, slice_get, IfOk, OnOk, IfSome, IsSomeAnd};
 ghost use Rattle.std.specs.Arc.{arc_value};
 ghost use Rattle.forward_core.specs.Handshakes.{IsHosted};
-ghost use Rattle.mio_relay.specs.Loops.{entry_of};
+ghost use Rattle.handshake_keys.specs.Credentials.{credentials_in};
+ghost use Rattle.mio_relay.specs.Connections.{AreListening, BeginsAt, endpoint_of, served_as, sources_in};
 
 use forward_core::Security;
+use handshake_keys::shown;
 use loop_core::{LoopFault, Peer};
-use mio::net::TcpListener;
-use mio::{Interest, Registry, Token};
 use relay_conf::{Security as Secret, Source};
 use relay_ports::Inlet;
+use relay_sockets::{NetFault, Network};
 use route_graph::Routes;
 use std::alloc::{AllocError, Allocator};
-use std::net::Net;
+use std::marker::Model;
 use std::sync::Arc;
-use tcp_courier::{resolve, shown};
 
-/// A listener's token is this and its place, and a connection's is its key.
-pub const FIRST_LISTENER: usize = 1 << 32;
-
-/// A source of the configuration: the socket that listens there, and where its messages go.
+/// A source of the configuration: the socket that listens there, where its messages go, and what its clients have to prove. Contracts
+/// see the socket's number, and the source.
 #[derive(Drop)]
-pub struct Listener<A: Allocator> {
-    pub socket: TcpListener,
-    pub inlet: Arc<Inlet<A>, A>,
+pub struct Listener<N: Network, A: Allocator> {
+    socket: N::Listener,
+    bind: String<A>,
     port: u16,
+    inlet: Arc<Inlet<A>, A>,
     secret: Option<Secret<A>>,
 }
 
-impl<A: Allocator> Listener<A> {
-    /// What clients have to show in the handshake, if anything; `Err` where this end's name is too long for one.
-    pub fn security(&self) -> Result<Option<Security<'_>>, ()>
-        ensures { IfOk result IsHosted }
+impl<N: Network, A: Allocator> Model for Listener<N, A> {
+    ghost use Rattle.std.specs.Prelude.{string_bytes};
+    ghost use Rattle.std.specs.Arc.{arc_value};
+    ghost use Rattle.handshake_keys.specs.Credentials.{credentials_of};
+    ghost use Rattle.mio_relay.specs.Connections.{Hosted};
+
+    ghost Value = { Hosted };
+
+    ghost view = { λ l. record {
+      number = N.number l.socket;
+      source = record { endpoint = record { host = string_bytes l.bind; port = l.port }; entry = arc_value l.inlet; asks = credentials_of l.secret };
+    } };
+}
+
+impl<N: Network, A: Allocator> Listener<N, A> {
+    /// Its socket.
+    pub fn socket(&self) -> &N::Listener
+        ensures { N.number result.now ≡ self.now.number }
+    {
+        &self.socket
+    }
+
+    // What clients have to show in the handshake, if anything; `Err` where this end's name is too long for one.
+    fn security(&self) -> Result<Option<Security<'_>>, ()>
+        ensures hosted { IfOk result IsHosted }
+        ensures asks { IfOk result (λ security. credentials_in security ≡ self.now.source.asks) }
     {
         shown(&self.secret)
     }
+}
 
-    /// The port that it listens on.
-    pub fn port(&self) -> u16 {
-        match self.socket.local_addr() {
-            Ok(address) => address.port(),
-            Err(_) => self.port,
-        }
+/// Why a network's refusal ends a relay's loop.
+pub fn loop_fault(fault: NetFault) -> LoopFault {
+    match fault {
+        NetFault::Bind => LoopFault::Bind,
+        NetFault::Poll => LoopFault::Poll,
+        NetFault::Memory => LoopFault::Memory,
     }
 }
 
-/// The socket that listens where the source says. `Bind` where the address can't be had.
-fn bind<A: Allocator>(
-    net: &impl Net,
-    registry: &Registry,
-    source: &Source<A>,
-    place: usize,
-) -> Result<TcpListener, LoopFault> {
-    let Ok(Some(address)) = resolve(net, source.bind.as_str(), source.port) else {
-        return Err(LoopFault::Bind);
-    };
-    let Ok(mut socket) = TcpListener::bind(net, address) else {
-        return Err(LoopFault::Bind);
-    };
-    let Some(token) = FIRST_LISTENER.checked_add(place) else {
-        return Err(LoopFault::Bind);
-    };
-    let readable = Interest::READABLE;
-    if registry
-        .register(&mut socket, Token(token), readable)
-        .is_err()
-    {
-        return Err(LoopFault::Poll);
-    }
-    Ok(socket)
-}
-
-/// Listens at each of the sources of the relay with this number, whose events go so.
+/// Listens at each of the sources of the relay with this number, whose events go so, over a network that has no listener yet.
 ///
 /// `Bind` where an address can't be had, `Poll` where the system reports nothing of a socket, and `Memory`.
-pub fn listen<A: Allocator + Copy>(
+pub fn listen<N: Network, A: Allocator + Copy>(
     alloc: A,
-    net: &impl Net,
-    registry: &Registry,
+    network: &mut N,
     number: u32,
     routes: &Arc<Routes<A>, A>,
     sources: Vec<Source<A>, A>,
-) -> Result<Vec<Listener<A>, A>, LoopFault>
-    ensures { IfOk result (λ listeners. map (λ listener. arc_value listener.inlet) listeners.items ≡ map (entry_of number (arc_value routes.now)) sources.items) }
+) -> Result<Vec<Listener<N, A>, A>, LoopFault>
+    requires { N.bound network.old ≡ [] }
+    ensures listening { IfOk result (λ listeners. AreListening (N.bound network.new) listeners.items) }
+    ensures sources { IfOk result (λ listeners. sources_in listeners.items ≡ map (served_as number (arc_value routes.now)) sources.items) }
 {
     let mut listeners = Vec::with_capacity(alloc, sources.len())?;
     let mut rest = sources.into_iter();
     while let Some(source) = rest.next() {
-        let place = listeners.len();
-        let listener = listen_at(alloc, net, registry, number, routes, source, place)?;
+        let listener = listen_at(alloc, network, number, routes, source)?;
         listeners.push(listener)?;
     }
     Ok(listeners)
 }
 
-/// Listens at one source, with this place among those of the relay.
-fn listen_at<A: Allocator + Copy>(
+// Listens at one source.
+fn listen_at<N: Network, A: Allocator + Copy>(
     alloc: A,
-    net: &impl Net,
-    registry: &Registry,
+    network: &mut N,
     number: u32,
     routes: &Arc<Routes<A>, A>,
     source: Source<A>,
-    place: usize,
-) -> Result<Listener<A>, LoopFault>
-    ensures { IfOk result (λ listener. arc_value listener.inlet ≡ entry_of number (arc_value routes.now) source) }
+) -> Result<Listener<N, A>, LoopFault>
+    ensures bound { OnOk result (N.bound network.new ≡ N.bound network.old ++ endpoint_of source ∷ []) }
+    ensures number { IfOk result (λ listener. listener.number ≡ length (N.bound network.old)) }
+    ensures source { IfOk result (λ listener. listener.source ≡ served_as number (arc_value routes.now) source) }
 {
-    let socket = bind(net, registry, &source, place)?;
-    let routes = Arc::try_clone(routes)?;
-    let inlet = Inlet::new(number, routes, source.label, source.prefix);
-    Ok(Listener {
-        socket,
-        inlet: Arc::new(alloc, inlet)?,
-        port: source.port,
-        secret: source.security,
-    })
+    let Source {
+        port,
+        bind,
+        label,
+        prefix,
+        security,
+        line: _,
+    } = source;
+    let theirs = Arc::try_clone(routes)?;
+    let inlet = Arc::new(alloc, Inlet::new(number, theirs, label, prefix))?;
+    match network.bind(bind.as_str(), port) {
+        Ok(socket) => Ok(Listener {
+            socket,
+            bind,
+            port,
+            inlet,
+            secret: security,
+        }),
+        Err(fault) => Err(loop_fault(fault)),
+    }
 }
 
-/// A connection that came in at the source with this place; `None` where there is none, or where its name is too long for a
-/// handshake. The error is want of memory.
-pub fn peer_at<A: Allocator + Copy>(
+/// A session that begins: it is of the source with this place, and its client has to prove that source's key. `None` where there
+/// is no such source, or where its name is too long for a handshake. The error is want of memory.
+pub fn peer_at<N: Network, A: Allocator + Copy>(
     alloc: A,
-    listeners: &[Listener<A>],
+    listeners: &[Listener<N, A>],
     place: usize,
     nonce: [u8; 16],
 ) -> Result<Option<Peer<A>>, AllocError>
-    ensures { IfOk result (λ found. IfSome found (λ peer. Contains (map (λ listener. arc_value listener.inlet) listeners.now) peer.entry)) }
+    ensures { IfOk result (λ found. IfSome found (λ peer. IsSomeAnd (slice_get listeners.now place) (λ listener. BeginsAt listener.source nonce peer))) }
 {
     let Some(listener) = listeners.get(place) else {
         return Ok(None);

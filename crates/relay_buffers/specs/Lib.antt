@@ -1,3 +1,2 @@
+pub mod Owners
 pub mod Buffers
-pub mod Delivering
-pub mod Paths

@@ -1,12 +1,12 @@
-//! The buffers of a relay: they are opened as its configuration says, and it is said how the chunks of each are delivered.
+//! The buffers of a relay: opened as its outputs say, and given to the loop and to the flush threads, each with its own output.
 #![tactic(auto)]
 
-mod delivering;
 mod folders;
+mod job;
 mod opening;
-mod paths;
+mod parting;
 
-pub use delivering::{Aim, Delivering, delivering_of};
 pub use folders::{Folders, MemoryFolders, SystemDir, SystemFolders};
-pub use opening::{Opened, lanes_of, open_all};
-pub use paths::have_own_paths;
+pub use job::DeliveryJob;
+pub use opening::{OpenOutput, open_all};
+pub use parting::{RelayParts, parts_of};

@@ -1,2 +1,4 @@
 pub mod Leading
+pub mod Ordering
 pub mod Sought
+pub mod Spreading

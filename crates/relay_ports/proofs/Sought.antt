@@ -1,6 +1,6 @@
--- What a search through outputs knows of those that it has passed.
+-- What a search through a list knows of those that it has passed.
 use Rattle.std.proofs.Common.{◌≡◌, ℕ, ◌+◌, ◌<◌, ◌≤◌, List, get_or, length, sym, subst, arith, ◌⊎◌, inl, inr}
-use Rattle.std.specs.Prelude.{All, Contains}
+use Rattle.std.specs.Prelude.{All}
 use Rattle.std.specs.List.{AllWithin}
 use Rattle.std.proofs.lemmas.Bool.{cases_lt}
 use Rattle.std.proofs.lemmas.List.Elements.{at_read}
@@ -18,6 +18,6 @@ module _ {X : Type 0} (P : X → Type 0) (xs : List X) where
   pub all_of : (n : ℕ) → length xs ≤ n → AllWithin P xs 0 n → All P xs
   all_of n end all k d less = all k d (omega arith) (omega arith)
 
--- the element at a place is one of the list
-pub one_of : {X : Type 0} (xs : List X) (n : ℕ) (x : X) → n < length xs → x ≡ get_or xs n x → Contains xs x
-one_of xs n x less is = (n, less, sym is)
+  -- it holds of the one at a place, where it holds of all
+  pub at_place : (n : ℕ) (x : X) → n < length xs → x ≡ get_or xs n x → All P xs → P x
+  at_place n x less is all = subst P (sym is) (all n x less)

@@ -1,2 +1,3 @@
 pub mod Leaves
-pub mod Outlets
+pub mod Outputs
+pub mod Setups

@@ -1,9 +1,14 @@
-//! The sources and outputs of a relay, as its loop sees them: which buffers have to store a message before it is answered, and what lets the chunks
+//! A relay as it runs: its sources and outputs, which buffers have to store a message before it is answered, and what lets the chunks
 //! of an output's buffer go.
 #![tactic(auto)]
 
+mod buffered;
+mod fault;
 mod inlet;
-mod outlet;
+mod paths;
+mod setup;
 
+pub use buffered::{BufferedOutput, takes_of};
+pub use fault::SetupFault;
 pub use inlet::{Branches, Inlet};
-pub use outlet::{Outlet, outlet_of, takes_of};
+pub use setup::{RelaySetup, SetupParts};

@@ -5,10 +5,13 @@ use buffer_store::BufferFault;
 use disk_files::{Dir, RealDir};
 use flush_pool::{CarryFault, ClaimView, Courier, OpenGate, Retries, SinkCourier, run_pool};
 use loop_core::LoopFault;
-use relay_buffers::{Aim, Delivering, SystemDir};
+use relay_buffers::{DeliveryJob, SystemDir};
+use relay_ports::BufferedOutput;
+use relay_sockets::{Nonces, SystemDialer};
 use sink_series::{Series, SeriesFault};
 use std::alloc::Global;
 use std::net::{Net, TcpListener, TcpStream};
+use std::random::RandomSource;
 use std::sync::atomic::{AtomicBool, Ordering};
 use std::sync::{Arc, Wait};
 use std::thread::Threads;
@@ -22,13 +25,16 @@ pub struct Home<'a> {
     pub path: &'a str,
 }
 
+// What its couriers connect by.
+type Connects = SystemDialer<HostRuntime, Global>;
+
 /// A folder of the relay's buffers.
 pub type Folder = SystemDir<HostRuntime, Global>;
 
 // Carries chunks to servers, or to the files of a sink.
 #[derive(Drop)]
 enum Carrier {
-    Servers(TcpCourier<Global>),
+    Servers(TcpCourier<Connects, Global>),
     Sink(SinkCourier<RealDir<HostRuntime, Global>, Global>),
 }
 
@@ -45,7 +51,7 @@ impl<R: Wait + Net + Clock, D: Dir> Courier<R, D, Global> for Carrier {
     }
 }
 
-/// What one thread has that starts a buffer's flush threads.
+/// What one thread has that starts an output's flush threads: its buffer, and what carries its chunks.
 #[derive(Drop)]
 pub struct Pool {
     buffer: Arc<SharedBuffer<Folder, Global>>,
@@ -56,32 +62,26 @@ pub struct Pool {
 }
 
 impl Pool {
-    /// Opens the output's sink, where it has one, in this folder. `Buffer`: its files can't be made. `Memory`.
-    pub fn open(
+    /// Makes what carries the chunks of this output: a courier to its servers, or its sink, which is opened in this folder.
+    ///
+    /// `Buffer`: the sink's files can't be made. `Poll`: the system gives no random bytes. `Memory`.
+    pub fn open<R: RandomSource>(
+        rt: &R,
         home: Home<'_>,
-        delivering: Delivering<Global>,
-        buffer: &Arc<SharedBuffer<Folder, Global>>,
+        job: &DeliveryJob<Folder, Global>,
         stop: &Arc<AtomicBool>,
     ) -> Result<Pool, LoopFault> {
-        let Delivering {
-            aim,
-            threads,
-            retry,
-        } = delivering;
-        let carrier = match aim {
-            Aim::Servers(courier) => Carrier::Servers(courier),
-            Aim::Sink(name) => Carrier::Sink(sink_of(home, &name)?),
-        };
+        let settings = job.output().buffer();
         Ok(Pool {
-            buffer: Arc::try_clone(buffer)?,
-            carrier,
-            threads,
-            retries: Retries::new(home.files.alloc(), retry),
+            buffer: Arc::try_clone(job.buffer())?,
+            carrier: carrier_of(rt, home, job.output(), stop)?,
+            threads: settings.flush_thread_count,
+            retries: Retries::new(home.files.alloc(), settings.retry),
             stop: Arc::try_clone(stop)?,
         })
     }
 
-    /// Delivers chunks until the relay stops. Where the buffer has failed, it stops the relay.
+    /// Delivers chunks until the relay stops, by as many threads as the output has. Where the buffer has failed, it stops the relay.
     pub fn run<R>(self, rt: &R) -> Option<LoopFault>
     where
         R: Wait + Net<Listener = TcpListener, Stream = TcpStream> + Clock + Threads + Sync,
@@ -100,6 +100,30 @@ impl Pool {
             Ok(_) => None,
             Err(BufferFault::Memory) => Some(LoopFault::Memory),
             Err(fault) => Some(LoopFault::Buffer(fault)),
+        }
+    }
+}
+
+// What carries the chunks of this output.
+fn carrier_of<R: RandomSource>(
+    rt: &R,
+    home: Home<'_>,
+    output: &BufferedOutput<Global>,
+    stop: &Arc<AtomicBool>,
+) -> Result<Carrier, LoopFault> {
+    match output {
+        BufferedOutput::Forward(settings) => {
+            let Ok(nonces) = Nonces::new(rt) else {
+                return Err(LoopFault::Poll);
+            };
+            let alloc = home.files.alloc();
+            let dialer = Arc::new(alloc, Connects::new(copy_of(home.files)?, alloc))?;
+            let theirs = Arc::try_clone(stop)?;
+            let courier = TcpCourier::new(alloc, settings, nonces, theirs, dialer)?;
+            Ok(Carrier::Servers(courier))
+        }
+        BufferedOutput::File(settings) => {
+            Ok(Carrier::Sink(sink_of(home, settings.path.as_str())?))
         }
     }
 }

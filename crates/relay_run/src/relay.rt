@@ -1,17 +1,19 @@
 //! A relay is read, opened and run: its ports are printed once they are ready, and its fault in the end.
 
-ghost use Rattle.std.specs.Prelude.{◌≡◌, ◌≢◌, None, IfOk, IfSome, IfNone};
+ghost use Rattle.std.specs.Prelude.{◌≡◌, ◌≢◌, [], None, IfOk, IfSome, IfNone};
 ghost use Rattle.plan_lines.specs.Forms.{relay_number};
 ghost use Rattle.relay_run.specs.Starting.{ready_lines, fault_line as fault_line_of, PrintsReady, PrintsRelay, PrintsRun};
 
 use crate::flush::{Folder, Home, Pool, copy_of};
 use conf_values::whole_number;
 use loop_core::LoopFault;
-use mio_relay::{Ended, InLoop};
+use mio_relay::{BoundRelay, Ended, InLoop, OpenRelay};
 use program_text::{Status, put_all, put_last};
-use relay_buffers::{Delivering, SystemFolders, delivering_of};
+use relay_buffers::{DeliveryJob, SystemFolders};
 use relay_conf::Relay;
+use relay_ports::RelaySetup;
 use relay_reading::{print_conf_stop, read_relay};
+use relay_sockets::{NetFault, Network, SocketNetwork};
 use std::alloc::{AllocError, Allocator, Global};
 use std::io::{Read, Write};
 use std::net::{Net, TcpListener, TcpStream};
@@ -99,22 +101,63 @@ where
     {
         let alloc = self.rt.alloc();
         let stop = Arc::new(alloc, AtomicBool::new(false))?;
-        let delivering = delivering_of(self.rt, alloc, &relay, &stop)?;
-        let sources = relay.sources.len();
+        let setup = RelaySetup::new(alloc, relay, number)?;
+        let bound = BoundRelay::bind(self.rt, alloc, self.network()?, setup)?;
+        let ports = bound.ports()?;
         let folders = SystemFolders {
             rt: copy_of(self.home.files)?,
             alloc,
             path: self.home.path,
         };
-        let turning = InLoop::open_in(self.rt, alloc, relay, number, &folders)?;
-        let pools = open_ready(self.home, delivering, &turning, sources, &stop, out);
+        let OpenRelay { turning, jobs } = bound.open(&folders)?;
+        let pools = self.open_ready(jobs, &ports, &stop, out);
         self.run_open(turning, pools, &stop)
+    }
+
+    // The system's sockets, none of which listens yet.
+    fn network(&self) -> Result<SocketNetwork<R, Global>, LoopFault>
+        ensures { IfOk result (λ network. ⟦<SocketNetwork<R, Global> as Network>⟧.bound network ≡ []) }
+    {
+        match SocketNetwork::new(copy_of(self.rt)?, self.rt.alloc()) {
+            Ok(network) => Ok(network),
+            Err(NetFault::Memory) => Err(LoopFault::Memory),
+            Err(_) => Err(LoopFault::Poll),
+        }
+    }
+
+    // What delivers the chunks of each output. Once it is there, the sources are printed.
+    #[tactic(auto, using(crate::proofs::StartingSteps::none_ready))]
+    fn open_ready<W: Write>(
+        &self,
+        jobs: Vec<DeliveryJob<Folder, Global>>,
+        ports: &[u16],
+        stop: &Arc<AtomicBool>,
+        out: &mut W,
+    ) -> Result<Vec<Pool>, LoopFault>
+        ensures { PrintsReady (W.contents out.old) (W.contents out.new) }
+    {
+        let pools = self.open_pools(&jobs, stop)?;
+        put_ready(self.rt.alloc(), ports, out)?;
+        Ok(pools)
+    }
+
+    // What delivers the chunks of each output.
+    fn open_pools(
+        &self,
+        jobs: &[DeliveryJob<Folder, Global>],
+        stop: &Arc<AtomicBool>,
+    ) -> Result<Vec<Pool>, LoopFault> {
+        let mut pools = Vec::new(self.rt.alloc());
+        for job in jobs {
+            pools.push(Pool::open(self.rt, self.home, job, stop)?)?;
+        }
+        Ok(pools)
     }
 
     // Runs the loop and the pools until one of them has a fault.
     fn run_open(
         &self,
-        turning: InLoop<Folder, Global>,
+        turning: InLoop<SocketNetwork<R, Global>, Folder, Global>,
         pools: Result<Vec<Pool>, LoopFault>,
         stop: &Arc<AtomicBool>,
     ) -> Result<(), LoopFault> {
@@ -188,25 +231,7 @@ fn ready_text<A: Allocator + Copy>(alloc: A, ports: &[u16]) -> Result<Vec<u8, A>
     Ok(text)
 }
 
-// Prints that the sources take connections. Where the writer fails, the relay runs all the same.
-fn print_ready<W: Write>(
-    alloc: Global,
-    turning: &InLoop<Folder, Global>,
-    sources: usize,
-    out: &mut W,
-) -> Result<(), AllocError>
-    ensures { PrintsReady (W.contents out.old) (W.contents out.new) }
-{
-    let mut ports = Vec::new(alloc);
-    for place in 0..sources {
-        if let Some(port) = turning.port(place) {
-            ports.push(port)?;
-        }
-    }
-    put_ready(alloc, &ports, out)
-}
-
-// Prints that sources take connections at these ports.
+// Prints that sources take connections at these ports. Where the writer fails, the relay runs all the same.
 fn put_ready<A: Allocator + Copy, W: Write>(
     alloc: A,
     ports: &[u16],
@@ -217,37 +242,6 @@ fn put_ready<A: Allocator + Copy, W: Write>(
     let text = ready_text(alloc, ports)?;
     let _ = put_all(out, &text);
     Ok(())
-}
-
-// What delivers each buffer's chunks. Once it is there, the sources are printed.
-#[tactic(auto, using(crate::proofs::StartingSteps::none_ready))]
-fn open_ready<W: Write>(
-    home: Home<'_>,
-    delivering: Vec<Delivering<Global>>,
-    turning: &InLoop<Folder, Global>,
-    sources: usize,
-    stop: &Arc<AtomicBool>,
-    out: &mut W,
-) -> Result<Vec<Pool>, LoopFault>
-    ensures { PrintsReady (W.contents out.old) (W.contents out.new) }
-{
-    let pools = open_pools(home, delivering, turning, stop)?;
-    print_ready(home.files.alloc(), turning, sources, out)?;
-    Ok(pools)
-}
-
-// What delivers each buffer's chunks.
-fn open_pools(
-    home: Home<'_>,
-    delivering: Vec<Delivering<Global>>,
-    turning: &InLoop<Folder, Global>,
-    stop: &Arc<AtomicBool>,
-) -> Result<Vec<Pool>, LoopFault> {
-    let mut pools = Vec::new(home.files.alloc());
-    for (each, buffer) in delivering.into_iter().zip(turning.buffers()) {
-        pools.push(Pool::open(home, each, buffer, stop)?)?;
-    }
-    Ok(pools)
 }
 
 // Waits for the threads to end, and gives the first fault.

@@ -1,22 +1,23 @@
 //! A loop with clients on sockets, turned by hand.
 
 use crate::relays::{LOOPING, SHARED, SINK, SMALL, relay_of};
+use crate::turned::ended;
 use disk_files::Dir;
 use loop_core::LoopFault;
 use mio_relay::{Ended, InLoop};
 use relay_buffers::{Folders, MemoryFolders};
 use relay_conf::Relay;
+use relay_sockets::{Network, SocketNetwork};
 use std::alloc::Global;
 use std::io::{ErrorKind, Read, Write};
 use std::net::{Ipv4Addr, Net, OpenStream, SocketAddr, TcpStream};
 use std::random::RandomSource;
 use std::sync::Wait;
-use std::sync::atomic::AtomicBool;
 use std::test::Fail;
 use std::time::{Clock, Duration};
 
-// A loop with buffers in folders of any kind: over ones in memory all that is said of these would be in view at each call.
-pub type Turning<D> = InLoop<D, Global>;
+// A loop with sockets of the system, and buffers in folders of any kind: over ones in memory all that is said of these would be in view at each call.
+type Turning<R, D> = InLoop<SocketNetwork<R, Global>, D, Global>;
 
 pub const TAG: &[u8] = b"a";
 
@@ -34,9 +35,9 @@ pub const ANSWER: &[u8] = b"\x81\xa3ack\xa2c1";
 const OTHER_ANSWER: &[u8] = b"\x81\xa3ack\xa2c2";
 
 // A loop with buffers in these folders, which keeps what is left of its deliveries.
-pub fn open<R, D, F>(rt: &R, text: &str, folders: &F) -> Result<Turning<D>, Fail>
+fn open<R, D, F>(rt: &R, text: &str, folders: &F) -> Result<Turning<R, D>, Fail>
 where
-    R: Net + Clock + RandomSource + AllocGlobal,
+    R: Net + Clock + RandomSource + AllocGlobal + Clone + Drop,
     D: Dir + Drop,
     F: Folders<D, Global>,
 {
@@ -51,7 +52,10 @@ where
 }
 
 // A client of the loop's only source.
-pub fn client<R: Net, D: Dir + Drop>(rt: &R, turning: &Turning<D>) -> Result<R::Stream, Fail> {
+pub fn client<R: Net, N: Network + Drop, D: Dir + Drop>(
+    rt: &R,
+    turning: &InLoop<N, D, Global>,
+) -> Result<R::Stream, Fail> {
     let Some(port) = turning.port(0) else {
         return Err(Fail::from("no source"));
     };
@@ -62,7 +66,10 @@ pub fn client<R: Net, D: Dir + Drop>(rt: &R, turning: &Turning<D>) -> Result<R::
 }
 
 // Twenty turns, or those up to a fault.
-fn turn<R: Wait + Clock, D: Dir + Drop>(rt: &R, turning: &mut Turning<D>) -> Result<(), Fail> {
+pub fn turn<R: Wait, N: Network + Drop, D: Dir + Drop>(
+    rt: &R,
+    turning: &mut InLoop<N, D, Global>,
+) -> Result<(), Fail> {
     for _ in 0..20u32 {
         if turning.turn(rt).is_err() {
             return Err(Fail::from("a turn has a fault"));
@@ -88,13 +95,12 @@ pub fn hears<S: Read>(stream: &mut S, wanted: &[u8]) -> Result<bool, Fail> {
 }
 
 // Ends the loop, and says how many deliveries left something, each of so many parts.
-fn ended<R: Wait + Clock, D: Dir + Drop>(
+fn left_of<R: Wait, N: Network + Drop, D: Dir + Drop>(
     rt: &R,
-    turning: Turning<D>,
+    turning: InLoop<N, D, Global>,
     parts: usize,
 ) -> (usize, bool) {
-    let stop = AtomicBool::new(true);
-    let Ended { stubs, fault } = turning.run(rt, &stop);
+    let Ended { stubs, fault } = ended(rt, turning);
     let all = stubs.iter().all(|stub| stub.parts.len() == parts);
     (stubs.len(), all && fault.is_none())
 }
@@ -118,9 +124,9 @@ fn hears_three<S: Read>(stream: &mut S, answer: &[u8], alloc: Global) -> Result<
     hears(stream, &three(answer, alloc)?)
 }
 
-fn talk_apart<R: Wait + Clock + Net + AllocGlobal, D: Dir + Drop>(
+fn talk_apart<R: Wait + Net + AllocGlobal, N: Network + Drop, D: Dir + Drop>(
     rt: &R,
-    turning: &mut Turning<D>,
+    turning: &mut InLoop<N, D, Global>,
 ) -> Result<(bool, bool), Fail> {
     let mut one = client(rt, turning)?;
     let mut two = client(rt, turning)?;
@@ -134,13 +140,13 @@ fn talk_apart<R: Wait + Clock + Net + AllocGlobal, D: Dir + Drop>(
 // What two clients hear, and what is left of the loop's deliveries then.
 fn heard_apart<R, D, F>(rt: &R, folders: &F) -> Result<((bool, bool), (usize, bool)), Fail>
 where
-    R: Wait + Clock + Net + RandomSource + AllocGlobal,
+    R: Wait + Clock + Net + RandomSource + AllocGlobal + Clone + Drop,
     D: Dir + Drop,
     F: Folders<D, Global>,
 {
     let mut turning = open(rt, SINK, folders)?;
     let heard = talk_apart(rt, &mut turning);
-    let left = ended(rt, turning, 1);
+    let left = left_of(rt, turning, 1);
     Ok((heard?, left))
 }
 
@@ -152,9 +158,9 @@ fn each_client_hears_its_own_answers(rt: HostRuntime) -> Result<(), Fail> {
     Ok(())
 }
 
-fn talk_in_turn<R: Wait + Clock + Net, D: Dir + Drop>(
+fn talk_in_turn<R: Wait + Net, N: Network + Drop, D: Dir + Drop>(
     rt: &R,
-    turning: &mut Turning<D>,
+    turning: &mut InLoop<N, D, Global>,
 ) -> Result<(bool, bool), Fail> {
     let mut one = client(rt, turning)?;
     let mut two = client(rt, turning)?;
@@ -169,14 +175,13 @@ fn talk_in_turn<R: Wait + Clock + Net, D: Dir + Drop>(
 // What clients of a small buffer hear, and how many parts are left of the first delivery and of the second.
 fn heard_in_turn<R, D, F>(rt: &R, folders: &F) -> Result<((bool, bool), (usize, usize)), Fail>
 where
-    R: Wait + Clock + Net + RandomSource + AllocGlobal,
+    R: Wait + Clock + Net + RandomSource + AllocGlobal + Clone + Drop,
     D: Dir + Drop,
     F: Folders<D, Global>,
 {
     let mut turning = open(rt, SMALL, folders)?;
     let heard = talk_in_turn(rt, &mut turning);
-    let stop = AtomicBool::new(true);
-    let Ended { stubs, fault } = turning.run(rt, &stop);
+    let Ended { stubs, fault } = ended(rt, turning);
     let heard = heard?;
     match stubs.as_slice() {
         [one, two] if fault.is_none() => Ok((heard, (one.parts.len(), two.parts.len()))),
@@ -192,9 +197,9 @@ fn a_full_buffer_refuses(rt: HostRuntime) -> Result<(), Fail> {
     Ok(())
 }
 
-fn talk_round<R: Wait + Clock + Net, D: Dir + Drop>(
+fn talk_round<R: Wait + Net, N: Network + Drop, D: Dir + Drop>(
     rt: &R,
-    turning: &mut Turning<D>,
+    turning: &mut InLoop<N, D, Global>,
 ) -> Result<bool, Fail> {
     let mut one = client(rt, turning)?;
     one.write_all(MESSAGE)?;
@@ -206,13 +211,13 @@ fn talk_round<R: Wait + Clock + Net, D: Dir + Drop>(
 // Whether the message is answered that no match takes, and what is left of the loop's deliveries then.
 fn heard_round<R, D, F>(rt: &R, folders: &F) -> Result<(bool, (usize, bool)), Fail>
 where
-    R: Wait + Clock + Net + RandomSource + AllocGlobal,
+    R: Wait + Clock + Net + RandomSource + AllocGlobal + Clone + Drop,
     D: Dir + Drop,
     F: Folders<D, Global>,
 {
     let mut turning = open(rt, LOOPING, folders)?;
     let heard = talk_round(rt, &mut turning);
-    let left = ended(rt, turning, 0);
+    let left = left_of(rt, turning, 0);
     Ok((heard?, left))
 }
 
@@ -227,13 +232,13 @@ fn what_goes_round_is_no_delivery(rt: HostRuntime) -> Result<(), Fail> {
 // Why a relay isn't opened.
 fn fault_of<R, D, F>(rt: &R, relay: Relay<Global>, folders: &F) -> Option<LoopFault>
 where
-    R: Wait + Clock + Net + RandomSource + AllocGlobal,
+    R: Wait + Clock + Net + RandomSource + AllocGlobal + Clone + Drop,
     D: Dir + Drop,
     F: Folders<D, Global>,
 {
     match InLoop::open_in(rt, rt.alloc(), relay, 2, folders) {
         Ok(other) => {
-            ended(rt, other, 0);
+            left_of(rt, other, 0);
             None
         }
         Err(fault) => Some(fault),
@@ -243,7 +248,7 @@ where
 // Why another relay isn't opened at the port of one that is.
 fn fault_of_another<R, D, F>(rt: &R, folders: &F) -> Result<Option<LoopFault>, Fail>
 where
-    R: Wait + Clock + Net + RandomSource + AllocGlobal,
+    R: Wait + Clock + Net + RandomSource + AllocGlobal + Clone + Drop,
     D: Dir + Drop,
     F: Folders<D, Global>,
 {
@@ -253,7 +258,7 @@ where
         source.port = turning.port(0).unwrap_or(1);
     }
     let fault = fault_of(rt, relay, folders);
-    ended(rt, turning, 0);
+    left_of(rt, turning, 0);
     Ok(fault)
 }
 

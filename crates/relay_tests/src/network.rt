@@ -1,221 +1,235 @@
-//! An edge and a hub, each with a flush thread.
+//! An edge and a hub, each with a flush thread's work done by hand.
 
-use crate::couriers::courier_to;
-use crate::loops::{ANSWER, ENTRY, MESSAGE, TAG, Turning, client, hears, open};
-use crate::relays::{FORWARD, SINK};
-use ack_receipt::SharedBuffer;
+use crate::couriers::{courier_of, system};
+use crate::loops::{ANSWER, ENTRY, MESSAGE, TAG, client, hears, turn};
+use crate::relays::{FORWARD, SINK, relay_of, relay_to};
+use crate::turned::{Hub, HubDialer, LoopHub, are_accounted, ended, open_relay};
+use ack_receipt::{Evidence, SharedBuffer};
 use disk_files::{Dir, MemoryDir};
-use flush_pool::{Courier, OpenGate, Retries, SinkCourier, work};
-use mio_relay::Ended;
-use relay_buffers::{Folders, MemoryFolders};
-use retry_waits::RetrySettings;
+use flush_pool::{CarryFault, ClaimView, Courier, OpenGate, Retries, SinkCourier, Worked, work};
+use mio_relay::{InLoop, OpenRelay};
+use relay_buffers::{DeliveryJob, Folders, MemoryFolders};
+use relay_sockets::{Dialer, Network};
 use sink_series::{Series, SinkEvent};
 use std::alloc::Global;
 use std::io::Write;
-use std::net::{Net, TcpListener, TcpStream};
+use std::net::Net;
 use std::random::RandomSource;
+use std::sync::Wait;
 use std::sync::atomic::{AtomicBool, Ordering};
-use std::sync::{Arc, Wait};
 use std::test::Fail;
-use std::thread;
-use std::thread::Threads;
 use std::time::Clock;
+use tcp_courier::TcpCourier;
 
 type Shelf<D> = SharedBuffer<D, Global>;
 
-// Retries go on for ever.
-const FOREVER: RetrySettings = RetrySettings {
-    wait: 1,
-    exponential_backoff_base: 2,
-    max_interval: None,
-    max_times: None,
-    timeout: 1_000,
-    forever: true,
-};
+type Job<D> = DeliveryJob<D, Global>;
 
-// A hundred turns of both, or those up to a fault; then raises the flag.
-fn turn_both<R: Wait + Clock, D: Dir + Drop>(
-    rt: &R,
-    edge: &mut Turning<D>,
-    hub: &mut Turning<D>,
-    stop: &AtomicBool,
-) -> bool {
-    let mut well = true;
-    for _ in 0..100u32 {
-        well = well && edge.turn(rt).is_ok() && hub.turn(rt).is_ok();
-    }
-    stop.store(true, Ordering::SeqCst);
-    well
+// Carries a chunk as another courier does, and stops its worker then.
+#[derive(Drop)]
+struct Once<'a, C> {
+    courier: &'a C,
+    stop: AtomicBool,
 }
 
-// One worker at the hub's buffer, while both loops are turned.
-fn hub_at_work<R, D, H>(
-    rt: &R,
-    store: &Shelf<D>,
-    sink: &H,
-    stop: &AtomicBool,
-    edge: &mut Turning<D>,
-    hub: &mut Turning<D>,
-) -> bool
-where
-    R: Wait + Clock + Threads + Sync + AllocGlobal,
-    D: Dir + Drop + Send,
-    H: Courier<R, D, Global> + Sync,
-{
-    let retries = Retries::new(rt.alloc(), FOREVER);
-    let (worked, well) = thread::join(
-        rt,
-        || work(rt, store, sink, &OpenGate, &retries, stop),
-        || turn_both(rt, edge, hub, stop),
-    );
-    well && worked.is_ok()
-}
-
-// And one at the edge's.
-fn both_at_work<R, D, C, H>(
-    rt: &R,
-    out: &Shelf<D>,
-    courier: &C,
-    store: &Shelf<D>,
-    sink: &H,
-    edge: &mut Turning<D>,
-    hub: &mut Turning<D>,
-) -> bool
-where
-    R: Wait + Clock + Threads + Sync + AllocGlobal,
-    D: Dir + Drop + Send,
-    C: Courier<R, D, Global> + Sync,
-    H: Courier<R, D, Global> + Sync,
-{
-    let stop = AtomicBool::new(false);
-    let retries = Retries::new(rt.alloc(), FOREVER);
-    let (worked, well) = thread::join(
-        rt,
-        || work(rt, out, courier, &OpenGate, &retries, &stop),
-        || hub_at_work(rt, store, sink, &stop, edge, hub),
-    );
-    well && worked.is_ok()
-}
-
-// The loop's only buffer, if there is memory to share it.
-fn buffer_of<D: Dir + Drop>(turning: &Turning<D>) -> Option<Arc<Shelf<D>>> {
-    match turning.buffers() {
-        [buffer] => Arc::try_clone(buffer).ok(),
-        _ => None,
+impl<'a, R: Wait, D: Dir, C: Courier<R, D, Global>> Courier<R, D, Global> for Once<'a, C> {
+    fn carry(
+        &self,
+        rt: &R,
+        chunk: &ClaimView<'_, D, Global>,
+    ) -> Result<Evidence<Global>, CarryFault> {
+        self.stop.store(true, Ordering::SeqCst);
+        self.courier.carry(rt, chunk)
     }
 }
 
-// The hub's sink, in this folder.
-fn sink_of<S: Dir + Drop>(alloc: Global, dir: S) -> Result<SinkCourier<S, Global>, Fail> {
-    match Series::open(alloc, dir, b"all") {
-        Ok(series) => Ok(SinkCourier::new(series)),
-        Err(_) => Err(Fail::from("no sink")),
-    }
-}
-
-// Whether these are the client's event, sent once or again.
-fn are_the_messages(events: &[SinkEvent<Global>]) -> bool {
-    for event in events {
-        if event.tag() != TAG || event.entry() != ENTRY {
-            return false;
+// Whether a chunk is queued. What it claims it gives back.
+fn has_queued<R: Wait, D: Dir>(rt: &R, shelf: &Shelf<D>) -> Result<bool, Fail> {
+    match shelf.claim(rt)? {
+        Some(claim) => {
+            shelf.give_back(rt, claim);
+            Ok(true)
         }
+        None => Ok(false),
     }
-    !events.is_empty()
 }
 
-// A client sends the edge a message: whether it heard its answer, and whether its event, and no other, is in the hub's sink then.
-fn talk_through<R, D, S>(
-    rt: &R,
-    edge: &mut Turning<D>,
-    hub: &mut Turning<D>,
-    sink: SinkCourier<S, Global>,
-) -> Result<(bool, bool), Fail>
+// A worker at this buffer, which has its chunk carried once: whether that is purged then, and no chunk is queued.
+fn is_delivered<R, D, C>(rt: &R, job: &Job<D>, courier: &C) -> Result<bool, Fail>
 where
-    D: Dir + Drop + Send,
-    S: Dir + Drop + Send,
-    R: Wait
-        + Clock
-        + Net<Listener = TcpListener, Stream = TcpStream>
-        + RandomSource
-        + AllocGlobal
-        + Threads
-        + Sync,
+    R: Wait + Clock + AllocGlobal,
+    D: Dir + Drop,
+    C: Courier<R, D, Global>,
 {
-    let courier = courier_to(rt, hub.port(0).unwrap_or(1))?;
-    let (Some(out), Some(store)) = (buffer_of(edge), buffer_of(hub)) else {
-        return Err(Fail::from("no buffer"));
+    if !has_queued(rt, job.buffer())? {
+        return Ok(false);
+    }
+    let once = Once {
+        courier,
+        stop: AtomicBool::new(false),
     };
+    let retries = Retries::new(rt.alloc(), job.output().buffer().retry);
+    let worked = work(rt, job.buffer(), &once, &OpenGate, &retries, &once.stop);
+    let one = Worked {
+        purged: 1,
+        failed: 0,
+    };
+    Ok(worked == Ok(one) && !has_queued(rt, job.buffer())?)
+}
+
+// A client sends a message, and hears its answer.
+fn send<R: Wait + Net, N: Network + Drop, D: Dir + Drop>(
+    rt: &R,
+    edge: &mut InLoop<N, D, Global>,
+) -> Result<(), Fail> {
     let mut one = client(rt, edge)?;
     one.write_all(MESSAGE)?;
-    let well = both_at_work(rt, &out, &courier, &store, &sink, edge, hub);
-    let heard = hears(&mut one, ANSWER)?;
-    let events = sink.into_series().content()?;
-    Ok((well && heard, are_the_messages(&events)))
-}
-
-// Ends the loop: whether its buffer's book accounts for what is left of its deliveries.
-fn is_accounted<R: Wait + Clock + AllocGlobal, D: Dir + Drop>(rt: &R, turning: Turning<D>) -> bool {
-    let buffer = buffer_of(&turning);
-    let stop = AtomicBool::new(true);
-    let Ended { stubs, fault } = turning.run(rt, &stop);
-    match buffer.and_then(Arc::into_inner) {
-        Some(shelf) => fault.is_none() && shelf.close().audit(rt.alloc(), &stubs).is_ok(),
-        None => false,
+    turn(rt, edge)?;
+    if hears(&mut one, ANSWER)? {
+        Ok(())
+    } else {
+        Err(Fail::from("the client isn't answered"))
     }
 }
 
-// What comes of it with an edge in front of the hub, and a sink in this folder.
-fn pass_on<R, D, F, S>(
-    rt: &R,
-    hub: &mut Turning<D>,
-    folders: &F,
-    dir: S,
-) -> Result<(bool, bool, bool), Fail>
+// The same with a courier to servers.
+fn is_sent<R, D, N>(rt: &R, job: &Job<D>, courier: &TcpCourier<N, Global>) -> Result<bool, Fail>
 where
-    D: Dir + Drop + Send,
-    F: Folders<D, Global>,
-    S: Dir + Drop + Send,
-    R: Wait
-        + Clock
-        + Net<Listener = TcpListener, Stream = TcpStream>
-        + RandomSource
-        + AllocGlobal
-        + Threads
-        + Sync,
+    R: Wait + Clock + AllocGlobal,
+    D: Dir + Drop,
+    N: Dialer + Drop,
 {
-    let sink = sink_of(rt.alloc(), dir)?;
-    let mut edge = open(rt, FORWARD, folders)?;
-    let talk = talk_through(rt, &mut edge, hub, sink);
-    let accounted = is_accounted(rt, edge);
-    let (heard, stored) = talk?;
-    Ok((heard, stored, accounted))
+    is_delivered(rt, job, courier)
 }
 
-// The same, and whether the hub's book accounts for what is left of its deliveries too.
-fn passed_on<R, D, F, S>(rt: &R, folders: &F, dir: S) -> Result<((bool, bool, bool), bool), Fail>
+// Whether the edge's chunk is delivered to the hub, which goes on meanwhile.
+fn is_forwarded<R, D, H>(rt: &R, job: &Job<D>, hub: &H) -> Result<bool, Fail>
 where
-    D: Dir + Drop + Send,
-    F: Folders<D, Global>,
-    S: Dir + Drop + Send,
-    R: Wait
-        + Clock
-        + Net<Listener = TcpListener, Stream = TcpStream>
-        + RandomSource
-        + AllocGlobal
-        + Threads
-        + Sync,
+    R: Wait + Clock + Net + RandomSource + AllocGlobal + Clone,
+    D: Dir + Drop,
+    H: Hub,
 {
-    let mut hub = open(rt, SINK, folders)?;
-    let passed = pass_on(rt, &mut hub, folders, dir);
-    let accounted = is_accounted(rt, hub);
+    let dialer = HubDialer {
+        hub,
+        dialer: system(rt)?,
+    };
+    is_sent(rt, job, &courier_of(rt, job.output(), dialer)?)
+}
+
+// A client is answered by the edge, whose chunk is delivered to the hub.
+fn hand_on<R, N, D, H>(
+    rt: &R,
+    edge: &mut InLoop<N, D, Global>,
+    jobs: &[Job<D>],
+    hub: &H,
+) -> Result<(), Fail>
+where
+    R: Wait + Clock + Net + RandomSource + AllocGlobal + Clone,
+    N: Network + Drop,
+    D: Dir + Drop,
+    H: Hub,
+{
+    let [job] = jobs else {
+        return Err(Fail::from("the edge has one buffer"));
+    };
+    send(rt, edge)?;
+    if is_forwarded(rt, job, hub)? {
+        Ok(())
+    } else {
+        Err(Fail::from("the hub doesn't acknowledge the chunk"))
+    }
+}
+
+// The same with an edge that is opened in front of a hub at this port: whether its book accounts for what is left.
+fn is_passed_to<R, D, F, H>(rt: &R, folders: &F, port: u16, hub: &H) -> Result<bool, Fail>
+where
+    R: Wait + Clock + Net + RandomSource + AllocGlobal + Clone + Drop,
+    D: Dir + Drop,
+    F: Folders<D, Global>,
+    H: Hub,
+{
+    let relay = relay_to(rt.alloc(), FORWARD, port)?;
+    let OpenRelay { turning, jobs } = open_relay(rt, relay, folders)?;
+    let mut edge = turning;
+    let passed = hand_on(rt, &mut edge, &jobs, hub);
+    let left = ended(rt, edge);
+    let accounted = are_accounted(rt.alloc(), jobs, &left);
+    passed?;
+    Ok(accounted)
+}
+
+// Whether these are the client's event, once.
+fn are_the_messages(events: &[SinkEvent<Global>]) -> bool {
+    match events {
+        [event] => event.tag() == TAG && event.entry() == ENTRY,
+        _ => false,
+    }
+}
+
+// Whether the hub's chunk is delivered to a sink in this folder, which has the client's event then.
+fn is_stored<R, D, S>(rt: &R, jobs: &[Job<D>], dir: S) -> Result<bool, Fail>
+where
+    R: Wait + Clock + AllocGlobal,
+    D: Dir + Drop,
+    S: Dir + Drop,
+{
+    let [job] = jobs else {
+        return Err(Fail::from("the hub has one buffer"));
+    };
+    let Ok(series) = Series::open(rt.alloc(), dir, b"all") else {
+        return Err(Fail::from("the sink doesn't open"));
+    };
+    let sink = SinkCourier::new(series);
+    let delivered = is_delivered(rt, job, &sink)?;
+    let events = sink.into_series().content()?;
+    Ok(delivered && are_the_messages(&events))
+}
+
+// A client's message goes by an edge to this hub: whether the edge's book accounts for it, and whether it is stored in this folder then.
+fn go_through<R, D, F, H, S>(
+    rt: &R,
+    folders: &F,
+    port: u16,
+    hub: &H,
+    jobs: &[Job<D>],
+    dir: S,
+) -> Result<(bool, bool), Fail>
+where
+    R: Wait + Clock + Net + RandomSource + AllocGlobal + Clone + Drop,
+    D: Dir + Drop,
+    F: Folders<D, Global>,
+    H: Hub,
+    S: Dir + Drop,
+{
+    let accounted = is_passed_to(rt, folders, port, hub)?;
+    Ok((accounted, is_stored(rt, jobs, dir)?))
+}
+
+// The same with a hub that is opened for it, and whether its book accounts for it too.
+fn go_to_the_sink<R, D, F, S>(rt: &R, folders: &F, dir: S) -> Result<((bool, bool), bool), Fail>
+where
+    R: Wait + Clock + Net + RandomSource + AllocGlobal + Clone + Drop,
+    D: Dir + Drop,
+    F: Folders<D, Global>,
+    S: Dir + Drop,
+{
+    let relay = relay_of(rt.alloc(), SINK)?;
+    let OpenRelay { turning, jobs } = open_relay(rt, relay, folders)?;
+    let port = turning.port(0).unwrap_or(1);
+    let hub = LoopHub::new(rt, turning);
+    let passed = go_through(rt, folders, port, &hub, &jobs, dir);
+    let left = hub.end();
+    let accounted = are_accounted(rt.alloc(), jobs, &left);
     Ok((passed?, accounted))
 }
 
-// A client's message to an edge is answered and comes to the hub's sink, and the books of both account for it.
+// A client's message to an edge is answered, handed on to a hub and stored in its sink, and the books of both account for it.
 #[test]
 fn an_edge_hands_on_to_a_hub(rt: HostRuntime) -> Result<(), Fail> {
     let folders = MemoryFolders { alloc: rt.alloc() };
-    let passed = passed_on(&rt, &folders, MemoryDir::new(rt.alloc()))?;
-    assert_eq!(rt; passed, ((true, true, true), true));
+    let ((edge, stored), hub) = go_to_the_sink(&rt, &folders, MemoryDir::new(rt.alloc()))?;
+    assert!(rt; edge, "the edge's book");
+    assert!(rt; stored, "the sink");
+    assert!(rt; hub, "the hub's book");
     Ok(())
 }

@@ -1,9 +1,8 @@
 -- Steps of a talk over a connection, one behind another.
-use Rattle.std.proofs.Common.{ℕ, ◌≡◌, List, [], ◌++◌, take, drop, refl, sym, ap, ◌∙◌, subst, append-nil, append_assoc, take-append-drop, Option, Some, None, Bool, true, false, option_map, Result, Ok, Err}
+use Rattle.std.proofs.Common.{ℕ, zero, suc, arith, ◌≡◌, List, [], ◌∷◌, ◌++◌, take, drop, refl, sym, ap, ◌∙◌, subst, append-nil, append_assoc, take-append-drop, length, get_or, ◌<◌, Option, Some, None, Bool, true, false, option_map, Result, Ok, Err}
 use Rattle.std.specs.Prelude.{OnOk}
 use Rattle.std.specs.List.{concat}
-use Rattle.std.specs.Io.KnownBytes.{Appends, Keeps}
-use Rattle.std.proofs.KnownBytes.{Appends-kept, Appends-nil, Appends-trans, Consumes-kept, Consumes-nil}
+use Rattle.std.proofs.KnownBytes.{Appends-nil, Appends-trans}
 use Rattle.std.proofs.lemmas.List.Folds.{concat-append}
 use Rattle.event_modes.specs.declared.chunk_id.ChunkId.{ChunkId}
 use Rattle.event_modes.specs.ChunkIds.{chunk_text}
@@ -12,9 +11,11 @@ use Rattle.buffer_book.specs.Claims.{Claimed, id_of}
 use Rattle.buffer_book.specs.Evidences.{Shows, Acknowledged}
 use Rattle.forward_core.specs.Client.{ClientPhase, Ready, HasSent, ClientState, initial_client, named}
 use Rattle.forward_core.specs.declared.security.Security.{Security}
-use Rattle.tcp_courier.specs.declared.wire.Moved.{Moved}
-use Rattle.tcp_courier.specs.declared.wire.Moved.TheVariants as moved
-use Rattle.tcp_courier.specs.Talks.{IsNothing, IsReadFrom, IsReadOff, IsWrittenTo, Traffic, Conveys, Hears, IsGreeting, AreItems, Credentials, IsBare, begun, credentials_in, TalksOn, Acknowledges, ConveysChunk}
+use Rattle.handshake_keys.specs.Credentials.{Credentials, credentials_in}
+use Rattle.relay_sockets.specs.Traffics.{Traffic, Conveys, IsFresh}
+use Rattle.relay_sockets.specs.Endpoints.{Endpoint, Origin, WentTo}
+use Rattle.tcp_courier.specs.Carrying.{Sender, Delivers, IsDrawn, IsToOne}
+use Rattle.tcp_courier.specs.Talks.{Hears, IsGreeting, AreItems, IsBare, begun, TalksOn, Acknowledges, ConveysChunk}
 use Rattle.tcp_courier.proofs.Hearing.{items_append, hears_heed, sent_waits, sent_sees}
 
 pub Conveys-none : (a : Traffic) → Conveys a a [] []
@@ -22,31 +23,6 @@ Conveys-none a = (Appends-nil a.taken, Appends-nil a.given)
 
 pub Conveys-trans : (a b c : Traffic) (s u t v : List ℕ) → Conveys a b s u → Conveys b c t v → Conveys a c (s ++ t) (u ++ v)
 Conveys-trans a b c s u t v p q = (Appends-trans a.taken b.taken c.taken s t p.0 q.0, Appends-trans a.given b.given c.given u v p.1 q.1)
-
-nothing_passed : (old new : Option (List ℕ)) → Keeps old new → Appends old new []
-nothing_passed old new k = Appends-kept old old new [] (Appends-nil old) k
-
--- where neither side moves, nothing passes
-pub Conveys-kept : (a b : Traffic) → Keeps a.taken b.taken → Keeps a.given b.given → Conveys a b [] []
-Conveys-kept a b t g = (nothing_passed a.taken b.taken t, nothing_passed a.given b.given g)
-
--- nothing was read
-pub nothing_read : (a b : Traffic) (piece : List ℕ) (came : Moved) → IsNothing came → Keeps a.taken b.taken → Keeps a.given b.given → IsReadFrom a b piece came
-nothing_read a b piece (moved.Some n) i t c = absurd i
-nothing_read a b piece moved.None i t c = Conveys-kept a b t c
-nothing_read a b piece moved.Over i t c = Conveys-kept a b t c
-
--- nothing was read off a stream
-pub nothing_off : (old new : Option (List ℕ)) (piece : List ℕ) (came : Moved) → IsNothing came → Keeps old new → IsReadOff old new piece came
-nothing_off old new piece (moved.Some n) i k = absurd i
-nothing_off old new piece moved.None i k = Consumes-kept old old new [] (Consumes-nil old) k
-nothing_off old new piece moved.Over i k = Consumes-kept old old new [] (Consumes-nil old) k
-
--- nothing was written
-pub nothing_written : (a b : Traffic) (bytes : List ℕ) (went : Moved) → IsNothing went → Keeps a.taken b.taken → Keeps a.given b.given → IsWrittenTo a b bytes went
-nothing_written a b bytes (moved.Some n) i t c = absurd i
-nothing_written a b bytes moved.None i t c = Conveys-kept a b t c
-nothing_written a b bytes moved.Over i t c = Conveys-kept a b t c
 
 -- n bytes more of what was outgoing are written
 pub written_more : (a b c : Traffic) (r s t : ClientState) (sent : List ℕ) (n : ℕ) → s ≡ record r { outgoing = s.outgoing } → r.outgoing ≡ sent ++ s.outgoing
@@ -297,3 +273,25 @@ begun_bare s (Some shows) salt e = (ap (λ (v : ClientState). v.outgoing) e, ap 
 pub initial_begun : (security : Option Security) (shows : Option Credentials) (salt : List ℕ) → credentials_in security ≡ shows → initial_client security salt ≡ begun shows salt
 initial_begun None shows salt e = ap (λ (c : Option Credentials). begun c salt) e
 initial_begun (Some security) shows salt e = ap (λ (c : Option Credentials). begun c salt) e
+
+-- a session of the courier's own conveyed the chunk over a connection that was new
+pub delivers : {N : Type 0} (sender : Sender N) (chunk : Claimed) (a b : Traffic) (s : ClientState) (salt : List ℕ) (entries : List (List ℕ)) (asks : Bool)
+    → IsFresh a → IsDrawn salt → s ≡ begun sender.shows salt → length entries ≡ chunk.count → asks ≡ sender.asks → ConveysChunk a b s.phase chunk entries asks
+    → Delivers sender chunk b
+delivers sender chunk a b s salt entries asks f d e n k h = record {
+  new = a;
+  fresh = f;
+  salt = salt;
+  drawn = d;
+  entries = entries;
+  count = n;
+  conveys = subst (λ (m : Bool). ConveysChunk a b (begun sender.shows salt).phase chunk entries m) k
+      (subst (λ (q : ClientPhase). ConveysChunk a b q chunk entries asks) (ap (λ (v : ClientState). v.phase) e) h);
+}
+
+-- a connection that went to the server at a place went to one of the servers
+pub to_one : (servers : List Endpoint) (k : ℕ) (server : Endpoint) (origin : Origin) → k < length servers → server ≡ get_or servers k server → WentTo server ≡ origin
+    → IsToOne servers origin
+to_one [] k server origin within is e = absurd (omega arith)
+to_one (x ∷ xs) zero server origin within is e = (zero, omega arith, sym (ap WentTo is) ∙ e)
+to_one (x ∷ xs) (suc k) server origin within is e = let more = to_one xs k server origin (omega arith) is e in (suc more.0, omega arith, more.2)

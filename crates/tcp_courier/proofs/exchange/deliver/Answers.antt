@@ -14,10 +14,10 @@ returns-then-not-asks-clause-delivered g c =
     let talk = greet.3 in
     let unasked : c.args.asks ≡ false = search rules in
     let whole =
-    said_whole (traffic c.args.wire.now) (traffic c.greet.new.wire) (traffic c.write_out.new.wire) c.args.session.now c.greet.new.session c.send.new.self c.write_out.new.session
+    said_whole (traffic c.args.line.now.wire) (traffic c.greet.new.line.wire) (traffic c.write_out.new.line.wire) c.args.session.now c.greet.new.session c.send.new.self c.write_out.new.session
     greet.0 greet.1 chunk c.tag.result.now entries c.args.asks c.id.result c.requires.bare greet.3 c.in_ok-send.ensures.ok c.tag.ensures c.id.ensures
     c.in_ok-write_out.ensures.rest c.in_ok-write_out.ensures.written in
-    delivered_unasked (traffic c.args.wire.now) (traffic c.write_out.new.wire) c.args.session.now.phase chunk entries c.args.asks greet.0 greet.1 whole.0 c.write_out.new.session.held unasked greet.2
+    delivered_unasked (traffic c.args.line.now.wire) (traffic c.write_out.new.line.wire) c.args.session.now.phase chunk entries c.args.asks greet.0 greet.1 whole.0 c.write_out.new.session.held unasked greet.2
     talk.framed whole.1 whole.2
 
 pub returns-clause-names : goal.returns-clause-names
@@ -37,7 +37,7 @@ returns-clause-delivered g c =
     let talk = greet.3 in
     let asked : c.args.asks ≡ true = search rules in
     let whole =
-    said_whole (traffic c.args.wire.now) (traffic c.greet.new.wire) (traffic c.write_out.new.wire) c.args.session.now c.greet.new.session c.send.new.self c.write_out.new.session
+    said_whole (traffic c.args.line.now.wire) (traffic c.greet.new.line.wire) (traffic c.write_out.new.line.wire) c.args.session.now c.greet.new.session c.send.new.self c.write_out.new.session
     greet.0 greet.1 chunk c.tag.result.now entries c.args.asks c.id.result c.requires.bare greet.3 c.in_ok-send.ensures.ok c.tag.ensures c.id.ensures
     c.in_ok-write_out.ensures.rest c.in_ok-write_out.ensures.written in
     well_too c.acknowledged.result
@@ -45,5 +45,5 @@ returns-clause-delivered g c =
     (asked_phase c.greet.new.session c.send.new.self c.write_out.new.session chunk c.tag.result.now entries c.args.asks c.id.result
     c.in_ok-send.ensures.ok c.tag.ensures c.id.ensures c.in_ok-write_out.ensures.rest asked))
     (λ heard.
-    delivered_asked (traffic c.args.wire.now) (traffic c.write_out.new.wire) (traffic c.acknowledged.new.wire) c.args.session.now.phase chunk entries c.args.asks greet.0
+    delivered_asked (traffic c.args.line.now.wire) (traffic c.write_out.new.line.wire) (traffic c.acknowledged.new.line.wire) c.args.session.now.phase chunk entries c.args.asks greet.0
     greet.1 whole.0 c.write_out.new.session.held heard.0 greet.2 talk.framed whole.1 whole.2 heard.1 heard.2)

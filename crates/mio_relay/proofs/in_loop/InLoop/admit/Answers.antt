@@ -1,11 +1,28 @@
-use Rattle.std.proofs.Common.{List, Option, map, subst}
-use Rattle.std.specs.Prelude.{Contains, IfSome}
-use Rattle.std.specs.Arc.{arc_value}
-use Rattle.loop_core.specs.Peers.{PeerState}
-use Rattle.mio_relay.specs.declared.listener.Listener.{Listener}
+use Rattle.std.proofs.Common.{◌≡◌, ◌∙◌, List, ap, subst, sym}
+use Rattle.std.specs.Prelude.{IsSomeAnd, slice_get}
+use Rattle.relay_sockets.specs.Endpoints.{Endpoint}
+use Rattle.mio_relay.specs.Connections.{AreListening, BeginsAt, ConnectionState, Hosted, sources_in}
+use Rattle.mio_relay.specs.Loops.{LoopState}
+use Rattle.mio_relay.proofs.Slots.{begins_served}
 use Rattle.mio_relay.proofs.in_loop.InLoop.admit.Goals as goal
 
 pub put-requires : goal.put-requires
 put-requires g c =
-    subst (λ (all : List (Listener _)). Contains (map (λ listener. arc_value listener.inlet) all) c.in-Some-2.peer.entry) c.deref.ensures.value
-    (subst (λ (o : Option PeerState). IfSome o (λ peer. Contains (map (λ (listener : Listener _). arc_value listener.inlet) c.deref.result.now) peer.entry)) c.in-Some-2.is c.in_ok-peer.ensures)
+    let came = ap (λ (x : ConnectionState). x.origin) c.new.ensures ∙ c.watch.ensures.origin ∙ c.requires in
+    let begins = rw c.in-Some-2.is at c.in_ok-peer.ensures in
+    let there = subst (λ (l : List Hosted). IsSomeAnd (slice_get l c.args.place) (λ h. BeginsAt h.source c.draw-nonce.result c.in-Some-2.peer)) c.deref.ensures.value begins in
+    begins_served c.self.inside.listeners.items c.args.place c.draw-nonce.result c.new.result came
+    (subst (λ (x : ConnectionState). IsSomeAnd (slice_get c.self.inside.listeners.items c.args.place) (λ h. BeginsAt h.source c.draw-nonce.result x.peer)) (sym c.new.ensures) there)
+
+pub invariant_of-self-2 : goal.invariant_of-self-2
+invariant_of-self-2 g c = (
+  subst (λ (b : List Endpoint). AreListening b c.self.inside.listeners.items) (sym c.watch.ensures.bound) c.self.invariant.0,
+  c.make_room.ensures (sources_in c.self.inside.listeners.items) c.self.invariant.1,
+)
+
+pub returns : goal.returns
+returns g c = record {
+  bound = c.put.ensures.bound ∙ c.watch.ensures.bound ∙ ap (λ (l : LoopState _). l.bound) c.self.view_is;
+  sources = c.put.ensures.sources ∙ ap (λ (l : LoopState _). l.sources) c.self.view_is;
+  buffers = c.put.ensures.buffers ∙ ap (λ (l : LoopState _). l.buffers) c.self.view_is;
+}

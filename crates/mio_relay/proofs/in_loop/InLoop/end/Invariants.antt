@@ -1,8 +1,0 @@
-use Rattle.std.specs.Vec.Iter.{into_iter_len}
-use Rattle.mio_relay.proofs.in_loop.InLoop.end.Given as goal
-
-abbrev pub invariant-loop-place : goal.invariant-loop-place
-invariant-loop-place g l = Unit {0}
-
-abbrev pub decreases-loop-place : goal.decreases-loop-place
-decreases-loop-place g l = into_iter_len l.rest

@@ -1,0 +1,88 @@
+-- The connections of a relay's loop, and the sources that they came in at.
+use Rattle.std.specs.Prelude.{ℕ, ◌≡◌, List, [], map, Option, Some, IfSome, slice_get, string_bytes}
+use Rattle.std.specs.List.{All}
+use Rattle.relay_conf.specs.declared.relay.Relay.{Relay}
+use Rattle.relay_conf.specs.declared.relay.Source.{Source}
+use Rattle.route_graph.specs.Table.{Table, table_of}
+use Rattle.forward_core.specs.declared.security.Security.{Security}
+use Rattle.forward_core.specs.Server.{initial_server}
+use Rattle.handshake_keys.specs.Credentials.{Credentials, credentials_in, credentials_of}
+use Rattle.relay_ports.specs.Leaves.{Entry}
+use Rattle.relay_sockets.specs.Endpoints.{Endpoint, Origin, CameAt}
+use Rattle.loop_core.specs.Peers.{PeerState}
+
+-- a source as clients meet it: where it listens, where its messages go, and what it asks its clients to prove
+pub record Served : Type 0 where
+  pub endpoint : Endpoint
+  pub entry : Entry
+  pub asks : Option Credentials
+
+-- where the messages of this source go, in the relay with this number, whose events go so
+abbrev pub entry_of : {A : Type 0} → ℕ → Table → Source A → Entry
+entry_of number table source = record { number = number; table = table; scope = source.label.0; prefix = source.prefix }
+
+-- the address of a source
+abbrev pub endpoint_of : {A : Type 0} → Source A → Endpoint
+endpoint_of source = record { host = string_bytes source.bind; port = source.port }
+
+-- a source of that relay: it listens at its address, and asks for its key
+abbrev pub served_as : {A : Type 0} → ℕ → Table → Source A → Served
+served_as number table source = record {
+  endpoint = endpoint_of source;
+  entry = entry_of number table source;
+  asks = credentials_of source.security;
+}
+
+-- the sources of the relay with this number
+abbrev pub sources_of : {A : Type 0} → ℕ → Relay A → List Served
+sources_of number relay = map (served_as number (table_of relay)) relay.sources.items
+
+-- a source with its listener's number
+pub record Hosted : Type 0 where
+  pub number : ℕ
+  pub source : Served
+
+-- the sources of these
+abbrev pub sources_in : List Hosted → List Served
+sources_in hosted = map (λ h. h.source) hosted
+
+-- What was bound are the addresses of the sources, in their order, and nothing else; and each listener has the number of its place.
+pub record AreListening (bound : List Endpoint) (hosted : List Hosted) : Type 0 where
+  pub own : bound ≡ map (λ h. h.source.endpoint) hosted
+  pub numbered : (place : ℕ) → IfSome (slice_get hosted place) (λ h. h.number ≡ place)
+
+-- a connection: where it came in, and its session
+pub record ConnectionState : Type 0 where
+  pub origin : Origin
+  pub peer : PeerState
+
+-- a connection goes on: it came in where it did, and its messages go where they went
+pub record IsSameConnection (old new : ConnectionState) : Type 0 where
+  pub origin : new.origin ≡ old.origin
+  pub entry : new.peer.entry ≡ old.peer.entry
+
+-- A connection is served as one of the source at whose listener it came in.
+pub record IsServed (sources : List Served) (connection : ConnectionState) : Type 0 where
+  pub place : ℕ
+  pub came : connection.origin ≡ CameAt place
+  pub source : Served
+  pub is : slice_get sources place ≡ Some source
+  pub entry : connection.peer.entry ≡ source.entry
+
+-- so is each of these
+abbrev pub AreServed : List Served → List (Option ConnectionState) → Type 0
+AreServed sources slots = All (λ slot. IfSome slot (IsServed sources)) slots
+
+-- what is at a key stays served as it was, if there is something
+abbrev pub GoesOn : Option ConnectionState → Option ConnectionState → Type 0
+GoesOn old new = (sources : List Served) → IfSome old (IsServed sources) → IfSome new (IsServed sources)
+
+-- and so does what is at each key
+abbrev pub GoOn : List (Option ConnectionState) → List (Option ConnectionState) → Type 0
+GoOn old new = (sources : List Served) → AreServed sources old → AreServed sources new
+
+-- A session that begins: its messages go where the source's do, and its client has to prove the source's key, if it has one.
+pub record BeginsAt (source : Served) (nonce : List ℕ) (peer : PeerState) : Type 0 where
+  pub security : Option Security
+  pub asks : credentials_in security ≡ source.asks
+  pub begins : peer ≡ record { entry = source.entry; session = initial_server security nonce; waits = [] }

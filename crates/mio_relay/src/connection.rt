@@ -1,0 +1,204 @@
+//! A client's connection: its stream, its session, and what is known of the stream.
+
+ghost use Rattle.std.specs.Prelude.{◌≡◌, IfErr};
+ghost use Rattle.mio_relay.specs.Connections.{ConnectionState, IsSameConnection};
+
+use ack_receipt::Numbers;
+use buffer_lanes::Lanes;
+use disk_files::Dir;
+use loop_core::{LoopFault, Peer};
+use relay_sockets::{Moved, Wire};
+use std::alloc::Allocator;
+use std::marker::Model;
+use std::sync::Wait;
+use std::time::Duration;
+
+/// A connection with more bytes outgoing than this isn't read.
+const MOST_OUTGOING: usize = 1_048_576;
+
+/// A client's stream with its session. Contracts see where the stream came in, and the session.
+///
+/// It is no `Drop`, as its session isn't: `into_parts` ends it.
+pub struct Connection<S: Wire, A: Allocator> {
+    stream: S,
+    peer: Peer<A>,
+    // Bytes may be there to be read.
+    is_readable: bool,
+    // The client sends nothing more, once what is there was read.
+    is_read_closed: bool,
+    // All was read that the client will ever send.
+    has_ended: bool,
+    // The stream takes no bytes for now.
+    is_blocked: bool,
+    // The stream failed.
+    is_broken: bool,
+}
+
+impl<S: Wire, A: Allocator> Model for Connection<S, A> {
+    ghost use Rattle.mio_relay.specs.Connections.{ConnectionState};
+
+    ghost Value = { ConnectionState };
+
+    ghost view = { λ c. record { origin = S.origin c.stream; peer = c.peer } };
+}
+
+/// What a connection was made of.
+pub struct ConnectionParts<S: Wire, A: Allocator> {
+    pub stream: S,
+    pub peer: Peer<A>,
+}
+
+impl<S: Wire, A: Allocator + Copy> Connection<S, A> {
+    /// A stream that was just accepted, with its session.
+    pub fn new(stream: S, peer: Peer<A>) -> Self
+        ensures { result ≡ record { origin = S.origin stream; peer = peer } }
+    {
+        Connection {
+            stream,
+            peer,
+            is_readable: true,
+            is_read_closed: false,
+            has_ended: false,
+            is_blocked: false,
+            is_broken: false,
+        }
+    }
+
+    /// The network says that bytes can be read, or the end; or that bytes can be written.
+    pub fn note(&mut self, is_readable: bool, is_writable: bool, is_ended: bool)
+        ensures { self.new ≡ self.old }
+    {
+        if is_readable {
+            self.is_readable = true;
+        }
+        if is_ended {
+            self.is_read_closed = true;
+        }
+        if is_writable {
+            self.is_blocked = false;
+        }
+    }
+
+    /// Whether a piece is to be read now.
+    pub fn wants_reading(&self) -> bool {
+        self.is_readable
+            && !self.has_ended
+            && !self.is_broken
+            && !self.peer.is_closing()
+            && self.peer.outgoing().len() <= MOST_OUTGOING
+    }
+
+    /// Reads a piece, if there is one, and has it received.
+    ///
+    /// `NoNumber`: the numbers of deliveries have run out. Where what came may be lost for want of memory, the connection is to be
+    /// closed: its client is to send again.
+    pub fn read<R: Wait, D: Dir + Drop>(
+        &mut self,
+        rt: &R,
+        alloc: A,
+        piece: &mut [u8],
+        lanes: &mut Lanes<D, A>,
+        numbers: &mut Numbers,
+    ) -> Result<(), LoopFault>
+        ensures { IsSameConnection self.old self.new }
+    {
+        if !self.wants_reading() {
+            return Ok(());
+        }
+        let n = self.read_piece(piece);
+        if n == 0 || n > piece.len() {
+            return Ok(());
+        }
+        match self
+            .peer
+            .receive(rt, alloc, piece.split_at(n).0, lanes, numbers)
+        {
+            Err(LoopFault::NoNumber) => Err(LoopFault::NoNumber),
+            Err(_) => {
+                self.is_broken = true;
+                Ok(())
+            }
+            Ok(()) => Ok(()),
+        }
+    }
+
+    // Reads a piece, and says how many bytes it has; 0 where there is none.
+    fn read_piece(&mut self, piece: &mut [u8]) -> usize
+        ensures { self.new ≡ self.old }
+    {
+        match self.stream.get(piece, Duration::ZERO) {
+            Moved::Some(n) => {
+                // A short piece is all that there is for now.
+                self.is_readable = n >= piece.len() || self.is_read_closed;
+                return n;
+            }
+            Moved::None => self.is_readable = false,
+            Moved::Again => {}
+            Moved::Ended => self.has_ended = true,
+            Moved::Broken => self.is_broken = true,
+        }
+        0
+    }
+
+    /// Ends the deliveries that have what they wait for.
+    pub fn settle<R: Wait, D: Dir + Drop>(&mut self, rt: &R, alloc: A, lanes: &mut Lanes<D, A>)
+        ensures { IsSameConnection self.old self.new }
+    {
+        self.peer.settle(rt, alloc, lanes);
+    }
+
+    /// Writes what is outgoing, until the stream takes no more.
+    pub fn write(&mut self)
+        ensures { IsSameConnection self.old self.new }
+    {
+        for _ in 0..u64::MAX {
+            if self.is_blocked || self.is_broken || self.peer.outgoing().is_empty() {
+                return;
+            }
+            self.write_some();
+        }
+    }
+
+    fn write_some(&mut self)
+        ensures { IsSameConnection self.old self.new }
+    {
+        match self.stream.put(self.peer.outgoing(), Duration::ZERO) {
+            Moved::Some(n) => self.peer.sent(n),
+            Moved::None => self.is_blocked = true,
+            Moved::Again => {}
+            Moved::Ended | Moved::Broken => self.is_broken = true,
+        }
+    }
+
+    /// Whether the connection is to be closed now: the stream failed; or nothing more is read, and all was written that
+    /// the client takes. A client that ended its own sending is waited for, for as long as it takes.
+    pub fn is_over(&self) -> bool {
+        if self.peer.is_waiting() {
+            return false;
+        }
+        if self.is_broken {
+            return true;
+        }
+        if self.peer.is_closing() {
+            return self.is_blocked || self.peer.outgoing().is_empty();
+        }
+        self.has_ended && self.peer.outgoing().is_empty()
+    }
+
+    /// The stream and the session, each to be ended.
+    pub fn into_parts(self) -> ConnectionParts<S, A>
+        ensures origin { S.origin result.stream ≡ self.origin }
+        ensures peer { result.peer ≡ self.peer }
+    {
+        let Connection {
+            stream,
+            peer,
+            is_readable: _,
+            is_read_closed: _,
+            has_ended: _,
+            is_blocked: _,
+            is_broken: _,
+        } = self;
+        ConnectionParts { stream, peer }
+    }
+}

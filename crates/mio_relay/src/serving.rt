@@ -1,0 +1,165 @@
+//! The connections of a loop: what is ready, read, answered, written and closed.
+
+ghost use Rattle.mio_relay.specs.Loops.{Stays};
+ghost use Rattle.mio_relay.specs.Connections.{GoOn};
+
+use crate::connection::ConnectionParts;
+use crate::connections::Connections;
+use crate::in_loop::InLoop;
+use crate::listener::loop_fault;
+use disk_files::Dir;
+use loop_core::LoopFault;
+use relay_sockets::{Network, Note, Spot, Wire};
+use std::alloc::Allocator;
+use std::sync::Wait;
+use std::time::Duration;
+
+/// How long a turn waits for sockets, in milliseconds.
+const LONGEST_WAIT: u64 = 10;
+
+impl<N: Network + Drop, D: Dir + Drop, A: Allocator + Copy> InLoop<N, D, A> {
+    // Waits for sockets, unless some are known to be ready, and notes which are.
+    pub(crate) fn wait(&mut self) -> Result<(), LoopFault>
+        ensures { Stays self.old self.new }
+    {
+        let most = if self.is_busy() { 0 } else { LONGEST_WAIT };
+        match self
+            .network
+            .wait(Duration::from_millis(most), &mut self.notes)
+        {
+            Ok(()) => {
+                self.note_all();
+                Ok(())
+            }
+            Err(fault) => Err(loop_fault(fault)),
+        }
+    }
+
+    // Whether a connection is known to have more to be read.
+    fn is_busy(&self) -> bool {
+        if self.lanes.have_pendings() {
+            return false;
+        }
+        for key in 0..self.connections.key_end() {
+            if self.connections.wants_reading(key) {
+                return true;
+            }
+        }
+        false
+    }
+
+    // Notes what the network said.
+    fn note_all(&mut self)
+        ensures { Stays self.old self.new }
+    {
+        note_all(&self.notes, &mut self.ready, &mut self.connections);
+    }
+
+    // Reads a piece from each connection that has one. The error is that the numbers of deliveries have run out.
+    pub(crate) fn read_all<R: Wait>(&mut self, rt: &R) -> Result<(), LoopFault>
+        ensures { Stays self.old self.new }
+    {
+        for key in 0..self.connections.key_end() {
+            self.read_from(rt, key)?;
+        }
+        Ok(())
+    }
+
+    fn read_from<R: Wait>(&mut self, rt: &R, key: usize) -> Result<(), LoopFault>
+        ensures { Stays self.old self.new }
+    {
+        self.connections.read(
+            key,
+            rt,
+            self.alloc,
+            &mut self.piece,
+            &mut self.lanes,
+            &mut self.numbers,
+        )
+    }
+
+    // Ends the deliveries that have what they wait for.
+    pub(crate) fn settle_all<R: Wait>(&mut self, rt: &R)
+        ensures { Stays self.old self.new }
+    {
+        for key in 0..self.connections.key_end() {
+            self.settle_at(rt, key);
+        }
+    }
+
+    fn settle_at<R: Wait>(&mut self, rt: &R, key: usize)
+        ensures { Stays self.old self.new }
+    {
+        self.connections
+            .settle(key, rt, self.alloc, &mut self.lanes);
+    }
+
+    // Writes what is outgoing.
+    pub(crate) fn write_all(&mut self)
+        ensures { Stays self.old self.new }
+    {
+        for key in 0..self.connections.key_end() {
+            self.write_to(key);
+        }
+    }
+
+    fn write_to(&mut self, key: usize)
+        ensures { Stays self.old self.new }
+    {
+        self.connections.write(key);
+    }
+
+    // Closes the connections that are over.
+    pub(crate) fn close_all<R: Wait>(&mut self, rt: &R)
+        ensures { Stays self.old self.new }
+    {
+        for key in 0..self.connections.key_end() {
+            if self.connections.is_over(key) {
+                self.close(rt, key);
+            }
+        }
+    }
+
+    fn close<R: Wait>(&mut self, rt: &R, key: usize)
+        ensures { Stays self.old self.new }
+    {
+        if let Some(connection) = self.connections.take(key) {
+            let ConnectionParts { stream, peer } = connection.into_parts();
+            self.network.close(stream);
+            peer.end(rt, &mut self.lanes);
+        }
+    }
+}
+
+// Notes what the network said.
+fn note_all<S: Wire + Drop, A: Allocator + Copy>(
+    notes: &[Note],
+    ready: &mut [bool],
+    connections: &mut Connections<S, A>,
+)
+    ensures { GoOn connections.old connections.new }
+{
+    for note in notes {
+        note_one(note, ready, connections);
+    }
+}
+
+// Notes what the network said of a listener or a connection.
+fn note_one<S: Wire + Drop, A: Allocator + Copy>(
+    note: &Note,
+    ready: &mut [bool],
+    connections: &mut Connections<S, A>,
+)
+    ensures { GoOn connections.old connections.new }
+{
+    match note.spot {
+        Spot::Listener(place) => {
+            if let Some(ready) = ready.get_mut(place) {
+                *ready = true;
+            }
+        }
+        Spot::Stream(key) => {
+            connections.note(key, note.is_readable, note.is_writable, note.is_ended);
+        }
+    }
+}

@@ -1,0 +1,188 @@
+//! A relay that is turned while a courier waits for its answer, in one thread.
+
+use ack_receipt::Stub;
+use disk_files::Dir;
+use mio_relay::{BoundRelay, Ended, InLoop, OpenRelay};
+use relay_buffers::{DeliveryJob, Folders};
+use relay_conf::Relay;
+use relay_ports::RelaySetup;
+use relay_sockets::{Dialer, Moved, Network, SocketNetwork, Time, Wire};
+use std::alloc::{AllocError, Global};
+use std::net::Net;
+use std::random::RandomSource;
+use std::sync::atomic::AtomicBool;
+use std::sync::{Arc, Mutex, Wait};
+use std::test::Fail;
+use std::time::{Clock, Duration};
+
+// A relay with sockets of the system.
+pub type Opened<R, D> = OpenRelay<SocketNetwork<R, Global>, D, Global>;
+
+// The relay with buffers in these folders, whose loop keeps what is left of its deliveries.
+pub fn open_relay<R, D, F>(rt: &R, relay: Relay<Global>, folders: &F) -> Result<Opened<R, D>, Fail>
+where
+    R: Net + Clock + RandomSource + AllocGlobal + Clone + Drop,
+    D: Dir + Drop,
+    F: Folders<D, Global>,
+{
+    let Ok(setup) = RelaySetup::new(rt.alloc(), relay, 1) else {
+        return Err(Fail::from("the relay can't run"));
+    };
+    let Ok(network) = SocketNetwork::new(copy_of(rt)?, rt.alloc()) else {
+        return Err(Fail::from("no sockets"));
+    };
+    let Ok(bound) = BoundRelay::bind(rt, rt.alloc(), network, setup) else {
+        return Err(Fail::from("a source isn't bound"));
+    };
+    match bound.open(folders) {
+        Ok(mut opened) => {
+            opened.turning.keep_stubs();
+            Ok(opened)
+        }
+        Err(_) => Err(Fail::from("a buffer doesn't open")),
+    }
+}
+
+// A handle of one's own.
+pub fn copy_of<R: Clone>(rt: &R) -> Result<R, Fail> {
+    match rt.clone() {
+        Ok(theirs) => Ok(theirs),
+        Err(_) => Err(Fail::from("no memory")),
+    }
+}
+
+// What goes on while a courier waits.
+pub trait Hub {
+    // Takes some turns; `false` where one of them has a fault.
+    fn go_on(&self) -> bool;
+}
+
+// The loop of a relay, as a hub.
+pub struct LoopHub<'a, R, N: Network + Drop, D: Dir + Drop> {
+    rt: &'a R,
+    turning: Mutex<InLoop<N, D, Global>>,
+}
+
+impl<'a, R: Wait, N: Network + Drop, D: Dir + Drop> LoopHub<'a, R, N, D> {
+    pub fn new(rt: &'a R, turning: InLoop<N, D, Global>) -> Self {
+        LoopHub {
+            rt,
+            turning: Mutex::new(turning),
+        }
+    }
+
+    // Ends the loop.
+    pub fn end(self) -> Ended<Global> {
+        let LoopHub { rt, turning } = self;
+        ended(rt, turning.into_inner())
+    }
+}
+
+impl<'a, R: Wait, N: Network + Drop, D: Dir + Drop> Hub for LoopHub<'a, R, N, D> {
+    fn go_on(&self) -> bool {
+        for _ in 0..4u32 {
+            if self.turning.lock(self.rt).turn(self.rt).is_err() {
+                return false;
+            }
+        }
+        true
+    }
+}
+
+// Ends a loop.
+pub fn ended<R: Wait, N: Network + Drop, D: Dir + Drop>(
+    rt: &R,
+    turning: InLoop<N, D, Global>,
+) -> Ended<Global> {
+    let stop = AtomicBool::new(true);
+    turning.run(rt, &stop)
+}
+
+// Whether the books of all these buffers account for what is left of the loop's deliveries, and it ended without a fault.
+pub fn are_accounted<D: Dir + Drop>(
+    alloc: Global,
+    jobs: Vec<DeliveryJob<D, Global>>,
+    left: &Ended<Global>,
+) -> bool {
+    let mut all = left.fault.is_none();
+    for job in jobs {
+        all = is_accounted(alloc, job, &left.stubs) && all;
+    }
+    all
+}
+
+// Whether the book of this buffer, which nobody else has, accounts for what is left of deliveries.
+fn is_accounted<D: Dir + Drop>(
+    alloc: Global,
+    job: DeliveryJob<D, Global>,
+    stubs: &[Stub<Global>],
+) -> bool {
+    let shelf = Arc::try_clone(job.buffer());
+    drop(job);
+    match shelf.ok().and_then(Arc::into_inner) {
+        Some(shelf) => shelf.close().audit(alloc, stubs).is_ok(),
+        None => false,
+    }
+}
+
+// Connects by another dialer. While a connection waits for bytes, the hub goes on.
+#[derive(Drop)]
+pub struct HubDialer<'a, H, C> {
+    pub hub: &'a H,
+    pub dialer: C,
+}
+
+// A connection of such a dialer.
+#[derive(Drop)]
+pub struct HubWire<'a, H, W> {
+    hub: &'a H,
+    wire: W,
+}
+
+impl<'a, H, C: Time> Time for HubDialer<'a, H, C> {
+    ghost time = { λ d. C.time d.dialer };
+
+    fn now_after(&self, before: u64) -> u64 {
+        self.dialer.now_after(before)
+    }
+}
+
+impl<'a, H: Hub, C: Dialer> Dialer for HubDialer<'a, H, C> {
+    type Stream = HubWire<'a, H, C::Stream>;
+
+    ghost is_known = { λ d. C.is_known d.dialer };
+
+    ghost takes = { λ d. C.takes d.dialer };
+
+    fn connect(
+        &self,
+        host: &str,
+        port: u16,
+        until: u64,
+    ) -> Result<Option<HubWire<'a, H, C::Stream>>, AllocError> {
+        match self.dialer.connect(host, port, until)? {
+            Some(wire) => Ok(Some(HubWire {
+                hub: self.hub,
+                wire,
+            })),
+            None => Ok(None),
+        }
+    }
+}
+
+impl<'a, H: Hub, W: Wire> Wire for HubWire<'a, H, W> {
+    ghost origin = { λ w. W.origin w.wire };
+
+    ghost traffic = { λ w. W.traffic w.wire };
+
+    fn get(&mut self, piece: &mut [u8], most: Duration) -> Moved {
+        if !self.hub.go_on() {
+            return Moved::Broken;
+        }
+        self.wire.get(piece, most)
+    }
+
+    fn put(&mut self, bytes: &[u8], most: Duration) -> Moved {
+        self.wire.put(bytes, most)
+    }
+}
