@@ -31,7 +31,7 @@ none_before s rule.ForwardsAreLabelled lt = absurd (omega arith)
 none_before s rule.PathsAreDistinct lt = absurd (omega arith)
 none_before s rule.NoRelabelCycle lt = absurd (omega arith)
 
-below_or_at : (m n : ℕ) → m < n + 1 → (m < n) ⊎ (m ≡ n)
+pub below_or_at : (m n : ℕ) → m < n + 1 → (m < n) ⊎ (m ≡ n)
 below_or_at m n lt = elim (cases_lt m n) [ inl below ↦ inl below | inr above ↦ inr (omega arith) ]
 
 -- a rule that holds goes behind those before it

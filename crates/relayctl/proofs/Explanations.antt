@@ -1,5 +1,7 @@
 -- From what is said of a plan, or of its fault, to what `explain` prints.
-use Rattle.std.proofs.Common.{◌≡◌, ℕ, List, ◌++◌, Bool, true, false, refl, ap, ◌∙◌, inl, inr, append_assoc}
+use Rattle.relay_net.proofs.Pairing.{taken_more}
+use Rattle.std.proofs.lemmas.List.{get_or_default}
+use Rattle.std.proofs.Common.{◌≡◌, ℕ, List, ◌++◌, Bool, true, false, refl, ap, ◌∙◌, inl, inr, append_assoc, ◌<◌, ◌+◌, [], ◌∷◌, get_or, take, length, subst, sym}
 use Rattle.std.specs.Bool.{IsTrue}
 use Rattle.losing_steps.specs.Losses.{IsLosingText}
 use Rattle.loss_rules.specs.Breaks.{Subject}
@@ -8,6 +10,8 @@ use Rattle.loss_rules.specs.declared.answer.Place.{Place}
 use Rattle.loss_rules.specs.declared.answer.Rule.{Rule}
 use Rattle.plan_answers.specs.Networks.{answer_line}
 use Rattle.program_text.specs.declared.status.Status.TheVariants.{No}
+use Rattle.loss_checker.specs.declared.broken.BrokenRule.{BrokenRule}
+use Rattle.relayctl.specs.Checking.{AddsBroken, SayEach}
 use Rattle.relayctl.specs.Explaining.{last_line, IsLossOrNotes, SaysAnswer}
 
 -- with the last line behind them, lines are steps that lose an event, or notes
@@ -25,3 +29,20 @@ says_no plan broken at front text lines has_loss is loses are = record {
   lines_are = are ∙ append_assoc front text (last_line has_loss) ∙ ap (λ f. f ++ (text ++ last_line has_loss)) is;
   is_status = refl;
 }
+
+-- what is said of a broken rule behind other lines
+pub adds_broken : {A : Type 0} (plan : Subject A) (one : BrokenRule) (before front text after : List ℕ) (has_loss : Bool) → front ≡ answer_line (answer.No one.rule one.place)
+    → (IsTrue has_loss → IsLosingText plan.duty plan.net text) → after ≡ ((before ++ front) ++ text) ++ last_line has_loss → AddsBroken plan one before after
+adds_broken plan one before front text after has_loss is loses are = record {
+  said = text ++ last_line has_loss;
+  is_said = loss_or_notes plan text has_loss loses;
+  after_is = are ∙ append_assoc (before ++ front) text (last_line has_loss) ∙ append_assoc before front (text ++ last_line has_loss)
+      ∙ ap (λ f. before ++ (f ++ (text ++ last_line has_loss))) is;
+}
+
+-- one broken rule more
+pub said_more : {A : Type 0} (plan : Subject A) (broken : List BrokenRule) (count : ℕ) (other : BrokenRule) (before after : List ℕ) → count < length broken
+    → SayEach plan (take count broken) before → AddsBroken plan (get_or broken count other) before after → SayEach plan (take (count + 1) broken) after
+said_more plan broken count other before after less said adds =
+    let one : BrokenRule = get_or broken count other in
+    subst (λ (found : List BrokenRule). SayEach plan found after) (sym (taken_more broken count one less (get_or_default broken count other one less))) (SayEach.one_more one said adds)

@@ -29,11 +29,11 @@ pub fn run_explain<A: Allocator + Copy, R: Read, O: Open, W: Write>(
     }
 }
 
-// Lines, and the status that they mean.
+/// Lines, and the status that they mean.
 #[derive(Drop)]
-struct Said<A: Allocator> {
-    lines: Vec<u8, A>,
-    status: Status,
+pub(crate) struct Said<A: Allocator> {
+    pub lines: Vec<u8, A>,
+    pub status: Status,
 }
 
 // What is said of the texts that are read.
@@ -51,6 +51,8 @@ fn explain_read<A: Allocator + Copy, R: Read, O: Open>(
     let texts = Texts {
         plan_name: name,
         plan: &text,
+        own_lines: usize::MAX,
+        added_name: name,
         conf_names: &names,
         confs: &confs,
     };
@@ -86,8 +88,8 @@ fn say_plan<A: Allocator + Copy>(
     })
 }
 
-// The line that says whether those before it are steps that lose an event.
-fn last_line(has_loss: bool) -> &'static str
+/// The line that says whether those before it are steps that lose an event.
+pub(crate) fn last_line(has_loss: bool) -> &'static str
     ensures { result.now ≡ last_line_of has_loss }
 {
     if has_loss {
@@ -97,8 +99,8 @@ fn last_line(has_loss: bool) -> &'static str
     }
 }
 
-// What is said of a plan's fault: its line, and what explains it.
-fn say_fault<A: Allocator + Copy>(
+/// What is said of a plan's fault: its line, and what explains it.
+pub(crate) fn say_fault<A: Allocator + Copy>(
     alloc: A,
     texts: &Texts<'_, A>,
     fault: PlanError,

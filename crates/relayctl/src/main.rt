@@ -1,10 +1,12 @@
 //! The operator's program: words of the command line, each of which reads, answers and gives a status.
 #![tactic(auto)]
 
+mod check;
 mod explain;
 mod label;
 mod words;
 
+use check::run_check;
 use explain::run_explain;
 use folder_listing::{DataFolder, run_show};
 use label::run_label;
@@ -15,10 +17,14 @@ use std::process::ExitCode;
 use std::{env, io};
 use words::{Word, read_word};
 
-const USAGE: &str = "usage: relayctl label NET | explain NET | ways CONF TAG.. | show DIR | --help";
+const USAGE: &str =
+    "usage: relayctl check NET | label NET | explain NET | ways CONF TAG.. | show DIR | --help";
 
-const HELP: &str = "usage: relayctl label NET | explain NET | ways CONF TAG.. | show DIR | --help
+const HELP: &str =
+    "usage: relayctl check NET | label NET | explain NET | ways CONF TAG.. | show DIR | --help
 
+check NET        labels the plan NET, and prints `yes`, or every rule that is broken then,
+                 each with what it means, what mends it, and steps that lose an event
 label NET        prints the plan NET with the label and reach lines that it lacks
 explain NET      prints the answer of relaynet check to the plan NET, what a broken
                  rule or a fault means, what mends it, and steps that lose an event
@@ -42,6 +48,10 @@ fn run(rt: &HostRuntime, word: Option<Word<'_>>) -> Status {
     let out = &mut io::writer(rt);
     match word {
         Some(Word::Help) => put_last(out, HELP.as_bytes(), Status::Done),
+        Some(Word::Check(net)) => {
+            let faults = &mut rt.stderr();
+            run_check(rt.alloc(), net, &mut folder.text(net), &folder, out, faults)
+        }
         Some(Word::Label(net)) => run_label(rt.alloc(), &mut folder.text(net), &folder, out),
         Some(Word::Explain(net)) => {
             run_explain(rt.alloc(), net, &mut folder.text(net), &folder, out)

@@ -5,6 +5,8 @@
 pub enum Word<'a> {
     /// Say what it can be asked.
     Help,
+    /// Label the plan of a network, at this path, and say of each rule that is broken then what it means.
+    Check(&'a str),
     /// Label the plan of a network, at this path.
     Label(&'a str),
     /// Explain the checker's answer to a plan, at this path.
@@ -27,6 +29,9 @@ pub fn read_word(words: &[String]) -> Option<Word<'_>> {
             }
         }
         [_, word, path] => {
+            if word.as_str() == "check" {
+                return Some(Word::Check(path));
+            }
             if word.as_str() == "label" {
                 return Some(Word::Label(path));
             }

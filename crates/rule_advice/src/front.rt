@@ -29,6 +29,7 @@ impl<A: Allocator + Copy> Subject<'_, A> {
         self.put_rule(&mut lines)?;
         let site = self.texts.site(self.plan, self.place);
         site.put(self.alloc, &mut lines, "It is broken in")?;
+        self.put_relay_of_conf(&mut lines)?;
         put_headed(self.alloc, &mut lines, "To mend it", advice(self.rule))?;
         self.put_details(&mut lines)?;
         self.put_labelling(&mut lines)?;
@@ -42,6 +43,28 @@ impl<A: Allocator + Copy> Subject<'_, A> {
         let rule = self.rule;
         let asked = meaning(rule);
         let note = format!(in self.alloc; "{rule}: {asked}.")?;
+        put_note(out, note.as_bytes())
+    }
+
+    // Adds whose configuration it is that breaks the rule, if it is one.
+    fn put_relay_of_conf(&self, out: &mut Vec<u8, A>) -> Result<(), AllocError> {
+        let Place::Conf { relay, .. } = self.place else {
+            return Ok(());
+        };
+        let Some(at) = self.plan.net().place(u64::from(relay)) else {
+            return Ok(());
+        };
+        match self.plan.relay_lines().get(at) {
+            Some(entry) => self.put_folder(out, relay, entry.folder.as_str()),
+            None => Ok(()),
+        }
+    }
+
+    // Adds the relay's number and its folder.
+    fn put_folder(&self, out: &mut Vec<u8, A>, relay: u32, folder: &str) -> Result<(), AllocError> {
+        let note = format!(in self.alloc;
+            "  That is the configuration of relay {relay}, whose folder is {folder}."
+        )?;
         put_note(out, note.as_bytes())
     }
 

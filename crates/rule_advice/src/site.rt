@@ -14,6 +14,10 @@ pub struct Texts<'t, A: Allocator> {
     pub plan_name: &'t str,
     /// The plan.
     pub plan: &'t [u8],
+    /// How many of the plan's lines are its own; those behind them were added.
+    pub own_lines: usize,
+    /// What is said in place of the plan's name of a line that was added.
+    pub added_name: &'t str,
     /// The names of the configurations, in the order of the plan's relays.
     pub conf_names: &'t [&'t str],
     /// The configurations, in that order.
@@ -46,7 +50,11 @@ impl<'t, A: Allocator> Texts<'t, A> {
     /// This line of the plan.
     pub(crate) fn plan_site(&self, line: usize) -> Site<'t> {
         Site {
-            name: self.plan_name,
+            name: if line > self.own_lines {
+                self.added_name
+            } else {
+                self.plan_name
+            },
             text: self.plan,
             line,
         }

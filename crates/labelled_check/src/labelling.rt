@@ -1,0 +1,92 @@
+//! A plan is labelled, and then asked for its broken rules.
+
+ghost use Rattle.std.specs.Prelude.{◌≡◌, length, true, IfOk, IfErr, IfSome, IsTrue};
+ghost use Rattle.plan_lines.specs.Faults.{IsRefusal};
+ghost use Rattle.plan_lines.specs.Forms.{confs_named};
+ghost use Rattle.plan_lines.specs.Plans.{texts};
+ghost use Rattle.labelled_check.specs.Checks.{AreChecked, IsLabelledCheck};
+
+use label_plan::labelled_text;
+use loss_checker::{BrokenRule, broken_rules};
+use plan_lines::{Plan, PlanError, conf_names};
+use std::alloc::{AllocError, Allocator};
+
+/// A plan with the labels and reaches that it lacked, and which of its rules are broken.
+#[derive(Drop)]
+pub struct LabelledCheck<A: Allocator> {
+    /// The plan's text: the given one with the lines that were added behind it, or the given one itself where none were found.
+    pub text: Vec<u8, A>,
+    /// The plan of this text.
+    pub plan: Plan<A>,
+    /// Whether the text is as `labelled_text` answers it; else it is the given one.
+    pub is_labelled: bool,
+    /// The rules of the plan that are broken, in their order.
+    pub broken: Vec<BrokenRule, A>,
+}
+
+/// Labels the plan of these texts as `labelled_text` does, and says which of its rules are broken then. Where no labels are found, the plan's
+/// own lines are asked. The configurations are those that the plan names, in their order. An error is the plan's own, or want of memory.
+pub fn check_labelled<A: Allocator + Copy>(
+    alloc: A,
+    net: &[u8],
+    confs: &[Vec<u8, A>],
+) -> Result<LabelledCheck<A>, PlanError>
+    requires { length confs.now ≡ length (confs_named net.now) }
+    ensures checked { IfOk result (λ found. IsLabelledCheck A (texts confs.now) net.now found.is_labelled found.text.items found.plan found.broken.items) }
+    ensures refused { IfErr result (IsRefusal A net.now (texts confs.now)) }
+{
+    let labelled = labelled_text(alloc, net, confs)?;
+    if let Some(text) = labelled {
+        let checked = checked(alloc, text, confs, true)?;
+        if let Some(found) = checked {
+            return Ok(found);
+        }
+    }
+    let plan = Plan::read(alloc, net, confs)?;
+    let broken = broken_rules(alloc, &plan)?;
+    let text = Vec::from_slice(alloc, net)?;
+    Ok(LabelledCheck {
+        text,
+        plan,
+        is_labelled: false,
+        broken,
+    })
+}
+
+// The plan of the text, if that names as many configurations as there are and says a plan, and its broken rules.
+fn checked<A: Allocator + Copy>(
+    alloc: A,
+    text: Vec<u8, A>,
+    confs: &[Vec<u8, A>],
+    is_labelled: bool,
+) -> Result<Option<LabelledCheck<A>>, AllocError>
+    ensures { IfOk result (λ found. IfSome found (λ found. (found.text ≡ text) × (found.is_labelled ≡ is_labelled) × AreChecked (texts confs.now) text.items found.plan found.broken.items)) }
+{
+    if !names_as_many(alloc, &text, confs.len())? {
+        return Ok(None);
+    }
+    match Plan::read(alloc, &text, confs) {
+        Ok(plan) => {
+            let broken = broken_rules(alloc, &plan)?;
+            Ok(Some(LabelledCheck {
+                text,
+                plan,
+                is_labelled,
+                broken,
+            }))
+        }
+        Err(PlanError::Memory) => Err(AllocError),
+        Err(_) => Ok(None),
+    }
+}
+
+// Whether the text names this many configurations.
+fn names_as_many<A: Allocator + Copy>(
+    alloc: A,
+    text: &[u8],
+    count: usize,
+) -> Result<bool, AllocError>
+    ensures { IfOk result (λ same. IsTrue same → count ≡ length (confs_named text.now)) }
+{
+    Ok(conf_names(alloc, text)?.len() == count)
+}

@@ -1,0 +1,26 @@
+use Rattle.std.proofs.Common.{refl, ◌∙◌, sym, subst, List}
+use Rattle.std.specs.Prelude.{IfNone, IfSome}
+use Rattle.loss_rules.specs.Breaks.{IsKept, IsBrokenAt}
+use Rattle.loss_rules.specs.declared.answer.Rule.TheVariants as rule
+use Rattle.loss_checker.specs.Broken.{AreBrokenBefore}
+use Rattle.loss_checker.specs.declared.broken.BrokenRule.{BrokenRule}
+use Rattle.loss_checker.proofs.Listing.{none_broken, all_asked}
+use Rattle.loss_checker.proofs.RuleNumbers.{in_plan}
+use Rattle.loss_checker.proofs.broken.broken_rules.Goals as goal
+
+pub ask_all_but_the_last-requires-clause-before : goal.ask_all_but_the_last-requires-clause-before
+ask_all_but_the_last-requires-clause-before g c =
+    subst (λ (found : List BrokenRule). AreBrokenBefore c.args.plan.now 1 found) (sym c.new-found.ensures.items) (none_broken c.args.plan.now)
+
+pub note-requires-clause-holds : goal.note-requires-clause-holds
+note-requires-clause-holds g c =
+    in_plan c.args.plan.now c.net.result.now c.args.plan.now.labels c.in_ok-reaches.reaches c.net.ensures.net refl (c.in_ok-reaches.ensures ∙ c.reaches.ensures)
+    (λ s. IfNone c.in_ok-cycle.cycle (IsKept s rule.NoRelabelCycle)) c.in_ok-cycle.ensures.none
+
+pub note-requires-clause-breaks : goal.note-requires-clause-breaks
+note-requires-clause-breaks g c =
+    in_plan c.args.plan.now c.net.result.now c.args.plan.now.labels c.in_ok-reaches.reaches c.net.ensures.net refl (c.in_ok-reaches.ensures ∙ c.reaches.ensures)
+    (λ s. IfSome c.in_ok-cycle.cycle (IsBrokenAt s rule.NoRelabelCycle)) c.in_ok-cycle.ensures.some
+
+pub returns : goal.returns
+returns g c = all_asked c.args.plan.now c.note.new.found.items c.in_ok-note.ensures

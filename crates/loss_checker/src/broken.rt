@@ -1,0 +1,95 @@
+//! Every rule that is broken of a plan: all rules are asked, whatever the others answer.
+
+ghost use Rattle.std.specs.Prelude.{◌≡◌, ◌+◌, IfOk, IfSome, IfNone, OnOk};
+ghost use Rattle.loss_rules.specs.Breaks.{IsKept, IsBrokenAt, rule_number};
+ghost use Rattle.loss_checker.specs.Broken.{AreBrokenBefore, AreBrokenRules};
+
+use loss_rules::{
+    Labels, Place, Reaches, Rule, addresses_are_distinct, clients_are_labelled, first_cycle,
+    forwards_are_labelled, labels_are_matched, paths_are_distinct, reached_matches_keep,
+    reaches_cover, relabels_are_labelled, servers_are_sources,
+};
+use plan_lines::Plan;
+use std::alloc::{AllocError, Allocator};
+
+/// A rule that is broken, and where it is broken first.
+#[derive(Clone, Copy, Debug, PartialEq, Eq)]
+pub struct BrokenRule {
+    /// The rule.
+    pub rule: Rule,
+    /// The first place where it is broken: by lines of the plan, or by relays in the order of the plan and then by lines of their
+    /// configurations.
+    pub place: Place,
+}
+
+/// The rules that don't hold of the plan, in the order of `Rule`, each with the place where it is broken first; the first of them is what
+/// `check` answers. It takes the time of a yes of `check`. The only error is want of memory.
+pub fn broken_rules<A: Allocator + Copy>(
+    alloc: A,
+    plan: &Plan<A>,
+) -> Result<Vec<BrokenRule, A>, AllocError>
+    ensures { IfOk result (λ found. AreBrokenRules plan.now found.items) }
+{
+    let labels = Labels::new(alloc, plan.labels())?;
+    let reaches = Reaches::new(alloc, plan.reaches())?;
+    let mut found = Vec::new(alloc);
+    ask_all_but_the_last(plan, &labels, &reaches, &mut found)?;
+    let cycle = first_cycle(alloc, plan.net(), &reaches)?;
+    note(plan, Rule::NoRelabelCycle, cycle, &mut found)?;
+    Ok(found)
+}
+
+// Adds the rules before the last one that are broken.
+fn ask_all_but_the_last<'a, 'b, A: Allocator + Copy>(
+    plan: &'a Plan<A>,
+    labels: &'a Labels<'b, A>,
+    reaches: &'a Reaches<'b, A>,
+    found: &mut Vec<BrokenRule, A>,
+) -> Result<(), AllocError>
+    requires labels { labels.now ≡ plan.now.labels }
+    requires reaches { reaches.now ≡ plan.now.reaches }
+    requires before { AreBrokenBefore plan.now 1 found.old.items }
+    ensures { OnOk result (AreBrokenBefore plan.now (rule_number Rule.NoRelabelCycle) found.new.items) }
+{
+    let net = plan.net();
+    let list = plan.labels();
+    let addresses = addresses_are_distinct(net, plan.relay_lines());
+    note(plan, Rule::AddressesAreDistinct, addresses, found)?;
+    let servers = servers_are_sources(net);
+    note(plan, Rule::ServersAreSources, servers, found)?;
+    let clients = clients_are_labelled(net, plan.client_lines(), labels);
+    note(plan, Rule::ClientsAreLabelled, clients, found)?;
+    let matched = labels_are_matched(net, list);
+    note(plan, Rule::LabelsAreMatched, matched, found)?;
+    let covered = reaches_cover(net, list, reaches);
+    note(plan, Rule::ReachesCover, covered, found)?;
+    let kept = reached_matches_keep(net, plan.duty(), reaches);
+    note(plan, Rule::ReachedMatchesKeep, kept, found)?;
+    let relabels = relabels_are_labelled(net, labels, reaches);
+    note(plan, Rule::RelabelsAreLabelled, relabels, found)?;
+    let forwards = forwards_are_labelled(net, labels, reaches);
+    note(plan, Rule::ForwardsAreLabelled, forwards, found)?;
+    let paths = paths_are_distinct(net);
+    note(plan, Rule::PathsAreDistinct, paths, found)
+}
+
+// Adds the rule, if there is a place where it is broken, of which this is the first.
+fn note<A: Allocator>(
+    plan: &Plan<A>,
+    rule: Rule,
+    broken: Option<Place>,
+    found: &mut Vec<BrokenRule, A>,
+) -> Result<(), AllocError>
+    requires before { AreBrokenBefore plan.now (rule_number rule) found.old.items }
+    requires holds { IfNone broken (IsKept plan.now rule) }
+    requires breaks { IfSome broken (IsBrokenAt plan.now rule) }
+    ensures { OnOk result (AreBrokenBefore plan.now (rule_number rule + 1) found.new.items) }
+{
+    match broken {
+        None => Ok(()),
+        Some(place) => {
+            found.push(BrokenRule { rule, place })?;
+            Ok(())
+        }
+    }
+}

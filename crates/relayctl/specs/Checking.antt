@@ -1,0 +1,100 @@
+-- What is printed of a plan with the labels and reaches that it lacks: a yes, or every broken rule; or why there is no answer.
+use Rattle.std.specs.Prelude.{◌≡◌, ◌<◌, ◌⊎◌, Bool, true, false, ℕ, List, [], ◌∷◌, ◌++◌, codes, length, Option}
+use Rattle.labelled_check.specs.Checks.{IsLabelledCheck}
+use Rattle.loss_checker.specs.declared.broken.BrokenRule.{BrokenRule}
+use Rattle.loss_rules.specs.Breaks.{Subject}
+use Rattle.loss_rules.specs.declared.answer.Answer.TheVariants as answer
+use Rattle.plan_answers.specs.Networks.{AreRead, answer_line, IsStopLine}
+use Rattle.program_text.specs.Lines.{line}
+use Rattle.program_text.specs.Output.{IsPrinted}
+use Rattle.program_text.specs.declared.status.Status.{Status}
+use Rattle.program_text.specs.declared.status.Status.TheVariants.{Done, No, Usage}
+use Rattle.relayctl.specs.Explaining.{IsExplainedFault, IsLossOrNotes}
+use Rattle.relayctl.specs.declared.check.Check.{Check}
+use Rattle.relayctl.specs.declared.check.Check.TheVariants as check
+
+-- what is said of one broken rule behind other lines: the line of a no, and steps that lose an event or notes
+pub record AddsBroken {A : Type 0} (plan : Subject A) (one : BrokenRule) (before after : List ℕ) : Type 0 where
+  pub said : List ℕ
+  pub is_said : IsLossOrNotes plan said
+  pub after_is : after ≡ before ++ (answer_line (answer.No one.rule one.place) ++ said)
+
+-- what is said of broken rules, one after another
+pub data SayEach {A : Type 0} (plan : Subject A) : List BrokenRule → List ℕ → Type 0 where
+  none : SayEach plan [] []
+  one_more : {broken : List BrokenRule} {before after : List ℕ} (one : BrokenRule) → SayEach plan broken before → AddsBroken plan one before after
+      → SayEach plan (broken ++ one ∷ []) after
+
+-- what is said of the rules of a plan, of which these are broken: a yes where none are
+abbrev pub SaysRules : {A : Type 0} → Subject A → List BrokenRule → List ℕ → Status → Type 0
+SaysRules plan [] lines status = (lines ≡ line (codes "yes")) × (status ≡ Done)
+SaysRules plan (first ∷ others) lines status = SayEach plan (first ∷ others) lines × (status ≡ No)
+
+-- the line behind that, where no labels were found
+abbrev pub labels_note : Bool → List ℕ
+labels_note true = []
+labels_note false = line (codes "# relayctl label finds no labels for this plan: its own lines were asked")
+
+-- what is said of a plan with relays and clients
+pub record SaysAnswer {A : Type 0} (is_labelled : Bool) (plan : Subject A) (broken : List BrokenRule) (lines : List ℕ) (status : Status) : Type 0 where
+  pub relays : 0 < length plan.net.relays
+  pub clients : 0 < length plan.net.clients
+  pub said : List ℕ
+  pub says : SaysRules plan broken said status
+  pub lines_are : lines ≡ said ++ labels_note is_labelled
+
+-- what is said of a plan without relays, or without clients
+pub record SaysEmpty {A : Type 0} (plan : Subject A) (lines : List ℕ) (status : Status) : Type 0 where
+  pub empty : ((length plan.net.relays ≡ 0) × (lines ≡ line (codes "no relays"))) ⊎ ((length plan.net.clients ≡ 0) × (lines ≡ line (codes "no clients")))
+  pub is_status : status ≡ Usage
+
+-- what is said of a plan of which these rules are broken
+abbrev pub SaysCheck : {A : Type 0} → Bool → Subject A → List BrokenRule → Check A → Type 0
+SaysCheck is_labelled plan broken (check.Answered said) = SaysAnswer is_labelled plan broken said.lines.items said.status
+SaysCheck is_labelled plan broken (check.Refused said) = SaysEmpty plan said.lines.items said.status
+
+-- The plan that is read, with the labels that it lacks, has these broken rules, and this is said of it.
+pub record IsChecked (A : Type 0) (net : Option (List ℕ)) (named : List ℕ → Option (List ℕ)) (Says : Bool → Subject A → List BrokenRule → Type 0) : Type 0 where
+  pub given : List ℕ
+  pub confs : List (List ℕ)
+  pub read : AreRead net named given confs
+  pub is_labelled : Bool
+  pub text : List ℕ
+  pub plan : Subject A
+  pub broken : List BrokenRule
+  pub checked : IsLabelledCheck A confs given is_labelled text plan broken
+  pub says : Says is_labelled plan broken
+
+-- an answer: a yes, or every broken rule
+abbrev pub IsCheckAnswer : (A : Type 0) → Option (List ℕ) → (List ℕ → Option (List ℕ)) → List ℕ → Status → Type 0
+IsCheckAnswer A net named lines status = IsChecked A net named (λ is_labelled plan broken. SaysAnswer is_labelled plan broken lines status)
+
+-- no answer: the plan has a fault, or no relays, or no clients
+abbrev pub IsNoAnswer : (A : Type 0) → Option (List ℕ) → (List ℕ → Option (List ℕ)) → List ℕ → Status → Type 0
+IsNoAnswer A net named lines status = IsExplainedFault A net named lines status ⊎ IsChecked A net named (λ is_labelled plan broken. SaysEmpty plan lines status)
+
+-- what is said of the texts that are read
+abbrev pub IsCheck : (A : Type 0) → Option (List ℕ) → (List ℕ → Option (List ℕ)) → Check A → Type 0
+IsCheck A net named (check.Answered said) = IsCheckAnswer A net named said.lines.items said.status
+IsCheck A net named (check.Refused said) = IsNoAnswer A net named said.lines.items said.status
+
+-- An answer is printed, and nothing is said of faults.
+pub record PrintsAnswer (A : Type 0) (net : Option (List ℕ)) (named : List ℕ → Option (List ℕ)) (old new old_faults new_faults : Option (List ℕ)) (status : Status) : Type 0 where
+  pub lines : List ℕ
+  pub meant : Status
+  pub answer : IsCheckAnswer A net named lines meant
+  pub printed : IsPrinted old new lines meant status
+  pub faultless : new_faults ≡ old_faults
+
+-- It is said in place of faults why there is no answer, and nothing is printed.
+pub record PrintsNoAnswer (A : Type 0) (net : Option (List ℕ)) (named : List ℕ → Option (List ℕ)) (old new old_faults new_faults : Option (List ℕ)) (status : Status) : Type 0 where
+  pub lines : List ℕ
+  pub meant : Status
+  pub refused : IsNoAnswer A net named lines meant ⊎ IsStopLine lines meant
+  pub said : IsPrinted old_faults new_faults lines meant status
+  pub silent : new ≡ old
+
+-- all that `check` does to the writer of answers and to that of faults, and its status
+abbrev pub PrintsCheck : (A : Type 0) → Option (List ℕ) → (List ℕ → Option (List ℕ)) → Option (List ℕ) → Option (List ℕ) → Option (List ℕ) → Option (List ℕ) → Status → Type 0
+PrintsCheck A net named old new old_faults new_faults status =
+    PrintsAnswer A net named old new old_faults new_faults status ⊎ PrintsNoAnswer A net named old new old_faults new_faults status
