@@ -208,6 +208,7 @@ pub(crate) fn redeem<D: Dir, A: Allocator + Copy>(
     // Their appends are synced.
     ensures synced { OnOk result (AreBefore booked.new.synced pendings.items) }
     ensures syncs { Syncs booked.old booked.new }
+    ensures count { OnErr result (booked.new.synced ≡ booked.old.synced) }
     ensures chunks { booked.new.buffer.chunks ≡ booked.old.buffer.chunks }
     ensures appends { booked.new.appends ≡ booked.old.appends }
     // The device isn't touched where all of them are synced.
@@ -244,6 +245,7 @@ fn sync_for<D: Dir, A: Allocator + Copy>(
     requires { All (IsRedeemable leaf booked.old.waiting) pendings.now }
     ensures synced { OnOk result (AreBefore booked.new.synced pendings.now) }
     ensures syncs { Syncs booked.old booked.new }
+    ensures count { OnErr result (booked.new.synced ≡ booked.old.synced) }
     ensures chunks { booked.new.buffer.chunks ≡ booked.old.buffer.chunks }
     ensures rest { booked.new ≡ record booked.old { buffer = booked.new.buffer; synced = booked.new.synced } }
     ensures quiet { AreBefore booked.old.synced pendings.now → (result ≡ Ok tt) × (booked.new ≡ booked.old) }

@@ -153,12 +153,15 @@ impl<D: Dir, A: Allocator + Copy> SharedBuffer<D, A> {
         self.lock.lock(rt).claim(self.leaf)
     }
 
-    /// The entries of a claimed chunk of this buffer, read from the journal.
+    /// The entries of a claimed chunk of this buffer, read from the journal: as many as the claim counts.
     ///
     /// `Gone` where the claim is of another buffer; then the first of `Failed`, `Gone`, `Memory`, `Fault` and `Damaged` that applies: `Gone`
-    /// where its chunk isn't live, `Fault` where a read failed, `Damaged` where the journal hasn't the bytes that were told.
-    /// Each leaves the buffer as it was.
-    pub fn body<R: Wait>(&self, rt: &R, claim: &Claim<A>) -> Result<Entries<A>, BufferFault> {
+    /// where no live chunk has the claim's serial, tag and count, `Fault` where a read failed, `Damaged` where the journal hasn't the bytes
+    /// that were told. Each leaves the buffer as it was.
+    pub fn body<R: Wait>(&self, rt: &R, claim: &Claim<A>) -> Result<Entries<A>, BufferFault>
+        ensures own { OnOk result (claim.now.leaf ≡ self.now.leaf) }
+        ensures counted { IfOk result (λ entries. length entries ≡ claim.now.count) }
+    {
         self.lock.lock(rt).body(self.leaf, claim)
     }
 
@@ -181,8 +184,10 @@ impl<D: Dir, A: Allocator + Copy> SharedBuffer<D, A> {
             .purge(self.leaf, &self.takes, claim, evidence)
     }
 
-    /// Ends a claim whose chunk wasn't delivered: the chunk goes to the end of the queue where it is claimed, and the claim is of this buffer. It takes no memory.
-    pub fn give_back<R: Wait>(&self, rt: &R, claim: Claim<A>) {
+    /// Ends a claim of this buffer whose chunk wasn't delivered: the chunk goes to the end of the queue where it is claimed. It takes no memory.
+    pub fn give_back<R: Wait>(&self, rt: &R, claim: Claim<A>)
+        requires { claim.leaf ≡ self.now.leaf }
+    {
         self.lock.lock(rt).give_back(self.leaf, claim);
     }
 

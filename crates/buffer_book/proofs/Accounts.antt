@@ -1,6 +1,6 @@
 -- The book accounts for the chunks, step by step.
 use Rattle.std.proofs.Common.{◌≡◌, ◌⊎◌, inl, inr, ℕ, ◌+◌, ◌<◌, ◌≤◌, Bool, true, false, cond, List, [], ◌∷◌, ◌++◌, length, Option, Some, None, option_map, IsSome, refl, sym, ap, subst, ◌∙◌, arith, add-zero, zero-add}
-use Rattle.std.specs.Prelude.{map, filter, sum_by, IfSome, Contains, slice_index_or, Result, Ok, Err, OnOk, OnErr}
+use Rattle.std.specs.Prelude.{map, filter, sum_by, IfSome, IsSomeAnd, Contains, slice_index_or, Result, Ok, Err, OnOk, OnErr}
 use Rattle.std.specs.Option.{option_map_or}
 use Rattle.std.specs.List.Sorted.{IsStrictlySortedBy}
 use Rattle.std.specs.Map.{lookup, keys_of}
@@ -13,7 +13,7 @@ use Rattle.std.proofs.lemmas.List.Sums.{sum_by-append}
 use Rattle.std.proofs.lemmas.Option.{same_Some}
 use Rattle.buffer_state.specs.declared.chunk.Stage.{Stage}
 use Rattle.buffer_state.specs.declared.chunk.Stage.TheVariants.{Staged, Queued, Claimed}
-use Rattle.buffer_state.specs.State.{State, Chunk, Numbered, chunk_at}
+use Rattle.buffer_state.specs.State.{State, Chunk, IsAt, Numbered, chunk_at}
 use Rattle.buffer_state.specs.Steps.{with_chunk, added, appended, restaged, queued_last, claimed, claimed_from, removed}
 use Rattle.buffer_state.specs.Slots.{AreBelow}
 use Rattle.buffer_state.proofs.Serials.{at_same, at_itself, other_way}
@@ -165,6 +165,20 @@ module _ (c : State) (first : List (ℕ × ℕ)) (lines : List Line) (noted : Li
 
   pub accounted_queued : (s : ℕ) → IsAccounted (queued_last s c) first lines noted
   accounted_queued s = accounted_same (queued_last s c) (restaged_next s Queued) (λ q. restaged_at s q Queued)
+
+-- a queued chunk isn't claimed
+pub queued_is_not_claimed : (c : State) (s : ℕ) → IsAt Claimed (queued_last s c) s → ⊥
+queued_is_not_claimed c s = by (chunk_at c s) refl
+  where
+    by : (o : Option Chunk) → chunk_at c s ≡ o → IsSomeAnd (chunk_at (option_map_or (λ chunk. with_chunk s (record chunk { stage = Queued }) c) o c) s) (λ chunk. chunk.stage ≡ Claimed) → ⊥
+    by None is h = subst (λ (o : Option Chunk). IsSomeAnd o (λ chunk. chunk.stage ≡ Claimed)) is h
+    by (Some v) is h = absurd (cc (subst (λ (o : Option Chunk). IsSomeAnd o (λ chunk. chunk.stage ≡ Claimed)) at h))
+      where
+        w : Chunk
+        w = record v { stage = Queued }
+
+        at : chunk_at (with_chunk s w c) s ≡ Some w
+        at = set_at c.chunks s s v w is ∙ ap (λ (b : Bool). cond b (Some w) (chunk_at c s)) (at_itself s)
 
 -- the first of the queue is claimed
 pub accounted_claimed : (c : State) (first : List (ℕ × ℕ)) (lines : List Line) (noted : List ℕ) → IsAccounted c first lines noted → IsAccounted (claimed c) first lines noted

@@ -113,6 +113,7 @@ impl<D: Dir, A: Allocator + Copy> Booked<D, A> {
         ensures err { OnErr result (self.new.buffer.chunks ≡ self.old.buffer.chunks) }
         ensures book { self.new ≡ record self.old { buffer = self.new.buffer; synced = self.new.synced } }
         ensures syncs { Syncs self.old self.new }
+        ensures count { OnErr result (self.new.synced ≡ self.old.synced) }
         ensures gone { (result ≡ Err BufferFault.Gone) ↔ ((self.old.buffer.failed ≡ false) × (IsAt Staged self.old.buffer.chunks serial → ⊥)) }
         ensures only { self.old.buffer.failed ≡ false → IsAt Staged self.old.buffer.chunks serial
             → OnErr result ((result ≡ Err BufferFault.Memory) ⊎ (result ≡ Err BufferFault.Fault)) }
@@ -132,6 +133,7 @@ impl<D: Dir, A: Allocator + Copy> Booked<D, A> {
         ensures chunks { self.new.buffer.chunks ≡ self.old.buffer.chunks }
         ensures book { self.new ≡ record self.old { buffer = self.new.buffer; synced = self.new.synced } }
         ensures syncs { Syncs self.old self.new }
+        ensures count { OnErr result (self.new.synced ≡ self.old.synced) }
         ensures idle { self.old.buffer.failed ≡ false → (WantsRenewal self.old.buffer → ⊥) → (result ≡ Ok tt) × (self.new ≡ self.old) }
         ensures number { WantsRenewal self.old.buffer → OnOk result (self.new.buffer.journal.number ≡ self.old.buffer.journal.number + 1) }
         ensures only { OnErr result ((result ≡ Err BufferFault.Failed) ⊎ ((result ≡ Err BufferFault.LastSerial) ⊎ ((result ≡ Err BufferFault.Memory)

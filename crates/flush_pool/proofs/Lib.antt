@@ -1,2 +1,3 @@
+mod Pooling
 mod Settling
 pub mod Sharing

@@ -1,5 +1,5 @@
 -- What a worker did with the chunks that it claimed: each is purged, or given back.
-use Rattle.std.specs.Prelude.{ℕ, ◌≡◌, ◌⊎◌, true, false, Result, Ok, Err}
+use Rattle.std.specs.Prelude.{ℕ, ◌≡◌, ◌⊎◌, ◌+◌, true, false, Result, Ok, Err}
 use Rattle.buffer_store.specs.declared.fault.BufferFault.{BufferFault}
 use Rattle.buffer_store.specs.declared.fault.BufferFault.TheVariants as store
 use Rattle.buffer_book.specs.Claims.{Claimed, id_of}
@@ -10,7 +10,7 @@ use Rattle.flush_pool.specs.declared.verdict.Verdict.TheVariants.{Try, Wait, Giv
 use Rattle.flush_pool.specs.declared.worked.Worked.{Worked}
 use Rattle.flush_pool.specs.Acts as acts
 use Rattle.flush_pool.specs.Acts.{Place, did}
-use Rattle.flush_pool.specs.Counts.{none, counted}
+use Rattle.flush_pool.specs.Counts.{none, counted, added}
 
 -- a worker ends by this fault: memory ran out, or the buffer has failed before
 abbrev pub EndsWork : BufferFault → Type 0
@@ -57,3 +57,18 @@ pub data Rounds {A : Type 0} (start : Place A) : Place A → Worked → Type 0 w
 abbrev pub IsWorked : {A : Type 0} → Place A → Place A → Result Worked BufferFault → Type 0
 IsWorked {A = A} old new (Ok worked) = Rounds old new worked
 IsWorked {A = A} old new (Err fault) = (before : Place A) × (worked : Worked) × Rounds old before worked × (((new ≡ before) × (fault ≡ store.Memory)) ⊎ ((claim : Claimed) × IsSettled claim (did (acts.Claimed claim.serial) before) new (Err fault)))
+
+-- a worker that had done nothing ended so
+abbrev pub HasWorked : {A : Type 0} → Place A → Result Worked BufferFault → Type 0
+HasWorked {A = A} start ended = (end : Place A) × IsWorked start end ended
+
+-- how two ended: with both their counts, or with the fault of the first that has one
+abbrev pub both : Result Worked BufferFault → Result Worked BufferFault → Result Worked BufferFault
+both (Ok one) (Ok other) = Ok (added one other)
+both (Ok one) (Err fault) = Err fault
+both (Err fault) other = Err fault
+
+-- so many workers, each of which had done nothing, ended so
+pub data HaveWorked {A : Type 0} (start : Place A) : ℕ → Result Worked BufferFault → Type 0 where
+  Nobody : HaveWorked start 0 (Ok none)
+  OneMore : (n : ℕ) (one others : Result Worked BufferFault) → HasWorked start one → HaveWorked start n others → HaveWorked start (n + 1) (both one others)

@@ -1,6 +1,9 @@
 //! Flush threads: a worker at a buffer until it is told to stop, and several at once.
 
 ghost use denote.Param.Send.{IsSync, IsSend, Frees};
+ghost use Rattle.std.specs.Prelude.{◌≡◌, []};
+ghost use Rattle.flush_pool.specs.Acts.{at};
+ghost use Rattle.flush_pool.specs.Rounds.{HasWorked, HaveWorked, both};
 
 use crate::courier::Courier;
 use crate::gate::Gate;
@@ -21,8 +24,8 @@ use std::time::Clock;
 ///
 /// A chunk that waits after a failure is given back and the next is tried. A worker that finds none to try sleeps for ten
 /// milliseconds. A chunk whose retries are over is let go where the buffer allows it. After a chunk was carried it is purged
-/// before `stop` is looked at. `Worked` counts what this worker did. It is one `Worker::work`, whose contract says what a
-/// worker does: each chunk that it claims is purged, by what the courier gave for it or the end of its retries, or given back.
+/// before `stop` is looked at. `Worked` counts what this worker did: whole rounds, in each of which the chunk that it claimed is
+/// purged, by what the courier gave for it or the end of its retries, or given back.
 ///
 /// `Failed`: the buffer's device failed before, and the buffer is to be opened again. `Memory`: a growth was refused. Either
 /// ends the worker; its last chunk is given back, and what it did before stands.
@@ -33,7 +36,9 @@ pub fn work<R: Wait + Clock, D: Dir, A: Allocator + Copy, C: Courier<R, D, A>, G
     gate: &G,
     retries: &Retries<A>,
     stop: &AtomicBool,
-) -> Result<Worked, BufferFault> {
+) -> Result<Worked, BufferFault>
+    ensures { HasWorked (at buffer.now.leaf buffer.now.takes []) result }
+{
     Worker::new(rt, buffer, courier, gate, retries, stop).work()
 }
 
@@ -55,17 +60,32 @@ pub fn run_pool<
     gate: &G,
     retries: &Retries<A>,
     stop: &AtomicBool,
-) -> Result<Worked, BufferFault> {
+) -> Result<Worked, BufferFault>
+    ensures { HaveWorked (at buffer.now.leaf buffer.now.takes []) threads result }
+{
     if threads == 0 {
         return Ok(Worked::new());
     }
     let rest = threads - 1;
     let (one, others) = join(
         rt,
-        || work(rt, buffer, courier, gate, retries, stop),
+        || -> Result<Worked, BufferFault>
+            ensures { HasWorked (at buffer.entry.now.leaf buffer.entry.now.takes []) result }
+        { work(rt, buffer, courier, gate, retries, stop) },
         || -> Result<Worked, BufferFault>
             requires { IsSync R.row × IsSend D.row × IsSend A.row × IsSync A.row × IsSync C.row × IsSync G.row × Frees A.Allocator A.dealloc_token }
+            ensures { HaveWorked (at buffer.entry.now.leaf buffer.entry.now.takes []) rest result }
         { run_pool(rt, rest, buffer, courier, gate, retries, stop) },
     );
+    both_of(one, others)
+}
+
+// The counts of both, or the fault of the first that has one.
+fn both_of(
+    one: Result<Worked, BufferFault>,
+    others: Result<Worked, BufferFault>,
+) -> Result<Worked, BufferFault>
+    ensures { result ≡ both one others }
+{
     Ok(one?.and(others?))
 }

@@ -1,2 +1,3 @@
 pub mod StartingSteps
+pub mod RunningSteps
 pub mod Crossings

@@ -1,17 +1,23 @@
 //! The threads that deliver a relay's chunks.
 
+ghost use Rattle.std.specs.Prelude.{◌≡◌, IfOk};
+ghost use Rattle.relay_run.specs.Running.{IsCarrierOf, IsPoolOf};
+
 use ack_receipt::{Evidence, SharedBuffer};
 use buffer_store::BufferFault;
 use disk_files::{Dir, RealDir};
 use flush_pool::{CarryFault, ClaimView, Courier, OpenGate, Retries, SinkCourier, run_pool};
 use loop_core::LoopFault;
 use relay_buffers::{DeliveryJob, SystemDir};
+use relay_conf::RetrySettings;
 use relay_ports::BufferedOutput;
 use relay_sockets::{Nonces, SystemDialer};
 use sink_series::{Series, SeriesFault};
 use std::alloc::Global;
+use std::marker::Model;
 use std::net::{Net, TcpListener, TcpStream};
 use std::random::RandomSource;
+use std::snapshot::Snapshot;
 use std::sync::atomic::{AtomicBool, Ordering};
 use std::sync::{Arc, Wait};
 use std::thread::Threads;
@@ -31,9 +37,9 @@ type Connects = SystemDialer<HostRuntime, Global>;
 /// A folder of the relay's buffers.
 pub type Folder = SystemDir<HostRuntime, Global>;
 
-// Carries chunks to servers, or to the files of a sink.
+/// Carries chunks to servers, or to the files of a sink.
 #[derive(Drop)]
-enum Carrier {
+pub enum Carrier {
     Servers(TcpCourier<Connects, Global>),
     Sink(SinkCourier<RealDir<HostRuntime, Global>, Global>),
 }
@@ -57,8 +63,22 @@ pub struct Pool {
     buffer: Arc<SharedBuffer<Folder, Global>>,
     carrier: Carrier,
     threads: usize,
-    retries: Retries<Global>,
+    retry: RetrySettings,
     stop: Arc<AtomicBool>,
+}
+
+impl Model for Pool {
+    ghost use Rattle.std.specs.Arc.{arc_value};
+    ghost use Rattle.relay_run.specs.Running.{PoolState};
+
+    ghost Value = { PoolState };
+
+    ghost view = { λ p. record {
+      terms = arc_value p.buffer;
+      carrier = p.carrier;
+      threads = p.threads;
+      retry = p.retry;
+    } };
 }
 
 impl Pool {
@@ -70,37 +90,70 @@ impl Pool {
         home: Home<'_>,
         job: &DeliveryJob<Folder, Global>,
         stop: &Arc<AtomicBool>,
-    ) -> Result<Pool, LoopFault> {
+    ) -> Result<Pool, LoopFault>
+        ensures { IfOk result (IsPoolOf job.now) }
+    {
         let settings = job.output().buffer();
         Ok(Pool {
             buffer: Arc::try_clone(job.buffer())?,
             carrier: carrier_of(rt, home, job.output(), stop)?,
             threads: settings.flush_thread_count,
-            retries: Retries::new(home.files.alloc(), settings.retry),
+            retry: settings.retry,
             stop: Arc::try_clone(stop)?,
         })
     }
 
     /// Delivers chunks until the relay stops, by as many threads as the output has. Where the buffer has failed, it stops the relay.
-    pub fn run<R>(self, rt: &R) -> Option<LoopFault>
+    pub fn run<R>(self, rt: &R) -> PoolEnd
     where
-        R: Wait + Net<Listener = TcpListener, Stream = TcpStream> + Clock + Threads + Sync,
+        R: Wait
+            + Net<Listener = TcpListener, Stream = TcpStream>
+            + Clock
+            + Threads
+            + AllocGlobal
+            + Sync,
+        ensures { result ≡ self }
     {
+        let of = Snapshot::of(&self);
+        let retries = Retries::new(rt.alloc(), self.retry);
         let done = run_pool(
             rt,
             self.threads,
             &self.buffer,
             &self.carrier,
             &OpenGate,
-            &self.retries,
+            &retries,
             &self.stop,
         );
         self.stop.store(true, Ordering::SeqCst);
-        match done {
+        let fault = match done {
             Ok(_) => None,
             Err(BufferFault::Memory) => Some(LoopFault::Memory),
             Err(fault) => Some(LoopFault::Buffer(fault)),
-        }
+        };
+        PoolEnd { fault, of }
+    }
+}
+
+/// How a pool ended. Contracts see which pool it was.
+#[derive(Drop)]
+pub struct PoolEnd {
+    fault: Option<LoopFault>,
+    of: Snapshot<Pool>,
+}
+
+impl Model for PoolEnd {
+    ghost use Rattle.relay_run.specs.Running.{PoolState};
+
+    ghost Value = { PoolState };
+
+    ghost view = { λ e. e.of.value };
+}
+
+impl PoolEnd {
+    /// The fault that it ended with.
+    pub fn fault(&self) -> Option<LoopFault> {
+        self.fault
     }
 }
 
@@ -110,7 +163,9 @@ fn carrier_of<R: RandomSource>(
     home: Home<'_>,
     output: &BufferedOutput<Global>,
     stop: &Arc<AtomicBool>,
-) -> Result<Carrier, LoopFault> {
+) -> Result<Carrier, LoopFault>
+    ensures { IfOk result (IsCarrierOf output.now) }
+{
     match output {
         BufferedOutput::Forward(settings) => {
             let Ok(nonces) = Nonces::new(rt) else {

@@ -3,6 +3,7 @@
 
 mod flush;
 mod relay;
+mod running;
 
 pub use flush::Home;
 pub use relay::Runner;

@@ -2,14 +2,16 @@
 
 ghost use Rattle.std.specs.Prelude.{◌≡◌, ◌≢◌, [], None, IfOk, IfSome, IfNone};
 ghost use Rattle.plan_lines.specs.Forms.{relay_number};
+ghost use Rattle.relay_ports.specs.Setups.{setup_of};
+ghost use Rattle.relay_run.specs.Running.{Runs};
 ghost use Rattle.relay_run.specs.Starting.{ready_lines, fault_line as fault_line_of, PrintsReady, PrintsRelay, PrintsRun};
 
-use crate::flush::{Folder, Home, Pool, copy_of};
+use crate::flush::{Home, copy_of};
+use crate::running::{Ran, Running};
 use conf_values::whole_number;
 use loop_core::LoopFault;
-use mio_relay::{BoundRelay, Ended, InLoop, OpenRelay};
+use mio_relay::BoundRelay;
 use program_text::{Status, put_all, put_last};
-use relay_buffers::{DeliveryJob, SystemFolders};
 use relay_conf::Relay;
 use relay_ports::RelaySetup;
 use relay_reading::{print_conf_stop, read_relay};
@@ -18,10 +20,9 @@ use std::alloc::{AllocError, Allocator, Global};
 use std::io::{Read, Write};
 use std::net::{Net, TcpListener, TcpStream};
 use std::random::RandomSource;
-use std::sync::atomic::{AtomicBool, Ordering};
+use std::sync::atomic::AtomicBool;
 use std::sync::{Arc, Wait};
-use std::thread;
-use std::thread::{JoinHandle, Threads};
+use std::thread::Threads;
 use std::time::Clock;
 
 /// What runs relays: a handle of the runtime, and where the relay has its files.
@@ -83,35 +84,36 @@ where
     fn run_read<W: Write>(&self, relay: Relay<Global>, number: u32, out: &mut W) -> Status
         ensures { PrintsRun (W.contents out.old) (W.contents out.new) result }
     {
-        match self.run_until(relay, number, out) {
-            Err(fault) => put_last(out, fault_line(fault).as_bytes(), Status::Usage),
-            Ok(()) => Status::Done,
+        let fault = match self.run_until(relay, number, out) {
+            Err(fault) => Some(fault),
+            Ok(ran) => ran.fault(),
+        };
+        match fault {
+            Some(fault) => put_last(out, fault_line(fault).as_bytes(), Status::Usage),
+            None => Status::Done,
         }
     }
 
-    // Runs the relay until a fault, and prints its sources.
+    // Runs the relay until a fault, and prints its sources. What ran is this relay, under this number.
     #[tactic(auto, using(crate::proofs::StartingSteps::none_ready))]
     fn run_until<W: Write>(
         &self,
         relay: Relay<Global>,
         number: u32,
         out: &mut W,
-    ) -> Result<(), LoopFault>
-        ensures { PrintsReady (W.contents out.old) (W.contents out.new) }
+    ) -> Result<Ran<R>, LoopFault>
+        ensures prints { PrintsReady (W.contents out.old) (W.contents out.new) }
+        ensures runs { IfOk result (Runs (setup_of number relay)) }
     {
         let alloc = self.rt.alloc();
         let stop = Arc::new(alloc, AtomicBool::new(false))?;
         let setup = RelaySetup::new(alloc, relay, number)?;
         let bound = BoundRelay::bind(self.rt, alloc, self.network()?, setup)?;
         let ports = bound.ports()?;
-        let folders = SystemFolders {
-            rt: copy_of(self.home.files)?,
-            alloc,
-            path: self.home.path,
-        };
-        let OpenRelay { turning, jobs } = bound.open(&folders)?;
-        let pools = self.open_ready(jobs, &ports, &stop, out);
-        self.run_open(turning, pools, &stop)
+        let ready = ready_text(alloc, &ports)?;
+        let running = Running::open(self.rt, self.home, bound, &stop)?;
+        put_ready(&ports, &ready, out);
+        running.run(self.rt, &stop)
     }
 
     // The system's sockets, none of which listens yet.
@@ -124,76 +126,7 @@ where
             Err(_) => Err(LoopFault::Poll),
         }
     }
-
-    // What delivers the chunks of each output. Once it is there, the sources are printed.
-    #[tactic(auto, using(crate::proofs::StartingSteps::none_ready))]
-    fn open_ready<W: Write>(
-        &self,
-        jobs: Vec<DeliveryJob<Folder, Global>>,
-        ports: &[u16],
-        stop: &Arc<AtomicBool>,
-        out: &mut W,
-    ) -> Result<Vec<Pool>, LoopFault>
-        ensures { PrintsReady (W.contents out.old) (W.contents out.new) }
-    {
-        let pools = self.open_pools(&jobs, stop)?;
-        put_ready(self.rt.alloc(), ports, out)?;
-        Ok(pools)
-    }
-
-    // What delivers the chunks of each output.
-    fn open_pools(
-        &self,
-        jobs: &[DeliveryJob<Folder, Global>],
-        stop: &Arc<AtomicBool>,
-    ) -> Result<Vec<Pool>, LoopFault> {
-        let mut pools = Vec::new(self.rt.alloc());
-        for job in jobs {
-            pools.push(Pool::open(self.rt, self.home, job, stop)?)?;
-        }
-        Ok(pools)
-    }
-
-    // Runs the loop and the pools until one of them has a fault.
-    fn run_open(
-        &self,
-        turning: InLoop<SocketNetwork<R, Global>, Folder, Global>,
-        pools: Result<Vec<Pool>, LoopFault>,
-        stop: &Arc<AtomicBool>,
-    ) -> Result<(), LoopFault> {
-        let mut threads = Vec::new(self.rt.alloc());
-        let started = match pools {
-            Ok(pools) => self.start_all(pools, &mut threads),
-            Err(fault) => Err(fault),
-        };
-        if started.is_err() {
-            stop.store(true, Ordering::SeqCst);
-        }
-        let Ended { stubs: _, fault } = turning.run(self.rt, stop);
-        stop.store(true, Ordering::SeqCst);
-        let theirs = join_all(self.rt, threads);
-        match started.err().or(fault).or(theirs) {
-            Some(fault) => Err(fault),
-            None => Ok(()),
-        }
-    }
-
-    // Starts a thread for each pool. After a fault those before it run.
-    fn start_all(&self, pools: Vec<Pool>, threads: &mut Vec<Delivery>) -> Result<(), LoopFault> {
-        for pool in pools {
-            threads.reserve(1)?;
-            let theirs = copy_of(self.rt)?;
-            match thread::spawn(self.rt, move || pool.run(&theirs)) {
-                Ok(thread) => threads.push_reserved(thread),
-                Err(_) => return Err(LoopFault::Memory),
-            }
-        }
-        Ok(())
-    }
 }
-
-// A thread that delivers a buffer's chunks, and gives the fault that it ends with.
-type Delivery = JoinHandle<Option<LoopFault>>;
 
 // The number of a relay that the word spells, as in a plan.
 fn number_of(word: &str) -> Option<u32>
@@ -232,24 +165,9 @@ fn ready_text<A: Allocator + Copy>(alloc: A, ports: &[u16]) -> Result<Vec<u8, A>
 }
 
 // Prints that sources take connections at these ports. Where the writer fails, the relay runs all the same.
-fn put_ready<A: Allocator + Copy, W: Write>(
-    alloc: A,
-    ports: &[u16],
-    out: &mut W,
-) -> Result<(), AllocError>
+fn put_ready<W: Write>(ports: &[u16], text: &[u8], out: &mut W)
+    requires { text.now ≡ ready_lines ports.now }
     ensures { PrintsReady (W.contents out.old) (W.contents out.new) }
 {
-    let text = ready_text(alloc, ports)?;
-    let _ = put_all(out, &text);
-    Ok(())
-}
-
-// Waits for the threads to end, and gives the first fault.
-fn join_all<R: Threads>(rt: &R, threads: Vec<Delivery>) -> Option<LoopFault> {
-    let mut first = None;
-    for thread in threads {
-        let fault = thread.join(rt);
-        first = first.or(fault);
-    }
-    first
+    let _ = put_all(out, text);
 }

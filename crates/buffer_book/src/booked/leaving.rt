@@ -49,19 +49,20 @@ impl<D: Dir, A: Allocator + Copy> Booked<D, A> {
         Ok(Some(claim))
     }
 
-    /// The entries of a claimed chunk of this buffer, read from the journal.
+    /// The entries of a claimed chunk of this buffer, read from the journal: as many as the claim counts.
     ///
     /// `Gone` where the claim is of another buffer; then the first of `Failed`, `Gone`, `Memory`, `Fault` and `Damaged` that applies: `Gone`
-    /// where its chunk isn't live, `Fault` where a read failed, `Damaged` where the journal hasn't the bytes that were told.
-    /// Each leaves the buffer as it was.
+    /// where no live chunk has the claim's serial, tag and count, `Fault` where a read failed, `Damaged` where the journal hasn't the bytes
+    /// that were told. Each leaves the buffer as it was.
     pub fn body(&mut self, leaf: Leaf, claim: &Claim<A>) -> Result<Entries<A>, BufferFault>
+        ensures own { OnOk result ((claim.now.leaf ≡ leaf) × IsCopied claim.now self.old.buffer.chunks) }
         ensures entries { BeganWell D.is_honest D.history self.old.buffer
             → IfOk result (λ entries. IsSomeAnd (chunk_at self.old.buffer.chunks claim.now.serial) (λ chunk. entries ≡ chunk.entries)) }
         // Over whatever folder there are as many as were appended.
-        ensures counted { IfOk result (λ entries. IsSomeAnd (chunk_at self.old.buffer.chunks claim.now.serial) (λ chunk. length entries ≡ length chunk.entries)) }
+        ensures counted { IfOk result (λ entries. length entries ≡ claim.now.count) }
         ensures failed { (result ≡ Err BufferFault.Failed) ↔ ((claim.now.leaf ≡ leaf) × (self.old.buffer.failed ≡ true)) }
         ensures gone { (result ≡ Err BufferFault.Gone)
-            ↔ ((claim.now.leaf ≢ leaf) ⊎ ((self.old.buffer.failed ≡ false) × (chunk_at self.old.buffer.chunks claim.now.serial ≡ None))) }
+            ↔ ((claim.now.leaf ≢ leaf) ⊎ ((self.old.buffer.failed ≡ false) × (IsCopied claim.now self.old.buffer.chunks → ⊥))) }
         ensures undamaged { BeganWell D.is_honest D.history self.old.buffer → result ≢ Err BufferFault.Damaged }
         ensures only { OnErr result ((result ≡ Err BufferFault.Failed) ⊎ ((result ≡ Err BufferFault.Gone) ⊎ ((result ≡ Err BufferFault.Memory)
             ⊎ ((result ≡ Err BufferFault.Fault) ⊎ (result ≡ Err BufferFault.Damaged))))) }
@@ -71,22 +72,30 @@ impl<D: Dir, A: Allocator + Copy> Booked<D, A> {
         if claim.leaf() != leaf {
             return Err(BufferFault::Gone);
         }
+        if self.buffer.has_failed() {
+            return Err(BufferFault::Failed);
+        }
+        if !is_copied(claim, &self.buffer.chunks()) {
+            return Err(BufferFault::Gone);
+        }
         self.buffer.body(claim.serial())
     }
 
-    /// Ends a claim whose chunk wasn't delivered: the chunk goes to the end of the queue where it is claimed.
-    /// Nothing changes where it isn't, or where the claim is of another buffer.
+    /// Ends a claim of this buffer whose chunk wasn't delivered: the chunk goes to the end of the queue where it is claimed, and else nothing changes.
     /// It takes no memory, writes nothing, and goes on after a fault. The book stays as it is.
     pub fn give_back(&mut self, leaf: Leaf, claim: Claim<A>)
-        ensures back { claim.leaf ≡ leaf → IsAt Claimed self.old.buffer.chunks claim.serial
+        requires own { claim.leaf ≡ leaf }
+        ensures back { IsAt Claimed self.old.buffer.chunks claim.serial
             → self.new ≡ record self.old { buffer = record self.old.buffer { chunks = queued_last claim.serial self.old.buffer.chunks } } }
         ensures other { (IsAt Claimed self.old.buffer.chunks claim.serial → ⊥) → self.new ≡ self.old }
-        ensures stranger { claim.leaf ≢ leaf → self.new ≡ self.old }
+        // No claim ends with its chunk still claimed.
+        ensures ended { IsAt Claimed self.new.buffer.chunks claim.serial → ⊥ }
     {
-        let is_of = claim.leaf() == leaf;
+        let is_own = claim.leaf() == leaf;
+        prove!(is_own);
         let serial = claim.serial();
         claim.end();
-        if is_of && is_claimed(&self.buffer.chunks(), serial) {
+        if is_claimed(&self.buffer.chunks(), serial) {
             self.buffer.give_back(serial);
         }
     }
@@ -122,6 +131,7 @@ impl<D: Dir, A: Allocator + Copy> Booked<D, A> {
             → Serves leaf takes.now self.old.buffer.chunks claim evidence → self.old.buffer.failed ≡ false → IsAt Claimed self.old.buffer.chunks claim.serial
             → IfErr result (λ e. (e.0 ≡ PurgeFault.Buffer BufferFault.Memory) ⊎ (e.0 ≡ PurgeFault.Buffer BufferFault.Fault)) }
         ensures back { IfErr result (λ e. (e.1 ≡ claim) × (e.2 ≡ evidence)) }
+        ensures count { OnErr result (self.new.synced ≡ self.old.synced) }
         ensures same { OnErr result (Unchanged self.old self.new) }
         // Only a purge that may come to write can fail the buffer; entries that couldn't be read leave it as it was.
         ensures flags { (IsRefused (PurgeFault.Buffer BufferFault.Fault) result → ⊥) → self.new.buffer.failed ≡ self.old.buffer.failed }
@@ -155,6 +165,7 @@ impl<D: Dir, A: Allocator + Copy> Booked<D, A> {
         ensures gone { (result ≡ Err BufferFault.Gone) ↔ ((self.old.buffer.failed ≡ false) × (to_drop takes.now self.old.buffer.chunks ≡ None)) }
         ensures only { self.old.buffer.failed ≡ false → (serial : ℕ) → to_drop takes.now self.old.buffer.chunks ≡ Some serial
             → OnErr result ((result ≡ Err BufferFault.Memory) ⊎ (result ≡ Err BufferFault.Fault)) }
+        ensures count { OnErr result (self.new.synced ≡ self.old.synced) }
         ensures same { OnErr result (Unchanged self.old self.new) }
         ensures steady { Steady self.old.buffer self.new.buffer result }
     {
@@ -229,6 +240,7 @@ impl<D: Dir, A: Allocator + Copy> Booked<D, A> {
         ensures gone { (result ≡ Err BufferFault.Gone) ↔ ((self.old.buffer.failed ≡ false) × (IsAt Claimed self.old.buffer.chunks serial → ⊥)) }
         ensures only { self.old.buffer.failed ≡ false → IsAt Claimed self.old.buffer.chunks serial
             → OnErr result ((result ≡ Err BufferFault.Memory) ⊎ (result ≡ Err BufferFault.Fault)) }
+        ensures count { OnErr result (self.new.synced ≡ self.old.synced) }
         ensures same { OnErr result (Unchanged self.old self.new) }
         ensures steady { Steady self.old.buffer self.new.buffer result }
         ensures cause { result ≡ Err BufferFault.Fault → Rises (D.fault_count self.old.buffer.dir) (D.fault_count self.new.buffer.dir) }
@@ -246,6 +258,16 @@ fn is_claimed<A: Allocator + Copy>(chunks: &LiveChunks<'_, A>, serial: u64) -> b
     ensures { IsTrue result ↔ IsAt Claimed chunks.now serial }
 {
     matches!(chunks.stage(serial), Some(Stage::Claimed))
+}
+
+// Whether the live chunk of the claim's serial has its tag, and as many entries as it counts.
+fn is_copied<A: Allocator + Copy>(claim: &Claim<A>, chunks: &LiveChunks<'_, A>) -> bool
+    ensures { IsTrue result ↔ IsCopied claim.now chunks.now }
+{
+    match chunks.facts(claim.serial()) {
+        Some(facts) => facts.tag == claim.tag() && facts.count == claim.count(),
+        None => false,
+    }
 }
 
 // Whether the lists have the same entries.
