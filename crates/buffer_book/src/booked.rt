@@ -1,6 +1,6 @@
 //! A buffer with its book, and the calls that neither append nor let a chunk go.
 
-ghost use Rattle.std.specs.Prelude.{◌≡◌, ◌≢◌, ◌↔◌, ◌⊎◌, ◌<◌, ◌≤◌, ◌+◌, [], true, false, All, Ok, Err, OnOk, OnErr, IsErrOf};
+ghost use Rattle.std.specs.Prelude.{◌≡◌, ◌≢◌, ◌↔◌, ◌⊎◌, ◌<◌, ◌≤◌, ◌+◌, [], true, false, length, All, Ok, Err, OnOk, OnErr, IsErrOf};
 ghost use Rattle.book_audit.specs.Audits.{Accounts, AreInBook, AreOpenOnce, Closes, HasStranger, IsAgain, IsLeftOut, Settles, lines_named, lines_of};
 ghost use Rattle.book_audit.specs.declared.fault.BookFault.{BookFault};
 ghost use Rattle.book_audit.specs.declared.fault.AuditError.{AuditError};
@@ -47,9 +47,9 @@ impl<D: Dir, A: Allocator> Model for Booked<D, A> {
 
     ghost Value = { Book D };
 
-    ghost view = { λ b. book_of b.buffer b.past.first b.past.appends b.past.lines b.lines b.waiting.entries b.synced b.past.removed };
+    ghost view = { λ b. book_of b.buffer b.past.first b.past.appends b.past.lines b.lines b.waiting.entries b.past.synced b.past.removed };
 
-    ghost invariant = { λ b. (b.count ≡ length b.past.appends) × IsSound (book_of b.buffer b.past.first b.past.appends b.past.lines b.lines b.waiting.entries b.synced b.past.removed) };
+    ghost invariant = { λ b. (b.count ≡ length b.past.appends) × (b.synced ≡ b.past.synced) × IsSound (book_of b.buffer b.past.first b.past.appends b.past.lines b.lines b.waiting.entries b.past.synced b.past.removed) };
 }
 
 impl<D: Dir, A: Allocator + Copy> Booked<D, A> {
@@ -121,7 +121,7 @@ impl<D: Dir, A: Allocator + Copy> Booked<D, A> {
     {
         self.buffer.enqueue(serial)?;
         // The journal was synced, and all appends with it.
-        self.synced = self.count;
+        self.note_synced();
         Ok(())
     }
 
@@ -149,7 +149,7 @@ impl<D: Dir, A: Allocator + Copy> Booked<D, A> {
         }
         self.buffer.renew()?;
         // The new generation is synced, and it tells all that is live.
-        self.synced = self.count;
+        self.note_synced();
         Ok(())
     }
 
@@ -184,5 +184,14 @@ impl<D: Dir, A: Allocator + Copy> Booked<D, A> {
         ensures memory { IsErrOf result AuditError.Memory → All (AreInBook leaf self.now.pages) stubs.now }
     {
         audit(alloc, leaf, &self.lines, stubs)
+    }
+
+    // All appends are synced: the buffer has none that isn't.
+    fn note_synced(&mut self)
+        requires { self.old.buffer.staged ≡ false }
+        ensures { self.new ≡ record self.old { synced = length self.old.appends } }
+    {
+        self.past = self.past.then_synced(&self.buffer);
+        self.synced = self.count;
     }
 }

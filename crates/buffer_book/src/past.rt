@@ -1,6 +1,6 @@
 //! What contracts remember of a buffer's book. It has no bytes for an append: a relay that runs for months keeps no more than one that just began.
 
-ghost use Rattle.std.specs.Prelude.{◌≡◌, ◌++◌, ◌∷◌, [], suc};
+ghost use Rattle.std.specs.Prelude.{◌≡◌, ◌++◌, ◌∷◌, [], false, length, suc};
 ghost use Rattle.buffer_book.specs.Told.{counts_of};
 ghost use Rattle.buffer_book.specs.Past.{told_before};
 
@@ -18,7 +18,7 @@ pub struct Written {
     pub line: Line,
 }
 
-/// What was told of appends, receipts and removals, in order.
+/// What was told of appends, receipts, removals and syncs, in order.
 #[derive(Drop)]
 pub struct Past<D: Dir, A: Allocator> {
     chain: Snapshot<Chain<D, A>>,
@@ -46,6 +46,8 @@ enum Link<D: Dir, A: Allocator> {
     Appended(Snapshot<Snapshot<Chain<D, A>>>, Snapshot<Line>),
     Wrote(Snapshot<Snapshot<Chain<D, A>>>, Snapshot<Written>),
     Removed(Snapshot<Snapshot<Chain<D, A>>>, Snapshot<u64>),
+    // The buffer at this moment.
+    Synced(Snapshot<Snapshot<Chain<D, A>>>, Snapshot<Buffer<D, A>>),
 }
 
 impl<D: Dir, A: Allocator> Model for Chain<D, A> {
@@ -76,7 +78,7 @@ impl<D: Dir, A: Allocator> Past<D, A> {
 
     /// The book of this buffer begins.
     pub(crate) fn new(buffer: &Buffer<D, A>) -> Self
-        ensures { result ≡ record { times = 0; first = counts_of buffer.now.chunks; appends = []; lines = []; removed = [] } }
+        ensures { result ≡ record { times = 0; first = counts_of buffer.now.chunks; appends = []; lines = []; removed = []; synced = 0 } }
     {
         Past::ending(Link::Began(Snapshot::of(buffer)))
     }
@@ -100,5 +102,13 @@ impl<D: Dir, A: Allocator> Past<D, A> {
         ensures { result ≡ record self.now { times = suc self.now.times; removed = self.now.removed ++ serial.now ∷ [] } }
     {
         Past::ending(Link::Removed(Snapshot::of(&self.chain), Snapshot::of(serial)))
+    }
+
+    /// All that was appended is synced: this is the buffer of the book, at this moment.
+    pub(crate) fn then_synced(&self, buffer: &Buffer<D, A>) -> Self
+        requires { buffer.now.staged ≡ false }
+        ensures { result ≡ record self.now { times = suc self.now.times; synced = length self.now.appends } }
+    {
+        Past::ending(Link::Synced(Snapshot::of(&self.chain), Snapshot::of(buffer)))
     }
 }

@@ -74,6 +74,7 @@ impl<D: Dir, A: Allocator + Copy> Booked<D, A> {
         self.past = self.past.then_line(&Written { place, line });
         self.count = place + 1;
         // All appends are synced now.
+        self.past = self.past.then_synced(&self.buffer);
         self.synced = self.count;
         let line = self.lines.write_reserved(line);
         Ok(Noted { serial, line })
@@ -149,7 +150,7 @@ impl<D: Dir, A: Allocator + Copy> Booked<D, A> {
         ensures steady { Steady self.old.buffer self.new.buffer result }
     {
         self.buffer.sync()?;
-        self.synced = self.count;
+        self.note_synced();
         Ok(())
     }
 

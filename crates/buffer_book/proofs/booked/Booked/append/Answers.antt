@@ -22,14 +22,14 @@ pub write_reserved-line-requires-clause-number : goal.write_reserved-line-requir
 write_reserved-line-requires-clause-number g c =
     let n = subst (λ (b : Book g.row.D.Denot). length b.appends < 18446744073709551615) (sym c.self.view_is) c.in_ok-serial.ensures.number in
     let same = c.in_ok-reserve.ensures.same.count in
-    let pages = c.self.invariant.1.on_pages.count in
-    let few = c.self.invariant.1.waits.few in
+    let pages = c.self.invariant.2.on_pages.count in
+    let few = c.self.invariant.2.waits.few in
     omega arith
 
 pub invariant_of-self-2 : goal.invariant_of-self-2
 invariant_of-self-2 g c =
     let i = c.self.inside in
-    let h = c.self.invariant.1 in
+    let h = c.self.invariant.2 in
     let s = c.in_ok-serial.serial in
     let can = subst (λ (b : Book g.row.D.Denot). CanAppend b.buffer.chunks s c.args.tag.now c.args.entries.now) (sym c.self.view_is) c.in_ok-serial.ensures.can in
     let near = subst (λ (b : Book g.row.D.Denot). s ≤ b.buffer.chunks.next) (sym c.self.view_is) c.in_ok-serial.ensures.near in
@@ -42,10 +42,14 @@ invariant_of-self-2 g c =
     subst (λ (z : State). IsAccounted z i.past.first (i.past.appends ++ x ∷ []) i.past.removed) (sym (c.in_ok-append.ensures.ok ∙ ap (λ (k : ℕ). appended k c.args.tag.now c.args.entries.now i.buffer.chunks) same))
     (accounted_appended i.buffer.chunks i.past.first i.past.appends i.past.removed h.accounted s c.args.tag.now c.args.entries.now x refl c.count.ensures (place_of_plan i.buffer.chunks s c.args.tag.now c.args.entries.now can) (below_of_plan i.buffer.chunks s near free)) in
     let y : length i.past.appends ≡ i.count = sym c.self.invariant.0 in
-    let Kept : List (ℕ × ℕ) → List Line → List Written → List ℕ → Type 0 = λ f xs ls rs. (i.count + 1 ≡ length xs) × IsSound (book_of c.append.new.self f xs ls c.write_reserved-line.new.self i.waiting.entries (i.count + 1) rs) in
-    subst (λ (t : ToldPast). Kept t.first t.appends t.lines t.removed) (sym c.then_line.ensures)
-    (subst (λ (t : ToldPast). Kept t.first t.appends (t.lines ++ record { place = i.count; line = x } ∷ []) t.removed) (sym c.then_append.ensures) (
-      ap (λ (n : ℕ). n + 1) c.self.invariant.0 ∙ sym (length_push i.past.appends x),
-      subst (λ (n : ℕ). IsSound (book_of c.append.new.self i.past.first (i.past.appends ++ x ∷ []) (i.past.lines ++ record { place = n; line = x } ∷ []) c.write_reserved-line.new.self i.waiting.entries (n + 1) i.past.removed)) y
-          (sound_append i.buffer i.past.first i.past.appends i.past.lines i.lines i.waiting.entries i.synced i.past.removed h c.append.new.self x c.reserve.new.self c.write_reserved-line.new.self account c.in_ok-reserve.ensures.same c.write_reserved-line.ensures.written (let r = c.in_ok-reserve.ensures.room in let n = c.len.ensures.len in omega arith) c.write_reserved-line.ensures.room),
-    ))
+    let Kept : ToldPast → ℕ → List Written → Type 0 = λ t n ls. (i.count + 1 ≡ length t.appends) × (i.count + 1 ≡ n) × IsSound (book_of c.append.new.self t.first t.appends ls c.write_reserved-line.new.self i.waiting.entries n t.removed) in
+    let more : i.count + 1 ≡ length (i.past.appends ++ x ∷ []) = ap (λ (n : ℕ). n + 1) c.self.invariant.0 ∙ sym (length_push i.past.appends x) in
+    subst (λ (t : ToldPast). Kept t t.synced t.lines) (sym c.then_synced.ensures)
+    (subst (λ (t : ToldPast). Kept t (length t.appends) t.lines) (sym c.then_line.ensures)
+    (subst (λ (t : ToldPast). Kept t (length t.appends) (t.lines ++ record { place = i.count; line = x } ∷ [])) (sym c.then_append.ensures) (
+      more,
+      more,
+      subst (λ (n : ℕ). IsSound (book_of c.append.new.self i.past.first (i.past.appends ++ x ∷ []) (i.past.lines ++ record { place = n; line = x } ∷ []) c.write_reserved-line.new.self i.waiting.entries (length (i.past.appends ++ x ∷ [])) i.past.removed)) y
+          (subst (λ (n : ℕ). IsSound (book_of c.append.new.self i.past.first (i.past.appends ++ x ∷ []) (i.past.lines ++ record { place = length i.past.appends; line = x } ∷ []) c.write_reserved-line.new.self i.waiting.entries n i.past.removed)) (sym (length_push i.past.appends x))
+          (sound_append i.buffer i.past.first i.past.appends i.past.lines i.lines i.waiting.entries i.past.synced i.past.removed h c.append.new.self x c.reserve.new.self c.write_reserved-line.new.self account c.in_ok-reserve.ensures.same c.write_reserved-line.ensures.written (let r = c.in_ok-reserve.ensures.room in let n = c.len.ensures.len in omega arith) c.write_reserved-line.ensures.room)),
+    )))

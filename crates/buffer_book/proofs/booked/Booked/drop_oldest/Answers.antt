@@ -9,10 +9,10 @@ use Rattle.buffer_book.proofs.booked.Booked.drop_oldest.Goals as goal
 pub invariant_of-self-2 : goal.invariant_of-self-2
 invariant_of-self-2 g c =
     let i = c.self.inside in
-    let h = c.self.invariant.1 in
+    let h = c.self.invariant.2 in
     let s = c.in_ok-serial.serial in
     let account : IsAccounted c.drop_oldest.new.self.chunks i.past.first i.past.appends (i.past.removed ++ s ∷ []) =
     subst (λ (z : State). IsAccounted z i.past.first i.past.appends (i.past.removed ++ s ∷ [])) (sym c.in_ok-serial.ensures.ok)
     (accounted_removed i.buffer.chunks i.past.first i.past.appends i.past.removed h.accounted s c.stays_in_order.ensures.rising) in
-    subst (λ (t : ToldPast). (i.count ≡ length t.appends) × IsSound (book_of c.drop_oldest.new.self t.first t.appends t.lines i.lines i.waiting.entries i.synced t.removed)) (sym c.then_removed.ensures)
-    (c.self.invariant.0, sound_removed i.buffer i.past.first i.past.appends i.past.lines i.lines i.waiting.entries i.synced i.past.removed h c.drop_oldest.new.self (i.past.removed ++ s ∷ []) account)
+    subst (λ (t : ToldPast). (i.count ≡ length t.appends) × (i.synced ≡ t.synced) × IsSound (book_of c.drop_oldest.new.self t.first t.appends t.lines i.lines i.waiting.entries t.synced t.removed)) (sym c.then_removed.ensures)
+    (c.self.invariant.0, c.self.invariant.1, sound_removed i.buffer i.past.first i.past.appends i.past.lines i.lines i.waiting.entries i.past.synced i.past.removed h c.drop_oldest.new.self (i.past.removed ++ s ∷ []) account)
