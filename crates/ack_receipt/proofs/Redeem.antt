@@ -1,17 +1,17 @@
 -- Appends that wait, one after another.
-use Rattle.std.proofs.Common.{◌≡◌, ◌≢◌, ◌↔◌, ◌+◌, ◌<◌, ◌≤◌, ℕ, zero, suc, Bool, true, false, cond, List, [], ◌∷◌, ◌++◌, length, get_or, take, Option, Some, None, refl, sym, ap, subst, ◌∙◌, arith}
-use Rattle.std.specs.Prelude.{All, AllPairs}
+use Rattle.std.proofs.Common.{◌≡◌, ◌≢◌, ◌+◌, ◌<◌, ◌≤◌, ℕ, zero, suc, Bool, true, false, cond, List, [], ◌∷◌, ◌++◌, length, get_or, take, None, refl, sym, ap, subst, ◌∙◌, arith}
+use Rattle.std.specs.Prelude.{All}
 use Rattle.std.specs.Ordering.{nat_cmp}
 use Rattle.std.specs.BTreeMap.{is_at}
 use Rattle.std.proofs.lemmas.List.{take_more}
-use Rattle.std.proofs.lemmas.List.Elements.{All-push, All-weaker, All-head, All-tail, All-get_or, All-contains, Contains-get_or}
+use Rattle.std.proofs.lemmas.List.Elements.{All-push, All-weaker, All-get_or}
 use Rattle.std.proofs.lemmas.List.Quantifiers.{all_pairs_push}
 use Rattle.buffer_state.proofs.Serials.{at_same}
 use Rattle.book_audit.specs.declared.line.Leaf.{Leaf}
 use Rattle.book_audit.specs.declared.line.Line.{Line}
 use Rattle.buffer_book.specs.Books.{waiting_at}
 use Rattle.ack_receipt.specs.Deliveries.{Pended}
-use Rattle.ack_receipt.specs.Redeeming.{AreApart, AreBefore, IsRedeemable, line_of}
+use Rattle.ack_receipt.specs.Redeeming.{AreApart, AreBefore, IsRedeemable}
 
 abbrev Apart : Pended → Pended → Type 0
 Apart one other = one.place ≢ other.place

@@ -5,8 +5,8 @@ ghost use Rattle.event_modes.specs.Reading.{meaning};
 ghost use Rattle.ack_receipt.specs.Deliveries.{HasEachReceipt, IsAdded, IsFor, IsReceived, part_of, tag_or};
 ghost use Rattle.ack_receipt.specs.Reservations.{asked_of, answer_of};
 
+use crate::locked::Receipt;
 use crate::number::DeliveryNo;
-use crate::receipt::Receipt;
 use crate::reserved::Reserved;
 use book_audit::{BookFault, Leaf, Part, Stub};
 use event_modes::{Entries, Message};

@@ -4,9 +4,8 @@
 
 mod delivery;
 mod fault;
+mod locked;
 mod number;
-mod pending;
-mod receipt;
 mod reserved;
 mod shared;
 
@@ -14,8 +13,7 @@ pub use book_audit::{AuditError, BookFault, Leaf, Part, Stub};
 pub use buffer_book::{Basis, Claim, Closed, Evidence, PurgeFault, Takes};
 pub use delivery::{Delivery, Unbegun};
 pub use fault::RedeemFault;
+pub use locked::{Pending, Receipt};
 pub use number::{DeliveryNo, Numbers};
-pub use pending::Pending;
-pub use receipt::Receipt;
 pub use reserved::Reserved;
 pub use shared::SharedBuffer;

@@ -1,16 +1,14 @@
 //! A buffer that threads share.
 
-ghost use Rattle.std.specs.Prelude.{◌≡◌, ◌<◌, ◌↔◌, true, length, IsTrue, IsSome, IfOk, IfErr, IfSome, OnOk};
+ghost use Rattle.std.specs.Prelude.{◌≡◌, ◌<◌, true, length, IfOk, IfErr, IfSome, OnOk};
 ghost use Rattle.buffer_book.specs.Evidences.{IsFor};
-ghost use Rattle.buffer_state.specs.State.{chunk_at};
 ghost use Rattle.ack_receipt.specs.Redeeming.{AreReceiptsOf};
 
 use crate::delivery::Delivery;
 use crate::fault::RedeemFault;
-use crate::pending::Pending;
-use crate::receipt::{Receipt, append, append_pending, redeem};
+use crate::locked::{LockedBuffer, Pending, Receipt, Terms};
 use book_audit::{BookFault, Leaf, Stub};
-use buffer_book::{Booked, Claim, Closed, Evidence, PurgeFault, Takes};
+use buffer_book::{Claim, Closed, Evidence, PurgeFault, Takes};
 use buffer_store::{Buffer, BufferFault};
 use disk_files::Dir;
 use event_modes::Entries;
@@ -24,10 +22,8 @@ use std::sync::{Mutex, Wait};
 /// is of an append that is synced, and chunks leave by `purge` and `drop_oldest` alone. No call holds the lock longer than its own step.
 #[derive(Drop)]
 pub struct SharedBuffer<D: Dir, A: Allocator> {
-    alloc: A,
-    leaf: Leaf,
-    takes: Takes<A>,
-    lock: Mutex<Booked<D, A>>,
+    terms: Terms<A>,
+    lock: Mutex<LockedBuffer<D, A>>,
 }
 
 impl<D: Dir, A: Allocator> Model for SharedBuffer<D, A> {
@@ -35,7 +31,7 @@ impl<D: Dir, A: Allocator> Model for SharedBuffer<D, A> {
 
     ghost Value = { Terms A };
 
-    ghost view = { λ s. record { leaf = s.leaf; takes = s.takes } };
+    ghost view = { λ s. s.terms };
 }
 
 impl<D: Dir, A: Allocator + Copy> SharedBuffer<D, A> {
@@ -43,12 +39,10 @@ impl<D: Dir, A: Allocator + Copy> SharedBuffer<D, A> {
     pub fn new(alloc: A, buffer: Buffer<D, A>, leaf: Leaf, takes: Takes<A>) -> SharedBuffer<D, A>
         ensures { result ≡ record { leaf = leaf; takes = takes } }
     {
-        let lock = Mutex::new(Booked::new(alloc, buffer));
+        let (terms, locked) = LockedBuffer::new(alloc, buffer, leaf, takes);
         SharedBuffer {
-            alloc,
-            leaf,
-            takes,
-            lock,
+            terms,
+            lock: Mutex::new(locked),
         }
     }
 
@@ -56,14 +50,14 @@ impl<D: Dir, A: Allocator + Copy> SharedBuffer<D, A> {
     pub fn leaf(&self) -> Leaf
         ensures { result ≡ self.now.leaf }
     {
-        self.leaf
+        self.terms.leaf()
     }
 
     /// What lets its chunks go.
     pub fn takes(&self) -> &Takes<A>
         ensures { result.now ≡ self.now.takes }
     {
-        &self.takes
+        self.terms.takes()
     }
 
     /// Appends a delivery's entries under its tag, and syncs them. Asks for a message with entries.
@@ -75,7 +69,7 @@ impl<D: Dir, A: Allocator + Copy> SharedBuffer<D, A> {
         ensures number { IfOk result (λ receipt. receipt.delivery ≡ delivery.now.number) }
         ensures leaf { IfOk result (λ receipt. receipt.leaf ≡ self.now.leaf) }
     {
-        append(self.alloc, &mut self.lock.lock(rt), self.leaf, delivery)
+        self.lock.lock(rt).append(&self.terms, delivery)
     }
 
     /// The same without the sync: the receipt is redeemed later.
@@ -88,7 +82,7 @@ impl<D: Dir, A: Allocator + Copy> SharedBuffer<D, A> {
         ensures number { IfOk result (λ pending. pending.delivery ≡ delivery.now.number) }
         ensures leaf { IfOk result (λ pending. pending.leaf ≡ self.now.leaf) }
     {
-        append_pending(self.alloc, &mut self.lock.lock(rt), self.leaf, delivery)
+        self.lock.lock(rt).append_pending(&self.terms, delivery)
     }
 
     /// Makes the receipts of appends that wait for them, in the list's order, with one sync where one of them isn't synced yet, and none otherwise.
@@ -102,13 +96,12 @@ impl<D: Dir, A: Allocator + Copy> SharedBuffer<D, A> {
         ensures ok { IfOk result (λ receipts. AreReceiptsOf self.now.leaf pendings.items receipts.items) }
         ensures back { IfErr result (λ refused. refused.1 ≡ pendings) }
     {
-        redeem(self.alloc, &mut self.lock.lock(rt), self.leaf, pendings)
+        self.lock.lock(rt).redeem(&self.terms, pendings)
     }
 
     /// Ends an append's wait for a receipt, and takes its note out of the book where it is of this buffer. Its entries stay in the buffer.
     pub fn give_up<R: Wait>(&self, rt: &R, pending: Pending<A>) {
-        self.lock.lock(rt).forget(pending.place, &pending.line());
-        pending.give_up();
+        self.lock.lock(rt).give_up(&self.terms, pending);
     }
 
     /// Queues the staged chunk of this serial, and syncs the journal.
@@ -124,7 +117,7 @@ impl<D: Dir, A: Allocator + Copy> SharedBuffer<D, A> {
     pub fn drop_oldest<R: Wait>(&self, rt: &R) -> Result<u64, BufferFault>
         ensures { OnOk result (self.now.takes.drops ≡ true) }
     {
-        self.lock.lock(rt).drop_oldest(&self.takes)
+        self.lock.lock(rt).drop_oldest(&self.terms)
     }
 
     /// Goes on in a new generation of the journal, where it is long enough; else it does nothing.
@@ -141,7 +134,7 @@ impl<D: Dir, A: Allocator + Copy> SharedBuffer<D, A> {
 
     /// Whether the buffer has a chunk of this serial, staged, queued or claimed. Once it was let go it never has it again.
     pub fn is_live<R: Wait>(&self, rt: &R, serial: u64) -> bool {
-        has_chunk(&self.lock.lock(rt), serial)
+        self.lock.lock(rt).is_live(serial)
     }
 
     /// Claims the first of the queue, if anything is queued. It goes on after a fault.
@@ -150,7 +143,7 @@ impl<D: Dir, A: Allocator + Copy> SharedBuffer<D, A> {
     pub fn claim<R: Wait>(&self, rt: &R) -> Result<Option<Claim<A>>, AllocError>
         ensures { IfOk result (λ claim. IfSome claim (λ c. c.leaf ≡ self.now.leaf)) }
     {
-        self.lock.lock(rt).claim(self.leaf)
+        self.lock.lock(rt).claim(&self.terms)
     }
 
     /// The entries of a claimed chunk of this buffer, read from the journal: as many as the claim counts.
@@ -162,7 +155,7 @@ impl<D: Dir, A: Allocator + Copy> SharedBuffer<D, A> {
         ensures own { OnOk result (claim.now.leaf ≡ self.now.leaf) }
         ensures counted { IfOk result (λ entries. length entries ≡ claim.now.count) }
     {
-        self.lock.lock(rt).body(self.leaf, claim)
+        self.lock.lock(rt).body(&self.terms, claim)
     }
 
     /// Lets the chunk of a claim go, on evidence that it may. The journal isn't synced, so that a stop may bring the chunk back, queued.
@@ -179,42 +172,28 @@ impl<D: Dir, A: Allocator + Copy> SharedBuffer<D, A> {
         ensures serves { OnOk result (IsFor self.now.leaf self.now.takes claim evidence) }
         ensures back { IfErr result (λ refused. (refused.1 ≡ claim) × (refused.2 ≡ evidence)) }
     {
-        self.lock
-            .lock(rt)
-            .purge(self.leaf, &self.takes, claim, evidence)
+        self.lock.lock(rt).purge(&self.terms, claim, evidence)
     }
 
     /// Ends a claim of this buffer whose chunk wasn't delivered: the chunk goes to the end of the queue where it is claimed. It takes no memory.
     pub fn give_back<R: Wait>(&self, rt: &R, claim: Claim<A>)
         requires { claim.leaf ≡ self.now.leaf }
     {
-        self.lock.lock(rt).give_back(self.leaf, claim);
+        self.lock.lock(rt).give_back(&self.terms, claim);
     }
 
     /// Closes the lines of the book that the stub's parts of this buffer name. It takes no memory.
     ///
     /// The errors, in this order, change nothing: `Stranger` where a part of this buffer isn't in the book; `Double` where a line is named that was settled before, or one is named twice.
     pub fn settle<R: Wait>(&self, rt: &R, stub: &Stub<A>) -> Result<(), BookFault> {
-        self.lock.lock(rt).settle(self.leaf, stub)
+        self.lock.lock(rt).settle(&self.terms, stub)
     }
 
     /// Ends the sharing. It takes no memory.
     pub fn close(self) -> Closed<D, A>
         ensures { result.leaf ≡ self.leaf }
     {
-        let SharedBuffer {
-            alloc: _,
-            leaf,
-            takes: _,
-            lock,
-        } = self;
-        Closed::new(leaf, lock.into_inner())
+        let SharedBuffer { terms, lock } = self;
+        lock.into_inner().close(terms)
     }
-}
-
-// Whether a chunk of this serial is live.
-fn has_chunk<D: Dir, A: Allocator + Copy>(booked: &Booked<D, A>, serial: u64) -> bool
-    ensures { IsTrue result ↔ IsSome (chunk_at booked.now.buffer.chunks serial) }
-{
-    booked.chunks().stage(serial).is_some()
 }

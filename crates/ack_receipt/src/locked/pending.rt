@@ -10,13 +10,13 @@ use std::marker::Model;
 ///
 /// It can be neither copied nor dropped: it is redeemed, or given up. Contracts see a `Pended`.
 pub struct Pending<A: Allocator> {
-    pub(crate) delivery: u64,
-    pub(crate) leaf: Leaf,
-    pub(crate) serial: u64,
-    pub(crate) count: u64,
-    pub(crate) place: u64,
+    pub(super) delivery: u64,
+    pub(super) leaf: Leaf,
+    pub(super) serial: u64,
+    pub(super) count: u64,
+    pub(super) place: u64,
     // Empty, with room for what is left of the receipt.
-    pub(crate) room: Vec<Part, A>,
+    pub(super) room: Vec<Part, A>,
 }
 
 impl<A: Allocator> Model for Pending<A> {
@@ -52,7 +52,7 @@ impl<A: Allocator> Pending<A> {
     }
 
     // What the book says of the append.
-    pub(crate) fn line(&self) -> Line
+    pub(super) fn line(&self) -> Line
         ensures { result ≡ record { delivery = self.now.delivery; serial = self.now.serial; count = self.now.count } }
     {
         Line {

@@ -1,6 +1,6 @@
 use Rattle.std.proofs.Common.{length, ◌↔◌}
 use Rattle.ack_receipt.specs.Redeeming.{AreApart}
-use Rattle.ack_receipt.proofs.receipt.are_each_once.Given as goal
+use Rattle.ack_receipt.proofs.locked.redeeming.are_each_once.Given as goal
 
 abbrev pub invariant-loop-pending : goal.invariant-loop-pending
 invariant-loop-pending g l = record {

@@ -3,7 +3,7 @@ use Rattle.std.proofs.lemmas.List.{take_all}
 use Rattle.ack_receipt.specs.Deliveries.{Pended}
 use Rattle.ack_receipt.specs.Redeeming.{AreApart, AreBefore}
 use Rattle.ack_receipt.proofs.Redeem.{rises_more}
-use Rattle.ack_receipt.proofs.receipt.are_rising.Goals as goal
+use Rattle.ack_receipt.proofs.locked.redeeming.are_rising.Goals as goal
 
 pub loop-pending-preserved : goal.loop-pending-preserved
 loop-pending-preserved g c =

@@ -1,4 +1,4 @@
-use Rattle.std.proofs.Common.{◌≡◌, ◌∙◌, ◌++◌, ◌∷◌, [], ◌<◌, ◌≤◌, ◌+◌, ℕ, List, length, map, refl, sym, ap, subst, arith, append_assoc}
+use Rattle.std.proofs.Common.{◌≡◌, ◌∙◌, ◌++◌, ◌∷◌, [], ◌<◌, ◌+◌, ℕ, List, length, map, sym, ap, subst, arith, append_assoc}
 use Rattle.std.specs.Prelude.{All}
 use Rattle.std.specs.Vec.Iter.{into_iter_items}
 use Rattle.std.proofs.lemmas.List.{length-append, map-append}
@@ -8,7 +8,7 @@ use Rattle.buffer_book.specs.declared.past.Written.{Written}
 use Rattle.ack_receipt.specs.Deliveries.{Appended, Pended}
 use Rattle.ack_receipt.specs.Redeeming.{AreApart, AreBefore, IsRedeemable, Origin, numbers_from, origin_of, origin_of_pending, written_of}
 use Rattle.ack_receipt.proofs.Redeem.{apart_head, apart_tail, waits_on}
-use Rattle.ack_receipt.proofs.receipt.made.Goals as goal
+use Rattle.ack_receipt.proofs.locked.redeeming.made.Goals as goal
 
 pub receipt_of-requires-clause-waits : goal.receipt_of-requires-clause-waits
 receipt_of-requires-clause-waits g c =

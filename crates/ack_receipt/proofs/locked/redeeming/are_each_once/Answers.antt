@@ -4,7 +4,7 @@ use Rattle.std.proofs.lemmas.Bool.{false≢true}
 use Rattle.ack_receipt.specs.Deliveries.{Pended}
 use Rattle.ack_receipt.specs.Redeeming.{AreApart}
 use Rattle.ack_receipt.proofs.Redeem.{apart_cons, apart_head, apart_tail}
-use Rattle.ack_receipt.proofs.receipt.are_each_once.Goals as goal
+use Rattle.ack_receipt.proofs.locked.redeeming.are_each_once.Goals as goal
 
 pub returns-then-not-is_apart : goal.returns-then-not-is_apart
 returns-then-not-is_apart g c = (

@@ -2,7 +2,7 @@ use Rattle.std.proofs.Common.{◌≡◌, ◌+◌, ◌≤◌, ◌++◌, length, m
 use Rattle.std.specs.Prelude.{All}
 use Rattle.std.specs.Vec.Iter.{into_iter_items, into_iter_len}
 use Rattle.ack_receipt.specs.Redeeming.{AreApart, AreBefore, IsRedeemable, numbers_from, origin_of, origin_of_pending, written_of}
-use Rattle.ack_receipt.proofs.receipt.made.Given as goal
+use Rattle.ack_receipt.proofs.locked.redeeming.made.Given as goal
 
 abbrev pub invariant-loop-pending : goal.invariant-loop-pending
 invariant-loop-pending g l = record {
