@@ -17,6 +17,8 @@ use Rattle.buffer_store.specs.contracts.log.Log as Log
 use Rattle.buffer_store.specs.contracts.buffer.Buffer as Buffer
 use Rattle.buffer_book.specs.contracts.past.Past as Past
 use Rattle.buffer_book.specs.contracts.booked.Booked as Booked
+use Rattle.ack_receipt.specs.contracts.locked.LockedBuffer as Locked
+use Rattle.ack_receipt.specs.contracts.locked.terms.Terms as Terms
 use Rattle.ack_receipt.specs.contracts.shared.SharedBuffer as Shared
 
 module _ (A : RattleType) (a : alloc.Ghosts A.Denot) where
@@ -41,6 +43,12 @@ module _ (A : RattleType) (a : alloc.Ghosts A.Denot) where
   Lines-send : IsSend A → Frees a a.dealloc_token → IsSend (OpenLines.the_field A a).row
   Lines-send sa f = search (maps.crosses, crosses, over.crosses, sendable) depth 20
 
+  Terms-send : IsSend A → Frees a a.dealloc_token → IsSend (Terms.the_field A a).row
+  Terms-send sa f = search (over.crosses, sendable) depth 20
+
+  Terms-sync : IsSend A → IsSync A → Frees a a.dealloc_token → IsSync (Terms.the_field A a).row
+  Terms-sync sa ya f = search (over.crosses, sendable) depth 20
+
 module _ (D A : RattleType) (d : dir.Ghosts D.Denot) (a : alloc.Ghosts A.Denot) where
   Log-send : IsSend D → IsSend A → Frees a a.dealloc_token → IsSend (Log.the_field D A d a).row
   Log-send sd sa f = let j = Journal-send A a sa f in search (crosses, over.crosses, maps.crosses, sendable) depth 20
@@ -58,8 +66,17 @@ module _ (D A : RattleType) (d : dir.Ghosts D.Denot) (a : alloc.Ghosts A.Denot) 
       let p = Past-send in
       search (maps.crosses, sendable) depth 20
 
+  Locked-send : IsSend D → IsSend A → Frees a a.dealloc_token → IsSend (Locked.the_field D A d a).row
+  Locked-send sd sa f = let b = Booked-send sd sa f in search sendable depth 20
+
   pub Shared-send : IsSend D → IsSend A → Frees a a.dealloc_token → IsSend (Shared.the_field D A d a).row
-  Shared-send sd sa f = let b = Booked-send sd sa f in search (crosses, over.crosses, maps.crosses, sendable) depth 20
+  Shared-send sd sa f =
+      let t = Terms-send A a sa f in
+      let l = Locked-send sd sa f in
+      search (crosses, over.crosses, maps.crosses, sendable) depth 20
 
   pub Shared-sync : IsSend D → IsSend A → IsSync A → Frees a a.dealloc_token → IsSync (Shared.the_field D A d a).row
-  Shared-sync sd sa ya f = let b = Booked-send sd sa f in search (crosses, over.crosses, maps.crosses, sendable) depth 20
+  Shared-sync sd sa ya f =
+      let t = Terms-sync A a sa ya f in
+      let l = Locked-send sd sa f in
+      search (crosses, over.crosses, maps.crosses, sendable) depth 20

@@ -1,6 +1,6 @@
 //! What a courier is shown of a claimed chunk.
 
-ghost use Rattle.std.specs.Prelude.{◌≡◌};
+ghost use Rattle.std.specs.Prelude.{◌≡◌, IfOk, length};
 ghost use Rattle.buffer_book.specs.Claims.{id_of};
 
 use crate::fault::CarryFault;
@@ -80,10 +80,12 @@ impl<'a, D: Dir, A: Allocator> ClaimView<'a, D, A> {
 }
 
 impl<'a, D: Dir, A: Allocator + Copy> ClaimView<'a, D, A> {
-    /// Reads the chunk's entries under the buffer's lock, which is free again when they are handed out.
+    /// Reads the chunk's entries under the buffer's lock, which is free again when they are handed out: as many as the claim counts.
     ///
     /// The errors are `Memory`, and `Device` where the buffer can't read them; both leave the buffer as it was.
-    pub fn entries<R: Wait>(&self, rt: &R) -> Result<Entries<A>, CarryFault> {
+    pub fn entries<R: Wait>(&self, rt: &R) -> Result<Entries<A>, CarryFault>
+        ensures { IfOk result (λ entries. length entries ≡ self.now.count) }
+    {
         let entries = self.buffer.body(rt, self.claim)?;
         Ok(entries)
     }
