@@ -150,7 +150,7 @@ impl<N: Dialer + Drop, A: Allocator + Copy> TcpCourier<N, A> {
     /// output requires it, waits for its acknowledgement. It gives the connection besides what shows that.
     ///
     /// `NoServer`: no server took a connection, or it was lost. `Timeout`: the time for an answer has passed, or the relay
-    /// stops. `Session`: what came is no part of a handshake, or no acknowledgement. `Device`: the chunk can't be read, or not as many entries as it has. `Memory`.
+    /// stops. `Session`: what came is no part of a handshake, or no acknowledgement. `Device`: the chunk can't be read, or has more bytes than a message can. `Memory`.
     pub fn carry_over<R: Wait, D: Dir>(
         &self,
         rt: &R,
@@ -162,9 +162,6 @@ impl<N: Dialer + Drop, A: Allocator + Copy> TcpCourier<N, A> {
         ensures names { IfOk result (λ carried. NamesChunk self.now.asks chunk.now carried.evidence) }
     {
         let entries = chunk.entries(rt)?;
-        if entries.count() != chunk.count() {
-            return Err(CarryFault::Device);
-        }
         let until = self.dialer.now_after(0).saturating_add(self.timeout);
         let stream = self.connect(until)?;
         self.send(rt, stream, until, chunk, &entries)
