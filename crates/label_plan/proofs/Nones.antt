@@ -1,10 +1,11 @@
 -- What holds where there is something, or nothing.
-use Rattle.std.proofs.Common.{◌≡◌, ◌∙◌, Bool, true, false, Option, Some, None, Result, Ok, Err, sym, subst}
-use Rattle.std.specs.Prelude.{IfNone, IfSome, IfOk, IsTrue, is_some, option_map}
+use Rattle.std.proofs.lemmas.Bool.{eqb-true}
+use Rattle.std.proofs.Common.{◌≡◌, ◌==◌, ℕ, List, [], ◌∷◌, length, arith, refl, Bool, true, Option, Some, None, Result, Ok, Err, sym, subst}
+use Rattle.std.specs.Prelude.{IfSome, IfOk, IsTrue, option_map}
 
-pub none_of : {X P : Type 0} (o : Option X) (b : Bool) → b ≡ is_some o → b ≡ false → IfNone o P → P
-none_of None b e f h = h
-none_of (Some x) b e f h = (let clash : true ≡ false = sym e ∙ f in absurd (cc))
+pub none_listed : {X P : Type 0} (xs : List X) (count : ℕ) → true ≡ (count == 0) → count ≡ length xs → (xs ≡ [] → P) → P
+none_listed [] count empty size h = h refl
+none_listed (x ∷ xs) count empty size h = (let none : count ≡ 0 = eqb-true count 0 (sym empty) in absurd (omega (arith, size, none)))
 
 -- what holds of a part of what there is
 pub mapped : {X Y : Type 0} (f : X → Y) (P : Y → Type 0) (o : Option X) → IfSome o (λ x. P (f x)) → IfSome (option_map f o) P

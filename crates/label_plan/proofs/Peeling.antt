@@ -1,15 +1,13 @@
 -- A plan that is said by more lines, of which the last are labels and reaches.
-use Rattle.std.proofs.Common.{◌≡◌, ◌∙◌, ℕ, suc, ◌+◌, Bool, true, false, List, [], ◌∷◌, ◌++◌, length, refl, sym, ap, subst, codes, arith, if◌then◌else◌}
+use Rattle.std.proofs.Common.{◌≡◌, ◌∙◌, ℕ, ◌+◌, Bool, true, false, List, [], ◌∷◌, ◌++◌, length, refl, sym, ap, subst, codes, arith}
 use Rattle.std.specs.Prelude.{All, ◌||◌}
 use Rattle.std.specs.Str.{bytes_eq}
 use Rattle.std.proofs.lemmas.List.{append-nil, append_assoc, length-append}
 use Rattle.std.proofs.lemmas.Slice.Eq.{bytes_eq-Decides}
 use Rattle.std.proofs.lemmas.List.Elements.{All-head, All-tail}
 use Rattle.loss_rules.specs.Breaks.{Subject}
-use Rattle.loss_rules.specs.declared.label.Label.{Label}
-use Rattle.loss_rules.specs.declared.label.Reach.{Reach}
 use Rattle.plan_lines.specs.Forms.{LineForm, nothing, a_relay, a_client, a_label, a_reach, a_duty, no_form, form_of, line_form, label_form, reach_form}
-use Rattle.plan_lines.specs.Plans.{Adds, Say, none, one_more, empty_plan}
+use Rattle.plan_lines.specs.Plans.{Adds, Say, none, one_more}
 use Rattle.relay_faults.specs.Examined.{words_of}
 use Rattle.label_plan.specs.Labelling.{Extends}
 use Rattle.label_plan.specs.Lines.{are_label_words, IsLabelLine}

@@ -6,8 +6,8 @@ ghost use Rattle.label_plan.specs.Lines.{IsLabelLine, OnlyAdds, are_label_words}
 ghost use Rattle.relay_faults.specs.Examined.{words_of};
 
 use loss_rules::{
-    Label, Labels, Reaches, clients_are_labelled, first_cycle, forwards_are_labelled,
-    labels_are_matched, reached_matches_keep, reaches_cover, relabels_are_labelled,
+    Label, Labels, Reaches, clients_are_labelled, forwards_are_labelled, labels_are_matched,
+    no_relabel_cycle, reached_matches_keep, reaches_cover, relabels_are_labelled,
 };
 use plan_lines::Plan;
 use relay_faults::words;
@@ -84,34 +84,43 @@ pub(crate) fn is_closed<A: Allocator + Copy>(alloc: A, plan: &Plan<A>) -> Result
     let list = plan.labels();
     let labels = Labels::new(alloc, list)?;
     let reaches = Reaches::new(alloc, plan.reaches())?;
-    Ok(is_closed_by(plan.net(), plan.client_lines(), list, &labels, &reaches))
+    is_closed_by(
+        alloc,
+        plan.net(),
+        plan.client_lines(),
+        list,
+        &labels,
+        &reaches,
+    )
 }
 
 // Whether these rules hold of a network with the clients of these lines, and of the labels, also as they are looked up, and reaches.
 fn is_closed_by<'a, 'b, A: Allocator + Copy>(
+    alloc: A,
     net: &'a Net<A>,
     client_lines: &[usize],
     list: &[Label<A>],
     labels: &'a Labels<'b, A>,
     reaches: &'a Reaches<'b, A>,
-) -> bool
+) -> Result<bool, AllocError>
     requires clients { length client_lines.now ≡ length net.now.clients }
     requires same { labels.now ≡ list.now }
-    ensures { IsTrue result → IsClosed net.now labels.now reaches.now }
+    ensures { IfOk result (λ closed. IsTrue closed → IsClosed net.now labels.now reaches.now) }
 {
-    if clients_are_labelled(net, client_lines, labels).is_some() {
-        return false;
+    let clients = clients_are_labelled(alloc, net, client_lines, labels)?;
+    if !clients.is_empty() {
+        return Ok(false);
     }
-    if reaches_cover(net, list, reaches).is_some() {
-        return false;
+    let covered = reaches_cover(alloc, net, list, reaches)?;
+    if !covered.is_empty() {
+        return Ok(false);
     }
-    if relabels_are_labelled(net, labels, reaches).is_some() {
-        return false;
+    let relabels = relabels_are_labelled(alloc, net, labels, reaches)?;
+    if !relabels.is_empty() {
+        return Ok(false);
     }
-    if forwards_are_labelled(net, labels, reaches).is_some() {
-        return false;
-    }
-    true
+    let forwards = forwards_are_labelled(alloc, net, labels, reaches)?;
+    Ok(forwards.is_empty())
 }
 
 /// Whether the other rules hold of the plan that depend on its labels and reaches.
@@ -119,8 +128,8 @@ pub(crate) fn is_kept<A: Allocator + Copy>(alloc: A, plan: &Plan<A>) -> Result<b
     let net = plan.net();
     let reaches = Reaches::new(alloc, plan.reaches())?;
     Ok(
-        labels_are_matched(net, plan.labels()).is_none()
-            && reached_matches_keep(net, plan.duty(), &reaches).is_none()
-            && first_cycle(alloc, net, &reaches)?.is_none(),
+        labels_are_matched(alloc, net, plan.labels())?.is_empty()
+            && reached_matches_keep(alloc, net, plan.duty(), &reaches)?.is_empty()
+            && no_relabel_cycle(alloc, net, &reaches)?.is_empty(),
     )
 }

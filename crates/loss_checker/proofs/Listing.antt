@@ -1,15 +1,13 @@
 -- How the list of broken rules grows, rule by rule.
-use Rattle.std.proofs.Common.{◌≡◌, ◌<◌, ◌+◌, ℕ, List, [], ◌∷◌, ◌++◌, refl, sym, subst, arith, inl, inr, Contains}
-use Rattle.std.specs.Prelude.{◌⊎◌}
+use Rattle.std.proofs.Common.{◌≡◌, ◌<◌, ◌+◌, List, [], ◌∷◌, ◌++◌, Some, None, slice_get, refl, sym, ap, subst, arith, inl, inr, Contains}
+use Rattle.std.proofs.lemmas.Option.{same_Some}
 use Rattle.std.proofs.lemmas.List.Elements.{Contains-append_left, Contains-append_right, Contains-push_cases}
 use Rattle.loss_rules.specs.Breaks.{Subject, IsKept, IsBrokenAt, IsAnswer, rule_number}
-use Rattle.loss_rules.specs.declared.answer.Answer.TheVariants as answer
 use Rattle.loss_rules.specs.declared.answer.Place.{Place}
 use Rattle.loss_rules.specs.declared.answer.Rule.{Rule}
 use Rattle.loss_rules.specs.declared.answer.Rule.TheVariants as rule
 use Rattle.loss_rules.proofs.RuleNumbers.{same_number}
-use Rattle.loss_checker.specs.Broken.{answer_of, IsListed, StandInOrder, AreBrokenRules, IsFirstBefore, AreBrokenBefore}
-use Rattle.loss_checker.specs.Kept.{AreKeptBefore}
+use Rattle.loss_checker.specs.Broken.{answer_of, StandInOrder, AreBrokenRules, IsFirstBefore, AreBrokenBefore}
 use Rattle.loss_checker.specs.declared.broken.BrokenRule.{BrokenRule}
 use Rattle.loss_checker.proofs.RuleNumbers.{none_before, below_or_at, one_more, all_kept}
 
@@ -113,3 +111,12 @@ all_asked s found before = record {
   ordered = before.ordered;
   answered = answered s found before.first;
 }
+
+-- the first place of a list, and what holds where there is none
+pub first_of : (places : List Place) (at : Place) → Some at ≡ slice_get places 0 → (later : List Place) × (places ≡ at ∷ later)
+first_of [] at is = absurd (cc)
+first_of (first ∷ later) at is = (later, ap (λ (x : Place). x ∷ later) (same_Some first at (sym is)))
+
+pub none_of : (places : List Place) → None ≡ slice_get places 0 → places ≡ []
+none_of [] is = refl
+none_of (first ∷ later) is = absurd (cc)

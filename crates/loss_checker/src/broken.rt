@@ -1,13 +1,14 @@
 //! Every rule that is broken of a plan: all rules are asked, whatever the others answer.
 
-ghost use Rattle.std.specs.Prelude.{◌≡◌, ◌+◌, IfOk, IfSome, IfNone, OnOk};
-ghost use Rattle.loss_rules.specs.Breaks.{IsKept, IsBrokenAt, rule_number};
+ghost use Rattle.std.specs.Prelude.{◌≡◌, ◌+◌, [], IfOk, OnOk};
+ghost use Rattle.loss_rules.specs.Breaks.{IsKept, rule_number};
+ghost use Rattle.loss_rules.specs.Everywhere.{AreBrokenPlaces};
 ghost use Rattle.loss_checker.specs.Broken.{AreBrokenBefore, AreBrokenRules};
 
 use loss_rules::{
-    Labels, Place, Reaches, Rule, addresses_are_distinct, clients_are_labelled, first_cycle,
-    forwards_are_labelled, labels_are_matched, paths_are_distinct, reached_matches_keep,
-    reaches_cover, relabels_are_labelled, servers_are_sources,
+    Labels, Place, Reaches, Rule, addresses_are_distinct, clients_are_labelled,
+    forwards_are_labelled, labels_are_matched, no_relabel_cycle, paths_are_distinct,
+    reached_matches_keep, reaches_cover, relabels_are_labelled, servers_are_sources,
 };
 use plan_lines::Plan;
 use std::alloc::{AllocError, Allocator};
@@ -23,7 +24,12 @@ pub struct BrokenRule {
 }
 
 /// The rules that don't hold of the plan, in the order of `Rule`, each with the place where it is broken first; the first of them is what
-/// `check` answers. It takes the time of a yes of `check`. The only error is want of memory.
+/// `check` answers.
+///
+/// Labels and reaches are looked up by their scope and their match. The patterns of one scope's labels and matches are compared
+/// pair by pair, so the time grows as the square of a scope's length; hosts and numbers of relays are gone through for each that is
+/// named. Memory is needed for what labels and reaches are looked up in, to look for a cycle of relabels, and for the places. The only
+/// error is want of it.
 pub fn broken_rules<A: Allocator + Copy>(
     alloc: A,
     plan: &Plan<A>,
@@ -33,14 +39,15 @@ pub fn broken_rules<A: Allocator + Copy>(
     let labels = Labels::new(alloc, plan.labels())?;
     let reaches = Reaches::new(alloc, plan.reaches())?;
     let mut found = Vec::new(alloc);
-    ask_all_but_the_last(plan, &labels, &reaches, &mut found)?;
-    let cycle = first_cycle(alloc, plan.net(), &reaches)?;
+    ask_all_but_the_last(alloc, plan, &labels, &reaches, &mut found)?;
+    let cycle = no_relabel_cycle(alloc, plan.net(), &reaches)?;
     note(plan, Rule::NoRelabelCycle, cycle, &mut found)?;
     Ok(found)
 }
 
 // Adds the rules before the last one that are broken.
 fn ask_all_but_the_last<'a, 'b, A: Allocator + Copy>(
+    alloc: A,
     plan: &'a Plan<A>,
     labels: &'a Labels<'b, A>,
     reaches: &'a Reaches<'b, A>,
@@ -53,43 +60,44 @@ fn ask_all_but_the_last<'a, 'b, A: Allocator + Copy>(
 {
     let net = plan.net();
     let list = plan.labels();
-    let addresses = addresses_are_distinct(net, plan.relay_lines());
+    let addresses = addresses_are_distinct(alloc, net, plan.relay_lines())?;
     note(plan, Rule::AddressesAreDistinct, addresses, found)?;
-    let servers = servers_are_sources(net);
+    let servers = servers_are_sources(alloc, net)?;
     note(plan, Rule::ServersAreSources, servers, found)?;
-    let clients = clients_are_labelled(net, plan.client_lines(), labels);
+    let clients = clients_are_labelled(alloc, net, plan.client_lines(), labels)?;
     note(plan, Rule::ClientsAreLabelled, clients, found)?;
-    let matched = labels_are_matched(net, list);
+    let matched = labels_are_matched(alloc, net, list)?;
     note(plan, Rule::LabelsAreMatched, matched, found)?;
-    let covered = reaches_cover(net, list, reaches);
+    let covered = reaches_cover(alloc, net, list, reaches)?;
     note(plan, Rule::ReachesCover, covered, found)?;
-    let kept = reached_matches_keep(net, plan.duty(), reaches);
+    let kept = reached_matches_keep(alloc, net, plan.duty(), reaches)?;
     note(plan, Rule::ReachedMatchesKeep, kept, found)?;
-    let relabels = relabels_are_labelled(net, labels, reaches);
+    let relabels = relabels_are_labelled(alloc, net, labels, reaches)?;
     note(plan, Rule::RelabelsAreLabelled, relabels, found)?;
-    let forwards = forwards_are_labelled(net, labels, reaches);
+    let forwards = forwards_are_labelled(alloc, net, labels, reaches)?;
     note(plan, Rule::ForwardsAreLabelled, forwards, found)?;
-    let paths = paths_are_distinct(net);
+    let paths = paths_are_distinct(alloc, net)?;
     note(plan, Rule::PathsAreDistinct, paths, found)
 }
 
-// Adds the rule, if there is a place where it is broken, of which this is the first.
+// Adds the rule, if there are places where it is broken.
 fn note<A: Allocator>(
     plan: &Plan<A>,
     rule: Rule,
-    broken: Option<Place>,
+    broken: Vec<Place, A>,
     found: &mut Vec<BrokenRule, A>,
 ) -> Result<(), AllocError>
     requires before { AreBrokenBefore plan.now (rule_number rule) found.old.items }
-    requires holds { IfNone broken (IsKept plan.now rule) }
-    requires breaks { IfSome broken (IsBrokenAt plan.now rule) }
+    requires holds { broken.items ≡ [] → IsKept plan.now rule }
+    requires listed { AreBrokenPlaces plan.now rule broken.items }
     ensures { OnOk result (AreBrokenBefore plan.now (rule_number rule + 1) found.new.items) }
 {
-    match broken {
-        None => Ok(()),
-        Some(place) => {
-            found.push(BrokenRule { rule, place })?;
-            Ok(())
-        }
-    }
+    let Some(place) = broken.first() else {
+        return Ok(());
+    };
+    found.push(BrokenRule {
+        rule,
+        place: *place,
+    })?;
+    Ok(())
 }

@@ -13,7 +13,7 @@ use Rattle.std.proofs.lemmas.List.Elements.{All-contains, All-contains_itself, C
 use Rattle.std.proofs.lemmas.Map.Lookups.{exact_unsigned, exact_pairs}
 use Rattle.std.proofs.lemmas.Option.{slice_get_read, slice_get_within, get_or_from_slice_get, same_Some}
 use Rattle.loss_rules.specs.BySite.{site_cmp}
-use Rattle.loss_rules.specs.Firsts.{HoldsBefore}
+use Rattle.loss_rules.specs.Lines.{HoldsBefore}
 
 equal_from : (o : Ordering) → is_eq o ≡ true → o ≡ Equal
 equal_from Less e = absurd (cc e)

@@ -1,20 +1,21 @@
 -- Relabels on cycles, as scopes and relays are gone through.
-use Rattle.std.proofs.Common.{◌≡◌, ℕ, zero, suc, ◌+◌, ◌<◌, ◌≤◌, Option, Some, None, List, [], ◌∷◌, ◌++◌, length, slice_get, inl, inr, arith, subst, sym, ap, refl, Contains}
+use Rattle.std.proofs.Common.{◌≡◌, ℕ, zero, suc, ◌+◌, ◌<◌, ◌≤◌, Some, List, [], ◌∷◌, ◌++◌, length, slice_get, inl, inr, arith, subst, sym, ap, refl, Contains}
 use Rattle.std.proofs.lemmas.Bool.{cases_eq}
 use Rattle.std.proofs.lemmas.List.Elements.{Contains-append_left, Contains-push, Contains-push_cases}
 use Rattle.std.specs.Option.{option_and_then, option_map}
 use Rattle.relay_conf.specs.declared.output.Output.{Output}
 use Rattle.relay_net.specs.Network.{Network}
 use Rattle.relay_net.specs.declared.node.Node.{Node}
-use Rattle.loss_rules.specs.Breaks.{IsFirstLine, BreaksAtOutput}
+use Rattle.loss_rules.specs.Breaks.{BreaksAtOutput}
+use Rattle.loss_rules.specs.Everywhere.{AreLines}
 use Rattle.loss_rules.specs.Rules.{IsOnNoCycle, NoRelabelCycle}
 use Rattle.loss_rules.specs.Sites.{line_of}
 use Rattle.loss_rules.specs.declared.label.Reach.{Reach}
-use Rattle.loss_rules.specs.Firsts.{IsLeast, earlier_of}
+use Rattle.loss_rules.specs.Lines.{AddsLines}
 use Rattle.loss_rules.specs.Graphs.{Leads, IsGraphOf, IsOnCycle, IsOnCycleFrom}
 use Rattle.loss_rules.specs.declared.relabel.Relabel.{Relabel}
 use Rattle.loss_rules.proofs.Chains.{leads-within, goes-leads, leads-goes}
-use Rattle.loss_rules.proofs.Leasts.{first-joined, first-same}
+use Rattle.loss_rules.proofs.Lines.{added-none, added-one, added-joined, added-same, contains_or_not, nothing_in}
 use Rattle.route_graph.specs.Chains.{Chain}
 use Rattle.route_graph.proofs.Members.{nil-none}
 
@@ -24,29 +25,29 @@ use Rattle.route_graph.proofs.Members.{nil-none}
 abbrev pub IsAmong : List (List Relabel) → ℕ → List Relabel → ℕ → Type 0
 IsAmong graph scope relabels line = (target : ℕ) × Contains relabels (record { target = target; line = line }) × Chain (Leads graph) target scope
 
-pub among-none : (graph : List (List Relabel)) (scope : ℕ) → IsLeast (IsAmong graph scope []) None
-among-none graph scope = λ line h. nil-none (record { target = h.0; line = line }) h.1
+pub among-none : (graph : List (List Relabel)) (scope : ℕ) (xs : List ℕ) → AddsLines (IsAmong graph scope []) xs xs
+among-none graph scope xs = added-none (IsAmong graph scope []) xs (λ line h. nil-none (record { target = h.0; line = line }) h.1)
 
-pub among-back : (graph : List (List Relabel)) (scope : ℕ) (relabels : List Relabel) (relabel : Relabel) (first : Option ℕ) → Chain (Leads graph) relabel.target scope → IsLeast (IsAmong graph scope relabels) first → IsLeast (IsAmong graph scope (relabels ++ relabel ∷ [])) (earlier_of first (Some relabel.line))
-among-back graph scope relabels relabel first leads is =
-    first-joined (IsAmong graph scope relabels) (λ line. line ≡ relabel.line) (IsAmong graph scope (relabels ++ relabel ∷ []))
+pub among-back : (graph : List (List Relabel)) (scope : ℕ) (relabels : List Relabel) (relabel : Relabel) (xs ys : List ℕ) → Chain (Leads graph) relabel.target scope → AddsLines (IsAmong graph scope relabels) xs ys → AddsLines (IsAmong graph scope (relabels ++ relabel ∷ [])) xs (ys ++ relabel.line ∷ [])
+among-back graph scope relabels relabel xs ys leads is =
+    added-joined (IsAmong graph scope relabels) (λ line. relabel.line ≡ line) (IsAmong graph scope (relabels ++ relabel ∷ []))
     (λ line h. elim (Contains-push_cases relabels relabel (record { target = h.0; line = line }) h.1) [
       | inl c ↦ inl (h.0, c, h.2)
-      | inr e ↦ inr (sym (ap (λ (x : Relabel). x.line) e))
+      | inr e ↦ inr (ap (λ (x : Relabel). x.line) e)
     ])
     (λ line h. (h.0, Contains-append_left relabels (relabel ∷ []) (record { target = h.0; line = line }) h.1, h.2))
-    (λ line e. (relabel.target, subst (λ (x : ℕ). Contains (relabels ++ relabel ∷ []) (record { target = relabel.target; line = x })) (sym e) (Contains-push relabels relabel), leads))
-    first (Some relabel.line) is (refl, λ line less e. absurd (omega arith))
+    (λ line e. (relabel.target, subst (λ (x : ℕ). Contains (relabels ++ relabel ∷ []) (record { target = relabel.target; line = x })) e (Contains-push relabels relabel), leads))
+    xs ys (ys ++ relabel.line ∷ []) is (added-one relabel.line ys)
 
-pub among-gone : (graph : List (List Relabel)) (scope : ℕ) (relabels : List Relabel) (relabel : Relabel) (first : Option ℕ) → (Chain (Leads graph) relabel.target scope → ⊥) → IsLeast (IsAmong graph scope relabels) first → IsLeast (IsAmong graph scope (relabels ++ relabel ∷ [])) first
-among-gone graph scope relabels relabel first gone is =
-    first-same (IsAmong graph scope relabels) (IsAmong graph scope (relabels ++ relabel ∷ []))
+pub among-gone : (graph : List (List Relabel)) (scope : ℕ) (relabels : List Relabel) (relabel : Relabel) (xs ys : List ℕ) → (Chain (Leads graph) relabel.target scope → ⊥) → AddsLines (IsAmong graph scope relabels) xs ys → AddsLines (IsAmong graph scope (relabels ++ relabel ∷ [])) xs ys
+among-gone graph scope relabels relabel xs ys gone is =
+    added-same (IsAmong graph scope relabels) (IsAmong graph scope (relabels ++ relabel ∷ []))
     (λ line h. elim (Contains-push_cases relabels relabel (record { target = h.0; line = line }) h.1) [
       | inl c ↦ (h.0, c, h.2)
       | inr e ↦ absurd (gone (subst (λ (x : ℕ). Chain (Leads graph) x scope) (sym (ap (λ (x : Relabel). x.target) e)) h.2))
     ])
     (λ line h. (h.0, Contains-append_left relabels (relabel ∷ []) (record { target = h.0; line = line }) h.1, h.2))
-    first is
+    xs ys is
 
 -- ---- the scopes of a relay
 
@@ -54,26 +55,26 @@ among-gone graph scope relabels relabel first gone is =
 abbrev pub IsBefore : List (List Relabel) → ℕ → ℕ → Type 0
 IsBefore graph count line = (scope : ℕ) × (scope < count) × IsOnCycleFrom graph scope line
 
-pub before-none : (graph : List (List Relabel)) → IsLeast (IsBefore graph 0) None
-before-none graph = λ line h. absurd (let less : h.0 < 0 = h.1 in omega arith)
+pub before-none : (graph : List (List Relabel)) (xs : List ℕ) → AddsLines (IsBefore graph 0) xs xs
+before-none graph xs = added-none (IsBefore graph 0) xs (λ line h. absurd (let less : h.0 < 0 = h.1 in omega arith))
 
-pub before-more : (graph : List (List Relabel)) (scope : ℕ) (one two : Option ℕ) → IsLeast (IsBefore graph scope) one → IsLeast (IsOnCycleFrom graph scope) two → IsLeast (IsBefore graph (scope + 1)) (earlier_of one two)
-before-more graph scope one two p q =
-    first-joined (IsBefore graph scope) (IsOnCycleFrom graph scope) (IsBefore graph (scope + 1))
+pub before-more : (graph : List (List Relabel)) (scope : ℕ) (xs ys zs : List ℕ) → AddsLines (IsBefore graph scope) xs ys → AddsLines (IsOnCycleFrom graph scope) ys zs → AddsLines (IsBefore graph (scope + 1)) xs zs
+before-more graph scope xs ys zs p q =
+    added-joined (IsBefore graph scope) (IsOnCycleFrom graph scope) (IsBefore graph (scope + 1))
     (λ line h. let less : h.0 < scope + 1 = h.1 in elim (cases_eq h.0 scope) [
       | inl same ↦ inr (subst (λ (x : ℕ). IsOnCycleFrom graph x line) same h.2)
       | inr apart ↦ inl (h.0, omega arith, h.2)
     ])
     (λ line h. let less : h.0 < scope = h.1 in (h.0, omega arith, h.2))
     (λ line h. (scope, omega arith, h))
-    one two p q
+    xs ys zs p q
 
-pub before-all : (graph : List (List Relabel)) (count : ℕ) (first : Option ℕ) → count ≡ length graph → IsLeast (IsBefore graph count) first → IsLeast (IsOnCycle graph) first
-before-all graph count first all =
-    first-same (IsBefore graph count) (IsOnCycle graph)
+pub before-all : (graph : List (List Relabel)) (count : ℕ) (xs ys : List ℕ) → count ≡ length graph → AddsLines (IsBefore graph count) xs ys → AddsLines (IsOnCycle graph) xs ys
+before-all graph count xs ys all =
+    added-same (IsBefore graph count) (IsOnCycle graph)
     (λ line h. let less = leads-within graph h.0 h.1.0 line h.1.1 in (h.0, omega arith, h.1))
     (λ line h. (h.0, h.2))
-    first
+    xs ys
 
 -- ---- the relays of a network
 
@@ -97,19 +98,24 @@ IsKeptBefore net reaches count = (place line : ℕ) → place < count → ¬ IsB
 pub kept-none : {A : Type 0} (net : Network A) (reaches : List (Reach A)) → IsKeptBefore net reaches 0
 kept-none net reaches place line less = absurd (omega arith)
 
-pub kept-more : {A : Type 0} (net : Network A) (reaches : List (Reach A)) (count : ℕ) (graph : List (List Relabel)) → IsGraphOf net reaches count graph → IsLeast (IsOnCycle graph) None → IsKeptBefore net reaches count → IsKeptBefore net reaches (count + 1)
-kept-more net reaches count graph is none before place line less = elim (cases_eq place count) [
-  | inl same ↦ broken-graph net reaches place graph (subst (λ (x : ℕ). IsGraphOf net reaches x graph) (sym same) is) line (none line)
-  | inr apart ↦ before place line (omega arith)
-]
-
--- the first line of the first relay that is broken
-pub first-broken : {A : Type 0} (net : Network A) (reaches : List (Reach A)) (place line : ℕ) (graph : List (List Relabel)) → IsGraphOf net reaches place graph → IsLeast (IsOnCycle graph) (Some line) → IsKeptBefore net reaches place → IsFirstLine (IsBroken net reaches) place line
-first-broken net reaches place line graph is first before = record {
-  breaks = graph-broken net reaches place graph is line first.0;
-  relays_before = before;
-  lines_before = λ l less. broken-graph net reaches place graph is l (first.1 l less);
+-- the lines of the relay in which it is broken are those on cycles of its graph
+pub cycle-lines : {A : Type 0} (net : Network A) (reaches : List (Reach A)) (place : ℕ) (graph : List (List Relabel)) (lines : List ℕ) → IsGraphOf net reaches place graph → AreLines (IsOnCycle graph) lines → AreLines (IsBroken net reaches place) lines
+cycle-lines net reaches place graph lines is are = record {
+  rise = are.rise;
+  exact = λ line. (
+    λ c. graph-broken net reaches place graph is line ((are.exact line).0 c),
+    λ broken. elim (contains_or_not lines line) [
+      | inl c ↦ c
+      | inr not ↦ absurd (broken-graph net reaches place graph is line (λ on. not ((are.exact line).1 on)) broken)
+    ],
+  );
 }
+
+pub kept-more : {A : Type 0} (net : Network A) (reaches : List (Reach A)) (count : ℕ) (lines : List ℕ) → AreLines (IsBroken net reaches count) lines → lines ≡ [] → IsKeptBefore net reaches count → IsKeptBefore net reaches (count + 1)
+kept-more net reaches count lines are none before place line less broken = elim (cases_eq place count) [
+  | inl same ↦ nothing_in line (subst (λ (xs : List ℕ). Contains xs line) none ((are.exact line).1 (subst (λ (x : ℕ). IsBroken net reaches x line) same broken)))
+  | inr apart ↦ before place line (omega arith) broken
+]
 
 within : {A : Type 0} (nodes : List (Node A)) (place scope rule output : ℕ) (found : Output A) → option_and_then (λ r. slice_get r.outputs.items output) (option_and_then (λ s. slice_get s.matches.items rule) (option_and_then (λ r. slice_get r.scopes.items scope) (option_map (λ node. node.relay) (slice_get nodes place)))) ≡ Some found → place < length nodes
 within [] place scope rule output found at = absurd (cc)

@@ -4,8 +4,8 @@ pub mod Chains
 pub mod Counts
 pub mod Cycles
 pub mod Decisions
+pub mod FirstPlaces
 pub mod Hops
-pub mod Leasts
 pub mod Lines
 pub mod Matches
 pub mod Members
@@ -14,6 +14,7 @@ pub mod OneAnswer
 pub mod Passing
 pub mod Places
 pub mod Plans
+pub mod Relays
 pub mod RuleNumbers
 pub mod Seeks
 pub mod SharedPaths

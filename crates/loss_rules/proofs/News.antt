@@ -1,5 +1,5 @@
 -- What is new among relays and sources.
-use Rattle.std.proofs.Common.{◌≡◌, ℕ, ◌+◌, ◌<◌, ◌≤◌, List, Option, Some, slice_get, length, refl, sym, ap, subst, ◌∙◌, arith, ◌⊎◌, inl, inr, string_bytes, ◌↔◌, IsTrue, true, false}
+use Rattle.std.proofs.Common.{◌≡◌, ℕ, ◌+◌, ◌<◌, ◌≤◌, List, [], ◌∷◌, Some, slice_get, length, refl, sym, ap, subst, ◌∙◌, arith, ◌⊎◌, inl, inr, string_bytes, ◌↔◌, IsTrue, true, false}
 use Rattle.std.specs.Option.{option_and_then}
 use Rattle.std.proofs.lemmas.Bool.{cases_lt}
 use Rattle.std.proofs.lemmas.Option.{slice_get_within, slice_get_read, get_or_from_slice_get, same_Some, option_and_then_some}
@@ -8,10 +8,13 @@ use Rattle.relay_net.specs.Network.{Network}
 use Rattle.relay_net.specs.declared.node.Node.{Node}
 use Rattle.loss_rules.specs.Addresses.{HasAddress}
 use Rattle.loss_rules.specs.Breaks.{AreNewBefore, BreaksAtSource}
-use Rattle.loss_rules.specs.Firsts.{IsFirst, HoldsBefore, KeptInList, BrokenInList}
+use Rattle.loss_rules.specs.Everywhere.{AreLines, IsOwnPlace}
+use Rattle.loss_rules.specs.Lines.{Adds, HoldsBefore, KeptInList, BrokenInList}
 use Rattle.loss_rules.specs.Rules.{RelayIsNew, source_in, IsBefore, SourceIsNew, AddressesAreDistinct}
+use Rattle.loss_rules.specs.declared.answer.Place.{Place}
+use Rattle.loss_rules.specs.declared.answer.Place.TheVariants as variant
 use Rattle.loss_rules.specs.declared.label.RelayLine.{RelayLine}
-use Rattle.loss_rules.proofs.Lines.{KeptBelow, same_first}
+use Rattle.loss_rules.proofs.Lines.{KeptBelow, none_broken, same_adds}
 use Rattle.loss_rules.proofs.Seeks.{not_true}
 
 -- what holds of the elements at two places holds of any that stand there
@@ -80,16 +83,21 @@ module _ {A : Type 0} (net : Network A) where
         by (inr (e, less)) same port =
             port_free (s, one, less, source_of place s node one node_is (ap (λ q. source_in net q s) (sym e) ∙ one_is), port)
 
-  -- the first of the sources of a relay that isn't new
-  pub source_first : (place : ℕ) (node : Node A) (first : Option ℕ) → slice_get net.relays place ≡ Some node
-      → IsFirst (KeptInList (λ number source. SourceIsNew net place number) node.relay.sources.items)
-      (BrokenInList (λ number source line. (source.line ≡ line) × ¬ SourceIsNew net place number) node.relay.sources.items) first
-      → IsFirst ((source : ℕ) → SourceIsNew net place source) (BreaksAtSource net place) first
-  source_first place node first is h = same_first (KeptInList (λ number source. SourceIsNew net place number) node.relay.sources.items) ((source : ℕ) → SourceIsNew net place source)
-      (BrokenInList (λ number source line. (source.line ≡ line) × ¬ SourceIsNew net place number) node.relay.sources.items) (BreaksAtSource net place) first
+  -- the sources of a relay that aren't new
+  pub source_adds : (place : ℕ) (node : Node A) (xs ys : List ℕ) → slice_get net.relays place ≡ Some node
+      → Adds (KeptInList (λ number source. SourceIsNew net place number) node.relay.sources.items)
+      (BrokenInList (λ number source line. (source.line ≡ line) × ¬ SourceIsNew net place number) node.relay.sources.items) xs ys
+      → Adds ((source : ℕ) → SourceIsNew net place source) (BreaksAtSource net place) xs ys
+  source_adds place node xs ys is h = same_adds (KeptInList (λ number source. SourceIsNew net place number) node.relay.sources.items) ((source : ℕ) → SourceIsNew net place source)
+      (BrokenInList (λ number source line. (source.line ≡ line) × ¬ SourceIsNew net place number) node.relay.sources.items) (BreaksAtSource net place) xs ys
       (λ kept number p s before one two a b one_is two_is. kept number two (source_of place number node two is two_is) p s before one two a b one_is two_is)
       (λ line b. (b.0, b.1, source_there place b.0 node b.1 is b.2, b.3.0, b.3.1))
       (λ line b. (b.0, b.1, source_of place b.0 node b.1 is b.2, (b.3, b.4))) h
+
+  -- sources that nowhere aren't new are new
+  pub sources_new : (at : ℕ) → AreLines (BreaksAtSource net at) [] → (source : ℕ) → SourceIsNew net at source
+  sources_new at none source p s before one two a b one_is two_is a_is b_is port host =
+      none_broken (BreaksAtSource net at) none two.line (source, two, two_is, refl, λ new. new p s before one two a b one_is two_is a_is b_is port host)
 
   module _ (lines : List (RelayLine A)) where
     -- one more relay whose number, folder and addresses are new
@@ -106,6 +114,11 @@ module _ {A : Type 0} (net : Network A) where
         source_at : (b s : ℕ) → b < place + 1 → (b < place) ⊎ (place ≤ b) → SourceIsNew net b s
         source_at b s less (inl early) = before.sources b s early
         source_at b s less (inr past) = let same : place ≡ b = omega arith in let P : ℕ → Type 0 = λ q. SourceIsNew net q s in subst P same (sources s)
+
+    -- a relay whose own line isn't listed is new
+    pub own_is_new : (place : ℕ) (own : List Place) → IsOwnPlace net lines place own → own ≡ [] → RelayIsNew net lines place
+    own_is_new place own (inl (new, none)) empty = new
+    own_is_new place own (inr (found, is, not, some)) empty = (let clash : variant.Plan found.line ∷ [] ≡ [] = sym some ∙ empty in absurd (cc))
 
     pub all_new : (place : ℕ) → length net.relays ≤ place → length lines ≡ length net.relays → AreNewBefore net lines place → AddressesAreDistinct net lines
     all_new place end same new = record {

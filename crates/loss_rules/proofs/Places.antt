@@ -11,11 +11,12 @@ use Rattle.relay_conf.specs.declared.relay.Scope.{Scope}
 use Rattle.relay_net.specs.Network.{Network, relay_at}
 use Rattle.relay_net.specs.Outputs.{servers_of}
 use Rattle.relay_net.specs.declared.node.Node.{Node}
-use Rattle.loss_rules.specs.Breaks.{IsInConf, BreaksAtMatch, BreaksAtOutput, BreaksAtServer}
-use Rattle.loss_rules.specs.Firsts.{KeptInList, BrokenInList, KeptInRelay, BrokenInRelay, BrokenInNet}
+use Rattle.loss_rules.specs.Breaks.{BreaksAtMatch, BreaksAtOutput, BreaksAtServer}
+use Rattle.loss_rules.specs.Everywhere.{AreInConf}
+use Rattle.loss_rules.specs.Lines.{KeptInList, BrokenInList, KeptInRelay, BrokenInRelay, BrokenInNet}
 use Rattle.loss_rules.specs.Sites.{rule_at, output_in_rule, EachMatch, EachOutput, EachServer, line_of}
 use Rattle.loss_rules.specs.declared.answer.Place.{Place}
-use Rattle.loss_rules.specs.declared.answer.Place.TheVariants as place
+use Rattle.loss_rules.proofs.Relays.{same_conf}
 
 -- an element of a list is contained in it, and the other way round
 pub contained : {X : Type 0} (xs : List X) (n : ℕ) (x : X) → slice_get xs n ≡ Some x → Contains xs x
@@ -68,26 +69,18 @@ module _ {A : Type 0} where
   pub node_of_broken : (net : Network A) (B : ℕ → ℕ → ℕ → MatchRule A → ℕ → Type 0) (place line : ℕ) → BrokenInNet net B place line → (node : Node A) × (slice_get net.relays place ≡ Some node)
   node_of_broken net B place line (scope, rule, found, at, broken) = let s : Stands net place scope rule found = stands net place scope rule found at in (s.node, s.node_is)
 
-  -- the first place of the same, said in other words
-  pub same_place : (net : Network A) (B C : ℕ → ℕ → Type 0) → ((place line : ℕ) → B place line → C place line) → ((place line : ℕ) → C place line → B place line) → (at : Place) → IsInConf net B at → IsInConf net C at
-  same_place net B C there back (place.Plan line) h = absurd h
-  same_place net B C there back (place.Conf relay line) (p, node, is, number, first) = (
-    p,
-    node,
-    is,
-    number,
-    record {
-      breaks = there p line first.breaks;
-      relays_before = λ q l less c. first.relays_before q l less (back q l c);
-      lines_before = λ l less c. first.lines_before l less (back p l c);
-    },
-  )
-
   -- Outputs of matches.
 
   pub output_there : (net : Network A) (place scope rule output : ℕ) (found : MatchRule A) (other : Output A) → rule_at net place scope rule ≡ Some found → slice_get found.outputs.items output ≡ Some other
       → output_in_rule net place scope rule output ≡ Some other
   output_there net place scope rule output found other is at = ap (option_and_then (λ m. slice_get m.outputs.items output)) is ∙ at
+
+  -- a relay that isn't there has no output
+  pub no_output : (net : Network A) (place scope rule output : ℕ) (other : Output A) → slice_get net.relays place ≡ None → ¬ (output_in_rule net place scope rule output ≡ Some other)
+  no_output net place scope rule output other none is =
+      option_and_then_some (λ m. slice_get m.outputs.items output) (rule_at net place scope rule) other is (λ found there at.
+      let s : Stands net place scope rule found = stands net place scope rule found there in
+      let clash : Some s.node ≡ None = sym s.node_is ∙ none in absurd (cc))
 
   pub each_output : (net : Network A) (K : ℕ → ℕ → ℕ → ℕ → Output A → Type 0) → EachMatch net (λ place scope rule found. KeptInList (K place scope rule) found.outputs.items) → EachOutput net K
   each_output net K h place scope rule output other is =
@@ -133,18 +126,18 @@ module _ {A : Type 0} where
       → BreaksAtMatch net P place line → BrokenInNet net (λ p s r found l. (found.line ≡ l) × ¬ P p s r found) place line
   from_matches net P place line (scope, rule, found, is, at, broken) = (scope, rule, found, is, (at, broken))
 
-  -- The first places of these.
+  -- The places of these.
 
-  pub first_match : (net : Network A) (P : ℕ → ℕ → ℕ → MatchRule A → Type 0) (at : Place) → IsInConf net (BrokenInNet net (λ p s r found l. (found.line ≡ l) × ¬ P p s r found)) at → IsInConf net (BreaksAtMatch net P) at
-  first_match net P at = same_place net (BrokenInNet net (λ p s r found l. (found.line ≡ l) × ¬ P p s r found)) (BreaksAtMatch net P) (to_matches net P) (from_matches net P) at
+  pub match_places : (net : Network A) (P : ℕ → ℕ → ℕ → MatchRule A → Type 0) (places : List Place) → AreInConf net (BrokenInNet net (λ p s r found l. (found.line ≡ l) × ¬ P p s r found)) places → AreInConf net (BreaksAtMatch net P) places
+  match_places net P places = same_conf net (BrokenInNet net (λ p s r found l. (found.line ≡ l) × ¬ P p s r found)) (BreaksAtMatch net P) (to_matches net P) (from_matches net P) places
 
-  pub first_output : (net : Network A) (P : ℕ → ℕ → ℕ → ℕ → Output A → Type 0) (at : Place)
-      → IsInConf net (BrokenInNet net (AtOutputs (λ p s r o other l. (line_of other ≡ l) × ¬ P p s r o other))) at → IsInConf net (BreaksAtOutput net P) at
-  first_output net P at = same_place net (BrokenInNet net (AtOutputs (λ p s r o other l. (line_of other ≡ l) × ¬ P p s r o other))) (BreaksAtOutput net P) (to_outputs net P) (from_outputs net P) at
+  pub output_places : (net : Network A) (P : ℕ → ℕ → ℕ → ℕ → Output A → Type 0) (places : List Place)
+      → AreInConf net (BrokenInNet net (AtOutputs (λ p s r o other l. (line_of other ≡ l) × ¬ P p s r o other))) places → AreInConf net (BreaksAtOutput net P) places
+  output_places net P places = same_conf net (BrokenInNet net (AtOutputs (λ p s r o other l. (line_of other ≡ l) × ¬ P p s r o other))) (BreaksAtOutput net P) (to_outputs net P) (from_outputs net P) places
 
-  pub first_server : (net : Network A) (P : ℕ → ℕ → ℕ → Server A → Type 0) (at : Place)
-      → IsInConf net (BrokenInNet net (AtOutputs (λ p s r o other l. BrokenInList (λ number server n. (server.line ≡ n) × ¬ P p s r server) (servers_of other) l))) at → IsInConf net (BreaksAtServer net P) at
-  first_server net P at = same_place net (BrokenInNet net (AtOutputs (λ p s r o other l. BrokenInList (λ number server n. (server.line ≡ n) × ¬ P p s r server) (servers_of other) l))) (BreaksAtServer net P) (to_servers net P) (from_servers net P) at
+  pub server_places : (net : Network A) (P : ℕ → ℕ → ℕ → Server A → Type 0) (places : List Place)
+      → AreInConf net (BrokenInNet net (AtOutputs (λ p s r o other l. BrokenInList (λ number server n. (server.line ≡ n) × ¬ P p s r server) (servers_of other) l))) places → AreInConf net (BreaksAtServer net P) places
+  server_places net P places = same_conf net (BrokenInNet net (AtOutputs (λ p s r o other l. BrokenInList (λ number server n. (server.line ≡ n) × ¬ P p s r server) (servers_of other) l))) (BreaksAtServer net P) (to_servers net P) (from_servers net P) places
 
   -- Outputs of one relay.
 

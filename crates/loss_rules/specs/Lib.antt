@@ -1,10 +1,11 @@
 pub mod Addresses
 pub mod Breaks
 pub mod BySite
-pub mod Firsts
+pub mod Everywhere
 pub mod Graphs
 pub mod Labels
 pub mod Laws
+pub mod Lines
 pub mod Matches
 pub mod Printed
 pub mod Rules

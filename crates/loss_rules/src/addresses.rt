@@ -1,45 +1,60 @@
 //! The rule on what relays are known by: numbers, folders and the addresses of sources are distinct.
 
-ghost use Rattle.std.specs.Prelude.{◌≡◌, ◌↔◌, ◌<◌, ◌≤◌, ℕ, IfNone, IfSome, IsTrue, Any, Some, length};
+ghost use Rattle.std.specs.Prelude.{◌≡◌, ◌↔◌, ◌<◌, ◌≤◌, ℕ, [], List, ◌++◌, IfOk, OnOk, IsTrue, Any, Some, length};
 ghost use Rattle.relay_conf.specs.declared.relay.Source.{Source};
-ghost use Rattle.loss_rules.specs.Breaks.{IsFirstTwice, BreaksAtSource};
-ghost use Rattle.loss_rules.specs.Firsts.{IsFirst, HoldsBefore};
+ghost use Rattle.loss_rules.specs.Breaks.{BreaksAtSource};
+ghost use Rattle.loss_rules.specs.Everywhere.{AreLines, AreTwice, IsOwnPlace};
+ghost use Rattle.loss_rules.specs.declared.answer.Place.{Place};
+ghost use Rattle.loss_rules.specs.Lines.{HoldsBefore};
 ghost use Rattle.loss_rules.specs.Addresses.{HasAddress};
 ghost use Rattle.loss_rules.specs.Rules.{AddressesAreDistinct, IsNewTo, RelayIsNew, SourceIsNew, source_in};
 
 use crate::answer::Place;
 use crate::label::RelayLine;
-use crate::requirement::{earlier, line_unless};
+use crate::ordered::{put_conf_places, put_in_order};
+use crate::requirement::add_unless;
 use crate::text::is_same_text;
 use relay_conf::Source;
 use relay_net::{Net, Node};
-use std::alloc::Allocator;
+use std::alloc::{AllocError, Allocator};
 
-/// Where a relay is first found with the number or the folder of one before it, or with a source that has the address of one
-/// before it: each relay's line is looked at, then its sources, then the next relay. The lines are those of the network's
-/// relays. Each relay is compared with those before it, and each source with theirs.
-pub fn addresses_are_distinct<A: Allocator + Copy>(
+/// Each relay with the number or the folder of one before it, and each source with the address of one before it: a relay's line
+/// of the plan, then its sources, then the next relay. The lines are those of the network's relays. Each relay is compared with
+/// those before it, and each source with theirs. The only error is want of memory.
+pub fn addresses_are_distinct<A: Allocator + Copy, B: Allocator + Copy>(
+    alloc: B,
     net: &Net<A>,
     relay_lines: &[RelayLine<A>],
-) -> Option<Place>
+) -> Result<Vec<Place, B>, AllocError>
     requires { length relay_lines.now ≡ length net.now.relays }
-    ensures kept { IfNone result (AddressesAreDistinct net.now relay_lines.now) }
-    ensures broken { IfSome result (IsFirstTwice net.now relay_lines.now) }
+    ensures listed { IfOk result (λ places. AreTwice net.now relay_lines.now places.items) }
+    ensures kept { IfOk result (λ places. places.items ≡ [] → AddressesAreDistinct net.now relay_lines.now) }
 {
+    let mut places = Vec::new(alloc);
     for (place, node) in net.relays().iter().enumerate() {
-        if !relay_is_new(net, relay_lines, place) {
-            return Some(Place::Plan {
-                line: relay_lines[place].line,
-            });
-        }
-        if let Some(line) = source_line(net, place) {
-            return Some(Place::Conf {
-                relay: node.number,
-                line,
-            });
-        }
+        put_own_place(net, relay_lines, place, &mut places)?;
+        let lines = source_lines(alloc, net, place)?;
+        put_conf_places(node.number, &lines, &mut places)?;
     }
-    None
+    Ok(places)
+}
+
+// Adds the line of the relay at this place, unless it has another number than each before it, and another folder.
+fn put_own_place<A: Allocator + Copy, B: Allocator>(
+    net: &Net<A>,
+    lines: &[RelayLine<A>],
+    place: usize,
+    places: &mut Vec<Place, B>,
+) -> Result<(), AllocError>
+    requires relay { place < length net.now.relays }
+    requires line { place < length lines.now }
+    ensures { OnOk result ((own : List Place) × IsOwnPlace net.now lines.now place own × (places.new.items ≡ places.old.items ++ own)) }
+{
+    if !relay_is_new(net, lines, place) {
+        let line = lines[place].line;
+        places.push(Place::Plan { line })?;
+    }
+    Ok(())
 }
 
 // Whether the relay at this place has another number than each before it, and another folder.
@@ -78,18 +93,24 @@ fn is_new_to<A: Allocator + Copy>(
     )
 }
 
-// The least line of a source of the relay at this place that has the address of one before it.
-fn source_line<A: Allocator + Copy>(net: &Net<A>, place: usize) -> Option<usize>
+// The lines of sources of the relay at this place that have the address of one before, in rising order.
+fn source_lines<A: Allocator + Copy, B: Allocator>(
+    alloc: B,
+    net: &Net<A>,
+    place: usize,
+) -> Result<Vec<usize, B>, AllocError>
     requires { place < length net.now.relays }
-    ensures { IsFirst ((source : ℕ) → SourceIsNew net.now place source) (BreaksAtSource net.now place) result }
+    ensures lines { IfOk result (λ lines. AreLines (BreaksAtSource net.now place) lines.items) }
+    ensures kept { IfOk result (λ lines. lines.items ≡ [] → (source : ℕ) → SourceIsNew net.now place source) }
 {
-    let mut first = None;
+    let mut lines = Vec::new(alloc);
     let node = &net.relays()[place];
     for (number, source) in node.relay.sources.iter().enumerate() {
         let is_new = source_is_new(net, place, number);
-        first = earlier(first, line_unless(is_new, source.line));
+        add_unless(is_new, source.line, &mut lines)?;
     }
-    first
+    put_in_order(&mut lines);
+    Ok(lines)
 }
 
 // Whether the source of this number of the relay at this place has another address than each before it.

@@ -3,14 +3,15 @@
 ghost use Rattle.std.specs.Prelude.{◌≡◌, ◌<◌, ◌↔◌, ℕ, ◌++◌, length, Contains, IfOk, OnOk, IsTrue};
 ghost use Rattle.std.specs.List.{filter_map};
 ghost use Rattle.route_graph.specs.Chains.{Chain};
-ghost use Rattle.loss_rules.specs.Firsts.{IsLeast};
+ghost use Rattle.loss_rules.specs.Everywhere.{AreLines};
+ghost use Rattle.loss_rules.specs.Lines.{AddsLines};
 ghost use Rattle.loss_rules.specs.Graphs.{relabel_of, relabels_at, Leads, IsGraphOf, IsOnCycle, IsOnCycleFrom};
 ghost use Rattle.loss_rules.specs.Rules.{HasReachedRelabel};
 
 use crate::by_site::Reaches;
 use crate::fitting::is_reached;
+use crate::ordered::put_in_order;
 use crate::relabel::{Relabel, as_relabel};
-use crate::requirement::earlier;
 use crate::site::{Site, matches_at, scope_count};
 use crate::visit::ScopeSearch;
 use relay_conf::Output;
@@ -113,29 +114,29 @@ impl<A: Allocator + Copy> RelabelGraph<A> {
         Ok(RelabelGraph { scopes })
     }
 
-    /// The first line of a relabel on a cycle, if there is one.
-    pub fn first_line(&self) -> Result<Option<usize>, AllocError>
-        ensures { IfOk result (IsLeast (IsOnCycle self.now)) }
+    /// The lines of the relabels on a cycle, in rising order.
+    pub fn cycle_lines(&self) -> Result<Vec<usize, A>, AllocError>
+        ensures { IfOk result (λ lines. AreLines (IsOnCycle self.now) lines.items) }
     {
-        let mut first = None;
+        let mut lines = Vec::new(*self.scopes.allocator());
         for scope in 0..self.scopes.len() {
-            first = earlier(first, self.first_line_from(scope)?);
+            self.add_lines_from(scope, &mut lines)?;
         }
-        Ok(first)
+        put_in_order(&mut lines);
+        Ok(lines)
     }
 
-    // The first line of a relabel of the scope whose target leads back to it, if there is one.
-    fn first_line_from(&self, scope: usize) -> Result<Option<usize>, AllocError>
+    // Adds the lines of the relabels of the scope whose targets lead back to it.
+    fn add_lines_from(&self, scope: usize, lines: &mut Vec<usize, A>) -> Result<(), AllocError>
         requires { scope < length self.now }
-        ensures { IfOk result (IsLeast (IsOnCycleFrom self.now scope)) }
+        ensures { OnOk result (AddsLines (IsOnCycleFrom self.now scope) lines.old.items lines.new.items) }
     {
-        let mut first = None;
         for relabel in self.relabels(scope) {
             if self.leads(relabel.target, scope)? {
-                first = earlier(first, Some(relabel.line));
+                lines.push(relabel.line)?;
             }
         }
-        Ok(first)
+        Ok(())
     }
 
     // Whether a chain of relabels, which may be empty, leads from the one scope to the other.

@@ -1,4 +1,4 @@
-//! The rules under which a network of relays loses no event that was acknowledged, and where each is broken first.
+//! The rules under which a network of relays loses no event that was acknowledged, and each place where one is broken.
 #![tactic(auto)]
 
 mod addresses;
@@ -9,6 +9,7 @@ mod fitting;
 mod graph;
 mod label;
 mod laws;
+mod ordered;
 mod outputs;
 mod paths;
 mod plan;
@@ -23,7 +24,7 @@ mod visit;
 pub use addresses::addresses_are_distinct;
 pub use answer::{Answer, Place, Rule};
 pub use by_site::{Labels, Reaches};
-pub use cycle::first_cycle;
+pub use cycle::no_relabel_cycle;
 pub use fitting::fits_any;
 pub use label::{Duty, Label, Reach, RelayLine};
 pub use laws::{each_plan_has_one_answer, labelled_leaves_keep, labelled_tags_are_safe};

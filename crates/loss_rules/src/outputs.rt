@@ -1,8 +1,9 @@
 //! The rules on a relay's own matches and outputs: reached matches keep, relabels are labelled.
 
-ghost use Rattle.std.specs.Prelude.{◌↔◌, ◌⊎◌, ℕ, IfNone, IfSome, IsTrue, All, Any};
+ghost use Rattle.std.specs.Prelude.{◌≡◌, ◌↔◌, ◌⊎◌, ℕ, [], IfOk, IsTrue, All, Any};
 ghost use Rattle.relay_net.specs.Outputs.{Keeps};
-ghost use Rattle.loss_rules.specs.Breaks.{IsInConf, BreaksAtMatch, BreaksAtOutput};
+ghost use Rattle.loss_rules.specs.Breaks.{BreaksAtMatch, BreaksAtOutput};
+ghost use Rattle.loss_rules.specs.Everywhere.{AreInConf};
 ghost use Rattle.loss_rules.specs.Labels.{IsReached};
 ghost use Rattle.loss_rules.specs.Rules.{ReachedMatchesDo, DoesDuty, RelabelsAreLabelled, IsLabelledRelabel};
 ghost use Rattle.loss_rules.specs.Sites.{RelabelsTo};
@@ -11,36 +12,39 @@ use crate::answer::Place;
 use crate::by_site::{Labels, Reaches};
 use crate::fitting::{is_reached, no_prefix, reaches_fit_label};
 use crate::label::Duty;
-use crate::requirement::{OfOutputs, Requirement, first_place, line_unless};
+use crate::requirement::{OfOutputs, Requirement, add_unless, broken_places};
 use crate::site::Site;
 use relay_conf::{MatchRule, Output};
 use relay_net::{Entrance, Net, keeps};
-use std::alloc::Allocator;
+use std::alloc::{AllocError, Allocator};
 
-/// Where a match is first found that has a reach, and neither an output that keeps nor a relabel; or, under the duty every, with
-/// an output that is none of these. For each match its reaches are looked up once.
-pub fn reached_matches_keep<'a, 'b, A: Allocator + Copy>(
+/// Each match that has a reach, and neither an output that keeps nor a relabel; or, under the duty every, an output that is none of
+/// these. For each match its reaches are looked up once. The only error is want of memory.
+pub fn reached_matches_keep<'a, 'b, A: Allocator + Copy, B: Allocator + Copy>(
+    alloc: B,
     net: &Net<A>,
     duty: Duty,
     reaches: &'a Reaches<'b, A>,
-) -> Option<Place>
-    ensures kept { IfNone result (ReachedMatchesDo net.now duty reaches.now) }
-    ensures broken { IfSome result (IsInConf net.now (BreaksAtMatch net.now (λ place scope rule found. IsReached reaches.now place scope rule → DoesDuty duty found))) }
+) -> Result<Vec<Place, B>, AllocError>
+    ensures listed { IfOk result (λ places. AreInConf net.now (BreaksAtMatch net.now (λ place scope rule found. IsReached reaches.now place scope rule → DoesDuty duty found)) places.items) }
+    ensures kept { IfOk result (λ places. places.items ≡ [] → ReachedMatchesDo net.now duty reaches.now) }
 {
-    first_place(net, &KeepsIfReached { duty, reaches })
+    broken_places(alloc, net, &KeepsIfReached { duty, reaches })
 }
 
-/// Where a relabel is first found with a reach of its match that fits no label of the relabel's target.
-/// For each relabel each pattern of its match's reaches is compared with those of the target's labels.
-pub fn relabels_are_labelled<'a, 'b, A: Allocator + Copy>(
+/// Each relabel with a reach of its match that fits no label of the relabel's target.
+/// For each relabel each pattern of its match's reaches is compared with those of the target's labels. The only error is want of
+/// memory.
+pub fn relabels_are_labelled<'a, 'b, A: Allocator + Copy, B: Allocator + Copy>(
+    alloc: B,
     net: &Net<A>,
     labels: &'a Labels<'b, A>,
     reaches: &'a Reaches<'b, A>,
-) -> Option<Place>
-    ensures kept { IfNone result (RelabelsAreLabelled net.now labels.now reaches.now) }
-    ensures broken { IfSome result (IsInConf net.now (BreaksAtOutput net.now (λ place scope rule output found. IsLabelledRelabel labels.now reaches.now place scope rule found))) }
+) -> Result<Vec<Place, B>, AllocError>
+    ensures listed { IfOk result (λ places. AreInConf net.now (BreaksAtOutput net.now (λ place scope rule output found. IsLabelledRelabel labels.now reaches.now place scope rule found)) places.items) }
+    ensures kept { IfOk result (λ places. places.items ≡ [] → RelabelsAreLabelled net.now labels.now reaches.now) }
 {
-    first_place(net, &OfOutputs(RelabelsToLabel { labels, reaches }))
+    broken_places(alloc, net, &OfOutputs(RelabelsToLabel { labels, reaches }))
 }
 
 // The match does what is asked of it, if it has a reach.
@@ -59,9 +63,14 @@ impl<A: Allocator + Copy> Requirement<MatchRule<A>> for KeepsIfReached<'_, '_, A
 
     ghost breaks = { λ asked at found line. (found.line ≡ line) × ¬ (IsReached asked.reaches.now at.place at.scope at.rule → DoesDuty asked.duty found) };
 
-    fn broken_line(&self, at: Site, found: &MatchRule<A>) -> Option<usize> {
+    fn add_lines<B: Allocator + Copy>(
+        &self,
+        at: Site,
+        found: &MatchRule<A>,
+        lines: &mut Vec<usize, B>,
+    ) -> Result<(), AllocError> {
         let kept = !is_reached(self.reaches, at) || does_duty(self.duty, found);
-        line_unless(kept, found.line)
+        add_unless(kept, found.line, lines)
     }
 }
 
@@ -81,9 +90,14 @@ impl<A: Allocator + Copy> Requirement<Output<A>> for RelabelsToLabel<'_, '_, A> 
 
     ghost breaks = { λ asked at found line. (line_of found ≡ line) × ¬ IsLabelledRelabel asked.labels.now asked.reaches.now at.place at.scope at.rule found };
 
-    fn broken_line(&self, at: Site, found: &Output<A>) -> Option<usize> {
+    fn add_lines<B: Allocator + Copy>(
+        &self,
+        at: Site,
+        found: &Output<A>,
+        lines: &mut Vec<usize, B>,
+    ) -> Result<(), AllocError> {
         let Output::Relabel { target, line } = found else {
-            return None;
+            return Ok(());
         };
         let scope = Entrance {
             relay: at.place,
@@ -91,7 +105,7 @@ impl<A: Allocator + Copy> Requirement<Output<A>> for RelabelsToLabel<'_, '_, A> 
         };
         let none = no_prefix(self.labels);
         let kept = reaches_fit_label(self.labels, self.reaches, at, scope, none);
-        line_unless(kept, *line)
+        add_unless(kept, *line, lines)
     }
 }
 

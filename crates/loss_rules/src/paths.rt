@@ -1,25 +1,30 @@
 //! The rule on paths: within a relay those of buffers are distinct, and those of sinks.
 
-ghost use Rattle.std.specs.Prelude.{◌≡◌, ◌↔◌, List, ℕ, IfNone, IfSome, IsTrue, Some};
+ghost use Rattle.std.specs.Prelude.{◌≡◌, ◌↔◌, List, [], ℕ, IfOk, IsTrue, Some};
 ghost use Rattle.std.specs.Option.{option_copied};
-ghost use Rattle.loss_rules.specs.Breaks.{IsInConf, BreaksAtOutput, IsFirstOfPath};
+ghost use Rattle.loss_rules.specs.Breaks.{BreaksAtOutput, IsFirstOfPath};
+ghost use Rattle.loss_rules.specs.Everywhere.{AreInConf};
+ghost use Rattle.loss_rules.specs.Lines.{StandsBehind};
 ghost use Rattle.loss_rules.specs.Rules.{PathsAreDistinct, SharePath, buffer_path as path_of_buffer, sink_path as path_of_sink};
 
 use crate::answer::Place;
-use crate::requirement::{OfOutputs, Requirement, first_place, relay_line};
+use crate::requirement::{OfOutputs, Requirement, add_unless, broken_places, relay_lines};
 use crate::site::{Site, line_of};
 use crate::text::is_same_text;
 use relay_conf::{BufferKind, Output};
 use relay_net::{Net, settings};
-use std::alloc::Allocator;
+use std::alloc::{AllocError, Allocator};
 
-/// Where an output is first found that shares the path of its buffer or of its sink with one before it in its relay.
-/// For each output all outputs of its relay are gone through.
-pub fn paths_are_distinct<A: Allocator + Copy>(net: &Net<A>) -> Option<Place>
-    ensures kept { IfNone result (PathsAreDistinct net.now) }
-    ensures broken { IfSome result (IsInConf net.now (BreaksAtOutput net.now (IsFirstOfPath net.now))) }
+/// Each output that shares the path of its buffer or of its sink with one before it in its relay.
+/// For each output all outputs of its relay are gone through. The only error is want of memory.
+pub fn paths_are_distinct<A: Allocator + Copy, B: Allocator + Copy>(
+    alloc: B,
+    net: &Net<A>,
+) -> Result<Vec<Place, B>, AllocError>
+    ensures listed { IfOk result (λ places. AreInConf net.now (BreaksAtOutput net.now (IsFirstOfPath net.now)) places.items) }
+    ensures kept { IfOk result (λ places. places.items ≡ [] → PathsAreDistinct net.now) }
 {
-    first_place(net, &OfOutputs(HasOwnPaths { net }))
+    broken_places(alloc, net, &OfOutputs(HasOwnPaths { net }))
 }
 
 // The output is the first of its relay with the path of its buffer, and with that of its sink.
@@ -37,13 +42,18 @@ impl<A: Allocator + Copy> Requirement<Output<A>> for HasOwnPaths<'_, A> {
 
     ghost breaks = { λ asked at found line. (line_of found ≡ line) × ¬ IsFirstOfPath asked.net.now at.place at.scope at.rule at.output found };
 
-    fn broken_line(&self, at: Site, found: &Output<A>) -> Option<usize> {
-        let node = self.net.relays().get(at.place)?;
+    fn add_lines<B: Allocator + Copy>(
+        &self,
+        at: Site,
+        found: &Output<A>,
+        lines: &mut Vec<usize, B>,
+    ) -> Result<(), AllocError> {
+        let Some(node) = self.net.relays().get(at.place) else {
+            return Ok(());
+        };
         let behind = OfOutputs(IsBehind { at, found });
-        match relay_line(&behind, at.place, &node.relay) {
-            Some(_) => Some(line_of(found)),
-            None => None,
-        }
+        let before = relay_lines(*lines.allocator(), &behind, at.place, &node.relay)?;
+        add_unless(before.is_empty(), line_of(found), lines)
     }
 }
 
@@ -56,25 +66,35 @@ struct IsBehind<'a, A: Allocator> {
 
 impl<A: Allocator> Requirement<Output<A>> for IsBehind<'_, A> {
     ghost use Rattle.std.specs.Prelude.{◌≡◌};
-    ghost use Rattle.loss_rules.specs.Firsts.{StandsBehind};
+    ghost use Rattle.loss_rules.specs.Lines.{StandsBehind};
     ghost use Rattle.loss_rules.specs.Sites.{line_of};
 
     ghost keeps = { λ asked at other. StandsBehind asked.at asked.found.now at other };
 
     ghost breaks = { λ asked at other line. (line_of other ≡ line) × ¬ StandsBehind asked.at asked.found.now at other };
 
-    fn broken_line(&self, at: Site, found: &Output<A>) -> Option<usize> {
+    fn add_lines<B: Allocator + Copy>(
+        &self,
+        at: Site,
+        found: &Output<A>,
+        lines: &mut Vec<usize, B>,
+    ) -> Result<(), AllocError> {
+        add_unless(self.is_behind(at, found), line_of(found), lines)
+    }
+}
+
+impl<A: Allocator> IsBehind<'_, A> {
+    // Whether the output at this site is the same one, shares no path with it, or stands in a later line.
+    fn is_behind(&self, at: Site, found: &Output<A>) -> bool
+        ensures { IsTrue result ↔ StandsBehind self.now.at self.now.found.now at found.now }
+    {
         if is_same(at, self.at) {
-            return None;
+            return true;
         }
         if !share_path(found, self.found) {
-            return None;
+            return true;
         }
-        let line = line_of(found);
-        if line_of(self.found) < line {
-            return None;
-        }
-        Some(line)
+        line_of(self.found) < line_of(found)
     }
 }
 

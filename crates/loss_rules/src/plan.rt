@@ -1,7 +1,8 @@
 //! The rules on a plan's own lines: clients are labelled, labels are matched, reaches cover.
 
-ghost use Rattle.std.specs.Prelude.{◌≡◌, ◌↔◌, IfNone, IfSome, IsTrue, All, Any, IsSomeAnd, length, slice_get};
-ghost use Rattle.loss_rules.specs.Breaks.{IsInPlan, BreaksAtClient, BreaksAtLabel};
+ghost use Rattle.std.specs.Prelude.{◌≡◌, ◌↔◌, [], IfOk, IsTrue, All, Any, IsSomeAnd, length, slice_get};
+ghost use Rattle.loss_rules.specs.Breaks.{BreaksAtClient, BreaksAtLabel};
+ghost use Rattle.loss_rules.specs.Everywhere.{AreInPlan};
 ghost use Rattle.loss_rules.specs.Matches.{AreCovered};
 ghost use Rattle.loss_rules.specs.Rules.{ClientsAreLabelled, IsLabelledClient, LabelsAreMatched, IsMatchedLabel, FitsMatch, ReachesCover, IsCoveredLabel, IsCovered};
 
@@ -9,64 +10,73 @@ use crate::answer::Place;
 use crate::by_site::{Labels, Reaches};
 use crate::fitting::{all_fit_label, fits_any, fits_reach};
 use crate::label::Label;
-use crate::requirement::{earlier, in_plan, line_unless};
+use crate::ordered::{plan_places, put_in_order};
+use crate::requirement::add_unless;
 use crate::site::{Site, matches_at};
 use relay_conf::MatchRule;
 use relay_net::Net;
-use std::alloc::Allocator;
+use std::alloc::{AllocError, Allocator};
 use tag_pattern::{Plain, apart};
 
-/// The first line of a client with a pattern that fits no label of the scope that its source leads into, with the source's
-/// prefix in front.
-/// The lines are those of the network's clients. Each pattern of a client is compared with those of the labels of that scope.
-pub fn clients_are_labelled<A: Allocator + Copy>(
+/// Each line of a client with a pattern that fits no label of the scope that its source leads into, with the source's prefix in
+/// front.
+/// The lines are those of the network's clients. Each pattern of a client is compared with those of the labels of that scope. The
+/// only error is want of memory.
+pub fn clients_are_labelled<A: Allocator + Copy, B: Allocator + Copy>(
+    alloc: B,
     net: &Net<A>,
     client_lines: &[usize],
     labels: &Labels<'_, A>,
-) -> Option<Place>
+) -> Result<Vec<Place, B>, AllocError>
     requires { length client_lines.now ≡ length net.now.clients }
-    ensures kept { IfNone result (ClientsAreLabelled net.now labels.now) }
-    ensures broken { IfSome result (IsInPlan (BreaksAtClient net.now client_lines.now (IsLabelledClient net.now labels.now))) }
+    ensures listed { IfOk result (λ places. AreInPlan (BreaksAtClient net.now client_lines.now (IsLabelledClient net.now labels.now)) places.items) }
+    ensures kept { IfOk result (λ places. places.items ≡ [] → ClientsAreLabelled net.now labels.now) }
 {
-    let mut first = None;
+    let mut lines = Vec::new(alloc);
     for (number, line) in client_lines.iter().enumerate() {
-        first = earlier(first, line_unless(is_labelled(net, labels, number), *line));
+        add_unless(is_labelled(net, labels, number), *line, &mut lines)?;
     }
-    in_plan(first)
+    put_in_order(&mut lines);
+    plan_places(alloc, &lines)
 }
 
-/// The first line of a label with a pattern that fits no pattern of a match of its scope.
-/// Each pattern of a label is compared with those of all matches of its scope.
-pub fn labels_are_matched<A: Allocator + Copy>(net: &Net<A>, labels: &[Label<A>]) -> Option<Place>
-    ensures kept { IfNone result (LabelsAreMatched net.now labels.now) }
-    ensures broken { IfSome result (IsInPlan (BreaksAtLabel labels.now (IsMatchedLabel net.now))) }
+/// Each line of a label with a pattern that fits no pattern of a match of its scope.
+/// Each pattern of a label is compared with those of all matches of its scope. The only error is want of memory.
+pub fn labels_are_matched<A: Allocator + Copy, B: Allocator + Copy>(
+    alloc: B,
+    net: &Net<A>,
+    labels: &[Label<A>],
+) -> Result<Vec<Place, B>, AllocError>
+    ensures listed { IfOk result (λ places. AreInPlan (BreaksAtLabel labels.now (IsMatchedLabel net.now)) places.items) }
+    ensures kept { IfOk result (λ places. places.items ≡ [] → LabelsAreMatched net.now labels.now) }
 {
-    let mut first = None;
+    let mut lines = Vec::new(alloc);
     for label in labels {
-        first = earlier(first, line_unless(all_matched(net, label), label.line));
+        add_unless(all_matched(net, label), label.line, &mut lines)?;
     }
-    in_plan(first)
+    put_in_order(&mut lines);
+    plan_places(alloc, &lines)
 }
 
-/// The first line of a label with a pattern that has something in common with a match, up to and with the first match that
-/// it fits, which the reaches of that match don't cover. A pattern that fits no match asks for nothing.
-/// For each pattern of a label and each pattern of a match of its scope the reaches of that match are gone through.
-pub fn reaches_cover<A: Allocator + Copy>(
+/// Each line of a label with a pattern that has something in common with a match, up to and with the first match that it fits,
+/// which the reaches of that match don't cover. A pattern that fits no match asks for nothing.
+/// For each pattern of a label and each pattern of a match of its scope the reaches of that match are gone through. The only error
+/// is want of memory.
+pub fn reaches_cover<A: Allocator + Copy, B: Allocator + Copy>(
+    alloc: B,
     net: &Net<A>,
     labels: &[Label<A>],
     reaches: &Reaches<'_, A>,
-) -> Option<Place>
-    ensures kept { IfNone result (ReachesCover net.now labels.now reaches.now) }
-    ensures broken { IfSome result (IsInPlan (BreaksAtLabel labels.now (IsCoveredLabel net.now reaches.now))) }
+) -> Result<Vec<Place, B>, AllocError>
+    ensures listed { IfOk result (λ places. AreInPlan (BreaksAtLabel labels.now (IsCoveredLabel net.now reaches.now)) places.items) }
+    ensures kept { IfOk result (λ places. places.items ≡ [] → ReachesCover net.now labels.now reaches.now) }
 {
-    let mut first = None;
+    let mut lines = Vec::new(alloc);
     for label in labels {
-        first = earlier(
-            first,
-            line_unless(all_covered(net, reaches, label), label.line),
-        );
+        add_unless(all_covered(net, reaches, label), label.line, &mut lines)?;
     }
-    in_plan(first)
+    put_in_order(&mut lines);
+    plan_places(alloc, &lines)
 }
 
 // Whether each pattern of the client of this number fits a label of the scope that its source leads into.

@@ -1,30 +1,37 @@
-//! What a rule asks of the things in a configuration, and the search for the first line in which it is broken.
+//! What a rule asks of the things in a configuration, and the search for the lines in which it is broken.
 
-ghost use Rattle.std.specs.Prelude.{◌≡◌, ℕ, IfNone, IfSome, cond};
+ghost use Rattle.std.specs.Prelude.{◌≡◌, ◌++◌, ◌∷◌, ℕ, [], cond, IfOk, OnOk};
 ghost use Rattle.relay_conf.specs.declared.relay.MatchRule.{MatchRule};
-ghost use Rattle.loss_rules.specs.Breaks.{IsInConf};
-ghost use Rattle.loss_rules.specs.Firsts.{IsFirst, earlier_of, placed, site_of, KeptInList, BrokenInList, KeptInRelay, BrokenInRelay, BrokenInNet};
+ghost use Rattle.loss_rules.specs.Everywhere.{AreInConf, AreLines};
+ghost use Rattle.loss_rules.specs.Lines.{Adds, site_of, KeptInList, BrokenInList, KeptInRelay, BrokenInRelay, BrokenInNet};
 ghost use Rattle.loss_rules.specs.Sites.{EachMatch};
 ghost use Rattle.relay_net.specs.Outputs.{servers_of};
 
 use crate::answer::Place;
+use crate::ordered::{put_conf_places, put_in_order};
 use crate::site::Site;
 use relay_conf::{MatchRule, Output, Relay, Server};
 use relay_net::Net;
-use std::alloc::Allocator;
+use std::alloc::{AllocError, Allocator};
 
 /// What a rule asks of a thing in a configuration.
 pub(crate) trait Requirement<T> {
-    ghost use Rattle.std.specs.Prelude.{ℕ};
+    ghost use Rattle.std.specs.Prelude.{ℕ, OnOk};
+    ghost use Rattle.loss_rules.specs.Lines.{Adds};
     ghost use Rattle.loss_rules.specs.declared.site.Site.{Site};
 
     ghost keeps: { Self → Site → T → Type 0 };
 
     ghost breaks: { Self → Site → T → ℕ → Type 0 };
 
-    /// The least line in which the thing, which stands at this site, isn't as it should be.
-    fn broken_line(&self, at: Site, found: &T) -> Option<usize>
-        ensures { IsFirst (keeps self.now at found.now) (breaks self.now at found.now) result };
+    /// Adds the lines in which the thing, which stands at this site, isn't as it should be. The only error is want of memory.
+    fn add_lines<B: Allocator + Copy>(
+        &self,
+        at: Site,
+        found: &T,
+        lines: &mut Vec<usize, B>,
+    ) -> Result<(), AllocError>
+        ensures { OnOk result (Adds (keeps self.now at found.now) (breaks self.now at found.now) lines.old.items lines.new.items) };
 }
 
 /// This is asked of each server of an output.
@@ -34,18 +41,22 @@ pub(crate) struct OfServers<R>(pub R);
 impl<A: Allocator, R: Requirement<Server<A>>> Requirement<Output<A>> for OfServers<R> {
     ghost use Rattle.std.specs.Prelude.{ℕ};
     ghost use Rattle.relay_net.specs.Outputs.{servers_of};
-    ghost use Rattle.loss_rules.specs.Firsts.{KeptInList, BrokenInList};
+    ghost use Rattle.loss_rules.specs.Lines.{KeptInList, BrokenInList};
 
     ghost keeps = { λ asked at found. KeptInList (λ number server. R.keeps asked.0 at server) (servers_of found) };
 
     ghost breaks = { λ asked at found line. BrokenInList (λ number server l. R.breaks asked.0 at server l) (servers_of found) line };
 
-    fn broken_line(&self, at: Site, found: &Output<A>) -> Option<usize> {
-        let mut first = None;
+    fn add_lines<B: Allocator + Copy>(
+        &self,
+        at: Site,
+        found: &Output<A>,
+        lines: &mut Vec<usize, B>,
+    ) -> Result<(), AllocError> {
         for server in servers(found) {
-            first = earlier(first, self.0.broken_line(at, server));
+            self.0.add_lines(at, server, lines)?;
         }
-        first
+        Ok(())
     }
 }
 
@@ -55,14 +66,18 @@ pub(crate) struct OfOutputs<R>(pub R);
 
 impl<A: Allocator, R: Requirement<Output<A>>> Requirement<MatchRule<A>> for OfOutputs<R> {
     ghost use Rattle.std.specs.Prelude.{ℕ};
-    ghost use Rattle.loss_rules.specs.Firsts.{KeptInList, BrokenInList};
+    ghost use Rattle.loss_rules.specs.Lines.{KeptInList, BrokenInList};
 
     ghost keeps = { λ asked at found. KeptInList (λ output other. R.keeps asked.0 (record at { output = output }) other) found.outputs.items };
 
     ghost breaks = { λ asked at found line. BrokenInList (λ output other l. R.breaks asked.0 (record at { output = output }) other l) found.outputs.items line };
 
-    fn broken_line(&self, at: Site, found: &MatchRule<A>) -> Option<usize> {
-        let mut first = None;
+    fn add_lines<B: Allocator + Copy>(
+        &self,
+        at: Site,
+        found: &MatchRule<A>,
+        lines: &mut Vec<usize, B>,
+    ) -> Result<(), AllocError> {
         for (output, other) in found.outputs.iter().enumerate() {
             let here = Site {
                 place: at.place,
@@ -70,60 +85,59 @@ impl<A: Allocator, R: Requirement<Output<A>>> Requirement<MatchRule<A>> for OfOu
                 rule: at.rule,
                 output,
             };
-            first = earlier(first, self.0.broken_line(here, other));
+            self.0.add_lines(here, other, lines)?;
         }
-        first
+        Ok(())
     }
 }
 
-/// The first relay in which this is broken, and its least such line.
-pub(crate) fn first_place<A: Allocator + Copy, R: Requirement<MatchRule<A>>>(
+/// Each place where this is broken: by relays in the order of the plan, and in each by its lines.
+pub(crate) fn broken_places<A: Allocator + Copy, B: Allocator + Copy, R: Requirement<MatchRule<A>>>(
+    alloc: B,
     net: &Net<A>,
     asked: &R,
-) -> Option<Place>
-    ensures kept { IfNone result (EachMatch net.now (λ place scope rule found. R.keeps asked.now (site_of place scope rule) found)) }
-    ensures broken { IfSome result (IsInConf net.now (BrokenInNet net.now (λ place scope rule found line. R.breaks asked.now (site_of place scope rule) found line))) }
+) -> Result<Vec<Place, B>, AllocError>
+    ensures listed { IfOk result (λ places. AreInConf net.now (BrokenInNet net.now (λ place scope rule found line. R.breaks asked.now (site_of place scope rule) found line)) places.items) }
+    ensures kept { IfOk result (λ places. places.items ≡ [] → EachMatch net.now (λ place scope rule found. R.keeps asked.now (site_of place scope rule) found)) }
 {
+    let mut places = Vec::new(alloc);
     for (place, node) in net.relays().iter().enumerate() {
-        if let Some(line) = relay_line(asked, place, &node.relay) {
-            return Some(Place::Conf {
-                relay: node.number,
-                line,
-            });
-        }
+        let lines = relay_lines(alloc, asked, place, &node.relay)?;
+        put_conf_places(node.number, &lines, &mut places)?;
     }
-    None
+    Ok(places)
 }
 
-/// The least line of the relay at this place in which this is broken.
-pub(crate) fn relay_line<A: Allocator, R: Requirement<MatchRule<A>>>(
+/// The lines of the relay at this place in which this is broken, in rising order.
+pub(crate) fn relay_lines<A: Allocator, B: Allocator + Copy, R: Requirement<MatchRule<A>>>(
+    alloc: B,
     asked: &R,
     place: usize,
     relay: &Relay<A>,
-) -> Option<usize>
-    ensures { IsFirst
-        (KeptInRelay (λ scope rule found. R.keeps asked.now (site_of place scope rule) found) relay.now)
-        (BrokenInRelay (λ scope rule found line. R.breaks asked.now (site_of place scope rule) found line) relay.now) result }
+) -> Result<Vec<usize, B>, AllocError>
+    ensures lines { IfOk result (λ lines. AreLines (BrokenInRelay (λ scope rule found line. R.breaks asked.now (site_of place scope rule) found line) relay.now) lines.items) }
+    ensures kept { IfOk result (λ lines. lines.items ≡ [] → KeptInRelay (λ scope rule found. R.keeps asked.now (site_of place scope rule) found) relay.now) }
 {
-    let mut first = None;
+    let mut lines = Vec::new(alloc);
     for (scope, found) in relay.scopes.iter().enumerate() {
-        first = earlier(first, scope_line(asked, place, scope, &found.matches));
+        add_scope_lines(asked, place, scope, &found.matches, &mut lines)?;
     }
-    first
+    put_in_order(&mut lines);
+    Ok(lines)
 }
 
-// The least line of the scope with these matches in which this is broken.
-fn scope_line<A: Allocator, R: Requirement<MatchRule<A>>>(
+// Adds the lines of the scope with these matches in which this is broken.
+fn add_scope_lines<A: Allocator, B: Allocator + Copy, R: Requirement<MatchRule<A>>>(
     asked: &R,
     place: usize,
     scope: usize,
     matches: &[MatchRule<A>],
-) -> Option<usize>
-    ensures { IsFirst
+    lines: &mut Vec<usize, B>,
+) -> Result<(), AllocError>
+    ensures { OnOk result (Adds
         (KeptInList (λ rule found. R.keeps asked.now (site_of place scope rule) found) matches.now)
-        (BrokenInList (λ rule found line. R.breaks asked.now (site_of place scope rule) found line) matches.now) result }
+        (BrokenInList (λ rule found line. R.breaks asked.now (site_of place scope rule) found line) matches.now) lines.old.items lines.new.items) }
 {
-    let mut first = None;
     for (rule, found) in matches.iter().enumerate() {
         let here = Site {
             place,
@@ -131,37 +145,23 @@ fn scope_line<A: Allocator, R: Requirement<MatchRule<A>>>(
             rule,
             output: 0,
         };
-        first = earlier(first, asked.broken_line(here, found));
+        asked.add_lines(here, found, lines)?;
     }
-    first
+    Ok(())
 }
 
-/// The lesser of two lines, each of which may be none.
-pub(crate) fn earlier(one: Option<usize>, two: Option<usize>) -> Option<usize>
-    ensures { result ≡ earlier_of one two }
+/// Adds this line, unless all is kept there. The only error is want of memory.
+pub(crate) fn add_unless<B: Allocator>(
+    kept: bool,
+    line: usize,
+    lines: &mut Vec<usize, B>,
+) -> Result<(), AllocError>
+    ensures { OnOk result (lines.new.items ≡ cond kept lines.old.items (lines.old.items ++ line ∷ [])) }
 {
-    match (one, two) {
-        (None, _) => two,
-        (Some(_), None) => one,
-        (Some(line), Some(other)) => Some(line.min(other)),
+    if !kept {
+        lines.push(line)?;
     }
-}
-
-/// This line, unless all is kept there.
-pub(crate) fn line_unless(kept: bool, line: usize) -> Option<usize>
-    ensures { result ≡ cond kept None (Some line) }
-{
-    if kept { None } else { Some(line) }
-}
-
-/// This line of the plan, if there is one.
-pub(crate) fn in_plan(line: Option<usize>) -> Option<Place>
-    ensures { result ≡ placed line }
-{
-    match line {
-        Some(line) => Some(Place::Plan { line }),
-        None => None,
-    }
+    Ok(())
 }
 
 // The servers that the output sends to.

@@ -1,10 +1,9 @@
-use Rattle.std.proofs.Common.{◌≡◌, ◌∙◌, ◌++◌, ℕ, ◌+◌, List, [], length, map, take, drop, refl, sym, ap, subst, arith, Result, Ok, Err}
+use Rattle.std.proofs.Common.{◌≡◌, ◌∙◌, ◌++◌, ℕ, List, length, map, take, drop, refl, sym, ap, subst, arith}
 use Rattle.std.specs.Borrow.{Bor}
-use Rattle.std.specs.Prelude.{IfOk, IsTrue, All}
-use Rattle.std.proofs.lemmas.List.{take-append-drop, drop-map, length-map}
+use Rattle.std.specs.Prelude.{All}
+use Rattle.std.proofs.lemmas.List.{take-append-drop, drop-map}
 use Rattle.std.proofs.lemmas.List.Elements.{All-map}
-use Rattle.text_lines.specs.Lines.{text_lines}
-use Rattle.label_plan.specs.Lines.{IsLabelLine, OnlyAdds}
+use Rattle.label_plan.specs.Lines.{IsLabelLine}
 use Rattle.label_plan.proofs.Nones.{weaker}
 use Rattle.label_plan.proofs.certificate.only_adds.Goals as goal
 

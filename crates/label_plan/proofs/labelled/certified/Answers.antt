@@ -1,8 +1,6 @@
-use Rattle.std.proofs.Common.{rules, ◌≡◌, ◌∙◌, ℕ, List, subst, sym, ap}
-use Rattle.loss_rules.specs.Breaks.{Subject}
+use Rattle.std.proofs.Common.{rules, subst}
 use Rattle.plan_lines.specs.Plans.{Say, texts}
 use Rattle.text_lines.specs.Lines.{text_lines}
-use Rattle.label_plan.specs.Labelling.{IsLabelled}
 use Rattle.label_plan.proofs.Peeling.{all_off}
 use Rattle.label_plan.proofs.labelled.certified.Goals as goal
 

@@ -1,6 +1,7 @@
 use Rattle.std.proofs.Common.{refl, ◌∙◌, sym, subst, List}
-use Rattle.std.specs.Prelude.{IfNone, IfSome}
-use Rattle.loss_rules.specs.Breaks.{IsKept, IsBrokenAt}
+use Rattle.std.specs.Prelude.{◌≡◌, []}
+use Rattle.loss_rules.specs.Breaks.{IsKept}
+use Rattle.loss_rules.specs.Everywhere.{AreBrokenPlaces}
 use Rattle.loss_rules.specs.declared.answer.Rule.TheVariants as rule
 use Rattle.loss_checker.specs.Broken.{AreBrokenBefore}
 use Rattle.loss_checker.specs.declared.broken.BrokenRule.{BrokenRule}
@@ -15,12 +16,12 @@ ask_all_but_the_last-requires-clause-before g c =
 pub note-requires-clause-holds : goal.note-requires-clause-holds
 note-requires-clause-holds g c =
     in_plan c.args.plan.now c.net.result.now c.args.plan.now.labels c.in_ok-reaches.reaches c.net.ensures.net refl (c.in_ok-reaches.ensures ∙ c.reaches.ensures)
-    (λ s. IfNone c.in_ok-cycle.cycle (IsKept s rule.NoRelabelCycle)) c.in_ok-cycle.ensures.none
+    (λ s. c.in_ok-cycle.cycle.items ≡ [] → IsKept s rule.NoRelabelCycle) c.in_ok-cycle.ensures.kept
 
-pub note-requires-clause-breaks : goal.note-requires-clause-breaks
-note-requires-clause-breaks g c =
+pub note-requires-clause-listed : goal.note-requires-clause-listed
+note-requires-clause-listed g c =
     in_plan c.args.plan.now c.net.result.now c.args.plan.now.labels c.in_ok-reaches.reaches c.net.ensures.net refl (c.in_ok-reaches.ensures ∙ c.reaches.ensures)
-    (λ s. IfSome c.in_ok-cycle.cycle (IsBrokenAt s rule.NoRelabelCycle)) c.in_ok-cycle.ensures.some
+    (λ s. AreBrokenPlaces s rule.NoRelabelCycle c.in_ok-cycle.cycle.items) c.in_ok-cycle.ensures.listed
 
 pub returns : goal.returns
 returns g c = all_asked c.args.plan.now c.note.new.found.items c.in_ok-note.ensures

@@ -1,19 +1,22 @@
-use Rattle.std.proofs.Common.{◌≡◌, ◌+◌, ◌∷◌, ◌++◌, List, [], subst, sym}
-use Rattle.std.specs.Prelude.{Option, IfNone, IfSome}
-use Rattle.loss_rules.specs.Breaks.{IsKept, IsBrokenAt, rule_number}
+use Rattle.std.proofs.Common.{slice_get, ◌+◌, List, ap, subst, sym, ◌∙◌}
+use Rattle.std.specs.Option.{option_copied}
+use Rattle.loss_rules.specs.Breaks.{rule_number}
+use Rattle.loss_rules.specs.Everywhere.{AreBrokenPlaces}
 use Rattle.loss_rules.specs.declared.answer.Place.{Place}
+use Rattle.loss_rules.proofs.FirstPlaces.{first_place}
 use Rattle.loss_checker.specs.Broken.{AreBrokenBefore}
 use Rattle.loss_checker.specs.declared.broken.BrokenRule.{BrokenRule}
-use Rattle.loss_checker.proofs.Listing.{one_kept, one_broken}
+use Rattle.loss_checker.proofs.Listing.{one_kept, one_broken, first_of, none_of}
 use Rattle.loss_checker.proofs.broken.note.Goals as goal
 
-pub returns-in-None : goal.returns-in-None
-returns-in-None g c =
+pub returns-in_default : goal.returns-in_default
+returns-in_default g c =
     one_kept c.args.plan.now c.args.rule c.args.found.now.items c.requires.before
-    (subst (λ (b : Option Place). IfNone b (IsKept c.args.plan.now c.args.rule)) c.in-None.is c.requires.holds)
+    (c.requires.holds (none_of c.args.broken.items (sym (ap option_copied c.in_default.is) ∙ (c.first.ensures.value ∙ ap (λ (xs : List Place). slice_get xs 0) c.deref.ensures.value))))
 
-pub returns-in_ok-push-in-Some : goal.returns-in_ok-push-in-Some
-returns-in_ok-push-in-Some g c =
-    subst (λ (found : List BrokenRule). AreBrokenBefore c.args.plan.now (rule_number c.args.rule + 1) found) (sym c.in_ok-push-in-Some.ensures.items)
-    (one_broken c.args.plan.now c.args.rule c.in-Some.place c.args.found.now.items c.requires.before
-    (subst (λ (b : Option Place). IfSome b (IsBrokenAt c.args.plan.now c.args.rule)) c.in-Some.is c.requires.breaks))
+pub returns : goal.returns
+returns g c =
+    let cut = first_of c.args.broken.items c.in-Some.place.now (sym (ap option_copied c.in-Some.is) ∙ (c.first.ensures.value ∙ ap (λ (xs : List Place). slice_get xs 0) c.deref.ensures.value)) in
+    let listed = subst (λ (ps : List Place). AreBrokenPlaces c.args.plan.now c.args.rule ps) cut.1 c.requires.listed in
+    subst (λ (found : List BrokenRule). AreBrokenBefore c.args.plan.now (rule_number c.args.rule + 1) found) (sym c.in_ok-push.ensures.items)
+    (one_broken c.args.plan.now c.args.rule c.in-Some.place.now c.args.found.now.items c.requires.before (first_place c.args.plan.now c.args.rule c.in-Some.place.now cut.0 listed))

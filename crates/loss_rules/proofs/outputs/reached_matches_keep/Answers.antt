@@ -1,8 +1,8 @@
-use Rattle.std.proofs.lemmas.Option.{IfSome_then}
-use Rattle.loss_rules.proofs.Places.{first_match}
+use Rattle.std.proofs.lemmas.Result.{IfOk-weaker}
+use Rattle.loss_rules.proofs.Places.{match_places}
 use Rattle.loss_rules.specs.Labels.{IsReached}
 use Rattle.loss_rules.specs.Rules.{DoesDuty}
 use Rattle.loss_rules.proofs.outputs.reached_matches_keep.Goals as goal
 
-pub returns-clause-broken : goal.returns-clause-broken
-returns-clause-broken g c = IfSome_then c.first_place.result c.first_place.ensures.broken (first_match c.args.net.now (λ place scope rule found. IsReached c.args.reaches.now place scope rule → DoesDuty c.args.duty found))
+pub returns-clause-listed : goal.returns-clause-listed
+returns-clause-listed g c = IfOk-weaker c.broken_places.result _ _ (λ places. match_places c.args.net.now (λ place scope rule found. IsReached c.args.reaches.now place scope rule → DoesDuty c.args.duty found) places.items) c.broken_places.ensures.listed

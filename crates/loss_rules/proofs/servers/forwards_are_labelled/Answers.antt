@@ -1,17 +1,14 @@
-use Rattle.std.proofs.lemmas.Option.{IfSome_then}
-use Rattle.loss_rules.specs.Firsts.{KeptInList}
-use Rattle.loss_rules.proofs.Lines.{none_then}
-use Rattle.loss_rules.proofs.Places.{first_server, each_output, each_server}
-use Rattle.loss_rules.specs.Sites.{EachMatch, EachServer}
-use Rattle.relay_net.specs.Outputs.{servers_of}
+use Rattle.std.proofs.lemmas.Result.{IfOk-weaker}
 use Rattle.relay_net.specs.Network.{address_of_server}
+use Rattle.relay_net.specs.Outputs.{servers_of}
+use Rattle.loss_rules.specs.Lines.{KeptInList}
 use Rattle.loss_rules.specs.Rules.{IsLabelledServer}
+use Rattle.loss_rules.proofs.Places.{server_places, each_output, each_server}
 use Rattle.loss_rules.proofs.servers.forwards_are_labelled.Goals as goal
 
-pub returns-clause-kept : goal.returns-clause-kept
-returns-clause-kept g c = none_then c.first_place.result (EachMatch c.args.net.now (λ place scope rule found. KeptInList (λ output other. KeptInList (λ number server. IsLabelledServer c.args.net.now c.args.labels.now c.args.reaches.now place scope rule (address_of_server server)) (servers_of other)) found.outputs.items))
-    (EachServer c.args.net.now (λ place scope rule server. IsLabelledServer c.args.net.now c.args.labels.now c.args.reaches.now place scope rule (address_of_server server)))
-    (λ h. each_server c.args.net.now (λ place scope rule server. IsLabelledServer c.args.net.now c.args.labels.now c.args.reaches.now place scope rule (address_of_server server)) (each_output c.args.net.now (λ place scope rule output other. KeptInList (λ number server. IsLabelledServer c.args.net.now c.args.labels.now c.args.reaches.now place scope rule (address_of_server server)) (servers_of other)) h)) c.first_place.ensures.kept
+pub returns-clause-listed : goal.returns-clause-listed
+returns-clause-listed g c = IfOk-weaker c.broken_places.result _ _ (λ places. server_places c.args.net.now (λ place scope rule server. IsLabelledServer c.args.net.now c.args.labels.now c.args.reaches.now place scope rule (address_of_server server)) places.items) c.broken_places.ensures.listed
 
-pub returns-clause-broken : goal.returns-clause-broken
-returns-clause-broken g c = IfSome_then c.first_place.result c.first_place.ensures.broken (first_server c.args.net.now (λ place scope rule server. IsLabelledServer c.args.net.now c.args.labels.now c.args.reaches.now place scope rule (address_of_server server)))
+pub returns-clause-kept : goal.returns-clause-kept
+returns-clause-kept g c = IfOk-weaker c.broken_places.result _ _ (λ places kept none. each_server c.args.net.now (λ place scope rule server. IsLabelledServer c.args.net.now c.args.labels.now c.args.reaches.now place scope rule (address_of_server server))
+    (each_output c.args.net.now (λ place scope rule output other. KeptInList (λ number server. IsLabelledServer c.args.net.now c.args.labels.now c.args.reaches.now place scope rule (address_of_server server)) (servers_of other)) (kept none))) c.broken_places.ensures.kept

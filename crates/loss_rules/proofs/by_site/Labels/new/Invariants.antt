@@ -1,7 +1,7 @@
 use Rattle.std.proofs.Common.{◌≡◌, ◌↔◌, ℕ, List, Contains}
 use Rattle.tag_pattern.specs.Items.{Item}
 use Rattle.loss_rules.specs.BySite.{patterns_at}
-use Rattle.loss_rules.specs.Firsts.{HoldsBefore}
+use Rattle.loss_rules.specs.Lines.{HoldsBefore}
 use Rattle.loss_rules.specs.Labels.{IsLabelOf}
 use Rattle.loss_rules.proofs.by_site.Labels.new.Given as goal
 
