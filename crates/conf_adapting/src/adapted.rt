@@ -1,0 +1,192 @@
+//! An adapted configuration, piece by piece.
+
+ghost use Rattle.std.specs.Prelude.{◌≡◌, map, string_bytes, IfOk};
+ghost use Rattle.std.specs.List.{list_all};
+ghost use Rattle.conf_adapting.specs.Printed.{all_accepted, entry_accepted, entry_text, is_among, printed_text};
+
+use std::alloc::{AllocError, Allocator};
+
+/// A section or a parameter of the original, and what stands for it.
+#[derive(Drop)]
+pub struct Row<A: Allocator> {
+    /// Its line in the original, from 1; 0 for all that stands outside every section.
+    pub line: usize,
+    /// `<name argument>` of a section, the name of a parameter.
+    pub subject: Vec<u8, A>,
+    /// What is said of it; nothing where it stands as it was.
+    pub note: Vec<u8, A>,
+    /// The names by which it has to be accepted; none where what the relay does stays the same.
+    pub decisions: Vec<Vec<u8, A>, A>,
+    /// The lines that stand for it, behind a comment where something is said of it.
+    pub text: Vec<u8, A>,
+}
+
+/// A piece of an adapted configuration.
+#[derive(Drop)]
+pub enum Entry<A: Allocator> {
+    /// It stands for a section or a parameter of the original.
+    Of(Row<A>),
+    /// Lines that stand for none: the end of a section, or a section that is added.
+    Added(Vec<u8, A>),
+}
+
+/// An adapted configuration: its pieces, in the order in which they are printed.
+#[derive(Drop)]
+pub struct Adapted<A: Allocator> {
+    pub entries: Vec<Entry<A>, A>,
+}
+
+impl<A: Allocator + Copy> Adapted<A> {
+    /// The text of the configuration.
+    pub fn text(&self, alloc: A) -> Result<Vec<u8, A>, AllocError>
+        ensures { IfOk result (λ text. text.items ≡ printed_text self.now.entries.items) }
+    {
+        let mut text = Vec::new(alloc);
+        for entry in &self.entries {
+            text.extend_from_slice(text_of(entry))?;
+        }
+        Ok(text)
+    }
+
+    /// Whether all that has to be accepted is, by names among these words.
+    pub fn is_accepted<B: Allocator>(&self, accepted: &[String<B>]) -> bool
+        ensures { result ≡ all_accepted (map string_bytes accepted.now) self.now.entries.items }
+    {
+        for entry in &self.entries {
+            if !is_entry_accepted(entry, accepted) {
+                return false;
+            }
+        }
+        true
+    }
+
+    /// A line for each thing that has to be accepted and isn't, and behind them what would accept them all.
+    pub fn undecided<B: Allocator>(
+        &self,
+        alloc: A,
+        accepted: &[String<B>],
+    ) -> Result<Vec<u8, A>, AllocError> {
+        let mut lines = Vec::new(alloc);
+        let mut names = Vec::new(alloc);
+        for entry in &self.entries {
+            if let Entry::Of(row) = entry {
+                put_undecided(alloc, row, accepted, &mut lines, &mut names)?;
+            }
+        }
+        lines.extend_from_slice(b"accept by")?;
+        for name in &names {
+            lines.extend_from_slice(b" --accept ")?;
+            lines.extend_from_slice(name)?;
+        }
+        lines.extend_from_slice(b"\n")?;
+        Ok(lines)
+    }
+
+    /// The last row whose text begins in the first lines of the text, so many of them; where there is none, `None`.
+    pub fn row_at(&self, lines: usize) -> Option<&Row<A>> {
+        let mut found = None;
+        let mut before = 0usize;
+        for entry in &self.entries {
+            if before >= lines {
+                return found;
+            }
+            if let Entry::Of(row) = entry {
+                found = Some(row);
+            }
+            before = before.saturating_add(lines_in(text_of(entry)));
+        }
+        found
+    }
+}
+
+// The lines that an entry prints.
+fn text_of<A: Allocator>(entry: &Entry<A>) -> &[u8]
+    ensures { result.now ≡ entry_text entry.now }
+{
+    match entry {
+        Entry::Of(row) => &row.text,
+        Entry::Added(text) => text,
+    }
+}
+
+// How many lines end in the text.
+fn lines_in(text: &[u8]) -> usize {
+    text.iter().filter(|byte| **byte == b'\n').count()
+}
+
+// Names that are lent.
+type Lent<'a, A> = Vec<&'a Vec<u8, A>, A>;
+
+// Adds a line for each name by which a row isn't accepted, and each such name that isn't there.
+fn put_undecided<'a, A: Allocator + Copy, B: Allocator>(
+    alloc: A,
+    row: &'a Row<A>,
+    accepted: &[String<B>],
+    lines: &mut Vec<u8, A>,
+    names: &mut Lent<'a, A>,
+) -> Result<(), AllocError> {
+    for decision in &row.decisions {
+        if !is_named(accepted, decision) {
+            put_line(alloc, row, decision, lines)?;
+            if !names
+                .iter()
+                .any(|name| name.as_slice() == decision.as_slice())
+            {
+                names.push(decision)?;
+            }
+        }
+    }
+    Ok(())
+}
+
+// Adds the line of a row that has to be accepted by this name.
+fn put_line<A: Allocator + Copy>(
+    alloc: A,
+    row: &Row<A>,
+    name: &[u8],
+    lines: &mut Vec<u8, A>,
+) -> Result<(), AllocError> {
+    let line = row.line;
+    let place = format!(in alloc; " line {line}, ")?;
+    lines.extend_from_slice(b"undecided ")?;
+    lines.extend_from_slice(name)?;
+    lines.extend_from_slice(place.as_bytes())?;
+    lines.extend_from_slice(&row.subject)?;
+    lines.extend_from_slice(b": ")?;
+    lines.extend_from_slice(&row.note)?;
+    lines.extend_from_slice(b"\n")
+}
+
+// Whether all that has to be accepted of an entry is.
+fn is_entry_accepted<A: Allocator, B: Allocator>(entry: &Entry<A>, accepted: &[String<B>]) -> bool
+    ensures { result ≡ entry_accepted (map string_bytes accepted.now) entry.now }
+{
+    match entry {
+        Entry::Of(row) => are_named(accepted, &row.decisions),
+        Entry::Added(_) => true,
+    }
+}
+
+// Whether each of the wanted names is among these.
+fn are_named<A: Allocator, B: Allocator>(names: &[String<B>], wanted: &[Vec<u8, A>]) -> bool
+    ensures { result ≡ list_all (λ name. is_among (map string_bytes names.now) name.items) wanted.now }
+{
+    for name in wanted {
+        if !is_named(names, name) {
+            return false;
+        }
+    }
+    true
+}
+
+// Whether a name is among these.
+fn is_named<B: Allocator>(names: &[String<B>], name: &[u8]) -> bool
+    ensures { result ≡ is_among (map string_bytes names.now) name.now }
+{
+    for one in names {
+        if one.as_bytes() == name {
+            return true;
+        }
+    }
+    false
+}

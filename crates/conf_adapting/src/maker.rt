@@ -1,0 +1,336 @@
+//! The rows of an adapted configuration.
+
+ghost use Rattle.std.specs.Prelude.{◌≡◌, IfOk};
+ghost use Rattle.conf_text.specs.Views.{setting, tree_of};
+ghost use Rattle.relay_faults.specs.Elements.{heading_of};
+ghost use Rattle.conf_adapting.specs.Items.{item_of, parameter_item, section_item};
+
+use crate::adapted::Row;
+use crate::decision::Decision;
+use crate::labels::label_name;
+use crate::lines::{put_end, put_heading, put_indent, put_opening, put_setting};
+use crate::near::nearest;
+use crate::notes::Notes;
+use crate::openings::{Becomes, opening_of};
+use crate::paths::Names;
+use crate::patterns::patterns;
+use crate::place::{OutputKind, Place, Spot};
+use crate::rules::{Rule, buffer_name, rule_at, since_named};
+use crate::values::{Value, Values};
+use conf_text::{Element, Pair};
+use conf_values::is_label_name;
+use relay_faults::{argument_of, line_of};
+use std::alloc::{AllocError, Allocator};
+use std::mem;
+
+/// Makes the row of one section or parameter after another.
+#[derive(Drop)]
+pub(crate) struct Maker<'a, A: Allocator> {
+    values: Values<'a, A>,
+    // The lines of the buffer that is added at the end of the output that is open.
+    moved: Vec<u8, A>,
+}
+
+impl<'a, A: Allocator + Copy> Maker<'a, A> {
+    /// Nothing was made of these elements so far.
+    pub fn new(alloc: A, elements: &'a [Element<A>]) -> Maker<'a, A> {
+        Maker {
+            values: Values {
+                alloc,
+                elements,
+                sinks: Names::new(alloc),
+                buffers: Names::new(alloc),
+            },
+            moved: Vec::new(alloc),
+        }
+    }
+
+    /// The row of a section, and what may stand in it.
+    pub fn section(
+        &mut self,
+        spot: Spot,
+        element: &Element<A>,
+    ) -> Result<(Spot, Row<A>), AllocError>
+        ensures { IfOk result (λ made. item_of made.1 ≡ section_item (heading_of (tree_of element.now))) }
+    {
+        let alloc = self.values.alloc;
+        let subject = heading(alloc, element)?;
+        let mut notes = Notes::new(alloc);
+        let mut lines = Vec::new(alloc);
+        let place = self.open(spot, element, &mut notes, &mut lines)?;
+        let row = notes.into_row(alloc, spot.depth, line_of(element), subject, &lines)?;
+        Ok((spot_in(spot, place, element), row))
+    }
+
+    /// The row of a parameter.
+    pub fn parameter(&mut self, spot: Spot, pair: &Pair<A>) -> Result<Row<A>, AllocError>
+        ensures { IfOk result (λ row. item_of row ≡ parameter_item (setting pair.now)) }
+    {
+        let alloc = self.values.alloc;
+        let subject = Vec::from_slice(alloc, pair.name.as_bytes())?;
+        let mut notes = Notes::new(alloc);
+        let lines = self.setting(spot, pair, &mut notes)?;
+        notes.into_row(alloc, spot.depth, pair.line, subject, &lines)
+    }
+
+    /// The lines at the end of a section of this name.
+    pub fn end(&mut self, inside: Spot, name: &[u8]) -> Result<Vec<u8, A>, AllocError> {
+        let alloc = self.values.alloc;
+        let mut lines = Vec::new(alloc);
+        if matches!(inside.place, Place::Outside | Place::LeftOut) {
+            return Ok(lines);
+        }
+        if matches!(inside.place, Place::Output(_)) && !self.moved.is_empty() {
+            let moved = mem::replace(&mut self.moved, Vec::new(alloc));
+            put_opening(&mut lines, inside.depth, b"buffer", b"")?;
+            lines.extend_from_slice(&moved)?;
+            put_end(&mut lines, inside.depth, b"buffer")?;
+        }
+        put_end(&mut lines, inside.depth.saturating_sub(1), name)?;
+        Ok(lines)
+    }
+
+    // Adds the lines of a section's opening, and says what the section is.
+    fn open(
+        &mut self,
+        spot: Spot,
+        element: &Element<A>,
+        notes: &mut Notes<A>,
+        lines: &mut Vec<u8, A>,
+    ) -> Result<Place, AllocError> {
+        let alloc = self.values.alloc;
+        match opening_of(spot.place, element) {
+            Becomes::Is(Place::Outside) => Ok(Place::Outside),
+            Becomes::Is(place) => {
+                let argument = element.argument.as_bytes();
+                put_opening(lines, spot.depth, element.name.as_bytes(), argument)?;
+                Ok(place)
+            }
+            Becomes::Match(place) => {
+                put_argument(alloc, spot, element, notes, lines)?;
+                Ok(place)
+            }
+            Becomes::Store(place) => {
+                put_argument(alloc, spot, element, notes, lines)?;
+                Ok(place)
+            }
+            Becomes::Label => {
+                put_argument(alloc, spot, element, notes, lines)?;
+                Ok(Place::Label)
+            }
+            Becomes::Buffer => {
+                put_argument(alloc, spot, element, notes, lines)?;
+                Ok(Place::Buffer)
+            }
+            Becomes::Null => {
+                notes.decide(alloc, Decision::OutputType)?;
+                put_argument(alloc, spot, element, notes, lines)?;
+                put_setting(lines, spot.depth.saturating_add(1), b"@type", b"null")?;
+                put_end(lines, spot.depth, element.name.as_bytes())?;
+                Ok(Place::LeftOut)
+            }
+            Becomes::Gone => left_out(notes, b"left out with the section round it"),
+            Becomes::Harmless => left_out(notes, b"left out, it has no bearing on loss"),
+            Becomes::Decided(decision) => {
+                notes.say(&[b"left out"])?;
+                notes.decide(alloc, decision)?;
+                Ok(Place::LeftOut)
+            }
+            Becomes::Unknown => {
+                notes.ask(alloc, element.name.as_bytes())?;
+                left_out(notes, b"left out, no such section is known here")
+            }
+        }
+    }
+
+    // The lines that stand for a parameter.
+    fn setting(
+        &mut self,
+        spot: Spot,
+        pair: &Pair<A>,
+        notes: &mut Notes<A>,
+    ) -> Result<Vec<u8, A>, AllocError> {
+        let name = pair.name.as_bytes();
+        if spot.place == Place::LeftOut {
+            notes.say(&[b"left out with the section round it"])?;
+            return Ok(Vec::new(self.values.alloc));
+        }
+        if spot.place == Place::Passed {
+            return self.placed(spot.depth, Rule::Kept, name, pair, notes);
+        }
+        if pair.name.as_str() == "retry_limit" {
+            notes.decide(self.values.alloc, Decision::RetryLimit)?;
+        }
+        match buffer_name(spot.place, name) {
+            Some(new) => self.moved(spot, new, pair, notes),
+            None => self.named(spot, pair, notes),
+        }
+    }
+
+    // The lines that stand for a parameter, which may have got a new name.
+    fn named(
+        &mut self,
+        spot: Spot,
+        pair: &Pair<A>,
+        notes: &mut Notes<A>,
+    ) -> Result<Vec<u8, A>, AllocError> {
+        match since_named(spot.place, pair.name.as_bytes()) {
+            Some(new) => {
+                notes.say(&[b"it is `", new.as_bytes(), b"` now"])?;
+                self.ruled(spot, new.as_bytes(), pair, notes)
+            }
+            None => self.ruled(spot, pair.name.as_bytes(), pair, notes),
+        }
+    }
+
+    // The lines that stand for a parameter which has this name.
+    fn ruled(
+        &mut self,
+        spot: Spot,
+        name: &[u8],
+        pair: &Pair<A>,
+        notes: &mut Notes<A>,
+    ) -> Result<Vec<u8, A>, AllocError> {
+        match rule_at(spot.place, name) {
+            Some(rule) => self.placed(spot.depth, rule, name, pair, notes),
+            None => self.unknown(spot, pair, notes),
+        }
+    }
+
+    // A parameter that has since stood in a buffer goes to the one that is added, unless there is one.
+    fn moved(
+        &mut self,
+        spot: Spot,
+        new: &'static str,
+        pair: &Pair<A>,
+        notes: &mut Notes<A>,
+    ) -> Result<Vec<u8, A>, AllocError> {
+        let nothing = Vec::new(self.values.alloc);
+        if spot.has_buffer {
+            notes.say(&[b"left out, it has no effect beside a `<buffer>`"])?;
+            return Ok(nothing);
+        }
+        let name = new.as_bytes();
+        let rule = rule_at(Place::Buffer, name).unwrap_or(Rule::Harmless);
+        notes.say(&[b"it is `", name, b"` in a `<buffer>` now"])?;
+        let depth = spot.depth.saturating_add(1);
+        let lines = self.placed(depth, rule, name, pair, notes)?;
+        self.moved.extend_from_slice(&lines)?;
+        Ok(nothing)
+    }
+
+    // The line of a parameter under a name, by its rule.
+    fn placed(
+        &mut self,
+        depth: usize,
+        rule: Rule,
+        name: &[u8],
+        pair: &Pair<A>,
+        notes: &mut Notes<A>,
+    ) -> Result<Vec<u8, A>, AllocError> {
+        let mut lines = Vec::new(self.values.alloc);
+        match self.values.adapted(rule, pair.value.as_bytes(), notes)? {
+            Value::Is(value) => put_setting(&mut lines, depth, name, &value)?,
+            Value::Of(other, value) => put_setting(&mut lines, depth, other.as_bytes(), &value)?,
+            Value::Gone => (),
+        }
+        Ok(lines)
+    }
+
+    // A parameter that isn't known is left out, if that is accepted.
+    fn unknown(
+        &mut self,
+        spot: Spot,
+        pair: &Pair<A>,
+        notes: &mut Notes<A>,
+    ) -> Result<Vec<u8, A>, AllocError> {
+        let alloc = self.values.alloc;
+        notes.ask(alloc, pair.name.as_bytes())?;
+        notes.say(&[b"left out, no such parameter is known here"])?;
+        if let Some(known) = nearest(alloc, spot.place, pair.name.as_str())? {
+            notes.say(&[b"the nearest is `", known.as_bytes(), b"`"])?;
+        }
+        Ok(Vec::new(alloc))
+    }
+}
+
+// `<name argument>` of a section.
+fn heading<A: Allocator + Copy>(alloc: A, element: &Element<A>) -> Result<Vec<u8, A>, AllocError>
+    ensures { IfOk result (λ text. text.items ≡ (section_item (heading_of (tree_of element.now))).subject) }
+{
+    let mut text = Vec::new(alloc);
+    put_heading(
+        &mut text,
+        name_of(element).as_bytes(),
+        argument_of(element).as_bytes(),
+    )?;
+    Ok(text)
+}
+
+// The name of a section.
+fn name_of<A: Allocator>(element: &Element<A>) -> &str
+    ensures { result.now ≡ (heading_of (tree_of element.now)).name }
+{
+    element.name.as_str()
+}
+
+// A section is left out.
+fn left_out<A: Allocator + Copy>(notes: &mut Notes<A>, why: &[u8]) -> Result<Place, AllocError> {
+    notes.say(&[why])?;
+    Ok(Place::LeftOut)
+}
+
+// What may stand in a section of this place.
+fn spot_in<A: Allocator>(round: Spot, place: Place, element: &Element<A>) -> Spot {
+    let depth = match place {
+        Place::Outside | Place::LeftOut => round.depth,
+        _ => round.depth.saturating_add(1),
+    };
+    let has_buffer = element
+        .children
+        .iter()
+        .any(|child| child.name.as_str() == "buffer");
+    Spot {
+        place,
+        depth,
+        has_buffer,
+    }
+}
+
+// Adds the opening of a section with the argument that the profile has for it.
+fn put_argument<A: Allocator + Copy>(
+    alloc: A,
+    spot: Spot,
+    element: &Element<A>,
+    notes: &mut Notes<A>,
+    lines: &mut Vec<u8, A>,
+) -> Result<(), AllocError> {
+    let argument = adapted_argument(alloc, element, notes)?;
+    if argument.as_slice() != element.argument.as_bytes() {
+        notes.say(&[b"it had another argument"])?;
+    }
+    put_opening(lines, spot.depth, element.name.as_bytes(), &argument)
+}
+
+// The argument that the profile has for that of a section.
+fn adapted_argument<A: Allocator + Copy>(
+    alloc: A,
+    element: &Element<A>,
+    notes: &mut Notes<A>,
+) -> Result<Vec<u8, A>, AllocError> {
+    let old = element.argument.as_bytes();
+    match (element.name.as_bytes(), old) {
+        (b"match", _) => patterns(alloc, element.argument.as_str(), notes),
+        (b"label", _) if !is_label_name(old) => label_name(alloc, old),
+        (b"store", b"ignore_error") => {
+            notes.decide(alloc, Decision::IgnoreError)?;
+            Ok(Vec::new(alloc))
+        }
+        (b"buffer", b"" | b"tag") => Vec::from_slice(alloc, old),
+        (b"buffer", _) => {
+            notes.say(&[b"chunks are by tag alone"])?;
+            Vec::from_slice(alloc, b"tag")
+        }
+        _ => Vec::from_slice(alloc, old),
+    }
+}
