@@ -1,0 +1,33 @@
+-- From the draft of a configuration to what is said of it.
+use Rattle.std.proofs.Common.{◌≡◌, true, ℕ, List, Some, map, inr, subst}
+use Rattle.conf_text.specs.Grammar.{IsConfiguration}
+use Rattle.conf_text.specs.declared.element.Element.{Element}
+use Rattle.conf_text.specs.Views.{tree_of}
+use Rattle.plan_lines.specs.Plans.{IsRelayOfText}
+use Rattle.relay_conf.specs.declared.relay.Relay.{Relay}
+use Rattle.relay_reading.specs.Stops.{IsRelayRead}
+use Rattle.relay_reading.specs.declared.reading.ConfStop.{ConfStop}
+use Rattle.relay_reading.specs.declared.reading.ConfStop.TheVariants as stop
+use Rattle.conf_listing.specs.declared.draft.Draft.{Draft}
+use Rattle.conf_listing.specs.Adapting.{behind_mark, IsDraft, IsStopOfLines}
+use Rattle.conf_listing.specs.Answers.{IsDraftOf, IsStopTo}
+
+-- the relay that is read of known lines is theirs
+pub relay_of_lines : {A : Type 0} (lines : List ℕ) (relay : Relay A) → IsRelayRead (Some lines) relay → IsRelayOfText lines relay
+relay_of_lines lines relay read = subst (λ (t : List ℕ). IsRelayOfText t relay) read.text_is read.relay_is
+
+-- the draft of the elements of a text is the text's
+pub draft_of_text : {A : Type 0} (text rest : List ℕ) (names : List (List ℕ)) (elements shown : List (Element A)) (draft : Draft A) → rest ≡ behind_mark text
+    → IsConfiguration rest (map tree_of elements) → shown ≡ elements → IsDraft (map tree_of shown) names draft → IsDraftOf text names draft
+draft_of_text text rest names elements shown draft behind configured is drafted = record {
+  elements = map tree_of elements;
+  configured = subst (λ (t : List ℕ). IsConfiguration t (map tree_of elements)) behind configured;
+  drafted = subst (λ (es : List (Element _)). IsDraft (map tree_of es) names draft) is drafted;
+}
+
+-- a draft that no relay reads
+pub unread_draft : {A : Type 0} (text : List ℕ) (names : List (List ℕ)) (draft : Draft A) (stopped : ConfStop) → IsDraftOf text names draft → draft.is_accepted ≡ true
+    → IsStopOfLines draft.lines.items stopped → IsStopTo A text names stopped
+unread_draft text names draft (stop.Text fault) is accepted unread = inr (record { draft = draft; draft_is = is; accepted = accepted; unread = unread })
+unread_draft text names draft (stop.Relay fault) is accepted unread = inr (record { draft = draft; draft_is = is; accepted = accepted; unread = unread })
+unread_draft text names draft (stop.Unread fault) is accepted unread = tt
