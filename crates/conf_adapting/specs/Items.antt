@@ -45,10 +45,10 @@ abbrev mutual
 abbrev pub item_of : {A : Type 0} → Row A → Item
 item_of row = item row.line row.subject.items
 
--- what an entry stands for: the end of a section, and a section that is added, for nothing
+-- what an entry stands for: the end of a section for nothing
 abbrev pub stands_for : {A : Type 0} → Entry A → List Item
 stands_for (entry.Of row) = item_of row ∷ []
-stands_for (entry.Added text) = []
+stands_for (entry.End line text) = []
 
 -- what all of them stand for
 abbrev pub all_stand_for : {A : Type 0} → List (Entry A) → List Item

@@ -8,7 +8,7 @@ use Rattle.conf_adapting.specs.declared.adapted.Entry.TheVariants as entry
 -- the lines of an entry
 abbrev pub entry_text : {A : Type 0} → Entry A → List ℕ
 entry_text (entry.Of row) = row.text.items
-entry_text (entry.Added text) = text.items
+entry_text (entry.End line text) = text.items
 
 -- the text of all of them, one behind another
 abbrev pub printed_text : {A : Type 0} → List (Entry A) → List ℕ
@@ -21,7 +21,7 @@ is_among names name = list_any (λ one. bytes_eq one name) names
 -- whether all that has to be accepted of an entry is, by these names
 abbrev pub entry_accepted : {A : Type 0} → List (List ℕ) → Entry A → Bool
 entry_accepted names (entry.Of row) = list_all (λ decision. is_among names decision.items) row.decisions.items
-entry_accepted names (entry.Added text) = true
+entry_accepted names (entry.End line text) = true
 
 -- whether all that has to be accepted is, by these names
 abbrev pub all_accepted : {A : Type 0} → List (List ℕ) → List (Entry A) → Bool

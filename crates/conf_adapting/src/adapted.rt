@@ -26,8 +26,13 @@ pub struct Row<A: Allocator> {
 pub enum Entry<A: Allocator> {
     /// It stands for a section or a parameter of the original.
     Of(Row<A>),
-    /// Lines that stand for none: the end of a section, or a section that is added.
-    Added(Vec<u8, A>),
+    /// Lines at the end of a section, which stand for none: a section that is added, and the end itself.
+    End {
+        /// The line of the section's opening in the original.
+        line: usize,
+        /// The lines.
+        text: Vec<u8, A>,
+    },
 }
 
 /// An adapted configuration: its pieces, in the order in which they are printed.
@@ -82,20 +87,25 @@ impl<A: Allocator + Copy> Adapted<A> {
         Ok(lines)
     }
 
-    /// The last row whose text begins in the first lines of the text, so many of them; where there is none, `None`.
-    pub fn row_at(&self, lines: usize) -> Option<&Row<A>> {
-        let mut found = None;
-        let mut before = 0usize;
+    /// The line of the original that a line of the text comes from, both from 1: that of its row, and at the end of a section that of the
+    /// section. `None`: the text has no such line.
+    pub fn original_line(&self, line: usize) -> Option<usize> {
+        let mut last = 0usize;
         for entry in &self.entries {
-            if before >= lines {
-                return found;
+            last = last.saturating_add(lines_in(text_of(entry)));
+            if line <= last {
+                return Some(line_of(entry));
             }
-            if let Entry::Of(row) = entry {
-                found = Some(row);
-            }
-            before = before.saturating_add(lines_in(text_of(entry)));
         }
-        found
+        None
+    }
+}
+
+// The line of the original that an entry comes from.
+fn line_of<A: Allocator>(entry: &Entry<A>) -> usize {
+    match entry {
+        Entry::Of(row) => row.line,
+        Entry::End { line, text: _ } => *line,
     }
 }
 
@@ -105,7 +115,7 @@ fn text_of<A: Allocator>(entry: &Entry<A>) -> &[u8]
 {
     match entry {
         Entry::Of(row) => &row.text,
-        Entry::Added(text) => text,
+        Entry::End { line: _, text } => text,
     }
 }
 
@@ -163,7 +173,7 @@ fn is_entry_accepted<A: Allocator, B: Allocator>(entry: &Entry<A>, accepted: &[S
 {
     match entry {
         Entry::Of(row) => are_named(accepted, &row.decisions),
-        Entry::Added(_) => true,
+        Entry::End { line: _, text: _ } => true,
     }
 }
 

@@ -10,7 +10,7 @@ use crate::adapted::{Adapted, Entry};
 use crate::maker::Maker;
 use crate::place::{Place, Spot};
 use conf_text::{Element, Pair};
-use relay_faults::pairs_of;
+use relay_faults::{line_of, pairs_of};
 use std::alloc::{AllocError, Allocator};
 
 /// The configuration of these elements, adapted to the profile: a row for each section and each parameter, in the order of the text, each
@@ -55,7 +55,7 @@ impl<A: Allocator + Copy> Draft<'_, A> {
         for child in &element.children {
             self.put_element(inside, child)?;
         }
-        self.close(inside, element.name.as_bytes())
+        self.close(inside, element)
     }
 
     // Adds the opening of a section, and says what may stand in it.
@@ -79,11 +79,12 @@ impl<A: Allocator + Copy> Draft<'_, A> {
     }
 
     // Adds the end of a section.
-    fn close(&mut self, inside: Spot, name: &[u8]) -> Result<(), AllocError>
+    fn close(&mut self, inside: Spot, element: &Element<A>) -> Result<(), AllocError>
         ensures { OnOk result (all_stand_for self.new.entries.items ≡ all_stand_for self.old.entries.items) }
     {
-        let end = self.maker.end(inside, name)?;
-        self.entries.push(Entry::Added(end))?;
+        let text = self.maker.end(inside, element.name.as_bytes())?;
+        let line = line_of(element);
+        self.entries.push(Entry::End { line, text })?;
         Ok(())
     }
 }

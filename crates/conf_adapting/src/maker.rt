@@ -306,8 +306,8 @@ fn put_argument<A: Allocator + Copy>(
     lines: &mut Vec<u8, A>,
 ) -> Result<(), AllocError> {
     let argument = adapted_argument(alloc, element, notes)?;
-    if argument.as_slice() != element.argument.as_bytes() {
-        notes.say(&[b"it had another argument"])?;
+    if notes.said.is_empty() && argument.as_slice() != element.argument.as_bytes() {
+        notes.say(&[b"other blanks stand between its words"])?;
     }
     put_opening(lines, spot.depth, element.name.as_bytes(), &argument)
 }
@@ -321,7 +321,10 @@ fn adapted_argument<A: Allocator + Copy>(
     let old = element.argument.as_bytes();
     match (element.name.as_bytes(), old) {
         (b"match", _) => patterns(alloc, element.argument.as_str(), notes),
-        (b"label", _) if !is_label_name(old) => label_name(alloc, old),
+        (b"label", _) if !is_label_name(old) => {
+            notes.say(&[b"a label's name has letters, digits and `_`"])?;
+            label_name(alloc, old)
+        }
         (b"store", b"ignore_error") => {
             notes.decide(alloc, Decision::IgnoreError)?;
             Ok(Vec::new(alloc))

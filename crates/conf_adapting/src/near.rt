@@ -1,7 +1,7 @@
 //! The known name that is nearest to one that isn't known.
 
 use crate::place::Place;
-use crate::rules::{Group, groups_of};
+use crate::rules::{groups_of, moved_from};
 use crate::tables::ANYWHERE;
 use std::alloc::{AllocError, Allocator};
 use strsim::levenshtein;
@@ -15,18 +15,44 @@ pub(crate) fn nearest<A: Allocator + Copy>(
     place: Place,
     name: &str,
 ) -> Result<Option<&'static str>, AllocError> {
-    let mut best = None;
-    let mut edits = MOST_EDITS.min(name.len() / 2).saturating_add(1);
+    let mut best = Best {
+        name: None,
+        edits: MOST_EDITS.min(name.len() / 2).saturating_add(1),
+    };
     for groups in [groups_of(place), &ANYWHERE] {
         for group in groups {
             for known in group.names {
-                let away = levenshtein(alloc, name, known)?;
-                if away < edits {
-                    edits = away;
-                    best = Some(*known);
-                }
+                best.try_name(alloc, name, known)?;
             }
         }
     }
-    Ok(best)
+    for renamed in moved_from(place) {
+        best.try_name(alloc, name, renamed.old)?;
+    }
+    Ok(best.name)
+}
+
+// The nearest name so far.
+#[derive(Drop)]
+struct Best {
+    name: Option<&'static str>,
+    // How many edits it is away; another has to be nearer.
+    edits: usize,
+}
+
+impl Best {
+    // Takes a known name, if it is nearer to the name.
+    fn try_name<A: Allocator + Copy>(
+        &mut self,
+        alloc: A,
+        name: &str,
+        known: &'static str,
+    ) -> Result<(), AllocError> {
+        let edits = levenshtein(alloc, name, known)?;
+        if edits < self.edits {
+            self.edits = edits;
+            self.name = Some(known);
+        }
+        Ok(())
+    }
 }

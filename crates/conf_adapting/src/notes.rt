@@ -35,8 +35,11 @@ impl<A: Allocator + Copy> Notes<A> {
         Ok(())
     }
 
-    /// Says that something changes what the relay does.
+    /// Says that something changes what the relay does, once.
     pub fn decide(&mut self, alloc: A, decision: Decision) -> Result<(), AllocError> {
+        if self.has_asked(decision.name().as_bytes()) {
+            return Ok(());
+        }
         self.ask(alloc, decision.name().as_bytes())?;
         self.say(&[decision.sentence().as_bytes()])
     }
@@ -45,6 +48,11 @@ impl<A: Allocator + Copy> Notes<A> {
     pub fn ask(&mut self, alloc: A, name: &[u8]) -> Result<(), AllocError> {
         self.decisions.push(Vec::from_slice(alloc, name)?)?;
         Ok(())
+    }
+
+    // Whether it has to be accepted by this name.
+    fn has_asked(&self, name: &[u8]) -> bool {
+        self.decisions.iter().any(|asked| asked.as_slice() == name)
     }
 
     /// The row of which this is said, with these lines behind a comment.

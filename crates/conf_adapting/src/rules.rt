@@ -78,11 +78,14 @@ pub(crate) fn groups_of(place: Place) -> &'static [Group] {
 
 /// The name in a `<buffer>` of what once stood in the output itself; `None`: it is no such name.
 pub(crate) fn buffer_name(place: Place, name: &[u8]) -> Option<&'static str> {
+    new_name(moved_from(place), name)
+}
+
+/// What once stood in a place, and has since stood in the `<buffer>` in it.
+pub(crate) fn moved_from(place: Place) -> &'static [Renamed] {
     match place {
-        Place::Output(OutputKind::Forward) | Place::Output(OutputKind::File) => {
-            new_name(&OLD_BUFFER, name)
-        }
-        _ => None,
+        Place::Output(OutputKind::Forward) | Place::Output(OutputKind::File) => &OLD_BUFFER,
+        _ => &[],
     }
 }
 

@@ -48,8 +48,5 @@ fn in_original<A: Allocator + Copy>(adapted: &Adapted<A>, stop: ConfStop) -> Con
 
 // The line of the original that a printed line comes from.
 fn original_line<A: Allocator + Copy>(adapted: &Adapted<A>, line: usize) -> usize {
-    match adapted.row_at(line) {
-        Some(row) => row.line,
-        None => line,
-    }
+    adapted.original_line(line).unwrap_or(line)
 }
