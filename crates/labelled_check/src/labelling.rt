@@ -20,8 +20,8 @@ pub struct LabelledCheck<A: Allocator> {
     pub plan: Plan<A>,
     /// Whether the text is as `labelled_text` answers it; else it is the given one.
     pub is_labelled: bool,
-    /// The rules of the plan that are broken, in their order.
-    pub broken: Vec<BrokenRule, A>,
+    /// The rules of the plan that are broken, in their order, each with every place where it is.
+    pub broken: Vec<BrokenRule<A>, A>,
 }
 
 /// Labels the plan of these texts as `labelled_text` does, and says which of its rules are broken then. Where no labels are found, the plan's

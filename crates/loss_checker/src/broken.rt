@@ -1,4 +1,4 @@
-//! Every rule that is broken of a plan: all rules are asked, whatever the others answer.
+//! Every rule that is broken of a plan, and every place where it is: all rules are asked, whatever the others answer.
 
 ghost use Rattle.std.specs.Prelude.{◌≡◌, ◌+◌, [], IfOk, OnOk};
 ghost use Rattle.loss_rules.specs.Breaks.{IsKept, rule_number};
@@ -13,18 +13,20 @@ use loss_rules::{
 use plan_lines::Plan;
 use std::alloc::{AllocError, Allocator};
 
-/// A rule that is broken, and where it is broken first.
-#[derive(Clone, Copy, Debug, PartialEq, Eq)]
-pub struct BrokenRule {
+/// A rule that is broken, and every place where it is: by lines of the plan, or by relays in the order of the plan and then by lines
+/// of their configurations.
+#[derive(Debug, Drop)]
+pub struct BrokenRule<A: Allocator> {
     /// The rule.
     pub rule: Rule,
-    /// The first place where it is broken: by lines of the plan, or by relays in the order of the plan and then by lines of their
-    /// configurations.
+    /// The first place where it is broken.
     pub place: Place,
+    /// The other places where it is broken, in their order.
+    pub others: Vec<Place, A>,
 }
 
-/// The rules that don't hold of the plan, in the order of `Rule`, each with the place where it is broken first; the first of them is what
-/// `check` answers.
+/// The rules that don't hold of the plan, in the order of `Rule`, each with all places where it is broken; the first place of the first
+/// of them is what `check` answers.
 ///
 /// Labels and reaches are looked up by their scope and their match. The patterns of one scope's labels and matches are compared
 /// pair by pair, so the time grows as the square of a scope's length; hosts and numbers of relays are gone through for each that is
@@ -33,7 +35,7 @@ pub struct BrokenRule {
 pub fn broken_rules<A: Allocator + Copy>(
     alloc: A,
     plan: &Plan<A>,
-) -> Result<Vec<BrokenRule, A>, AllocError>
+) -> Result<Vec<BrokenRule<A>, A>, AllocError>
     ensures { IfOk result (λ found. AreBrokenRules plan.now found.items) }
 {
     let labels = Labels::new(alloc, plan.labels())?;
@@ -51,7 +53,7 @@ fn ask_all_but_the_last<'a, 'b, A: Allocator + Copy>(
     plan: &'a Plan<A>,
     labels: &'a Labels<'b, A>,
     reaches: &'a Reaches<'b, A>,
-    found: &mut Vec<BrokenRule, A>,
+    found: &mut Vec<BrokenRule<A>, A>,
 ) -> Result<(), AllocError>
     requires labels { labels.now ≡ plan.now.labels }
     requires reaches { reaches.now ≡ plan.now.reaches }
@@ -85,19 +87,22 @@ fn note<A: Allocator>(
     plan: &Plan<A>,
     rule: Rule,
     broken: Vec<Place, A>,
-    found: &mut Vec<BrokenRule, A>,
+    found: &mut Vec<BrokenRule<A>, A>,
 ) -> Result<(), AllocError>
     requires before { AreBrokenBefore plan.now (rule_number rule) found.old.items }
     requires holds { broken.items ≡ [] → IsKept plan.now rule }
     requires listed { AreBrokenPlaces plan.now rule broken.items }
     ensures { OnOk result (AreBrokenBefore plan.now (rule_number rule + 1) found.new.items) }
 {
-    let Some(place) = broken.first() else {
+    let mut others = broken;
+    if others.is_empty() {
         return Ok(());
-    };
+    }
+    let place = others.remove(0);
     found.push(BrokenRule {
         rule,
-        place: *place,
+        place,
+        others,
     })?;
     Ok(())
 }

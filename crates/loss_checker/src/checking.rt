@@ -25,7 +25,7 @@ pub fn check<A: Allocator + Copy>(alloc: A, plan: &Plan<A>) -> Result<Answer, Al
 }
 
 // The answer where these are the broken rules.
-fn first_answer(broken: &[BrokenRule]) -> Answer
+fn first_answer<A: Allocator>(broken: &[BrokenRule<A>]) -> Answer
     ensures { result ≡ answer_of broken.now }
 {
     match broken.first() {

@@ -1,6 +1,6 @@
 -- From what is said of a plan, or of its fault, to what `explain` prints.
 use Rattle.relay_net.proofs.Pairing.{taken_more}
-use Rattle.std.proofs.lemmas.List.{get_or_default}
+use Rattle.std.proofs.lemmas.List.{append-nil, get_or_default, take_more}
 use Rattle.std.proofs.Common.{◌≡◌, ℕ, List, ◌++◌, Bool, true, false, refl, ap, ◌∙◌, inl, inr, append_assoc, ◌<◌, ◌+◌, [], ◌∷◌, get_or, take, length, subst, sym}
 use Rattle.std.specs.Bool.{IsTrue}
 use Rattle.losing_steps.specs.Losses.{IsLosingText}
@@ -11,7 +11,7 @@ use Rattle.loss_rules.specs.declared.answer.Rule.{Rule}
 use Rattle.plan_answers.specs.Networks.{answer_line}
 use Rattle.program_text.specs.declared.status.Status.TheVariants.{No}
 use Rattle.loss_checker.specs.declared.broken.BrokenRule.{BrokenRule}
-use Rattle.relayctl.specs.Checking.{AddsBroken, SayEach}
+use Rattle.relayctl.specs.Checking.{no_lines, AddsBroken, SayEach}
 use Rattle.relayctl.specs.Explaining.{last_line, IsLossOrNotes, SaysAnswer}
 
 -- with the last line behind them, lines are steps that lose an event, or notes
@@ -31,18 +31,32 @@ says_no plan broken at front text lines has_loss is loses are = record {
 }
 
 -- what is said of a broken rule behind other lines
-pub adds_broken : {A : Type 0} (plan : Subject A) (one : BrokenRule) (before front text after : List ℕ) (has_loss : Bool) → front ≡ answer_line (answer.No one.rule one.place)
-    → (IsTrue has_loss → IsLosingText plan.duty plan.net text) → after ≡ ((before ++ front) ++ text) ++ last_line has_loss → AddsBroken plan one before after
-adds_broken plan one before front text after has_loss is loses are = record {
-  said = text ++ last_line has_loss;
-  is_said = loss_or_notes plan text has_loss loses;
-  after_is = are ∙ append_assoc (before ++ front) text (last_line has_loss) ∙ append_assoc before front (text ++ last_line has_loss)
-      ∙ ap (λ f. before ++ (f ++ (text ++ last_line has_loss))) is;
-}
+pub adds_broken : {A : Type 0} (plan : Subject A) (one : BrokenRule A) (before front text after : List ℕ) (has_loss : Bool) → front ≡ before ++ no_lines one.rule (one.place ∷ one.others.items)
+    → (IsTrue has_loss → IsLosingText plan.duty plan.net text) → after ≡ (front ++ text) ++ last_line has_loss → AddsBroken plan one before after
+adds_broken plan one before front text after has_loss is loses are =
+    let places = no_lines one.rule (one.place ∷ one.others.items) in
+    record {
+      said = text ++ last_line has_loss;
+      is_said = loss_or_notes plan text has_loss loses;
+      after_is = are ∙ append_assoc front text (last_line has_loss) ∙ ap (λ f. f ++ (text ++ last_line has_loss)) is ∙ append_assoc before places (text ++ last_line has_loss);
+    }
+
+-- the lines of one place more
+pub no_lines_more : (rule : Rule) (places : List Place) (at : Place) → no_lines rule (places ++ at ∷ []) ≡ no_lines rule places ++ answer_line (answer.No rule at)
+no_lines_more rule [] at = append-nil (answer_line (answer.No rule at))
+no_lines_more rule (first ∷ places) at = ap (λ f. answer_line (answer.No rule first) ++ f) (no_lines_more rule places at) ∙ sym (append_assoc (answer_line (answer.No rule first)) (no_lines rule places) (answer_line (answer.No rule at)))
+
+pub places_more : (rule : Rule) (first : Place) (places : List Place) (count : ℕ) (other : Place) (before mid after : List ℕ) → count < length places
+    → mid ≡ before ++ no_lines rule (first ∷ take count places) → after ≡ mid ++ answer_line (answer.No rule (get_or places count other))
+    → after ≡ before ++ no_lines rule (first ∷ take (count + 1) places)
+places_more rule first places count other before mid after less mid_is after_is =
+    let at = get_or places count other in
+    after_is ∙ ap (λ f. f ++ answer_line (answer.No rule at)) mid_is ∙ append_assoc before (no_lines rule (first ∷ take count places)) (answer_line (answer.No rule at))
+    ∙ ap (λ f. before ++ f) (sym (no_lines_more rule (first ∷ take count places) at)) ∙ ap (λ ps. before ++ no_lines rule (first ∷ ps)) (sym (take_more places count other less))
 
 -- one broken rule more
-pub said_more : {A : Type 0} (plan : Subject A) (broken : List BrokenRule) (count : ℕ) (other : BrokenRule) (before after : List ℕ) → count < length broken
+pub said_more : {A : Type 0} (plan : Subject A) (broken : List (BrokenRule A)) (count : ℕ) (other : BrokenRule A) (before after : List ℕ) → count < length broken
     → SayEach plan (take count broken) before → AddsBroken plan (get_or broken count other) before after → SayEach plan (take (count + 1) broken) after
-said_more plan broken count other before after less said adds =
-    let one : BrokenRule = get_or broken count other in
-    subst (λ (found : List BrokenRule). SayEach plan found after) (sym (taken_more broken count one less (get_or_default broken count other one less))) (SayEach.one_more one said adds)
+said_more {A} plan broken count other before after less said adds =
+    let one : BrokenRule A = get_or broken count other in
+    subst (λ (found : List (BrokenRule A)). SayEach plan found after) (sym (taken_more broken count one less (get_or_default broken count other one less))) (SayEach.one_more one said adds)

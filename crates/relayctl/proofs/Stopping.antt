@@ -15,7 +15,7 @@ use Rattle.relayctl.specs.declared.check.Check.{Check}
 use Rattle.relayctl.specs.declared.check.Check.TheVariants as check
 
 -- what is said of a plan that is read
-pub is_check : (A : Type 0) (net : Option (List ℕ)) (named : List ℕ → Option (List ℕ)) (given : List ℕ) (confs : List (List ℕ)) (is_labelled : Bool) (text : List ℕ) (plan : Subject A) (broken : List BrokenRule)
+pub is_check : (A : Type 0) (net : Option (List ℕ)) (named : List ℕ → Option (List ℕ)) (given : List ℕ) (confs : List (List ℕ)) (is_labelled : Bool) (text : List ℕ) (plan : Subject A) (broken : List (BrokenRule A))
     → AreRead net named given confs → IsLabelledCheck A confs given is_labelled text plan broken → (found : Check A) → SaysCheck is_labelled plan broken found → IsCheck A net named found
 is_check A net named given confs is_labelled text plan broken read checked (check.Answered said) says =
     record { given = given; confs = confs; read = read; is_labelled = is_labelled; text = text; plan = plan; broken = broken; checked = checked; says = says }

@@ -4,6 +4,8 @@ use Rattle.labelled_check.specs.Checks.{IsLabelledCheck}
 use Rattle.loss_checker.specs.declared.broken.BrokenRule.{BrokenRule}
 use Rattle.loss_rules.specs.Breaks.{Subject}
 use Rattle.loss_rules.specs.declared.answer.Answer.TheVariants as answer
+use Rattle.loss_rules.specs.declared.answer.Place.{Place}
+use Rattle.loss_rules.specs.declared.answer.Rule.{Rule}
 use Rattle.plan_answers.specs.Networks.{AreRead, answer_line, IsStopLine}
 use Rattle.program_text.specs.Lines.{line}
 use Rattle.program_text.specs.Output.{IsPrinted}
@@ -13,20 +15,25 @@ use Rattle.relayctl.specs.Explaining.{IsExplainedFault, IsLossOrNotes}
 use Rattle.relayctl.specs.declared.check.Check.{Check}
 use Rattle.relayctl.specs.declared.check.Check.TheVariants as check
 
--- what is said of one broken rule behind other lines: the line of a no, and steps that lose an event or notes
-pub record AddsBroken {A : Type 0} (plan : Subject A) (one : BrokenRule) (before after : List ℕ) : Type 0 where
+-- the line of a no for each place where the rule is broken
+abbrev pub no_lines : Rule → List Place → List ℕ
+no_lines rule [] = []
+no_lines rule (at ∷ later) = answer_line (answer.No rule at) ++ no_lines rule later
+
+-- what is said of one broken rule behind other lines: the line of a no for each place, and steps that lose an event or notes
+pub record AddsBroken {A : Type 0} (plan : Subject A) (one : BrokenRule A) (before after : List ℕ) : Type 0 where
   pub said : List ℕ
   pub is_said : IsLossOrNotes plan said
-  pub after_is : after ≡ before ++ (answer_line (answer.No one.rule one.place) ++ said)
+  pub after_is : after ≡ before ++ (no_lines one.rule (one.place ∷ one.others.items) ++ said)
 
 -- what is said of broken rules, one after another
-pub data SayEach {A : Type 0} (plan : Subject A) : List BrokenRule → List ℕ → Type 0 where
+pub data SayEach {A : Type 0} (plan : Subject A) : List (BrokenRule A) → List ℕ → Type 0 where
   none : SayEach plan [] []
-  one_more : {broken : List BrokenRule} {before after : List ℕ} (one : BrokenRule) → SayEach plan broken before → AddsBroken plan one before after
+  one_more : {broken : List (BrokenRule A)} {before after : List ℕ} (one : BrokenRule A) → SayEach plan broken before → AddsBroken plan one before after
       → SayEach plan (broken ++ one ∷ []) after
 
 -- what is said of the rules of a plan, of which these are broken: a yes where none are
-abbrev pub SaysRules : {A : Type 0} → Subject A → List BrokenRule → List ℕ → Status → Type 0
+abbrev pub SaysRules : {A : Type 0} → Subject A → List (BrokenRule A) → List ℕ → Status → Type 0
 SaysRules plan [] lines status = (lines ≡ line (codes "yes")) × (status ≡ Done)
 SaysRules plan (first ∷ others) lines status = SayEach plan (first ∷ others) lines × (status ≡ No)
 
@@ -36,7 +43,7 @@ labels_note true = []
 labels_note false = line (codes "# relayctl label finds no labels for this plan: its own lines were asked")
 
 -- what is said of a plan with relays and clients
-pub record SaysAnswer {A : Type 0} (is_labelled : Bool) (plan : Subject A) (broken : List BrokenRule) (lines : List ℕ) (status : Status) : Type 0 where
+pub record SaysAnswer {A : Type 0} (is_labelled : Bool) (plan : Subject A) (broken : List (BrokenRule A)) (lines : List ℕ) (status : Status) : Type 0 where
   pub relays : 0 < length plan.net.relays
   pub clients : 0 < length plan.net.clients
   pub said : List ℕ
@@ -49,19 +56,19 @@ pub record SaysEmpty {A : Type 0} (plan : Subject A) (lines : List ℕ) (status 
   pub is_status : status ≡ Usage
 
 -- what is said of a plan of which these rules are broken
-abbrev pub SaysCheck : {A : Type 0} → Bool → Subject A → List BrokenRule → Check A → Type 0
+abbrev pub SaysCheck : {A : Type 0} → Bool → Subject A → List (BrokenRule A) → Check A → Type 0
 SaysCheck is_labelled plan broken (check.Answered said) = SaysAnswer is_labelled plan broken said.lines.items said.status
 SaysCheck is_labelled plan broken (check.Refused said) = SaysEmpty plan said.lines.items said.status
 
 -- The plan that is read, with the labels that it lacks, has these broken rules, and this is said of it.
-pub record IsChecked (A : Type 0) (net : Option (List ℕ)) (named : List ℕ → Option (List ℕ)) (Says : Bool → Subject A → List BrokenRule → Type 0) : Type 0 where
+pub record IsChecked (A : Type 0) (net : Option (List ℕ)) (named : List ℕ → Option (List ℕ)) (Says : Bool → Subject A → List (BrokenRule A) → Type 0) : Type 0 where
   pub given : List ℕ
   pub confs : List (List ℕ)
   pub read : AreRead net named given confs
   pub is_labelled : Bool
   pub text : List ℕ
   pub plan : Subject A
-  pub broken : List BrokenRule
+  pub broken : List (BrokenRule A)
   pub checked : IsLabelledCheck A confs given is_labelled text plan broken
   pub says : Says is_labelled plan broken
 

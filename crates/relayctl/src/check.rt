@@ -1,11 +1,12 @@
 //! The word `check`: every broken rule of a plan with the labels that it lacks, each explained.
 
-ghost use Rattle.std.specs.Prelude.{◌≡◌, ◌++◌, IfOk, OnOk};
-ghost use Rattle.relayctl.specs.Checking.{labels_note as labels_note_of, AddsBroken, IsCheck, PrintsCheck, SayEach, SaysCheck, SaysRules};
+ghost use Rattle.std.specs.Prelude.{◌≡◌, ◌++◌, ◌∷◌, IfOk, OnOk};
+ghost use Rattle.plan_answers.specs.Networks.{answer_line};
+ghost use Rattle.relayctl.specs.Checking.{labels_note as labels_note_of, no_lines, AddsBroken, IsCheck, PrintsCheck, SayEach, SaysCheck, SaysRules};
 
 use crate::explain::{Said, last_line, say_fault};
 use labelled_check::{LabelledCheck, check_labelled};
-use loss_checker::{Answer, BrokenRule, Plan, PlanError, conf_names};
+use loss_checker::{Answer, BrokenRule, Place, Plan, PlanError, Rule, conf_names};
 use plan_answers::{Stop, print_stop, read_confs};
 use program_text::{Open, ReadFault, Status, put_last, read_whole};
 use rule_advice::{Texts, explain};
@@ -14,7 +15,7 @@ use std::io::{Read, Write};
 use text_lines::lines;
 
 /// Labels the plan that `net` gives, by this name in what is printed, and prints `yes` where each rule holds of it; or every rule that is
-/// broken, each with what it means, what mends it, and steps that lose an acknowledged event, where some were found. Of a plan without
+/// broken, each at every place, with what it means, what mends it, and steps that lose an acknowledged event, where some were found. Of a plan without
 /// relays or clients, and of a fault, it says so in `faults`. Each text is read whole before a fault of the plan is looked for.
 pub fn run_check<A: Allocator + Copy, R: Read, O: Open, W: Write, F: Write>(
     alloc: A,
@@ -137,7 +138,7 @@ fn say_rules<A: Allocator + Copy>(
     alloc: A,
     plan: &Plan<A>,
     texts: &Texts<'_, A>,
-    broken: &[BrokenRule],
+    broken: &[BrokenRule<A>],
 ) -> Result<Said<A>, AllocError>
     ensures { IfOk result (λ said. SaysRules plan.now broken.now said.lines.items said.status) }
 {
@@ -158,35 +159,60 @@ fn say_each<A: Allocator + Copy>(
     alloc: A,
     plan: &Plan<A>,
     texts: &Texts<'_, A>,
-    broken: &[BrokenRule],
+    broken: &[BrokenRule<A>],
 ) -> Result<Vec<u8, A>, AllocError>
     ensures { IfOk result (λ lines. SayEach plan.now broken.now lines.items) }
 {
     let mut lines = Vec::new(alloc);
     for one in broken {
-        put_broken(alloc, plan, texts, *one, &mut lines)?;
+        put_broken(alloc, plan, texts, one, &mut lines)?;
     }
     Ok(lines)
 }
 
-// Adds the line of a broken rule, and what explains it.
+// Adds the lines of a broken rule, and what explains it.
 fn put_broken<A: Allocator + Copy>(
     alloc: A,
     plan: &Plan<A>,
     texts: &Texts<'_, A>,
-    one: BrokenRule,
+    one: &BrokenRule<A>,
     lines: &mut Vec<u8, A>,
 ) -> Result<(), AllocError>
-    ensures { OnOk result (AddsBroken plan.now one lines.old.items lines.new.items) }
+    ensures { OnOk result (AddsBroken plan.now one.now lines.old.items lines.new.items) }
 {
-    let answer = Answer::No {
-        rule: one.rule,
-        place: one.place,
-    };
-    let line = format!(in alloc; "{answer}\n")?.into_bytes();
-    lines.extend_from_slice(&line)?;
-    let said = explain(alloc, plan, texts, one.rule, one.place)?;
+    put_places(alloc, one, lines)?;
+    let said = explain(alloc, plan, texts, one.rule, one.place, &one.others)?;
     lines.extend_from_slice(&said.lines)?;
     lines.extend_from_slice(last_line(said.has_loss).as_bytes())?;
+    Ok(())
+}
+
+// Adds the line of a no for each place where the rule is broken.
+fn put_places<A: Allocator + Copy>(
+    alloc: A,
+    one: &BrokenRule<A>,
+    lines: &mut Vec<u8, A>,
+) -> Result<(), AllocError>
+    ensures { OnOk result (lines.new.items ≡ lines.old.items ++ no_lines one.now.rule (one.now.place ∷ one.now.others.items)) }
+{
+    put_place(alloc, one.rule, one.place, lines)?;
+    for place in &one.others {
+        put_place(alloc, one.rule, *place, lines)?;
+    }
+    Ok(())
+}
+
+// Adds the line of a no: the rule is broken at this place.
+fn put_place<A: Allocator + Copy>(
+    alloc: A,
+    rule: Rule,
+    place: Place,
+    lines: &mut Vec<u8, A>,
+) -> Result<(), AllocError>
+    ensures { OnOk result (lines.new.items ≡ lines.old.items ++ answer_line (Answer.No rule place)) }
+{
+    let answer = Answer::No { rule, place };
+    let line = format!(in alloc; "{answer}\n")?.into_bytes();
+    lines.extend_from_slice(&line)?;
     Ok(())
 }

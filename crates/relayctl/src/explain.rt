@@ -79,7 +79,7 @@ fn say_plan<A: Allocator + Copy>(
             status: Status::Done,
         });
     };
-    let said = explain(alloc, plan, texts, rule, place)?;
+    let said = explain(alloc, plan, texts, rule, place, &[])?;
     lines.extend_from_slice(&said.lines)?;
     lines.extend_from_slice(last_line(said.has_loss).as_bytes())?;
     Ok(Said {

@@ -24,8 +24,9 @@ pub struct Explained<A: Allocator> {
     pub has_loss: bool,
 }
 
-/// Says of a rule that is broken at this place, as `check` answers of the plan of these texts: what it asks for, the line where it is broken,
-/// what to change, and by which lines of the plan tags come there; each line begins with `#`. For a rule that sees to it that nothing
+/// Says of a rule that is broken at this place, as `check` answers of the plan of these texts, and at these others: what it asks for, the line
+/// where it is broken, what to change, by which lines of the plan tags come there, and each other line where it is broken; each line
+/// begins with `#`. For a rule that sees to it that nothing
 /// is lost, steps follow that lose an acknowledged event in the network of the plan, or a line that says that none were found.
 ///
 /// All lines together are a text of steps, as `replay` takes it. The only error is want of memory.
@@ -35,6 +36,7 @@ pub fn explain<A: Allocator + Copy>(
     texts: &Texts<'_, A>,
     rule: Rule,
     place: Place,
+    others: &[Place],
 ) -> Result<Explained<A>, AllocError>
     ensures { IfOk result (λ said. IsTrue said.has_loss → IsLosingText plan.now.duty plan.now.net said.lines.items) }
 {
@@ -44,6 +46,7 @@ pub fn explain<A: Allocator + Copy>(
         texts,
         rule,
         place,
+        others,
     };
     let front = subject.front()?;
     if !loses_events(rule) {

@@ -11,7 +11,7 @@ use relay_conf::Output;
 use relay_net::Entrance;
 use std::alloc::{AllocError, Allocator};
 
-/// What is explained: a rule that is broken at this place of a plan.
+/// What is explained: a rule that is broken at this place of a plan, and at these others.
 #[derive(Drop)]
 pub(crate) struct Subject<'a, A: Allocator> {
     pub alloc: A,
@@ -19,11 +19,12 @@ pub(crate) struct Subject<'a, A: Allocator> {
     pub texts: &'a Texts<'a, A>,
     pub rule: Rule,
     pub place: Place,
+    pub others: &'a [Place],
 }
 
 impl<A: Allocator + Copy> Subject<'_, A> {
-    /// What is said in front of the steps: the rule, the line where it is broken, what to change, and by which lines of the plan tags come
-    /// there; each line begins with `#`.
+    /// What is said in front of the steps: the rule, the line where it is broken, what to change, by which lines of the plan tags come
+    /// there, and the other lines where it is broken; each line begins with `#`.
     pub fn front(&self) -> Result<Vec<u8, A>, AllocError> {
         let mut lines = Vec::new(self.alloc);
         self.put_rule(&mut lines)?;
@@ -35,7 +36,31 @@ impl<A: Allocator + Copy> Subject<'_, A> {
         self.put_labelling(&mut lines)?;
         self.put_lacks(&mut lines)?;
         self.put_ways(&mut lines)?;
+        for place in self.others {
+            self.of_other(*place).put_as_other(&mut lines)?;
+        }
         Ok(lines)
+    }
+
+    // The same rule at another place, alone.
+    fn of_other(&self, place: Place) -> Subject<'_, A> {
+        Subject {
+            alloc: self.alloc,
+            plan: self.plan,
+            texts: self.texts,
+            rule: self.rule,
+            place,
+            others: &[],
+        }
+    }
+
+    // Adds that the rule is broken here too, and what stands here.
+    fn put_as_other(&self, out: &mut Vec<u8, A>) -> Result<(), AllocError> {
+        let site = self.texts.site(self.plan, self.place);
+        site.put(self.alloc, out, "It is broken too in")?;
+        self.put_relay_of_conf(out)?;
+        self.put_details(out)?;
+        self.put_lacks(out)
     }
 
     // Adds what the rule asks for.

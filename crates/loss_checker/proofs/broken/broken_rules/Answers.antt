@@ -11,7 +11,7 @@ use Rattle.loss_checker.proofs.broken.broken_rules.Goals as goal
 
 pub ask_all_but_the_last-requires-clause-before : goal.ask_all_but_the_last-requires-clause-before
 ask_all_but_the_last-requires-clause-before g c =
-    subst (λ (found : List BrokenRule). AreBrokenBefore c.args.plan.now 1 found) (sym c.new-found.ensures.items) (none_broken c.args.plan.now)
+    subst (λ (found : List (BrokenRule g.row.A.Denot)). AreBrokenBefore c.args.plan.now 1 found) (sym c.new-found.ensures.items) (none_broken c.args.plan.now)
 
 pub note-requires-clause-holds : goal.note-requires-clause-holds
 note-requires-clause-holds g c =

@@ -1,3 +1,4 @@
+use Rattle.loss_rules.specs.Breaks.{IsAnswer}
 use Rattle.loss_checker.proofs.RuleNumbers.{rules_kept, each_keeps}
 use Rattle.loss_checker.proofs.checking.check.Goals as goal
 
