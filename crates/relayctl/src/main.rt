@@ -7,6 +7,7 @@ mod label;
 mod words;
 
 use check::run_check;
+use conf_listing::run_adapt;
 use explain::run_explain;
 use folder_listing::{DataFolder, run_show};
 use label::run_label;
@@ -18,10 +19,10 @@ use std::{env, io};
 use words::{Word, read_word};
 
 const USAGE: &str =
-    "usage: relayctl check NET | label NET | explain NET | ways CONF TAG.. | show DIR | --help";
+    "usage: relayctl check NET | label NET | explain NET | ways CONF TAG.. | adapt CONF [--accept NAME].. | show DIR | --help";
 
 const HELP: &str =
-    "usage: relayctl check NET | label NET | explain NET | ways CONF TAG.. | show DIR | --help
+    "usage: relayctl check NET | label NET | explain NET | ways CONF TAG.. | adapt CONF [--accept NAME].. | show DIR | --help
 
 check NET        labels the plan NET, and prints `yes`, or every rule that is broken then,
                  each with what it means, what mends it, and steps that lose an event
@@ -30,6 +31,8 @@ explain NET      prints the answer of relaynet check to the plan NET, what a bro
                  rule or a fault means, what mends it, and steps that lose an event
 ways CONF TAG..  prints to which outputs each TAG goes from each source of the
                  configuration CONF
+adapt CONF       prints the configuration CONF, as it runs in Fluentd, in the form that a relay
+                 reads, or what of it changes what the relay does; --accept NAME accepts that
 show DIR         prints which chunks the journals in a relay's data folder DIR hold,
                  and how many events its sinks hold
 --help           prints this
@@ -57,6 +60,9 @@ fn run(rt: &HostRuntime, word: Option<Word<'_>>) -> Status {
             run_explain(rt.alloc(), net, &mut folder.text(net), &folder, out)
         }
         Some(Word::Ways(conf, tags)) => run_ways(rt.alloc(), &mut folder.text(conf), tags, out),
+        Some(Word::Adapt(conf, accepted)) => {
+            run_adapt(rt.alloc(), &mut folder.text(conf), accepted, out)
+        }
         Some(Word::Show(path)) => show_folder(rt, path, out),
         None => usage(rt),
     }

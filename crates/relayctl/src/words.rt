@@ -13,6 +13,8 @@ pub enum Word<'a> {
     Explain(&'a str),
     /// Say where these tags go under the configuration at this path.
     Ways(&'a str, &'a [String]),
+    /// Adapt the configuration at this path to the profile; `--accept` and a name, again and again, say what is accepted.
+    Adapt(&'a str, &'a [String]),
     /// Show what the journals in the data folder at this path hold.
     Show(&'a str),
 }
@@ -21,6 +23,9 @@ pub enum Word<'a> {
 pub fn read_word(words: &[String]) -> Option<Word<'_>> {
     if words.len() > 2 && words[1].as_str() == "ways" {
         return Some(Word::Ways(&words[2], &words[3..]));
+    }
+    if words.len() > 2 && words[1].as_str() == "adapt" && are_accepting(&words[3..]) {
+        return Some(Word::Adapt(&words[2], &words[3..]));
     }
     match words {
         [_, word] => {
@@ -45,4 +50,16 @@ pub fn read_word(words: &[String]) -> Option<Word<'_>> {
         _ => (),
     }
     None
+}
+
+// Whether the words are `--accept` and a name, again and again.
+fn are_accepting(words: &[String]) -> bool {
+    let mut is_name = false;
+    for word in words {
+        if !is_name && word.as_str() != "--accept" {
+            return false;
+        }
+        is_name = !is_name;
+    }
+    !is_name
 }
