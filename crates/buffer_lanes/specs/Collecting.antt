@@ -1,5 +1,7 @@
 -- What becomes of a delivery that waits for its receipts.
-use Rattle.std.specs.Prelude.{◌≡◌, ◌≢◌, ◌⊎◌, ⊤, Bool, true, false, List, [], filter, IsSomeAnd}
+use Rattle.std.specs.Prelude.{◌≡◌, ◌≢◌, ◌⊎◌, ⊤, All, Bool, true, false, List, [], filter, map, IsSomeAnd}
+use Rattle.book_audit.specs.Stubs.{Left}
+use Rattle.ack_receipt.specs.Deliveries.{Appended, IsReceived, part_of}
 use Rattle.ack_receipt.specs.Reservations.{Reservation, answer_to}
 use Rattle.relay_conf.specs.declared.output.BufferNo.{BufferNo}
 use Rattle.buffer_lanes.specs.declared.waiting.Collected.{Collected}
@@ -12,9 +14,15 @@ abbrev pub IsAnswerTo : Awaited → Reservation → Type 0
 IsAnswerTo awaited reserved = (reserved.asked ≡ awaited.asked)
     × IsSomeAnd reserved.filled (λ answer. (answer.bytes ≡ answer_to awaited.asked.ack) × (answer.tag ≡ awaited.tag) × (answer.leaves ≡ awaited.leaves))
 
--- An answer is that to the message; what waits on is the same delivery.
+-- what is left of the delivery has a part of each receipt that it took, and it took one of each of its buffers
+pub record IsAcknowledged (awaited : Awaited) (left : Left) : Type 0 where
+  pub receipts : List Appended
+  pub each : All (IsReceived awaited.number receipts) awaited.leaves
+  pub is : left ≡ record { delivery = awaited.number; parts = map part_of receipts }
+
+-- An answer is that to the message, and each buffer gave a receipt for it; what waits on is the same delivery.
 abbrev pub IsCollected : {A : Type 0} → Awaited → Collected A → Type 0
-IsCollected awaited (Answered reserved stub) = IsAnswerTo awaited reserved
+IsCollected awaited (Answered reserved stub) = IsAnswerTo awaited reserved × IsAcknowledged awaited stub
 IsCollected awaited (Abandoned stub) = ⊤
 IsCollected awaited (Later waiting) = waiting.awaited ≡ awaited
 

@@ -14,6 +14,15 @@ pub record Plan : Type 0 where
   pub chunks : List Staged
   pub room : ℕ
 
+-- how its buffer's staged chunks are queued
+pub record Timing : Type 0 where
+  pub mode : FlushMode
+  pub interval : ℕ
+
+-- which stays, whatever is staged
+abbrev pub timing_of : Plan → Timing
+timing_of plan = record { mode = plan.mode; interval = plan.interval }
+
 -- what is staged of a chunk that a buffer shows when it is opened: the chunk where it still grows, since now
 abbrev pub staged_since : ℕ → Facts → List Staged
 staged_since now facts = if is_staged facts.stage then record { serial = facts.serial; since = now } ∷ [] else []

@@ -5,15 +5,16 @@ use Rattle.relay_conf.specs.declared.output.BufferNo.{BufferNo}
 use Rattle.ack_receipt.specs.Deliveries.{OpenDelivery}
 use Rattle.ack_receipt.specs.Reservations.{Asked, asked_of}
 
--- what its message asked for, the tag that its entries are stored under, and the buffers that have to store it
+-- a delivery's number, what its message asked for, the tag that its entries are stored under, and the buffers that have to store it
 pub record Awaited : Type 0 where
+  pub number : ℕ
   pub asked : Asked
   pub tag : List ℕ
   pub leaves : List Leaf
 
 -- what a delivery waits for
 abbrev pub awaited_by : OpenDelivery → Awaited
-awaited_by d = record { asked = asked_of d.message; tag = d.tag; leaves = d.leaves }
+awaited_by d = record { number = d.number; asked = asked_of d.message; tag = d.tag; leaves = d.leaves }
 
 -- a delivery, and the buffers whose receipts weren't there yet
 pub record Waits : Type 0 where

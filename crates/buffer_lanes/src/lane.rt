@@ -1,6 +1,9 @@
 //! A buffer as the loop uses it.
 
-ghost use Rattle.std.specs.Prelude.{◌≡◌, ◌<◌, false, length, OnErr};
+ghost use Rattle.std.specs.Prelude.{◌≡◌, ◌<◌, false, length, IfOk, OnErr};
+ghost use Rattle.std.specs.Arc.{arc_value};
+ghost use Rattle.buffer_lanes.specs.Lanes.{KeepsLane};
+ghost use Rattle.buffer_lanes.specs.Schedules.{noted};
 
 use crate::schedule::Schedule;
 use ack_receipt::{Delivery, Pending, Receipt, RedeemFault, SharedBuffer, Stub};
@@ -25,17 +28,18 @@ pub struct Lane<D: Dir, A: Allocator> {
 }
 
 impl<D: Dir, A: Allocator> Model for Lane<D, A> {
+    ghost use Rattle.std.specs.Arc.{arc_value};
     ghost use Rattle.buffer_lanes.specs.Lanes.{LaneState};
 
-    ghost Value = { LaneState };
+    ghost Value = { LaneState A };
 
-    ghost view = { λ l. record { later = l.is_later } };
+    ghost view = { λ l. record { terms = arc_value l.buffer; plan = l.schedule; later = l.is_later } };
 }
 
 impl<D: Dir + Drop, A: Allocator + Copy> Lane<D, A> {
     /// Nothing was appended yet.
     pub fn new(alloc: A, buffer: Arc<SharedBuffer<D, A>, A>, schedule: Schedule<A>) -> Self
-        ensures { result ≡ record { later = false } }
+        ensures { result ≡ record { terms = arc_value buffer; plan = schedule; later = false } }
     {
         Lane {
             buffer,
@@ -47,7 +51,9 @@ impl<D: Dir + Drop, A: Allocator + Copy> Lane<D, A> {
     }
 
     /// The buffer.
-    pub fn buffer(&self) -> &SharedBuffer<D, A> {
+    pub fn buffer(&self) -> &SharedBuffer<D, A>
+        ensures { result.now ≡ self.now.terms }
+    {
         &self.buffer
     }
 
@@ -68,7 +74,8 @@ impl<D: Dir + Drop, A: Allocator + Copy> Lane<D, A> {
         self.receipts.len()
     }
 
-    /// Appends the delivery's entries, dropping the oldest chunks for them where the buffer may.
+    /// Appends the delivery's entries, dropping the oldest chunks for them where the buffer may, and gives the serial of the chunk
+    /// that has them: it is staged, if it wasn't before, since now.
     ///
     /// An error leaves no append to be undone.
     pub fn append<R: Wait>(
@@ -76,16 +83,20 @@ impl<D: Dir + Drop, A: Allocator + Copy> Lane<D, A> {
         rt: &R,
         delivery: &Delivery<A>,
         now: u64,
-    ) -> Result<(), BufferFault>
+    ) -> Result<u64, BufferFault>
         requires { 0 < length delivery.now.message.entries }
-        ensures { self.new ≡ self.old }
+        ensures kept { KeepsLane self.old self.new }
+        ensures later { self.new.later ≡ self.old.later }
+        ensures staged { IfOk result (λ serial. self.new.plan.chunks ≡ noted serial now self.old.plan.chunks) }
+        ensures err { OnErr result (self.new.plan.chunks ≡ self.old.plan.chunks) }
     {
         self.schedule.reserve()?;
         self.pendings.reserve(1)?;
         let pending = append_to(rt, &self.buffer, delivery)?;
-        self.schedule.note(pending.serial(), now);
+        let serial = pending.serial();
+        self.schedule.note(serial, now);
         self.pendings.push_reserved(pending);
-        Ok(())
+        Ok(serial)
     }
 
     /// The last append gets no receipt.
@@ -101,7 +112,8 @@ impl<D: Dir + Drop, A: Allocator + Copy> Lane<D, A> {
     ///
     /// The error is that of the device.
     pub fn queue_due<R: Wait>(&mut self, rt: &R, now: u64) -> Result<(), BufferFault>
-        ensures { self.new ≡ self.old }
+        ensures kept { KeepsLane self.old self.new }
+        ensures later { self.new.later ≡ self.old.later }
     {
         'chunks: for _ in rt.forever() {
             let Some(serial) = self.schedule.due(now) else {
@@ -121,7 +133,8 @@ impl<D: Dir + Drop, A: Allocator + Copy> Lane<D, A> {
     ///
     /// The error is that of the device: the appends get no receipts.
     pub fn redeem<R: Wait>(&mut self, rt: &R) -> Result<(), BufferFault>
-        ensures { OnErr result (self.new ≡ record { later = false }) }
+        ensures rest { self.new ≡ record self.old { later = self.new.later } }
+        ensures err { OnErr result (self.new.later ≡ false) }
     {
         let alloc = *self.pendings.allocator();
         self.keep(rt, Vec::new(alloc));

@@ -1,7 +1,7 @@
 //! The buffers of a relay, as its loop uses them.
 
-ghost use Rattle.std.specs.Prelude.{◌≡◌, ◌<◌, ◌≤◌, ◌+◌, ◌++◌, ◌∷◌, [], length, IfOk, IfSome};
-ghost use Rattle.buffer_lanes.specs.Lanes.{later_at};
+ghost use Rattle.std.specs.Prelude.{◌≡◌, ◌<◌, ◌≤◌, ◌+◌, ◌++◌, ◌∷◌, [], None, length, IfOk, IfSome};
+ghost use Rattle.buffer_lanes.specs.Lanes.{KeepsLanes, fault_after, is_lost as is_lost_fault, later_at};
 ghost use Rattle.buffer_lanes.specs.Waits.{HasEntries};
 
 use crate::lane::Lane;
@@ -28,15 +28,22 @@ impl<D: Dir, A: Allocator> Model for Lanes<D, A> {
     ghost use Rattle.std.specs.Prelude.{◌-◌, map, vec_len, vec_capacity};
     ghost use Rattle.buffer_lanes.specs.Lanes.{LanesState};
 
-    ghost Value = { LanesState };
+    ghost Value = { LanesState A };
 
-    ghost view = { λ l. record { later = map (λ lane. lane.later) l.lanes.items; room = vec_capacity l.lanes - vec_len l.lanes } };
+    ghost view = { λ l. record {
+      terms = map (λ lane. lane.terms) l.lanes.items;
+      plans = map (λ lane. lane.plan) l.lanes.items;
+      later = map (λ lane. lane.later) l.lanes.items;
+      room = vec_capacity l.lanes - vec_len l.lanes;
+      fault = l.fault;
+    } };
 }
 
 impl<D: Dir + Drop, A: Allocator + Copy> Lanes<D, A> {
     /// No buffers yet, and room for so many. The error is want of memory.
     pub fn with_capacity(alloc: A, count: usize) -> Result<Self, AllocError>
-        ensures { IfOk result (λ lanes. (lanes.later ≡ []) × (count ≤ lanes.room)) }
+        ensures none { IfOk result (λ lanes. lanes ≡ record { terms = []; plans = []; later = []; room = lanes.room; fault = None }) }
+        ensures room { IfOk result (λ lanes. count ≤ lanes.room) }
     {
         let lanes = Vec::with_capacity(alloc, count)?;
         Ok(Lanes {
@@ -51,18 +58,25 @@ impl<D: Dir + Drop, A: Allocator + Copy> Lanes<D, A> {
     pub fn add(&mut self, lane: Lane<D, A>)
         requires { 0 < self.old.room }
         ensures room { self.new.room + 1 ≡ self.old.room }
+        ensures terms { self.new.terms ≡ self.old.terms ++ lane.terms ∷ [] }
+        ensures plans { self.new.plans ≡ self.old.plans ++ lane.plan ∷ [] }
         ensures later { self.new.later ≡ self.old.later ++ lane.later ∷ [] }
+        ensures fault { self.new.fault ≡ self.old.fault }
     {
         self.lanes.push_reserved(lane);
     }
 
     /// Keeps what is left of deliveries from now on.
-    pub fn keep_stubs(&mut self, alloc: A) {
+    pub fn keep_stubs(&mut self, alloc: A)
+        ensures { self.new ≡ self.old }
+    {
         self.stubs = Some(Vec::new(alloc));
     }
 
     /// It is this time, in milliseconds since one fixed start.
-    pub fn set_time(&mut self, now: u64) {
+    pub fn set_time(&mut self, now: u64)
+        ensures { self.new ≡ self.old }
+    {
         self.time = now;
     }
 
@@ -72,26 +86,34 @@ impl<D: Dir + Drop, A: Allocator + Copy> Lanes<D, A> {
     }
 
     /// The first fault of a device, or of a journal that lost bytes, if there was one.
-    pub fn fault(&self) -> Option<BufferFault> {
+    pub fn fault(&self) -> Option<BufferFault>
+        ensures { result ≡ self.now.fault }
+    {
         self.fault
     }
 
-    // Remembers the first fault that is the device's, or that bytes which it was told are gone.
-    fn note(&mut self, fault: BufferFault) {
-        let is_lost = fault == BufferFault::Fault
-            || fault == BufferFault::Failed
-            || fault == BufferFault::Damaged;
-        if is_lost && self.fault.is_none() {
-            self.fault = Some(fault);
+    // What a buffer answered. The first fault is remembered that is the device's, or that bytes which it was told are gone.
+    fn heed<T>(&mut self, answer: Result<T, BufferFault>) -> Result<T, BufferFault>
+        ensures same { result ≡ answer }
+        ensures rest { self.new ≡ record self.old { fault = fault_after self.old.fault answer } }
+    {
+        if let Err(fault) = &answer
+            && self.fault.is_none()
+            && is_lost(*fault)
+        {
+            self.fault = Some(*fault);
         }
+        answer
     }
 
     /// Appends the delivery's entries to each of these buffers. `false` where one refuses: then none of them gives a receipt.
     pub fn append<R: Wait>(&mut self, rt: &R, buffers: &[BufferNo], delivery: &Delivery<A>) -> bool
         requires { HasEntries delivery.now buffers.now }
+        ensures kept { KeepsLanes self.old self.new }
+        ensures later { self.new.later ≡ self.old.later }
     {
         for at in 0..buffers.len() {
-            if !self.append_to(rt, buffers[at], delivery) {
+            if self.append_to(rt, buffers[at], delivery).is_err() {
                 self.undo(rt, buffers.split_at(at).0);
                 return false;
             }
@@ -99,63 +121,108 @@ impl<D: Dir + Drop, A: Allocator + Copy> Lanes<D, A> {
         true
     }
 
-    fn append_to<R: Wait>(&mut self, rt: &R, buffer: BufferNo, delivery: &Delivery<A>) -> bool
+    // Appends to one of them, and gives the serial of the chunk that has the entries.
+    fn append_to<R: Wait>(
+        &mut self,
+        rt: &R,
+        buffer: BufferNo,
+        delivery: &Delivery<A>,
+    ) -> Result<u64, BufferFault>
         requires { 0 < length delivery.now.message.entries }
+        ensures kept { KeepsLanes self.old self.new }
+        ensures later { self.new.later ≡ self.old.later }
+        ensures fault { self.new.fault ≡ fault_after self.old.fault result }
     {
         let now = self.time;
         let Some(lane) = self.lanes.get_mut(buffer.0) else {
-            return false;
+            return Err(BufferFault::Gone);
         };
-        match lane.append(rt, delivery, now) {
-            Ok(()) => true,
-            Err(fault) => {
-                self.note(fault);
-                false
-            }
-        }
+        let answer = lane.append(rt, delivery, now);
+        self.heed(answer)
     }
 
     // The last append to each of these gets no receipt.
-    fn undo<R: Wait>(&mut self, rt: &R, buffers: &[BufferNo]) {
+    fn undo<R: Wait>(&mut self, rt: &R, buffers: &[BufferNo])
+        ensures { self.new ≡ self.old }
+    {
         for buffer in buffers {
-            if let Some(lane) = self.lanes.get_mut(buffer.0) {
-                lane.undo(rt);
-            }
+            self.undo_at(rt, *buffer);
         }
+    }
+
+    fn undo_at<R: Wait>(&mut self, rt: &R, buffer: BufferNo)
+        ensures { self.new ≡ self.old }
+    {
+        let Some(lane) = self.lanes.get_mut(buffer.0) else {
+            return;
+        };
+        lane.undo(rt);
     }
 
     /// Queues the chunks that are to be queued now.
-    pub fn queue_due<R: Wait>(&mut self, rt: &R) {
-        let now = self.time;
+    pub fn queue_due<R: Wait>(&mut self, rt: &R)
+        ensures kept { KeepsLanes self.old self.new }
+        ensures later { self.new.later ≡ self.old.later }
+    {
         for at in 0..self.lanes.len() {
-            if let Some(lane) = self.lanes.get_mut(at)
-                && let Err(fault) = lane.queue_due(rt, now)
-            {
-                self.note(fault);
-            }
+            let _ = self.queue_due_at(rt, at);
         }
+    }
+
+    fn queue_due_at<R: Wait>(&mut self, rt: &R, at: usize) -> Result<(), BufferFault>
+        ensures kept { KeepsLanes self.old self.new }
+        ensures later { self.new.later ≡ self.old.later }
+        ensures fault { self.new.fault ≡ fault_after self.old.fault result }
+    {
+        let now = self.time;
+        let Some(lane) = self.lanes.get_mut(at) else {
+            return Ok(());
+        };
+        let answer = lane.queue_due(rt, now);
+        self.heed(answer)
     }
 
     /// Makes receipts of all appends, by one sync for each buffer that needs one.
-    pub fn redeem<R: Wait>(&mut self, rt: &R) {
+    pub fn redeem<R: Wait>(&mut self, rt: &R)
+        ensures kept { KeepsLanes self.old self.new }
+        ensures plans { self.new.plans ≡ self.old.plans }
+    {
         for at in 0..self.lanes.len() {
-            if let Some(lane) = self.lanes.get_mut(at)
-                && let Err(fault) = lane.redeem(rt)
-            {
-                self.note(fault);
-            }
+            let _ = self.redeem_at(rt, at);
         }
     }
 
+    fn redeem_at<R: Wait>(&mut self, rt: &R, at: usize) -> Result<(), BufferFault>
+        ensures kept { KeepsLanes self.old self.new }
+        ensures plans { self.new.plans ≡ self.old.plans }
+        ensures fault { self.new.fault ≡ fault_after self.old.fault result }
+    {
+        let Some(lane) = self.lanes.get_mut(at) else {
+            return Ok(());
+        };
+        let answer = lane.redeem(rt);
+        self.heed(answer)
+    }
+
     /// Writes the journals anew that have grown.
-    pub fn renew<R: Wait>(&mut self, rt: &R) {
+    pub fn renew<R: Wait>(&mut self, rt: &R)
+        ensures kept { KeepsLanes self.old self.new }
+        ensures rest { self.new ≡ record self.old { fault = self.new.fault } }
+    {
         for at in 0..self.lanes.len() {
-            if let Some(lane) = self.lanes.get_mut(at)
-                && let Err(fault) = lane.renew(rt)
-            {
-                self.note(fault);
-            }
+            let _ = self.renew_at(rt, at);
         }
+    }
+
+    fn renew_at<R: Wait>(&mut self, rt: &R, at: usize) -> Result<(), BufferFault>
+        ensures kept { KeepsLanes self.old self.new }
+        ensures rest { self.new ≡ record self.old { fault = fault_after self.old.fault result } }
+    {
+        let Some(lane) = self.lanes.get(at) else {
+            return Ok(());
+        };
+        let answer = lane.renew(rt);
+        self.heed(answer)
     }
 
     /// Whether receipts of this buffer come later, since there was no memory for them.
@@ -226,5 +293,19 @@ impl<D: Dir + Drop, A: Allocator + Copy> Lanes<D, A> {
         }
         rest.destroy_empty();
         stubs
+    }
+}
+
+// Whether a fault is the device's, or says that bytes which it was told are gone.
+fn is_lost(fault: BufferFault) -> bool
+    ensures { result ≡ is_lost_fault fault }
+{
+    match fault {
+        BufferFault::Fault | BufferFault::Failed | BufferFault::Damaged => true,
+        BufferFault::Full
+        | BufferFault::TooLarge
+        | BufferFault::Gone
+        | BufferFault::LastSerial
+        | BufferFault::Memory => false,
     }
 }

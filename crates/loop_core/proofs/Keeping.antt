@@ -1,7 +1,10 @@
 -- What a connection keeps.
-use Rattle.std.proofs.Common.{ℕ, ◌≡◌, ◌<◌, ◌⊎◌, inl, inr, List, [], ◌∷◌, ◌++◌, length, sym, subst, Option, None, Some}
-use Rattle.std.specs.Prelude.{IsSomeAnd, Contains}
-use Rattle.std.specs.List.{All}
+use Rattle.std.proofs.Common.{ℕ, ◌≡◌, ◌∙◌, ◌<◌, ◌⊎◌, inl, inr, Bool, true, false, cond, List, [], ◌∷◌, ◌++◌, length, ap, refl, sym, subst, Option, None, Some}
+use Rattle.std.specs.Prelude.{IsSomeAnd, Contains, ◌≢◌, slice_index_or}
+use Rattle.std.proofs.lemmas.List.{get_or-map, length-map}
+use Rattle.std.specs.List.{All, filter}
+use Rattle.relay_conf.specs.declared.output.BufferNo.{BufferNo}
+use Rattle.buffer_lanes.specs.Lanes.{KeepsLanes, LanesState, NoneLater, later_at}
 use Rattle.book_audit.specs.declared.line.Leaf.{Leaf}
 use Rattle.std.proofs.lemmas.List.Elements.{All-nil, All-push, All-head, All-rest, All-same, All-weaker, Contains-append_left}
 use Rattle.ack_receipt.specs.Deliveries.{OpenDelivery}
@@ -11,8 +14,8 @@ use Rattle.forward_core.specs.Demands.{asked_in}
 use Rattle.forward_core.specs.Server.{ServerState, Outcome, after, initial_server}
 use Rattle.relay_ports.specs.Leaves.{Entry, IsRoutedTo}
 use Rattle.buffer_lanes.specs.Waits.{Awaited, HasEntries, Waits}
-use Rattle.buffer_lanes.specs.Collecting.{IsAnswerTo}
-use Rattle.loop_core.specs.Peers.{IsOwed, IsEarned, IsFaithful}
+use Rattle.buffer_lanes.specs.Collecting.{IsAnswerTo, those_later}
+use Rattle.loop_core.specs.Peers.{AreAmong, IsOwed, IsEarned, IsFaithful, awaited_in}
 
 -- a connection that was opened
 pub opened : (entry : Entry) (security : Option Security) (nonce : List ℕ)
@@ -90,3 +93,26 @@ pub has_entries : {B : Type 0} (d : OpenDelivery) (n : ℕ) (given named : List 
     → (0 < n) ⊎ (named ≡ []) → HasEntries d given
 has_entries d n given named e f (inl p) = inl (subst (λ (k : ℕ). 0 < k) (sym e) p)
 has_entries d n given named e f (inr p) = inr (cc)
+
+none_passes : {X : Type 0} (test : X → Bool) → ((x : X) → test x ≡ false) → (xs : List X) → filter test xs ≡ []
+none_passes test none [] = refl
+none_passes {X} test none (x ∷ xs) = ap (λ (b : Bool). cond b (x ∷ filter test xs) (filter test xs)) (none x) ∙ none_passes test none xs
+
+-- What isn't held behind another delivery waits for no receipts where none come later.
+pub none_waits : (later : List Bool) (buffers : List BufferNo) (held : Bool) → NoneLater later → held ≡ false → ¬ ((held ≡ true) ⊎ (those_later later buffers ≢ []))
+none_waits later buffers held none free (inl h) = cc
+none_waits later buffers held none free (inr some) = some (none_passes (later_at later) none buffers)
+
+-- each delivery is among those that it is one of
+pub among_itself : (waits : List Waits) → AreAmong (awaited_in waits) waits
+among_itself waits k d within =
+    let f : Waits → Awaited = λ w. w.awaited in
+    (k, subst (λ (n : ℕ). k < n) (sym (length-map waits f)) within, get_or-map f waits k d (f (slice_index_or waits k d)) within)
+
+-- a call behind another keeps what both keep
+pub keeps_on : {A : Type 0} (old between new : LanesState A) → KeepsLanes old between → KeepsLanes between new → KeepsLanes old new
+keeps_on old between new first next = record {
+  terms = next.terms ∙ first.terms;
+  timings = next.timings ∙ first.timings;
+  fault = λ fault is. next.fault fault (first.fault fault is);
+}

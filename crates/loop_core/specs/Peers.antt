@@ -1,9 +1,9 @@
 -- A client's connection.
-use Rattle.std.specs.Prelude.{List, All, Contains, IsSomeAnd}
+use Rattle.std.specs.Prelude.{List, All, Contains, IsSomeAnd, map}
 use Rattle.ack_receipt.specs.Reservations.{Asked, Reservation}
 use Rattle.forward_core.specs.Server.{ServerState}
 use Rattle.relay_ports.specs.Leaves.{Entry, IsRoutedTo}
-use Rattle.buffer_lanes.specs.Waits.{Waits}
+use Rattle.buffer_lanes.specs.Waits.{Awaited, Waits}
 
 -- the connection's source, its session, and the deliveries that wait
 pub record PeerState : Type 0 where
@@ -24,3 +24,11 @@ pub record IsEarned (entry : Entry) (reserved : Reservation) : Type 0 where
 pub record IsFaithful (entry : Entry) (asked : List Asked) (taken : List Reservation) (waits : List Waits) : Type 0 where
   pub owed : All (IsOwed entry asked) waits
   pub earned : All (IsEarned entry) taken
+
+-- what these deliveries wait for
+abbrev pub awaited_in : List Waits → List Awaited
+awaited_in waits = map (λ w. w.awaited) waits
+
+-- each of these deliveries is among those
+abbrev pub AreAmong : List Awaited → List Waits → Type 0
+AreAmong before waits = All (λ w. Contains before w.awaited) waits

@@ -1,9 +1,11 @@
 //! A client's connection, without its socket.
 
-ghost use Rattle.std.specs.Prelude.{◌≡◌, ◌≤◌, [], drop, length, All, Contains, IfOk};
+ghost use Rattle.std.specs.Prelude.{◌≡◌, ◌≤◌, [], List, drop, length, All, Contains, IfOk};
 ghost use Rattle.ack_receipt.specs.Reservations.{asked_of};
 ghost use Rattle.event_modes.specs.Reading.{meaning};
-ghost use Rattle.loop_core.specs.Peers.{IsEarned, IsFaithful, IsOwed};
+ghost use Rattle.buffer_lanes.specs.Lanes.{KeepsLanes, NoneLater};
+ghost use Rattle.buffer_lanes.specs.Waits.{Awaited};
+ghost use Rattle.loop_core.specs.Peers.{AreAmong, IsEarned, IsFaithful, IsOwed, awaited_in};
 ghost use Rattle.std.specs.Arc.{arc_value};
 ghost use Rattle.forward_core.specs.Handshakes.{IsHosted};
 ghost use Rattle.forward_core.specs.Demands.{wanted};
@@ -77,6 +79,7 @@ impl<A: Allocator + Copy> Peer<A> {
         numbers: &mut Numbers,
     ) -> Result<(), LoopFault>
         ensures entry { self.new.entry ≡ self.old.entry }
+        ensures lanes { KeepsLanes lanes.old lanes.new }
     {
         let demands = match self.session.feed(piece) {
             Ok(demands) => demands,
@@ -100,6 +103,7 @@ impl<A: Allocator + Copy> Peer<A> {
     ) -> Result<(), LoopFault>
         requires { All (λ demand. IsAskedIn self.old.session.asked (wanted demand)) demands.items }
         ensures entry { self.new.entry ≡ self.old.entry }
+        ensures lanes { KeepsLanes lanes.old lanes.new }
     {
         let mut rest = demands.into_iter();
         while let Some(demand) = rest.next() {
@@ -130,6 +134,7 @@ impl<A: Allocator + Copy> Peer<A> {
         requires { Contains self.old.session.asked (asked_of (meaning message)) }
         ensures entry { self.new.entry ≡ self.old.entry }
         ensures session { self.new.session ≡ self.old.session }
+        ensures lanes { KeepsLanes lanes.old lanes.new }
     {
         let Some(branches) = self.inlet.branches(alloc, &message)? else {
             return Ok(());
@@ -161,10 +166,11 @@ impl<A: Allocator + Copy> Peer<A> {
     /// refused. Without memory for an answer nothing more is read: its client is to send again.
     pub fn settle<R: Wait, D: Dir + Drop>(&mut self, rt: &R, alloc: A, lanes: &mut Lanes<D, A>)
         ensures entry { self.new.entry ≡ self.old.entry }
+        ensures lanes { lanes.new ≡ lanes.old }
+        // What waits on waited before: nothing, where no buffer's receipts come later.
+        ensures waited { AreAmong (awaited_in self.old.waits) self.new.waits }
+        ensures ended { NoneLater lanes.old.later → self.new.waits ≡ [] }
     {
-        if self.waiting.is_empty() {
-            return;
-        }
         let list = mem::replace(&mut self.waiting, Vec::new(alloc));
         let (later, answered) = settle_all(rt, alloc, &self.inlet, &mut self.session, list, lanes);
         let none = mem::replace(&mut self.waiting, later);
@@ -208,7 +214,9 @@ impl<A: Allocator + Copy> Peer<A> {
     }
 
     /// Ends the connection; what waits is abandoned.
-    pub fn end<R: Wait, D: Dir + Drop>(self, rt: &R, lanes: &mut Lanes<D, A>) {
+    pub fn end<R: Wait, D: Dir + Drop>(self, rt: &R, lanes: &mut Lanes<D, A>)
+        ensures { lanes.new ≡ lanes.old }
+    {
         let Peer {
             inlet: _,
             session: _,
@@ -224,7 +232,9 @@ fn abandon_all<R: Wait, D: Dir + Drop, A: Allocator + Copy>(
     rt: &R,
     list: Vec<Waiting<A>, A>,
     lanes: &mut Lanes<D, A>,
-) {
+)
+    ensures { lanes.new ≡ lanes.old }
+{
     let mut rest = list.into_iter();
     while let Some(waiting) = rest.next() {
         lanes.settle(rt, waiting.abandon());
@@ -243,7 +253,10 @@ fn settle_all<R: Wait, D: Dir + Drop, A: Allocator + Copy>(
     lanes: &mut Lanes<D, A>,
 ) -> (Vec<Waiting<A>, A>, bool)
     requires { IsFaithful inlet.now session.old.asked session.old.taken list.items }
-    ensures { IsFaithful inlet.now session.new.asked session.new.taken result.0.items }
+    ensures kept { IsFaithful inlet.now session.new.asked session.new.taken result.0.items }
+    ensures lanes { lanes.new ≡ lanes.old }
+    ensures waited { AreAmong (awaited_in list.items) result.0.items }
+    ensures ended { NoneLater lanes.old.later → result.0.items ≡ [] }
 {
     let mut later = Vec::new(alloc);
     let mut answered = true;
@@ -268,6 +281,9 @@ fn settle_one<R: Wait, D: Dir + Drop, A: Allocator + Copy>(
     requires before { IsFaithful inlet.now session.old.asked session.old.taken later.old.items }
     ensures asked { session.new.asked ≡ session.old.asked }
     ensures kept { IsFaithful inlet.now session.new.asked session.new.taken later.new.items }
+    ensures lanes { lanes.new ≡ lanes.old }
+    ensures waited { (before : List Awaited) → AreAmong before later.old.items → Contains before waiting.awaited → AreAmong before later.new.items }
+    ensures ended { NoneLater lanes.old.later → later.old.items ≡ [] → later.new.items ≡ [] }
 {
     let held = !later.is_empty();
     match waiting.collect(rt, lanes, held) {

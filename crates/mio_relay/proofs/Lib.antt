@@ -1,2 +1,4 @@
 pub mod Listening
 pub mod Slots
+pub mod Telling
+pub mod Staying

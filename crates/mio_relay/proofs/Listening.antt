@@ -1,6 +1,6 @@
 -- Sources that are bound one after another.
-use Rattle.std.proofs.Common.{ℕ, zero, suc, ◌≡◌, ◌∙◌, ◌+◌, List, [], ◌∷◌, ◌++◌, length, map, ap, sym, subst, append_assoc, append-nil}
-use Rattle.std.specs.Prelude.{IfSome, IsSomeAnd, Some, None, Option, slice_get}
+use Rattle.std.proofs.Common.{ℕ, zero, suc, ◌≡◌, ◌∙◌, List, [], ◌∷◌, ◌++◌, length, map, ap, sym, subst, append_assoc, append-nil}
+use Rattle.std.specs.Prelude.{IfSome, slice_get}
 use Rattle.std.proofs.lemmas.List.{map_push, length-map}
 use Rattle.relay_sockets.specs.Endpoints.{Endpoint}
 use Rattle.mio_relay.specs.Connections.{AreListening, Hosted, Served, sources_in}
@@ -47,3 +47,8 @@ moved_all {S} e made left all none whole = sym (append-nil made) ∙ ap (λ (z :
 pub endpoints_in : (hosted : List Hosted) → map (λ h. h.source.endpoint) hosted ≡ map (λ source. source.endpoint) (sources_in hosted)
 endpoints_in [] i = []
 endpoints_in (h ∷ hosted) i = h.source.endpoint ∷ endpoints_in hosted i
+
+-- what g makes of what f makes
+pub map_again : {X Y Z : Type 0} (f : X → Y) (g : Y → Z) (xs : List X) → map g (map f xs) ≡ map (λ x. g (f x)) xs
+map_again f g [] i = []
+map_again f g (x ∷ xs) i = g (f x) ∷ map_again f g xs i

@@ -1,10 +1,12 @@
 -- What is at the keys of a loop's connections, after one changed.
-use Rattle.std.proofs.Common.{ℕ, ◌≡◌, ◌∙◌, ◌<◌, List, length, ap, sym, subst, Option, None, Some}
-use Rattle.std.specs.Prelude.{IfSome, IsSomeAnd, option_map, slice_get, slice_index_or, slice_set}
-use Rattle.std.proofs.lemmas.List.Elements.{All-set}
+use Rattle.std.proofs.Common.{ℕ, ◌≡◌, ◌∙◌, ◌+◌, ◌<◌, ◌≤◌, ◌⊎◌, inl, inr, arith, Bool, true, false, List, [], length, ap, sym, subst, Option, None, Some, Result, Ok, Err}
+use Rattle.std.specs.Prelude.{IfSome, IsSomeAnd, OnOk, option_map, slice_get, slice_index_or, slice_set}
+use Rattle.std.proofs.Math.Nat.{eq-or-lt_of_le}
+use Rattle.std.proofs.lemmas.List.{get_or-set_same, get_or-set_other, length-set}
+use Rattle.std.proofs.lemmas.List.Elements.{All-nil, All-set}
 use Rattle.std.proofs.lemmas.Option.{slice_get-map}
 use Rattle.relay_sockets.specs.Endpoints.{CameAt, Origin}
-use Rattle.mio_relay.specs.Connections.{AreListening, AreServed, BeginsAt, ConnectionState, GoesOn, GoOn, Hosted, IsSameConnection, IsServed, Served, sources_in}
+use Rattle.mio_relay.specs.Connections.{AreListening, AreServed, AreSettled, AreSettledBelow, BeginsAt, ConnectionState, HoldsNone, GoesOn, GoOn, Hosted, IsSameConnection, IsServed, Served, sources_in}
 use Rattle.relay_sockets.specs.Endpoints.{Endpoint}
 use Rattle.relay_sockets.specs.declared.network.Accepted.{Accepted}
 use Rattle.relay_sockets.specs.declared.network.Accepted.TheVariants.{Stream, Again, Empty, Refused}
@@ -78,3 +80,55 @@ came_there {S} origin bound hosted shown place r same listening came =
     of : (s : S) (found : Option Hosted) → slice_get hosted place ≡ found → IsSomeAnd found (λ h. origin s ≡ CameAt h.number) → origin s ≡ CameAt place
     of s None e p = absurd p
     of s (Some h) e p = came_at bound hosted place h (origin s) listening e p
+
+-- none waits at the keys below this one and at this one
+pub settled_at : (slots : List (Option ConnectionState)) (key : ℕ) (new : Option ConnectionState) → HoldsNone new → AreSettledBelow key slots
+    → AreSettledBelow (key + 1) (slice_set slots key new)
+settled_at slots key new none below k d lt within = by (eq-or-lt_of_le {n = k} {m = key} (omega arith))
+  where
+    there : k < length slots
+    there = subst (λ (n : ℕ). k < n) (length-set slots key new) within
+
+    by : (k ≡ key) ⊎ (k < key) → HoldsNone (slice_index_or (slice_set slots key new) k d)
+    by (inl e) =
+        subst (λ (j : ℕ). HoldsNone (slice_index_or (slice_set slots key new) j d)) (sym e)
+        (subst HoldsNone (sym (get_or-set_same slots key new d (subst (λ (j : ℕ). j < length slots) e there))) none)
+    by (inr l) = subst HoldsNone (sym (get_or-set_other slots key k new d (λ e. absurd (omega arith)))) (below k d l there)
+
+-- what changes at a key leaves none waiting there
+pub rests_at : (slots : List (Option ConnectionState)) (key : ℕ) (old new : Option ConnectionState) → key < length slots → old ≡ slice_index_or slots key old
+    → (HoldsNone old → HoldsNone new) → AreSettled slots → AreSettled (slice_set slots key new)
+rests_at slots key old new within at rests all = All-set HoldsNone slots key new (rests (subst HoldsNone (sym at) (all key old within))) all
+
+-- there is nothing at this key, so that none waits there
+pub settled_past : (slots : List (Option ConnectionState)) (key len : ℕ) → len ≡ length slots → (key < len → ⊥) → AreSettledBelow key slots → AreSettledBelow (key + 1) slots
+settled_past slots key len is past below k d lt within = by (eq-or-lt_of_le {n = k} {m = key} (omega arith))
+  where
+    by : (k ≡ key) ⊎ (k < key) → HoldsNone (slice_index_or slots k d)
+    by (inl e) = absurd (past (subst (λ (n : ℕ). key < n) (sym is) (subst (λ (j : ℕ). j < length slots) e within)))
+    by (inr l) = below k d l within
+
+-- what is taken away leaves none waiting there
+pub rests_taken : (slots : List (Option ConnectionState)) (key : ℕ) (new : Option ConnectionState) → new ≡ None → AreSettled slots → AreSettled (slice_set slots key new)
+rests_taken slots key new e all = All-set HoldsNone slots key new (subst HoldsNone (sym e) tt) all
+
+-- no is not yes
+pub no_not_yes : false ≡ true → ⊥
+no_not_yes e = subst at e tt
+  where
+    at : Bool → Type 0
+    at true = ⊥
+    at false = Unit {0}
+
+-- none waits at the keys below the last
+pub all_settled : (slots : List (Option ConnectionState)) (end : ℕ) → length slots ≤ end → AreSettledBelow end slots → AreSettled slots
+all_settled slots end past below k d within = below k d (omega arith) within
+
+-- what holds anyway holds where it is answered well
+pub on_ok : {T E : Type 0} (r : Result T E) (P : Type 0) → P → OnOk r P
+on_ok (Ok _) P p = p
+on_ok (Err _) P p = tt
+
+-- no connection is there yet
+pub none_served : (sources : List Served) (slots : List (Option ConnectionState)) → slots ≡ [] → AreServed sources slots
+none_served sources slots none = subst (AreServed sources) (sym none) (All-nil (λ (slot : Option ConnectionState). IfSome slot (IsServed sources)))

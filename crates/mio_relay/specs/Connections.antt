@@ -1,5 +1,5 @@
 -- The connections of a relay's loop, and the sources that they came in at.
-use Rattle.std.specs.Prelude.{ℕ, ◌≡◌, List, [], map, Option, Some, IfSome, slice_get, string_bytes}
+use Rattle.std.specs.Prelude.{ℕ, ◌≡◌, ◌<◌, List, [], length, map, Option, Some, IfSome, slice_get, slice_index_or, string_bytes}
 use Rattle.std.specs.List.{All}
 use Rattle.relay_conf.specs.declared.relay.Relay.{Relay}
 use Rattle.relay_conf.specs.declared.relay.Source.{Source}
@@ -80,6 +80,22 @@ GoesOn old new = (sources : List Served) → IfSome old (IsServed sources) → I
 -- and so does what is at each key
 abbrev pub GoOn : List (Option ConnectionState) → List (Option ConnectionState) → Type 0
 GoOn old new = (sources : List Served) → AreServed sources old → AreServed sources new
+
+-- no delivery of a connection waits
+abbrev pub IsSettled : ConnectionState → Type 0
+IsSettled connection = connection.peer.waits ≡ []
+
+-- none waits at a key, whatever is there
+abbrev pub HoldsNone : Option ConnectionState → Type 0
+HoldsNone slot = IfSome slot IsSettled
+
+-- none waits at each of these keys
+abbrev pub AreSettled : List (Option ConnectionState) → Type 0
+AreSettled slots = All HoldsNone slots
+
+-- nor at each that is below this
+abbrev pub AreSettledBelow : ℕ → List (Option ConnectionState) → Type 0
+AreSettledBelow end slots = (key : ℕ) (none : Option ConnectionState) → key < end → key < length slots → HoldsNone (slice_index_or slots key none)
 
 -- A session that begins: its messages go where the source's do, and its client has to prove the source's key, if it has one.
 pub record BeginsAt (source : Served) (nonce : List ℕ) (peer : PeerState) : Type 0 where

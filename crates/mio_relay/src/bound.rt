@@ -1,7 +1,7 @@
 //! A relay whose sources are bound: no file of it was touched yet.
 
-ghost use Rattle.std.specs.Prelude.{◌≡◌, [], map, IfOk};
-ghost use Rattle.relay_buffers.specs.Buffers.{AreBuffersOf};
+ghost use Rattle.std.specs.Prelude.{◌≡◌, [], None, map, IfOk};
+ghost use Rattle.relay_buffers.specs.Buffers.{AreBuffersOf, ArePlanned};
 ghost use Rattle.mio_relay.specs.Connections.{served_as};
 
 use crate::connections::Connections;
@@ -103,6 +103,9 @@ impl<N: Network + Drop, A: Allocator + Copy> BoundRelay<N, A> {
         // Each job is of one output, with the buffer that the loop has for it.
         ensures jobs { IfOk result (λ opened. (map (λ job. job.output) opened.jobs.items ≡ self.outputs)
             × (map (λ job. job.terms) opened.jobs.items ≡ opened.turning.buffers)) }
+        // The loop queues what is staged in these buffers when their outputs' settings say: what was when they were opened, since then.
+        ensures planned { IfOk result (λ opened. ArePlanned opened.turning.time opened.jobs.items opened.turning.lanes.plans) }
+        ensures fault { IfOk result (λ opened. opened.turning.lanes.fault ≡ None) }
     {
         let BoundRelay {
             alloc,
@@ -116,11 +119,12 @@ impl<N: Network + Drop, A: Allocator + Copy> BoundRelay<N, A> {
         let opened = open_all(alloc, number, outputs, folders, time)?;
         let ready = Vec::from_elem(alloc, true, listeners.len())?;
         let piece = Vec::from_elem(alloc, 0, PIECE)?;
+        let parts = parts_of(alloc, opened)?;
         let RelayParts {
             lanes,
             buffers,
             jobs,
-        } = parts_of(alloc, opened)?;
+        } = parts;
         let turning = InLoop {
             alloc,
             network,

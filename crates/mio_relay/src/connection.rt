@@ -1,7 +1,8 @@
 //! A client's connection: its stream, its session, and what is known of the stream.
 
 ghost use Rattle.std.specs.Prelude.{◌≡◌, IfErr};
-ghost use Rattle.mio_relay.specs.Connections.{ConnectionState, IsSameConnection};
+ghost use Rattle.buffer_lanes.specs.Lanes.{KeepsLanes, NoneLater};
+ghost use Rattle.mio_relay.specs.Connections.{ConnectionState, IsSameConnection, IsSettled};
 
 use ack_receipt::Numbers;
 use buffer_lanes::Lanes;
@@ -12,6 +13,21 @@ use std::alloc::Allocator;
 use std::marker::Model;
 use std::sync::Wait;
 use std::time::Duration;
+
+/// The numbers of deliveries have run out.
+#[derive(Clone, Copy, Debug, PartialEq, Eq)]
+pub struct NoNumber;
+
+impl From<NoNumber> for LoopFault {
+    ghost use Rattle.std.specs.Prelude.{◌≡◌};
+    ghost use Rattle.loop_core.specs.declared.fault.LoopFault.TheVariants as fault;
+
+    ghost from_gives = { λ _ e. e ≡ fault.NoNumber };
+
+    fn from(_none: NoNumber) -> LoopFault {
+        LoopFault::NoNumber
+    }
+}
 
 /// A connection with more bytes outgoing than this isn't read.
 const MOST_OUTGOING: usize = 1_048_576;
@@ -90,7 +106,7 @@ impl<S: Wire, A: Allocator + Copy> Connection<S, A> {
 
     /// Reads a piece, if there is one, and has it received.
     ///
-    /// `NoNumber`: the numbers of deliveries have run out. Where what came may be lost for want of memory, the connection is to be
+    /// The error is that the numbers of deliveries have run out. Where what came may be lost for want of memory, the connection is to be
     /// closed: its client is to send again.
     pub fn read<R: Wait, D: Dir + Drop>(
         &mut self,
@@ -99,8 +115,9 @@ impl<S: Wire, A: Allocator + Copy> Connection<S, A> {
         piece: &mut [u8],
         lanes: &mut Lanes<D, A>,
         numbers: &mut Numbers,
-    ) -> Result<(), LoopFault>
-        ensures { IsSameConnection self.old self.new }
+    ) -> Result<(), NoNumber>
+        ensures same { IsSameConnection self.old self.new }
+        ensures lanes { KeepsLanes lanes.old lanes.new }
     {
         if !self.wants_reading() {
             return Ok(());
@@ -113,7 +130,7 @@ impl<S: Wire, A: Allocator + Copy> Connection<S, A> {
             .peer
             .receive(rt, alloc, piece.split_at(n).0, lanes, numbers)
         {
-            Err(LoopFault::NoNumber) => Err(LoopFault::NoNumber),
+            Err(LoopFault::NoNumber) => Err(NoNumber),
             Err(_) => {
                 self.is_broken = true;
                 Ok(())
@@ -142,14 +159,17 @@ impl<S: Wire, A: Allocator + Copy> Connection<S, A> {
 
     /// Ends the deliveries that have what they wait for.
     pub fn settle<R: Wait, D: Dir + Drop>(&mut self, rt: &R, alloc: A, lanes: &mut Lanes<D, A>)
-        ensures { IsSameConnection self.old self.new }
+        ensures same { IsSameConnection self.old self.new }
+        ensures lanes { lanes.new ≡ lanes.old }
+        ensures settled { NoneLater lanes.old.later → IsSettled self.new }
     {
         self.peer.settle(rt, alloc, lanes);
     }
 
     /// Writes what is outgoing, until the stream takes no more.
     pub fn write(&mut self)
-        ensures { IsSameConnection self.old self.new }
+        ensures same { IsSameConnection self.old self.new }
+        ensures waits { self.new.peer.waits ≡ self.old.peer.waits }
     {
         for _ in 0..u64::MAX {
             if self.is_blocked || self.is_broken || self.peer.outgoing().is_empty() {
@@ -160,7 +180,8 @@ impl<S: Wire, A: Allocator + Copy> Connection<S, A> {
     }
 
     fn write_some(&mut self)
-        ensures { IsSameConnection self.old self.new }
+        ensures same { IsSameConnection self.old self.new }
+        ensures waits { self.new.peer.waits ≡ self.old.peer.waits }
     {
         match self.stream.put(self.peer.outgoing(), Duration::ZERO) {
             Moved::Some(n) => self.peer.sent(n),

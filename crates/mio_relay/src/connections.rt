@@ -1,13 +1,13 @@
 //! The connections of a loop, by their keys.
 
-ghost use Rattle.std.specs.Prelude.{◌≡◌, [], List, length};
-ghost use Rattle.mio_relay.specs.Connections.{AreServed, GoOn, GoesOn, IsServed, Served};
+ghost use Rattle.std.specs.Prelude.{◌≡◌, ◌+◌, [], List, length};
+ghost use Rattle.buffer_lanes.specs.Lanes.{KeepsLanes, NoneLater};
+ghost use Rattle.mio_relay.specs.Connections.{AreServed, AreSettled, AreSettledBelow, GoOn, GoesOn, HoldsNone, IsServed, Served};
 
-use crate::connection::{Connection, ConnectionParts};
+use crate::connection::{Connection, ConnectionParts, NoNumber};
 use ack_receipt::Numbers;
 use buffer_lanes::Lanes;
 use disk_files::Dir;
-use loop_core::LoopFault;
 use relay_sockets::Wire;
 use slab::Slab;
 use std::alloc::{AllocError, Allocator};
@@ -84,10 +84,14 @@ impl<S: Wire + Drop, A: Allocator + Copy> Connections<S, A> {
         slot.replace(connection)
     }
 
-    /// Takes the connection at this key, if there is one.
+    /// Takes the connection at this key, if there is one that is to be closed now.
     pub fn take(&mut self, key: usize) -> Option<Connection<S, A>>
-        ensures { GoOn self.old self.new }
+        ensures goes { GoOn self.old self.new }
+        ensures settled { AreSettled self.old → AreSettled self.new }
     {
+        if !self.is_over(key) {
+            return None;
+        }
         let _ = self.keys.try_remove(key);
         let Some(slot) = self.slots.get_mut(key) else {
             return None;
@@ -113,8 +117,8 @@ impl<S: Wire + Drop, A: Allocator + Copy> Connections<S, A> {
         }
     }
 
-    /// Whether the connection at this key is to be closed now.
-    pub fn is_over(&self, key: usize) -> bool {
+    // Whether the connection at this key is to be closed now.
+    fn is_over(&self, key: usize) -> bool {
         match self.slots.get(key) {
             Some(Some(connection)) => connection.is_over(),
             _ => false,
@@ -130,8 +134,9 @@ impl<S: Wire + Drop, A: Allocator + Copy> Connections<S, A> {
         piece: &mut [u8],
         lanes: &mut Lanes<D, A>,
         numbers: &mut Numbers,
-    ) -> Result<(), LoopFault>
-        ensures { GoOn self.old self.new }
+    ) -> Result<(), NoNumber>
+        ensures goes { GoOn self.old self.new }
+        ensures lanes { KeepsLanes lanes.old lanes.new }
     {
         let Some(slot) = self.slots.get_mut(key) else {
             return Ok(());
@@ -147,7 +152,10 @@ impl<S: Wire + Drop, A: Allocator + Copy> Connections<S, A> {
         alloc: A,
         lanes: &mut Lanes<D, A>,
     )
-        ensures { GoOn self.old self.new }
+        ensures goes { GoOn self.old self.new }
+        ensures lanes { lanes.new ≡ lanes.old }
+        ensures keys { length self.new ≡ length self.old }
+        ensures settled { NoneLater lanes.old.later → AreSettledBelow key self.old → AreSettledBelow (key + 1) self.new }
     {
         let Some(slot) = self.slots.get_mut(key) else {
             return;
@@ -157,7 +165,8 @@ impl<S: Wire + Drop, A: Allocator + Copy> Connections<S, A> {
 
     /// Writes what is outgoing to the connection at this key.
     pub fn write(&mut self, key: usize)
-        ensures { GoOn self.old self.new }
+        ensures goes { GoOn self.old self.new }
+        ensures settled { AreSettled self.old → AreSettled self.new }
     {
         let Some(slot) = self.slots.get_mut(key) else {
             return;
@@ -166,7 +175,9 @@ impl<S: Wire + Drop, A: Allocator + Copy> Connections<S, A> {
     }
 
     /// Ends all of them; what waits is abandoned.
-    pub fn end<R: Wait, D: Dir + Drop>(self, rt: &R, lanes: &mut Lanes<D, A>) {
+    pub fn end<R: Wait, D: Dir + Drop>(self, rt: &R, lanes: &mut Lanes<D, A>)
+        ensures { lanes.new ≡ lanes.old }
+    {
         let Connections { keys: _, slots } = self;
         let mut rest = slots.into_iter();
         while let Some(slot) = rest.next() {
@@ -199,8 +210,9 @@ fn read_slot<S: Wire, R: Wait, D: Dir + Drop, A: Allocator + Copy>(
     piece: &mut [u8],
     lanes: &mut Lanes<D, A>,
     numbers: &mut Numbers,
-) -> Result<(), LoopFault>
-    ensures { GoesOn slot.old slot.new }
+) -> Result<(), NoNumber>
+    ensures goes { GoesOn slot.old slot.new }
+    ensures lanes { KeepsLanes lanes.old lanes.new }
 {
     match slot {
         Some(connection) => connection.read(rt, alloc, piece, lanes, numbers),
@@ -214,7 +226,9 @@ fn settle_slot<S: Wire, R: Wait, D: Dir + Drop, A: Allocator + Copy>(
     alloc: A,
     lanes: &mut Lanes<D, A>,
 )
-    ensures { GoesOn slot.old slot.new }
+    ensures goes { GoesOn slot.old slot.new }
+    ensures lanes { lanes.new ≡ lanes.old }
+    ensures settled { NoneLater lanes.old.later → HoldsNone slot.new }
 {
     if let Some(connection) = slot {
         connection.settle(rt, alloc, lanes);
@@ -222,7 +236,8 @@ fn settle_slot<S: Wire, R: Wait, D: Dir + Drop, A: Allocator + Copy>(
 }
 
 fn write_slot<S: Wire, A: Allocator + Copy>(slot: &mut Option<Connection<S, A>>)
-    ensures { GoesOn slot.old slot.new }
+    ensures goes { GoesOn slot.old slot.new }
+    ensures settled { HoldsNone slot.old → HoldsNone slot.new }
 {
     if let Some(connection) = slot {
         connection.write();

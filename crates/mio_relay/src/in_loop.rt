@@ -1,18 +1,23 @@
 //! The loop that takes messages in.
 
-ghost use Rattle.std.specs.Prelude.{◌≡◌, [], map, IfOk};
+ghost use Rattle.std.specs.Prelude.{◌≡◌, [], None, map, IfErr, IfOk, OnOk};
 ghost use Rattle.std.specs.Arc.{arc_value};
 ghost use Rattle.relay_buffers.specs.Buffers.{AreBuffersOf};
 ghost use Rattle.relay_ports.specs.Outputs.{outputs_in};
 ghost use Rattle.relay_ports.specs.Setups.{CanRun};
-ghost use Rattle.mio_relay.specs.Connections.{AreServed, sources_of};
-ghost use Rattle.mio_relay.specs.Loops.{Stays};
+ghost use Rattle.buffer_lanes.specs.Lanes.{NoneLater};
+ghost use Rattle.mio_relay.specs.Connections.{AreServed, AreSettled, sources_of};
+ghost use Rattle.mio_relay.specs.Loops.{Rests, Stays};
+ghost use Rattle.mio_relay.specs.Faults.{IsReason, IsTold, told_of};
 
 use crate::bound::{BoundRelay, OpenRelay};
+use crate::connection::NoNumber;
 use crate::connections::Connections;
 use crate::listener::{Listener, loop_fault};
+use crate::stopping::Told;
 use ack_receipt::{Numbers, SharedBuffer, Stub};
 use buffer_lanes::Lanes;
+use buffer_store::BufferFault;
 use disk_files::Dir;
 use loop_core::LoopFault;
 use relay_buffers::{Folders, SystemDir, SystemFolders};
@@ -25,7 +30,7 @@ use std::net::Net;
 use std::os::unix::fs::FileExt;
 use std::random::RandomSource;
 use std::rt::Files;
-use std::sync::atomic::{AtomicBool, Ordering};
+use std::sync::atomic::AtomicBool;
 use std::sync::{Arc, Wait};
 use std::time::Clock;
 
@@ -54,7 +59,7 @@ pub struct InLoop<N: Network + Drop, D: Dir + Drop, A: Allocator> {
 }
 
 impl<N: Network + Drop, D: Dir + Drop, A: Allocator> Model for InLoop<N, D, A> {
-    ghost use Rattle.std.specs.Prelude.{map};
+    ghost use Rattle.std.specs.Prelude.{◌≡◌, map};
     ghost use Rattle.std.specs.Arc.{arc_value};
     ghost use Rattle.mio_relay.specs.Connections.{AreListening, AreServed, sources_in};
     ghost use Rattle.mio_relay.specs.Loops.{LoopState};
@@ -66,10 +71,14 @@ impl<N: Network + Drop, D: Dir + Drop, A: Allocator> Model for InLoop<N, D, A> {
       sources = sources_in l.listeners.items;
       connections = l.connections;
       buffers = map (λ buffer. arc_value buffer) l.buffers.items;
+      lanes = l.lanes;
+      time = l.time;
     } };
 
-    // Each source is bound at its address, and each connection is served as one of the source at whose listener it came in.
-    ghost invariant = { λ l. AreListening (N.bound l.network) l.listeners.items × AreServed (sources_in l.listeners.items) l.connections };
+    // Each source is bound at its address, each connection is served as one of the source at whose listener it came in, and the loop uses the
+    // relay's own buffers, in their order.
+    ghost invariant = { λ l. AreListening (N.bound l.network) l.listeners.items × AreServed (sources_in l.listeners.items) l.connections
+        × (l.lanes.terms ≡ map (λ buffer. arc_value buffer) l.buffers.items) };
 }
 
 /// What is left of a loop.
@@ -179,6 +188,14 @@ impl<N: Network + Drop, D: Dir + Drop, A: Allocator + Copy> InLoop<N, D, A> {
         let _ = &self.network;
     }
 
+    /// The buffers that messages are stored in are the relay's, in the order of their numbers. The call does nothing: it stands for what
+    /// the type keeps.
+    pub fn uses_its_buffers(&self)
+        ensures { self.now.lanes.terms ≡ self.now.buffers }
+    {
+        let _ = &self.network;
+    }
+
     /// The relay's buffers, in the order of their numbers, for the flush threads.
     pub fn buffers(&self) -> &[Arc<SharedBuffer<D, A>, A>]
         ensures { map (λ buffer. arc_value buffer) result.now ≡ self.now.buffers }
@@ -204,9 +221,13 @@ impl<N: Network + Drop, D: Dir + Drop, A: Allocator + Copy> InLoop<N, D, A> {
     /// answers.
     ///
     /// Each delivery that began is acknowledged or abandoned when it returns, but for those whose receipts there was no memory
-    /// for: they wait for the next turn, in which nothing is read. After an error the loop is to be ended.
+    /// for: they wait for the next turn, in which nothing is read. After an error the loop is to be ended: `Buffer` where a buffer has a fault that
+    /// ends it, `NoNumber` where the numbers of deliveries have run out, and `Poll` and `Memory` where the system reports nothing of sockets.
     pub fn turn<R: Wait>(&mut self, rt: &R) -> Result<(), LoopFault>
-        ensures { Stays self.old self.new }
+        ensures stays { Stays self.old self.new }
+        ensures settled { OnOk result (NoneLater self.new.lanes.later → AreSettled self.new.connections) }
+        ensures faultless { OnOk result (self.new.lanes.fault ≡ None) }
+        ensures came { IfErr result (IsReason self.new.lanes.fault) }
     {
         self.wait()?;
         self.set_time();
@@ -232,7 +253,7 @@ impl<N: Network + Drop, D: Dir + Drop, A: Allocator + Copy> InLoop<N, D, A> {
     }
 
     // Reads what came, unless appends wait for their receipts.
-    fn take_in<R: Wait>(&mut self, rt: &R) -> Result<(), LoopFault>
+    fn take_in<R: Wait>(&mut self, rt: &R) -> Result<(), NoNumber>
         ensures { Stays self.old self.new }
     {
         if self.lanes.have_pendings() {
@@ -250,33 +271,39 @@ impl<N: Network + Drop, D: Dir + Drop, A: Allocator + Copy> InLoop<N, D, A> {
     }
 
     fn renew<R: Wait>(&mut self, rt: &R)
-        ensures { Stays self.old self.new }
+        ensures stays { Stays self.old self.new }
+        ensures rests { Rests self.old self.new }
     {
         self.lanes.renew(rt);
     }
 
-    /// Turns until the flag is set, or a fault comes; then ends what waits, without an answer.
-    pub fn run<R: Wait>(self, rt: &R, stop: &AtomicBool) -> Ended<A> {
+    /// Turns until the flag is set, or a fault comes; then ends what waits, without an answer. A buffer's fault that stands is told also
+    /// where the flag is set.
+    pub fn run<R: Wait>(self, rt: &R, stop: &AtomicBool) -> Ended<A>
+        ensures { IsTold self.lanes.fault result.fault }
+    {
         let mut turning = self;
-        let fault = turning.turn_until(rt, stop);
-        turning.end(rt, fault)
+        let end = turning.turn_until(rt, stop);
+        turning.end(rt, end)
     }
 
-    fn turn_until<R: Wait>(&mut self, rt: &R, stop: &AtomicBool) -> Option<LoopFault>
-        ensures { Stays self.old self.new }
+    // Turns until the flag is seen set. The error is that of the last turn.
+    fn turn_until<R: Wait>(&mut self, rt: &R, stop: &AtomicBool) -> Result<Told, LoopFault>
+        ensures stays { Stays self.old self.new }
+        ensures came { IfErr result (IsReason self.new.lanes.fault) }
     {
         for _ in rt.forever() {
-            if stop.load(Ordering::SeqCst) {
-                return None;
+            if let Some(told) = Told::seen(stop) {
+                return Ok(told);
             }
-            if let Err(fault) = self.turn(rt) {
-                return Some(fault);
-            }
+            self.turn(rt)?;
         }
-        None
+        unreachable!()
     }
 
-    fn end<R: Wait>(self, rt: &R, fault: Option<LoopFault>) -> Ended<A> {
+    fn end<R: Wait>(self, rt: &R, end: Result<Told, LoopFault>) -> Ended<A>
+        ensures { result.fault ≡ told_of self.lanes.fault end }
+    {
         let InLoop {
             alloc,
             network: _,
@@ -292,10 +319,24 @@ impl<N: Network + Drop, D: Dir + Drop, A: Allocator + Copy> InLoop<N, D, A> {
             time: _,
         } = self;
         connections.end(rt, &mut lanes);
+        let fault = told(end, lanes.fault());
         let stubs = match lanes.end(rt) {
             Some(stubs) => stubs,
             None => Vec::new(alloc),
         };
         Ended { stubs, fault }
+    }
+}
+
+// What is told in the end: the fault of the last turn, or else the first that came of a buffer.
+fn told(end: Result<Told, LoopFault>, first: Option<BufferFault>) -> Option<LoopFault>
+    ensures { result ≡ told_of first end }
+{
+    match end {
+        Err(fault) => Some(fault),
+        Ok(_told) => match first {
+            Some(fault) => Some(LoopFault::Buffer(fault)),
+            None => None,
+        },
     }
 }

@@ -8,6 +8,7 @@ mod connections;
 mod in_loop;
 mod listener;
 mod serving;
+mod stopping;
 
 pub use bound::{BoundRelay, OpenRelay};
 pub use in_loop::{Ended, InLoop};

@@ -4,6 +4,7 @@ ghost use Rattle.std.specs.Prelude.{◌≡◌, ◌++◌, [], ◌∷◌, map, len
 ghost use Rattle.std.specs.Arc.{arc_value};
 ghost use Rattle.forward_core.specs.Handshakes.{IsHosted};
 ghost use Rattle.handshake_keys.specs.Credentials.{credentials_in};
+ghost use Rattle.mio_relay.specs.Faults.{of_network};
 ghost use Rattle.mio_relay.specs.Connections.{AreListening, BeginsAt, endpoint_of, served_as, sources_in};
 
 use forward_core::Security;
@@ -60,7 +61,9 @@ impl<N: Network, A: Allocator> Listener<N, A> {
 }
 
 /// Why a network's refusal ends a relay's loop.
-pub fn loop_fault(fault: NetFault) -> LoopFault {
+pub fn loop_fault(fault: NetFault) -> LoopFault
+    ensures { result ≡ of_network fault }
+{
     match fault {
         NetFault::Bind => LoopFault::Bind,
         NetFault::Poll => LoopFault::Poll,

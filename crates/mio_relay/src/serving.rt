@@ -1,9 +1,12 @@
 //! The connections of a loop: what is ready, read, answered, written and closed.
 
-ghost use Rattle.mio_relay.specs.Loops.{Stays};
-ghost use Rattle.mio_relay.specs.Connections.{GoOn};
+ghost use Rattle.std.specs.Prelude.{◌≡◌, ◌+◌, length, IfErr};
+ghost use Rattle.buffer_lanes.specs.Lanes.{NoneLater};
+ghost use Rattle.mio_relay.specs.Faults.{IsReason};
+ghost use Rattle.mio_relay.specs.Loops.{Rests, Stays};
+ghost use Rattle.mio_relay.specs.Connections.{AreSettled, AreSettledBelow, GoOn};
 
-use crate::connection::ConnectionParts;
+use crate::connection::{ConnectionParts, NoNumber};
 use crate::connections::Connections;
 use crate::in_loop::InLoop;
 use crate::listener::loop_fault;
@@ -20,7 +23,8 @@ const LONGEST_WAIT: u64 = 10;
 impl<N: Network + Drop, D: Dir + Drop, A: Allocator + Copy> InLoop<N, D, A> {
     // Waits for sockets, unless some are known to be ready, and notes which are.
     pub(crate) fn wait(&mut self) -> Result<(), LoopFault>
-        ensures { Stays self.old self.new }
+        ensures stays { Stays self.old self.new }
+        ensures came { IfErr result (IsReason self.new.lanes.fault) }
     {
         let most = if self.is_busy() { 0 } else { LONGEST_WAIT };
         match self
@@ -56,7 +60,7 @@ impl<N: Network + Drop, D: Dir + Drop, A: Allocator + Copy> InLoop<N, D, A> {
     }
 
     // Reads a piece from each connection that has one. The error is that the numbers of deliveries have run out.
-    pub(crate) fn read_all<R: Wait>(&mut self, rt: &R) -> Result<(), LoopFault>
+    pub(crate) fn read_all<R: Wait>(&mut self, rt: &R) -> Result<(), NoNumber>
         ensures { Stays self.old self.new }
     {
         for key in 0..self.connections.key_end() {
@@ -65,7 +69,7 @@ impl<N: Network + Drop, D: Dir + Drop, A: Allocator + Copy> InLoop<N, D, A> {
         Ok(())
     }
 
-    fn read_from<R: Wait>(&mut self, rt: &R, key: usize) -> Result<(), LoopFault>
+    fn read_from<R: Wait>(&mut self, rt: &R, key: usize) -> Result<(), NoNumber>
         ensures { Stays self.old self.new }
     {
         self.connections.read(
@@ -80,7 +84,9 @@ impl<N: Network + Drop, D: Dir + Drop, A: Allocator + Copy> InLoop<N, D, A> {
 
     // Ends the deliveries that have what they wait for.
     pub(crate) fn settle_all<R: Wait>(&mut self, rt: &R)
-        ensures { Stays self.old self.new }
+        ensures stays { Stays self.old self.new }
+        ensures lanes { self.new.lanes ≡ self.old.lanes }
+        ensures settled { NoneLater self.old.lanes.later → AreSettled self.new.connections }
     {
         for key in 0..self.connections.key_end() {
             self.settle_at(rt, key);
@@ -88,7 +94,10 @@ impl<N: Network + Drop, D: Dir + Drop, A: Allocator + Copy> InLoop<N, D, A> {
     }
 
     fn settle_at<R: Wait>(&mut self, rt: &R, key: usize)
-        ensures { Stays self.old self.new }
+        ensures stays { Stays self.old self.new }
+        ensures lanes { self.new.lanes ≡ self.old.lanes }
+        ensures keys { length self.new.connections ≡ length self.old.connections }
+        ensures settled { NoneLater self.old.lanes.later → AreSettledBelow key self.old.connections → AreSettledBelow (key + 1) self.new.connections }
     {
         self.connections
             .settle(key, rt, self.alloc, &mut self.lanes);
@@ -96,7 +105,8 @@ impl<N: Network + Drop, D: Dir + Drop, A: Allocator + Copy> InLoop<N, D, A> {
 
     // Writes what is outgoing.
     pub(crate) fn write_all(&mut self)
-        ensures { Stays self.old self.new }
+        ensures stays { Stays self.old self.new }
+        ensures rests { Rests self.old self.new }
     {
         for key in 0..self.connections.key_end() {
             self.write_to(key);
@@ -104,24 +114,25 @@ impl<N: Network + Drop, D: Dir + Drop, A: Allocator + Copy> InLoop<N, D, A> {
     }
 
     fn write_to(&mut self, key: usize)
-        ensures { Stays self.old self.new }
+        ensures stays { Stays self.old self.new }
+        ensures rests { Rests self.old self.new }
     {
         self.connections.write(key);
     }
 
     // Closes the connections that are over.
     pub(crate) fn close_all<R: Wait>(&mut self, rt: &R)
-        ensures { Stays self.old self.new }
+        ensures stays { Stays self.old self.new }
+        ensures rests { Rests self.old self.new }
     {
         for key in 0..self.connections.key_end() {
-            if self.connections.is_over(key) {
-                self.close(rt, key);
-            }
+            self.close(rt, key);
         }
     }
 
     fn close<R: Wait>(&mut self, rt: &R, key: usize)
-        ensures { Stays self.old self.new }
+        ensures stays { Stays self.old self.new }
+        ensures rests { Rests self.old self.new }
     {
         if let Some(connection) = self.connections.take(key) {
             let ConnectionParts { stream, peer } = connection.into_parts();

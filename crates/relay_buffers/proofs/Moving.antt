@@ -11,11 +11,11 @@ moved {X} {S} f made made' x left left' s all m l same whole =
     let a : map f made' ≡ map f made ++ s ∷ [] = ap (map f) m ∙ map_push f made x ∙ ap (λ (z : S). map f made ++ z ∷ []) same in
     ap (λ (z : List S). z ++ left') a ∙ append_assoc (map f made) (s ∷ []) left' ∙ ap (λ (z : List S). map f made ++ z) (sym l) ∙ whole
 
--- the same where what is left goes as it is
-pub moved_on : {S : Type 0} (made made' : List S) (x : S) (left left' : List S) (s : S) (all : List S)
-    → made' ≡ made ++ x ∷ [] → left ≡ s ∷ left' → x ≡ s → made ++ left ≡ all → made' ++ left' ≡ all
-moved_on {S} made made' x left left' s all m l same whole =
-    ap (λ (z : List S). z ++ left') (m ∙ ap (λ (y : S). made ++ y ∷ []) same) ∙ append_assoc made (s ∷ []) left' ∙ ap (λ (z : List S). made ++ z) (sym l) ∙ whole
+-- the same where something is made of what is left
+pub made_of : {X S : Type 0} (f : X → S) (made made' : List S) (s : S) (left left' : List X) (x : X) (all : List S)
+    → made' ≡ made ++ s ∷ [] → left ≡ x ∷ left' → s ≡ f x → made ++ map f left ≡ all → made' ++ map f left' ≡ all
+made_of {X} {S} f made made' s left left' x all m l same whole =
+    ap (λ (z : List S). z ++ map f left') (m ∙ ap (λ (y : S). made ++ y ∷ []) same) ∙ append_assoc made (f x ∷ []) (map f left') ∙ ap (λ (z : List X). made ++ map f z) (sym l) ∙ whole
 
 -- at its end all is there
 pub moved_all : {S : Type 0} (made left all : List S) → left ≡ [] → made ++ left ≡ all → made ≡ all
@@ -51,3 +51,15 @@ pushed_to {E} {X} {Y} R f g made made' e m all one =
     let on_f : AllZip R (map f (made ++ e ∷ [])) (map g made ++ g e ∷ []) = subst (λ (l : List X). AllZip R l (map g made ++ g e ∷ [])) (sym (map_push f made e)) more in
     let on_g : AllZip R (map f (made ++ e ∷ [])) (map g (made ++ e ∷ [])) = subst (λ (l : List Y). AllZip R (map f (made ++ e ∷ [])) l) (sym (map_push g made e)) on_f in
     subst (λ (l : List E). AllZip R (map f l) (map g l)) (sym m) on_g
+
+-- nothing is made yet, and all is left
+pub all_left : {X S : Type 0} (f : X → S) (made : List S) (left xs : List X) → made ≡ [] → left ≡ xs → made ++ map f left ≡ map f xs
+all_left {X} {S} f made left xs none is = ap (λ (z : List S). z ++ map f left) none ∙ ap (map f) is
+
+-- there is room for all that is left
+pub enough : (left all count room : ℕ) → left ≡ all → count ≡ all → count ≤ room → left ≤ room
+enough left all count room a b c = omega arith
+
+-- also behind nothing
+pub enough_behind : (left all count cap len : ℕ) → left ≡ all → count ≡ all → count ≤ cap → len ≡ 0 → left ≤ cap - len
+enough_behind left all count cap len a b c d = omega arith

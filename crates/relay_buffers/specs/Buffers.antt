@@ -1,28 +1,32 @@
--- The buffers of a relay.
-use Rattle.std.specs.Prelude.{ℕ, ◌≡◌, List, string_bytes}
+-- The buffers of a relay, as they are opened.
+use Rattle.std.specs.Prelude.{ℕ, List}
 use Rattle.std.specs.List.{AllZip}
-use Rattle.buffer_state.specs.declared.limits.Limits.{Limits}
-use Rattle.buffer_store.specs.Buffers.{Held}
-use Rattle.relay_conf.specs.declared.buffer.BufferKind.{BufferKind}
-use Rattle.relay_conf.specs.declared.buffer.BufferKind.TheVariants.{Memory, File}
-use Rattle.relay_conf.specs.declared.buffer.BufferSettings.{BufferSettings}
+use Rattle.disk_files.specs.Disk.{reads}
+use Rattle.disk_files.specs.Moments.{History, now}
+use Rattle.journal_files.specs.Folders.{Opens}
+use Rattle.buffer_lanes.specs.Schedules.{Plan}
 use Rattle.ack_receipt.specs.Terms.{Terms}
+use Rattle.relay_conf.specs.declared.buffer.BufferKind.{BufferKind}
 use Rattle.relay_ports.specs.declared.buffered.BufferedOutput.{BufferedOutput}
-use Rattle.relay_buffers.specs.Owners.{IsBufferOf}
+use Rattle.relay_ports.specs.Outputs.{settings_of}
+use Rattle.relay_buffers.specs.Owners.{IsBufferOf, IsPlanned, IsSetAs, Owned}
 
 -- these are the buffers of these outputs of the relay with this number, one for each, in their order
 abbrev pub AreBuffersOf : {A B : Type 0} → ℕ → List (BufferedOutput A) → List (Terms B) → Type 0
 AreBuffersOf number outputs buffers = AllZip (IsBufferOf number) outputs buffers
 
--- how many bytes of entries a chunk, and all of them, may have by these settings
-abbrev pub limits_of : {A : Type 0} → BufferSettings A → Limits
-limits_of settings = record { chunk = settings.chunk_limit_size; total = settings.total_limit_size }
+-- the staged chunks of these outputs' buffers, which were opened then, are queued so
+abbrev pub ArePlanned : {A : Type 0} → (since : ℕ) → List (Owned A) → List Plan → Type 0
+ArePlanned since owned plans = AllZip (IsPlanned since) owned plans
 
--- the files of a buffer that has files are named by its path
-abbrev pub IsNamedBy : {A : Type 0} → BufferKind A → (name : List ℕ) → Type 0
-IsNamedBy Memory name = Unit {0}
-IsNamedBy (File path) name = name ≡ string_bytes path
+-- an output whose buffer is open: the folder as the opening found it, and when its staged chunks are queued
+pub record OpenState (D A : Type 0) : Type 0 where
+  pub owned : Owned A
+  pub folder : D
+  pub plan : Plan
 
--- a buffer was opened as these settings say: with their limits, and by their name
-abbrev pub IsSetAs : {A D : Type 0} → BufferSettings A → Held D → Type 0
-IsSetAs settings buffer = (buffer.limits ≡ limits_of settings) × IsNamedBy settings.kind buffer.journal.path
+-- A buffer was opened as its output's settings say, in a folder for its kind: if that is honest, its chunks are those that the journal there means.
+pub record IsOpenIn {D A : Type 0} (is_for : BufferKind A → D → Type 0) (is_honest : D → Type 0) (history : D → History) (one : OpenState D A) : Type 0 where
+  pub set : IsSetAs (settings_of one.owned.output) one.owned.opened
+  pub folder : is_for (settings_of one.owned.output).kind one.folder
+  pub chunks : is_honest one.folder → Opens one.owned.opened.name (reads (now (history one.folder))) one.owned.opened.chunks

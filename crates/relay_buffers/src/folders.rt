@@ -1,5 +1,7 @@
 //! The folders of a relay's buffers.
 
+ghost use Rattle.std.specs.Prelude.{IfOk};
+
 use disk_files::{EitherDir, MemoryDir, RealDir};
 use relay_conf::BufferKind;
 use std::alloc::{AllocError, Allocator};
@@ -9,11 +11,17 @@ use std::rt::Files;
 
 /// Where the buffers of a relay are.
 pub trait Folders<D, A: Allocator> {
+    ghost use Rattle.relay_conf.specs.declared.buffer.BufferKind.{BufferKind};
+
+    // whether a folder is one for a buffer of a kind
+    ghost is_for: { Self → BufferKind A → D → Type 0 };
+
     /// Makes them ready. It is called before any of them is asked for; `false` where that failed.
     fn make_ready(&self) -> bool;
 
     /// The folder of a buffer of this kind. The error is want of memory.
-    fn folder_of(&self, kind: &BufferKind<A>) -> Result<D, AllocError>;
+    fn folder_of(&self, kind: &BufferKind<A>) -> Result<D, AllocError>
+        ensures { IfOk result (is_for self.now kind.now) };
 }
 
 /// A folder of the system, or one in memory.
@@ -34,6 +42,10 @@ where
     R::A: Clone,
     A: Allocator + Copy,
 {
+    ghost use Rattle.relay_buffers.specs.Folders.{IsForKind};
+
+    ghost is_for = { λ folders kind dir. IsForKind kind dir };
+
     fn make_ready(&self) -> bool {
         fs::create_dir_all(&self.rt, self.path).is_ok()
     }
@@ -58,6 +70,10 @@ pub struct MemoryFolders<A: Allocator> {
 }
 
 impl<A: Allocator + Copy> Folders<MemoryDir<A>, A> for MemoryFolders<A> {
+    ghost use Rattle.relay_buffers.specs.Folders.{IsEmptyFolder};
+
+    ghost is_for = { λ folders kind dir. IsEmptyFolder dir };
+
     fn make_ready(&self) -> bool {
         true
     }

@@ -1,9 +1,12 @@
 //! Opening the buffers of a relay.
 
-ghost use Rattle.std.specs.Prelude.{◌≡◌, map, IfOk};
+ghost use Rattle.std.specs.Prelude.{◌≡◌, All, map, IfOk};
+ghost use Rattle.disk_files.specs.Disk.{reads};
+ghost use Rattle.disk_files.specs.Moments.{now as now_of};
+ghost use Rattle.journal_files.specs.Folders.{Opens};
 ghost use Rattle.buffer_lanes.specs.Schedules.{staged_at};
-ghost use Rattle.relay_buffers.specs.Owners.{IsBufferOf, IsScheduledBy};
-ghost use Rattle.relay_buffers.specs.Buffers.{AreBuffersOf, IsSetAs, limits_of};
+ghost use Rattle.relay_buffers.specs.Owners.{IsBufferOf, IsPlanned, IsScheduledBy, IsSetAs, limits_of, opened_as};
+ghost use Rattle.relay_buffers.specs.Buffers.{AreBuffersOf, ArePlanned, IsOpenIn};
 
 use crate::folders::Folders;
 use crate::job::DeliveryJob;
@@ -17,29 +20,32 @@ use relay_conf::{BufferKind, BufferSettings};
 use relay_ports::{BufferedOutput, takes_of};
 use std::alloc::Allocator;
 use std::marker::Model;
+use std::snapshot::Snapshot;
 use std::sync::Arc;
 
 /// The name under which a buffer in memory keeps its journal, in a folder of its own.
 const MEMORY_NAME: &[u8] = b"memory";
 
 /// An output whose buffer is open: what flush threads are given of it, and what the loop is given, which is the same buffer with its
-/// staged chunks.
+/// staged chunks. Contracts see the output with its buffer, the folder as the opening found it, and when the staged chunks are queued.
 #[derive(Drop)]
 pub struct OpenOutput<D: Dir + Drop, A: Allocator> {
     pub(crate) job: DeliveryJob<D, A>,
     pub(crate) buffer: Arc<SharedBuffer<D, A>, A>,
     pub(crate) schedule: Schedule<A>,
+    pub(crate) opened: Snapshot<Buffer<D, A>>,
 }
 
 impl<D: Dir + Drop, A: Allocator> Model for OpenOutput<D, A> {
     ghost use Rattle.std.specs.Prelude.{◌≡◌};
     ghost use Rattle.std.specs.Arc.{arc_value};
     ghost use Rattle.relay_ports.specs.Outputs.{settings_of};
-    ghost use Rattle.relay_buffers.specs.Owners.{IsOwned, IsScheduledBy, Owned};
+    ghost use Rattle.relay_buffers.specs.Owners.{IsOwned, IsScheduledBy};
+    ghost use Rattle.relay_buffers.specs.Buffers.{OpenState};
 
-    ghost Value = { Owned A };
+    ghost Value = { OpenState D A };
 
-    ghost view = { λ o. o.job };
+    ghost view = { λ o. record { owned = o.job; folder = o.opened.value.start; plan = o.schedule } };
 
     ghost invariant = { λ o. IsOwned o.job × (arc_value o.buffer ≡ o.job.terms) × IsScheduledBy (settings_of o.job.output) o.schedule };
 }
@@ -55,8 +61,10 @@ pub fn open_all<D: Dir + Drop, A: Allocator + Copy, F: Folders<D, A>>(
     folders: &F,
     now: u64,
 ) -> Result<Vec<OpenOutput<D, A>, A>, LoopFault>
-    ensures outputs { IfOk result (λ all. map (λ one. one.output) all.items ≡ outputs.items) }
-    ensures buffers { IfOk result (λ all. AreBuffersOf number outputs.items (map (λ one. one.terms) all.items)) }
+    ensures outputs { IfOk result (λ all. map (λ one. one.owned.output) all.items ≡ outputs.items) }
+    ensures buffers { IfOk result (λ all. AreBuffersOf number outputs.items (map (λ one. one.owned.terms) all.items)) }
+    ensures opened { IfOk result (λ all. All (IsOpenIn (F.is_for folders.now) D.is_honest D.history) all.items) }
+    ensures planned { IfOk result (λ all. ArePlanned now (map (λ one. one.owned) all.items) (map (λ one. one.plan) all.items)) }
 {
     if !folders.make_ready() {
         return Err(LoopFault::Buffer(BufferFault::Fault));
@@ -78,8 +86,10 @@ fn open_one<D: Dir + Drop, A: Allocator + Copy, F: Folders<D, A>>(
     folders: &F,
     now: u64,
 ) -> Result<OpenOutput<D, A>, LoopFault>
-    ensures output { IfOk result (λ one. one.output ≡ output) }
-    ensures buffer { IfOk result (λ one. IsBufferOf number output one.terms) }
+    ensures output { IfOk result (λ one. one.owned.output ≡ output) }
+    ensures buffer { IfOk result (λ one. IsBufferOf number output one.owned.terms) }
+    ensures opened { IfOk result (IsOpenIn (F.is_for folders.now) D.is_honest D.history) }
+    ensures planned { IfOk result (λ one. IsPlanned now one.owned one.plan) }
 {
     let Ok(place) = u32::try_from(output.number().0) else {
         return Err(LoopFault::NoNumber);
@@ -90,13 +100,15 @@ fn open_one<D: Dir + Drop, A: Allocator + Copy, F: Folders<D, A>>(
     };
     let takes = takes_of(alloc, &output)?;
     let OpenBuffer { buffer, schedule } = open_buffer(alloc, output.buffer(), folders, now)?;
+    let (opened, remembered) = (Snapshot::of(&buffer), Snapshot::of(&buffer));
     let buffer = Arc::new(alloc, SharedBuffer::new(alloc, buffer, leaf, takes))?;
     let theirs = Arc::try_clone(&buffer)?;
-    let job = DeliveryJob::new(number, output, theirs);
+    let job = DeliveryJob::new(number, output, theirs, remembered);
     Ok(OpenOutput {
         job,
         buffer,
         schedule,
+        opened,
     })
 }
 
@@ -114,7 +126,10 @@ fn open_buffer<D: Dir + Drop, A: Allocator + Copy, F: Folders<D, A>>(
     folders: &F,
     now: u64,
 ) -> Result<OpenBuffer<D, A>, LoopFault>
-    ensures set { IfOk result (λ opened. IsSetAs settings.now opened.buffer) }
+    ensures set { IfOk result (λ opened. IsSetAs settings.now (opened_as opened.buffer)) }
+    ensures folder { IfOk result (λ opened. F.is_for folders.now settings.now.kind opened.buffer.start) }
+    ensures chunks { IfOk result (λ opened. D.is_honest opened.buffer.start
+        → Opens opened.buffer.journal.path (reads (now_of (D.history opened.buffer.start))) opened.buffer.chunks) }
     ensures queues { IfOk result (λ opened. IsScheduledBy settings.now opened.schedule) }
     ensures staged { IfOk result (λ opened. opened.schedule.chunks ≡ staged_at now opened.buffer.chunks) }
 {

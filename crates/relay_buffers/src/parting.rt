@@ -1,6 +1,6 @@
 //! What the loop has of a relay's open outputs, and what its flush threads have.
 
-ghost use Rattle.std.specs.Prelude.{◌≡◌, map, IfOk};
+ghost use Rattle.std.specs.Prelude.{◌≡◌, None, map, IfOk};
 ghost use Rattle.std.specs.Arc.{arc_value};
 
 use crate::job::DeliveryJob;
@@ -24,8 +24,11 @@ pub fn parts_of<D: Dir + Drop, A: Allocator + Copy>(
     alloc: A,
     opened: Vec<OpenOutput<D, A>, A>,
 ) -> Result<RelayParts<D, A>, AllocError>
-    ensures buffers { IfOk result (λ parts. map (λ buffer. arc_value buffer) parts.buffers.items ≡ map (λ one. one.terms) opened.items) }
-    ensures jobs { IfOk result (λ parts. parts.jobs.items ≡ opened.items) }
+    ensures buffers { IfOk result (λ parts. map (λ buffer. arc_value buffer) parts.buffers.items ≡ map (λ one. one.owned.terms) opened.items) }
+    ensures jobs { IfOk result (λ parts. parts.jobs.items ≡ map (λ one. one.owned) opened.items) }
+    ensures terms { IfOk result (λ parts. parts.lanes.terms ≡ map (λ one. one.owned.terms) opened.items) }
+    ensures plans { IfOk result (λ parts. parts.lanes.plans ≡ map (λ one. one.plan) opened.items) }
+    ensures fault { IfOk result (λ parts. parts.lanes.fault ≡ None) }
 {
     let buffers = shares_of(alloc, &opened)?;
     let mut jobs = Vec::with_capacity(alloc, opened.len())?;
@@ -36,6 +39,7 @@ pub fn parts_of<D: Dir + Drop, A: Allocator + Copy>(
             job,
             buffer,
             schedule,
+            opened: _,
         } = each;
         lanes.add(Lane::new(alloc, buffer, schedule));
         jobs.push_reserved(job);
@@ -52,7 +56,7 @@ fn shares_of<D: Dir + Drop, A: Allocator + Copy>(
     alloc: A,
     opened: &[OpenOutput<D, A>],
 ) -> Result<Vec<Arc<SharedBuffer<D, A>, A>, A>, AllocError>
-    ensures { IfOk result (λ shares. map (λ buffer. arc_value buffer) shares.items ≡ map (λ one. one.terms) opened.now) }
+    ensures { IfOk result (λ shares. map (λ buffer. arc_value buffer) shares.items ≡ map (λ one. one.owned.terms) opened.now) }
 {
     let mut shares = Vec::with_capacity(alloc, opened.len())?;
     for one in opened {

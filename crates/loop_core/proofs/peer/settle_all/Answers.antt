@@ -1,19 +1,27 @@
-use Rattle.std.proofs.Common.{List, [], sym}
+use Rattle.std.proofs.Common.{◌≡◌, ◌∙◌, List, [], refl, sym, subst}
+use Rattle.std.specs.Prelude.{Contains}
 use Rattle.std.specs.Vec.Iter.{into_iter_items}
-use Rattle.std.proofs.lemmas.List.Elements.{All-nil, All-same}
-use Rattle.loop_core.specs.Peers.{IsOwed}
-use Rattle.loop_core.proofs.Keeping.{first_owed, rest_owed}
+use Rattle.std.proofs.lemmas.List.Elements.{All-nil, All-rest, All-same}
+use Rattle.buffer_lanes.specs.Lanes.{LanesState, NoneLater}
+use Rattle.buffer_lanes.specs.Waits.{Waits}
+use Rattle.loop_core.specs.Peers.{IsOwed, awaited_in}
+use Rattle.loop_core.proofs.Keeping.{among_itself, first_owed, rest_owed}
 use Rattle.loop_core.proofs.peer.settle_all.Goals as goal
 
 pub loop-waiting-init : goal.loop-waiting-init
 loop-waiting-init g c =
     let P = IsOwed c.args.inlet.now c.args.session.now.asked in
+    let Q = λ (w : Waits). Contains (awaited_in c.args.list.items) w.awaited in
     record {
       owed = All-same P (into_iter_items c.into_iter-rest.result) c.args.list.items c.into_iter-rest.ensures.rest c.requires.owed;
       kept = record {
         owed = All-same P c.new-later.result.items [] c.new-later.ensures.items (All-nil P);
         earned = c.requires.earned;
       };
+      lanes = refl;
+      rest = All-same Q (into_iter_items c.into_iter-rest.result) c.args.list.items c.into_iter-rest.ensures.rest (among_itself c.args.list.items);
+      waited = All-same Q c.new-later.result.items [] c.new-later.ensures.items (All-nil Q);
+      ended = λ none. c.new-later.ensures.items;
     }
 
 pub settle_one-requires-clause-owed : goal.settle_one-requires-clause-owed
@@ -22,15 +30,35 @@ settle_one-requires-clause-owed g c =
     (into_iter_items c.loop-waiting.rest) c.in-Some.ensures.items c.loop-waiting.invariant.owed
 
 pub loop-waiting-preserved-then-settle_one : goal.loop-waiting-preserved-then-settle_one
-loop-waiting-preserved-then-settle_one g c = record {
-  owed = rest_owed c.args.inlet.now c.loop-waiting.session.asked c.settle_one.new.session.asked c.in-Some.waiting (into_iter_items c.next.new.self)
-      (into_iter_items c.loop-waiting.rest) c.settle_one.ensures.asked c.in-Some.ensures.items c.loop-waiting.invariant.owed;
-  kept = c.settle_one.ensures.kept;
-}
+loop-waiting-preserved-then-settle_one g c =
+    let Q = λ (w : Waits). Contains (awaited_in c.args.list.items) w.awaited in
+    let left = into_iter_items c.loop-waiting.rest in
+    let left' = into_iter_items c.next.new.self in
+    record {
+      owed = rest_owed c.args.inlet.now c.loop-waiting.session.asked c.settle_one.new.session.asked c.in-Some.waiting left' left
+          c.settle_one.ensures.asked c.in-Some.ensures.items c.loop-waiting.invariant.owed;
+      kept = c.settle_one.ensures.kept;
+      lanes = c.settle_one.ensures.lanes ∙ c.loop-waiting.invariant.lanes;
+      rest = All-rest Q c.in-Some.waiting left' left c.in-Some.ensures.items c.loop-waiting.invariant.rest;
+      waited = c.settle_one.ensures.waited (awaited_in c.args.list.items) c.loop-waiting.invariant.waited
+          (first_owed Q c.in-Some.waiting left' left c.in-Some.ensures.items c.loop-waiting.invariant.rest);
+      ended = λ none.
+          c.settle_one.ensures.ended (subst (λ (l : LanesState _). NoneLater l.later) (sym c.loop-waiting.invariant.lanes) none) (c.loop-waiting.invariant.ended none);
+    }
 
 pub loop-waiting-preserved : goal.loop-waiting-preserved
-loop-waiting-preserved g c = record {
-  owed = rest_owed c.args.inlet.now c.loop-waiting.session.asked c.settle_one.new.session.asked c.in-Some.waiting (into_iter_items c.next.new.self)
-      (into_iter_items c.loop-waiting.rest) c.settle_one.ensures.asked c.in-Some.ensures.items c.loop-waiting.invariant.owed;
-  kept = c.settle_one.ensures.kept;
-}
+loop-waiting-preserved g c =
+    let Q = λ (w : Waits). Contains (awaited_in c.args.list.items) w.awaited in
+    let left = into_iter_items c.loop-waiting.rest in
+    let left' = into_iter_items c.next.new.self in
+    record {
+      owed = rest_owed c.args.inlet.now c.loop-waiting.session.asked c.settle_one.new.session.asked c.in-Some.waiting left' left
+          c.settle_one.ensures.asked c.in-Some.ensures.items c.loop-waiting.invariant.owed;
+      kept = c.settle_one.ensures.kept;
+      lanes = c.settle_one.ensures.lanes ∙ c.loop-waiting.invariant.lanes;
+      rest = All-rest Q c.in-Some.waiting left' left c.in-Some.ensures.items c.loop-waiting.invariant.rest;
+      waited = c.settle_one.ensures.waited (awaited_in c.args.list.items) c.loop-waiting.invariant.waited
+          (first_owed Q c.in-Some.waiting left' left c.in-Some.ensures.items c.loop-waiting.invariant.rest);
+      ended = λ none.
+          c.settle_one.ensures.ended (subst (λ (l : LanesState _). NoneLater l.later) (sym c.loop-waiting.invariant.lanes) none) (c.loop-waiting.invariant.ended none);
+    }

@@ -1,13 +1,18 @@
-use Rattle.std.proofs.Common.{◌≡◌}
+use Rattle.std.proofs.Common.{◌≡◌, []}
 use Rattle.std.specs.List.{All}
 use Rattle.std.specs.Vec.Iter.{into_iter_items, into_iter_len}
-use Rattle.loop_core.specs.Peers.{IsOwed, IsFaithful}
+use Rattle.buffer_lanes.specs.Lanes.{NoneLater}
+use Rattle.loop_core.specs.Peers.{AreAmong, IsOwed, IsFaithful, awaited_in}
 use Rattle.loop_core.proofs.peer.settle_all.Given as goal
 
 abbrev pub invariant-loop-waiting : goal.invariant-loop-waiting
 invariant-loop-waiting g l = record {
   owed : All (IsOwed l.inlet l.session.asked) (into_iter_items l.rest);
   kept : IsFaithful l.inlet l.session.asked l.session.taken l.later.items;
+  lanes : l.lanes ≡ l.initial.lanes;
+  rest : AreAmong (awaited_in l.fn.list.items) (into_iter_items l.rest);
+  waited : AreAmong (awaited_in l.fn.list.items) l.later.items;
+  ended : NoneLater l.initial.lanes.later → l.later.items ≡ [];
 }
 
 abbrev pub decreases-loop-waiting : goal.decreases-loop-waiting

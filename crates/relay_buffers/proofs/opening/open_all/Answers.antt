@@ -1,32 +1,52 @@
-use Rattle.std.proofs.Common.{◌≡◌, ◌∙◌, List, map, sym, subst}
+use Rattle.std.proofs.Common.{◌∙◌, ◌++◌, List, [], ap, map, sym, subst}
 use Rattle.std.specs.Vec.Iter.{into_iter_items}
 use Rattle.std.proofs.lemmas.List.{nil_from_length}
+use Rattle.std.proofs.lemmas.List.Elements.{All-nil, All-push, All-same}
 use Rattle.relay_ports.specs.declared.buffered.BufferedOutput.{BufferedOutput}
-use Rattle.relay_buffers.specs.Buffers.{AreBuffersOf}
-use Rattle.relay_buffers.specs.Owners.{IsBufferOf, Owned}
+use Rattle.relay_buffers.specs.Buffers.{AreBuffersOf, ArePlanned, IsOpenIn, OpenState}
+use Rattle.relay_buffers.specs.Owners.{IsBufferOf, IsPlanned}
 use Rattle.relay_buffers.proofs.Moving.{moved, moved_all, pushed_to}
 use Rattle.relay_buffers.proofs.opening.open_all.Goals as goal
+
+pub loop-output-init : goal.loop-output-init
+loop-output-init g c =
+    let none = c.new-all.ensures.items in
+    let P = IsOpenIn (g.F.Folders.is_for c.args.folders.now) g.D.Dir.is_honest g.D.Dir.history in
+    record {
+      outputs =
+          ap (λ (all : List (OpenState _ _)). map (λ one. one.owned.output) all ++ into_iter_items c.into_iter-rest.result) none ∙ c.into_iter-rest.ensures.rest;
+      buffers =
+          subst (λ (all : List (OpenState _ _)). AreBuffersOf c.args.number (map (λ one. one.owned.output) all) (map (λ one. one.owned.terms) all)) (sym none) tt;
+      opened = All-same P c.new-all.result.items [] none (All-nil P);
+      planned = subst (λ (all : List (OpenState _ _)). ArePlanned c.args.now (map (λ one. one.owned) all) (map (λ one. one.plan) all)) (sym none) tt;
+    }
 
 pub loop-output-preserved : goal.loop-output-preserved
 loop-output-preserved g c =
     let m = c.in_ok-push.ensures.items in
     let same = c.in_ok-opened.ensures.output in
+    let P = IsOpenIn (g.F.Folders.is_for c.args.folders.now) g.D.Dir.is_honest g.D.Dir.history in
     record {
       outputs =
-          moved (λ (one : Owned _). one.output) c.loop-output.all.items c.push.new.self.items c.in_ok-opened.opened (into_iter_items c.loop-output.rest) (into_iter_items c.next.new.self)
+          moved (λ (one : OpenState _ _). one.owned.output) c.loop-output.all.items c.push.new.self.items c.in_ok-opened.opened (into_iter_items c.loop-output.rest) (into_iter_items c.next.new.self)
           c.in-Some.output c.args.outputs.items m c.in-Some.ensures.items same c.loop-output.invariant.outputs;
       buffers =
-          pushed_to (IsBufferOf c.args.number) (λ (one : Owned _). one.output) (λ (one : Owned _). one.terms) c.loop-output.all.items c.push.new.self.items c.in_ok-opened.opened m
-          c.loop-output.invariant.buffers (subst (λ (o : BufferedOutput _). IsBufferOf c.args.number o c.in_ok-opened.opened.terms) (sym same) c.in_ok-opened.ensures.buffer);
+          pushed_to (IsBufferOf c.args.number) (λ (one : OpenState _ _). one.owned.output) (λ (one : OpenState _ _). one.owned.terms) c.loop-output.all.items c.push.new.self.items
+          c.in_ok-opened.opened m c.loop-output.invariant.buffers
+          (subst (λ (o : BufferedOutput _). IsBufferOf c.args.number o c.in_ok-opened.opened.owned.terms) (sym same) c.in_ok-opened.ensures.buffer);
+      opened = All-same P c.push.new.self.items _ m (All-push P c.loop-output.all.items c.in_ok-opened.opened c.loop-output.invariant.opened c.in_ok-opened.ensures.opened);
+      planned =
+          pushed_to (IsPlanned c.args.now) (λ (one : OpenState _ _). one.owned) (λ (one : OpenState _ _). one.plan) c.loop-output.all.items c.push.new.self.items c.in_ok-opened.opened m
+          c.loop-output.invariant.planned c.in_ok-opened.ensures.planned;
     }
 
 pub returns-clause-outputs : goal.returns-clause-outputs
 returns-clause-outputs g c =
-    moved_all (map (λ (one : Owned _). one.output) c.loop-output.all.items) (into_iter_items c.loop-output.rest) c.args.outputs.items
+    moved_all (map (λ (one : OpenState _ _). one.owned.output) c.loop-output.all.items) (into_iter_items c.loop-output.rest) c.args.outputs.items
     (nil_from_length _ (sym c.loop-output.rest.rest.ok.0 ∙ c.in_default.ensures.cases.0)) c.loop-output.invariant.outputs
 
 pub returns-clause-buffers : goal.returns-clause-buffers
 returns-clause-buffers g c =
-    subst (λ (l : List (BufferedOutput _)). AreBuffersOf c.args.number l (map (λ (one : Owned _). one.terms) c.loop-output.all.items))
-    (moved_all (map (λ (one : Owned _). one.output) c.loop-output.all.items) (into_iter_items c.loop-output.rest) c.args.outputs.items
+    subst (λ (l : List (BufferedOutput _)). AreBuffersOf c.args.number l (map (λ (one : OpenState _ _). one.owned.terms) c.loop-output.all.items))
+    (moved_all (map (λ (one : OpenState _ _). one.owned.output) c.loop-output.all.items) (into_iter_items c.loop-output.rest) c.args.outputs.items
     (nil_from_length _ (sym c.loop-output.rest.rest.ok.0 ∙ c.in_default.ensures.cases.0)) c.loop-output.invariant.outputs) c.loop-output.invariant.buffers

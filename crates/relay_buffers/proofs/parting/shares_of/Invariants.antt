@@ -3,4 +3,4 @@ use Rattle.std.specs.Arc.{arc_value}
 use Rattle.relay_buffers.proofs.parting.shares_of.Given as goal
 
 abbrev pub invariant-loop-one : goal.invariant-loop-one
-invariant-loop-one g l = map (λ buffer. arc_value buffer) l.shares.items ≡ map (λ one. one.terms) (take l.one-index l.opened)
+invariant-loop-one g l = map (λ buffer. arc_value buffer) l.shares.items ≡ map (λ one. one.owned.terms) (take l.one-index l.opened)

@@ -1,5 +1,4 @@
-use Rattle.std.proofs.Common.{◌∙◌, map, sym}
-use Rattle.mio_relay.specs.Connections.{Hosted, Served}
+use Rattle.std.proofs.Common.{◌∙◌}
 use Rattle.mio_relay.proofs.Listening.{endpoints_in}
 use Rattle.mio_relay.proofs.bound.BoundRelay.bind.Goals as goal
 

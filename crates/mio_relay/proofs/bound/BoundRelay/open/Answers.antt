@@ -1,8 +1,11 @@
 use Rattle.std.proofs.Common.{◌∙◌, List, ap, map, subst, sym}
 use Rattle.ack_receipt.specs.Terms.{Terms}
-use Rattle.relay_buffers.specs.Buffers.{AreBuffersOf}
+use Rattle.buffer_lanes.specs.Schedules.{Plan}
+use Rattle.relay_buffers.specs.Buffers.{AreBuffersOf, ArePlanned, OpenState}
 use Rattle.relay_buffers.specs.Owners.{Owned}
 use Rattle.mio_relay.specs.Loops.{BoundState}
+use Rattle.mio_relay.proofs.Listening.{map_again}
+use Rattle.mio_relay.proofs.Slots.{none_served}
 use Rattle.mio_relay.proofs.bound.BoundRelay.open.Goals as goal
 
 pub returns-clause-sources : goal.returns-clause-sources
@@ -10,11 +13,24 @@ returns-clause-sources g c = (ap (λ (b : BoundState _). b.sources) c.self.view_
 
 pub returns-clause-buffers : goal.returns-clause-buffers
 returns-clause-buffers g c =
-    subst (λ (l : List (Terms _)). AreBuffersOf c.args.self.number c.args.self.outputs l) (sym c.in_ok-lanes.ensures.buffers)
-    (subst (λ (b : BoundState _). AreBuffersOf b.number b.outputs (map (λ (one : Owned _). one.terms) c.in_ok-opened.opened.items)) c.self.view_is c.in_ok-opened.ensures.buffers)
+    subst (λ (l : List (Terms _)). AreBuffersOf c.args.self.number c.args.self.outputs l) (sym c.in_ok-parts.ensures.buffers)
+    (subst (λ (b : BoundState _). AreBuffersOf b.number b.outputs (map (λ (one : OpenState _ _). one.owned.terms) c.in_ok-opened.opened.items)) c.self.view_is c.in_ok-opened.ensures.buffers)
 
 pub returns-clause-jobs : goal.returns-clause-jobs
 returns-clause-jobs g c = (
-  ap (λ (l : List (Owned _)). map (λ one. one.output) l) c.in_ok-lanes.ensures.jobs ∙ c.in_ok-opened.ensures.outputs ∙ ap (λ (b : BoundState _). b.outputs) c.self.view_is,
-  ap (λ (l : List (Owned _)). map (λ one. one.terms) l) c.in_ok-lanes.ensures.jobs ∙ sym c.in_ok-lanes.ensures.buffers,
+  ap (λ (l : List (Owned _)). map (λ one. one.output) l) c.in_ok-parts.ensures.jobs
+      ∙ map_again (λ (one : OpenState _ _). one.owned) (λ (job : Owned _). job.output) c.in_ok-opened.opened.items
+      ∙ c.in_ok-opened.ensures.outputs ∙ ap (λ (b : BoundState _). b.outputs) c.self.view_is,
+  ap (λ (l : List (Owned _)). map (λ one. one.terms) l) c.in_ok-parts.ensures.jobs
+      ∙ map_again (λ (one : OpenState _ _). one.owned) (λ (job : Owned _). job.terms) c.in_ok-opened.opened.items
+      ∙ sym c.in_ok-parts.ensures.buffers,
 )
+
+pub returns-clause-planned : goal.returns-clause-planned
+returns-clause-planned g c =
+    subst (λ (l : List (Owned _)). ArePlanned c.now_after-time.result l c.in_ok-parts.parts.lanes.plans) (sym c.in_ok-parts.ensures.jobs)
+    (subst (λ (l : List Plan). ArePlanned c.now_after-time.result (map (λ (one : OpenState _ _). one.owned) c.in_ok-opened.opened.items) l) (sym c.in_ok-parts.ensures.plans)
+    c.in_ok-opened.ensures.planned)
+
+pub invariant_of-turning : goal.invariant_of-turning
+invariant_of-turning g c = (c.self.invariant, none_served _ _ c.new-2.ensures, c.in_ok-parts.ensures.terms ∙ sym c.in_ok-parts.ensures.buffers)

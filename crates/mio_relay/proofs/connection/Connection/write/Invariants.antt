@@ -1,5 +1,9 @@
+use Rattle.std.proofs.Common.{◌≡◌}
 use Rattle.mio_relay.specs.Connections.{IsSameConnection}
 use Rattle.mio_relay.proofs.connection.Connection.write.Given as goal
 
 abbrev pub invariant-loop : goal.invariant-loop
-invariant-loop g l = IsSameConnection l.initial.self l.self
+invariant-loop g l = record {
+  same : IsSameConnection l.initial.self l.self;
+  waits : l.self.peer.waits ≡ l.initial.self.peer.waits;
+}

@@ -1,7 +1,8 @@
-use Rattle.std.proofs.Common.{◌≡◌, ◌∙◌, List, ap, subst, sym}
+use Rattle.std.proofs.Common.{◌∙◌, List, ap, subst, sym}
 use Rattle.std.specs.Prelude.{IsSomeAnd, slice_get}
 use Rattle.relay_sockets.specs.Endpoints.{Endpoint}
 use Rattle.mio_relay.specs.Connections.{AreListening, BeginsAt, ConnectionState, Hosted, sources_in}
+use Rattle.buffer_lanes.specs.Lanes.{KeepsLanes}
 use Rattle.mio_relay.specs.Loops.{LoopState}
 use Rattle.mio_relay.proofs.Slots.{begins_served}
 use Rattle.mio_relay.proofs.in_loop.InLoop.admit.Goals as goal
@@ -18,6 +19,7 @@ pub invariant_of-self-2 : goal.invariant_of-self-2
 invariant_of-self-2 g c = (
   subst (λ (b : List Endpoint). AreListening b c.self.inside.listeners.items) (sym c.watch.ensures.bound) c.self.invariant.0,
   c.make_room.ensures (sources_in c.self.inside.listeners.items) c.self.invariant.1,
+  c.self.invariant.2,
 )
 
 pub returns : goal.returns
@@ -25,4 +27,5 @@ returns g c = record {
   bound = c.put.ensures.bound ∙ c.watch.ensures.bound ∙ ap (λ (l : LoopState _). l.bound) c.self.view_is;
   sources = c.put.ensures.sources ∙ ap (λ (l : LoopState _). l.sources) c.self.view_is;
   buffers = c.put.ensures.buffers ∙ ap (λ (l : LoopState _). l.buffers) c.self.view_is;
+  lanes = subst (λ (l : LoopState _). KeepsLanes l.lanes c.put.new.self.lanes) c.self.view_is c.put.ensures.lanes;
 }

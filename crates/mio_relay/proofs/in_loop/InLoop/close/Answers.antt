@@ -1,8 +1,25 @@
-use Rattle.std.proofs.Common.{List, sym, subst}
+use Rattle.std.proofs.Common.{◌∙◌, List, ap, refl, sym, subst}
+use Rattle.buffer_lanes.specs.Lanes.{LanesState}
 use Rattle.relay_sockets.specs.Endpoints.{Endpoint}
 use Rattle.mio_relay.specs.Connections.{AreListening}
+use Rattle.mio_relay.proofs.Staying.{rests_on, stays_on}
 use Rattle.mio_relay.proofs.in_loop.InLoop.close.Goals as goal
 
 pub invariant_of-self : goal.invariant_of-self
-invariant_of-self g c =
-    (subst (λ (b : List Endpoint). AreListening b c.self.inside.listeners.items) (sym c.close.ensures) c.self.invariant.0, c.take.ensures _ c.self.invariant.1)
+invariant_of-self g c = (
+  subst (λ (b : List Endpoint). AreListening b c.self.inside.listeners.items) (sym c.close.ensures) c.self.invariant.0,
+  c.take.ensures.goes _ c.self.invariant.1,
+  ap (λ (l : LanesState _). l.terms) c.end.ensures ∙ c.self.invariant.2,
+)
+
+pub invariant_of-self-in_default : goal.invariant_of-self-in_default
+invariant_of-self-in_default g c = (c.self.invariant.0, c.take.ensures.goes _ c.self.invariant.1, c.self.invariant.2)
+
+pub returns-in-Some-clause-stays : goal.returns-in-Some-clause-stays
+returns-in-Some-clause-stays g c = stays_on _ _ _ c.self.view_is c.close.ensures refl refl c.end.ensures
+
+pub returns-in-Some-clause-rests : goal.returns-in-Some-clause-rests
+returns-in-Some-clause-rests g c = rests_on _ _ _ c.self.view_is (ap (λ (l : LanesState _). l.later) c.end.ensures) c.take.ensures.settled
+
+pub returns-in_default-clause-rests : goal.returns-in_default-clause-rests
+returns-in_default-clause-rests g c = rests_on _ _ _ c.self.view_is refl c.take.ensures.settled
