@@ -1,8 +1,15 @@
 -- A relay that runs, and which relay it is.
-use Rattle.std.specs.Prelude.{ℕ, ◌≡◌, List, map}
+use Rattle.std.specs.Prelude.{ℕ, ◌≡◌, List, [], ◌∷◌, map, Option, Some, None, Result, Ok, Err}
 use Rattle.std.specs.List.{AllZip}
 use Rattle.std.specs.contracts.alloc.Global as heap
 use Rattle.ack_receipt.specs.Terms.{Terms}
+use Rattle.buffer_store.specs.declared.fault.BufferFault.{BufferFault}
+use Rattle.buffer_store.specs.declared.fault.BufferFault.TheVariants as store
+use Rattle.flush_pool.specs.Acts.{at}
+use Rattle.flush_pool.specs.Rounds.{HaveWorked}
+use Rattle.flush_pool.specs.declared.worked.Worked.{Worked}
+use Rattle.loop_core.specs.declared.fault.LoopFault.{LoopFault}
+use Rattle.loop_core.specs.declared.fault.LoopFault.TheVariants as ends
 use Rattle.retry_waits.specs.declared.settings.RetrySettings.{RetrySettings}
 use Rattle.relay_ports.specs.declared.buffered.BufferedOutput.{BufferedOutput}
 use Rattle.relay_ports.specs.declared.buffered.BufferedOutput.TheVariants.{Forward, File}
@@ -41,6 +48,37 @@ pub record IsPoolOf (job : Owned heap.the_row.Denot) (pool : PoolState) : Type 0
 pub record RelayState : Type 0 where
   pub turning : LoopState heap.the_row.Denot
   pub pools : List PoolState
+
+-- a pool that ended, and how: with what its workers did together, or with the fault of the first that has one
+pub record PoolEnded : Type 0 where
+  pub pool : PoolState
+  pub done : Result Worked BufferFault
+
+-- So ended as many workers as the pool has threads, at its own buffer, where each of them had done nothing.
+abbrev pub HaveEnded : PoolEnded → Type 0
+HaveEnded end = HaveWorked (at end.pool.terms.leaf end.pool.terms.takes []) end.pool.threads end.done
+
+-- the fault of a relay whose workers at a buffer ended so
+abbrev pub fault_of : Result Worked BufferFault → Option LoopFault
+fault_of (Ok worked) = None
+fault_of (Err store.Memory) = Some ends.Memory
+fault_of (Err fault) = Some (ends.Buffer fault)
+
+-- this fault, or else that of the first pool that ended with one
+abbrev pub first_fault : Option LoopFault → List PoolEnded → Option LoopFault
+first_fault (Some fault) pools = Some fault
+first_fault None [] = None
+first_fault None (pool ∷ pools) = first_fault (fault_of pool.done) pools
+
+-- a relay that ran: its loop, the fault that the loop ended with, and how its pools ended
+pub record RelayEnded : Type 0 where
+  pub turning : LoopState heap.the_row.Denot
+  pub fault : Option LoopFault
+  pub pools : List PoolEnded
+
+-- what ran
+abbrev pub relay_of : RelayEnded → RelayState
+relay_of ended = record { turning = ended.turning; pools = map (λ end. end.pool) ended.pools }
 
 -- A relay that listens goes on to run. It takes messages in at the same sources and addresses, it has a buffer for each of its
 -- outputs, and each output has what delivers its chunks, from the very buffer that the loop has for it.

@@ -1,12 +1,14 @@
 //! The threads that deliver a relay's chunks.
 
 ghost use Rattle.std.specs.Prelude.{◌≡◌, IfOk};
-ghost use Rattle.relay_run.specs.Running.{IsCarrierOf, IsPoolOf};
+ghost use Rattle.relay_run.specs.Running.{IsCarrierOf, IsPoolOf, fault_of as fault_of_done};
 
 use ack_receipt::{Evidence, SharedBuffer};
 use buffer_store::BufferFault;
 use disk_files::{Dir, RealDir};
-use flush_pool::{CarryFault, ClaimView, Courier, OpenGate, Retries, SinkCourier, run_pool};
+use flush_pool::{
+    CarryFault, ClaimView, Courier, OpenGate, Retries, SinkCourier, Worked, run_pool,
+};
 use loop_core::LoopFault;
 use relay_buffers::{DeliveryJob, SystemDir};
 use relay_conf::RetrySettings;
@@ -112,7 +114,7 @@ impl Pool {
             + Threads
             + AllocGlobal
             + Sync,
-        ensures { result ≡ self }
+        ensures { result.pool ≡ self }
     {
         let of = Snapshot::of(&self);
         let retries = Retries::new(rt.alloc(), self.retry);
@@ -126,34 +128,38 @@ impl Pool {
             &self.stop,
         );
         self.stop.store(true, Ordering::SeqCst);
-        let fault = match done {
-            Ok(_) => None,
-            Err(BufferFault::Memory) => Some(LoopFault::Memory),
-            Err(fault) => Some(LoopFault::Buffer(fault)),
-        };
-        PoolEnd { fault, of }
+        PoolEnd { done, of }
     }
 }
 
-/// How a pool ended. Contracts see which pool it was.
+/// How a pool ended: with what its workers did, or with the fault of the first that has one. Contracts see which pool it was.
 #[derive(Drop)]
 pub struct PoolEnd {
-    fault: Option<LoopFault>,
+    done: Result<Worked, BufferFault>,
     of: Snapshot<Pool>,
 }
 
 impl Model for PoolEnd {
-    ghost use Rattle.relay_run.specs.Running.{PoolState};
+    ghost use Rattle.relay_run.specs.Running.{HaveEnded, PoolEnded};
 
-    ghost Value = { PoolState };
+    ghost Value = { PoolEnded };
 
-    ghost view = { λ e. e.of.value };
+    ghost view = { λ e. record { pool = e.of.value; done = e.done } };
+
+    // So ended this pool's workers.
+    ghost invariant = { λ e. HaveEnded (record { pool = e.of.value; done = e.done }) };
 }
 
 impl PoolEnd {
     /// The fault that it ended with.
-    pub fn fault(&self) -> Option<LoopFault> {
-        self.fault
+    pub fn fault(&self) -> Option<LoopFault>
+        ensures { result ≡ fault_of_done self.now.done }
+    {
+        match self.done {
+            Ok(_) => None,
+            Err(BufferFault::Memory) => Some(LoopFault::Memory),
+            Err(fault) => Some(LoopFault::Buffer(fault)),
+        }
     }
 }
 

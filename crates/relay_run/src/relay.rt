@@ -3,7 +3,7 @@
 ghost use Rattle.std.specs.Prelude.{◌≡◌, ◌≢◌, [], None, IfOk, IfSome, IfNone};
 ghost use Rattle.plan_lines.specs.Forms.{relay_number};
 ghost use Rattle.relay_ports.specs.Setups.{setup_of};
-ghost use Rattle.relay_run.specs.Running.{Runs};
+ghost use Rattle.relay_run.specs.Running.{Runs, relay_of};
 ghost use Rattle.relay_run.specs.Starting.{ready_lines, fault_line as fault_line_of, PrintsReady, PrintsRelay, PrintsRun};
 
 use crate::flush::{Home, copy_of};
@@ -103,7 +103,7 @@ where
         out: &mut W,
     ) -> Result<Ran<R>, LoopFault>
         ensures prints { PrintsReady (W.contents out.old) (W.contents out.new) }
-        ensures runs { IfOk result (Runs (setup_of number relay)) }
+        ensures runs { IfOk result (λ ran. Runs (setup_of number relay) (relay_of ran)) }
     {
         let alloc = self.rt.alloc();
         let stop = Arc::new(alloc, AtomicBool::new(false))?;

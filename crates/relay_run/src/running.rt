@@ -2,7 +2,7 @@
 
 ghost use Rattle.std.specs.Prelude.{◌≡◌, ◌++◌, IfOk, OnOk, map};
 ghost use Rattle.std.specs.List.{AllZip};
-ghost use Rattle.relay_run.specs.Running.{Continues, IsPoolOf};
+ghost use Rattle.relay_run.specs.Running.{Continues, IsPoolOf, first_fault, relay_of};
 
 use crate::flush::{Folder, Home, Pool, PoolEnd, copy_of};
 use loop_core::LoopFault;
@@ -38,7 +38,7 @@ impl<R: Net + Clock + Clone + Drop> Model for Running<R> {
     ghost view = { λ r. record { turning = r.turning; pools = r.pools.items } };
 }
 
-/// How a relay ended. Contracts see what ran.
+/// How a relay ended. Contracts see what ran, and with which faults.
 #[derive(Drop)]
 pub struct Ran<R: Net + Clock + Clone + Drop> {
     fault: Option<LoopFault>,
@@ -47,22 +47,31 @@ pub struct Ran<R: Net + Clock + Clone + Drop> {
 }
 
 impl<R: Net + Clock + Clone + Drop> Model for Ran<R> {
-    ghost use Rattle.relay_run.specs.Running.{RelayState};
+    ghost use Rattle.relay_run.specs.Running.{RelayEnded};
 
-    ghost Value = { RelayState };
+    ghost Value = { RelayEnded };
 
-    ghost view = { λ r. record { turning = r.turned.value; pools = r.ends.items } };
+    ghost view = { λ r. record { turning = r.turned.value; fault = r.fault; pools = r.ends.items } };
 }
 
 impl<R: Net + Clock + Clone + Drop> Ran<R> {
     /// Why it ended, unless it was told to: a fault of the loop, or else the first of what delivered.
-    pub fn fault(&self) -> Option<LoopFault> {
-        let mut first = self.fault;
-        for end in &self.ends {
-            first = first.or(end.fault());
-        }
-        first
+    pub fn fault(&self) -> Option<LoopFault>
+        ensures { result ≡ first_fault self.now.fault self.now.pools }
+    {
+        first_of(self.fault, &self.ends)
     }
+}
+
+// This fault, or else that of the first pool that ended with one.
+fn first_of(fault: Option<LoopFault>, ends: &[PoolEnd]) -> Option<LoopFault>
+    ensures { result ≡ first_fault fault ends.now }
+{
+    let mut first = fault;
+    for end in ends {
+        first = first.or(end.fault());
+    }
+    first
 }
 
 // A thread that delivers an output's chunks ends as this pool's.
@@ -78,7 +87,7 @@ impl Model for EndsAs {
 }
 
 impl Promise<PoolEnd> for EndsAs {
-    ghost kept_by = { λ pool end. end ≡ pool };
+    ghost kept_by = { λ pool end. end.pool ≡ pool };
 }
 
 type Delivery = PromisedHandle<PoolEnd, EndsAs>;
@@ -127,7 +136,7 @@ where
 
     /// Runs the loop and the pools until one of them has a fault. `Memory`: there is none for a thread.
     pub fn run(self, rt: &R, stop: &Arc<AtomicBool>) -> Result<Ran<R>, LoopFault>
-        ensures { IfOk result (λ ran. ran ≡ self) }
+        ensures { IfOk result (λ ran. relay_of ran ≡ self) }
     {
         let Running { turning, pools } = self;
         let mut threads = Vec::new(rt.alloc());
@@ -197,7 +206,7 @@ fn join_all<R: Threads + AllocGlobal>(
     rt: &R,
     threads: Vec<Delivery>,
 ) -> Result<Vec<PoolEnd>, LoopFault>
-    ensures { IfOk result (λ ends. ends.items ≡ map (λ thread. thread.promise) threads.items) }
+    ensures { IfOk result (λ ends. map (λ end. end.pool) ends.items ≡ map (λ thread. thread.promise) threads.items) }
 {
     let mut ends = Vec::new(rt.alloc());
     let mut left = threads.into_iter();
