@@ -1,6 +1,6 @@
 //! A tag that two patterns have in common.
 
-use crate::tags::{ANY_PART, put_part, read_tag};
+use crate::tags::tag_of_parts;
 use std::alloc::{AllocError, Allocator};
 use tag_pattern::{PatternItem, Tag};
 
@@ -19,11 +19,12 @@ struct Spot<'p> {
 // The items of a pattern.
 type Items<'p, A> = &'p [PatternItem<Vec<u8, A>>];
 
-/// A tag of both patterns, if there is one that isn't empty: one with as few parts as can be.
-pub(crate) fn common_tag<A: Allocator + Copy>(
+/// A tag of both patterns, if there is one that isn't empty: one with as few parts as can be, and this for each that both leave open.
+pub(crate) fn common_tag<'p, A: Allocator + Copy>(
     alloc: A,
-    first: Items<'_, A>,
-    second: Items<'_, A>,
+    first: Items<'p, A>,
+    second: Items<'p, A>,
+    open: &'p [u8],
 ) -> Result<Option<Tag<A>>, AllocError> {
     let mut spots = Vec::new(alloc);
     spots.push(Spot {
@@ -39,7 +40,7 @@ pub(crate) fn common_tag<A: Allocator + Copy>(
         if here.first == first.len() && here.second == second.len() {
             return tag_to(alloc, &spots, next);
         }
-        add_next(&mut spots, next, here, first, second)?;
+        add_next(&mut spots, next, here, first, second, open)?;
     }
     Ok(None)
 }
@@ -51,6 +52,7 @@ fn add_next<'p, A: Allocator>(
     here: Spot<'p>,
     first: Items<'p, A>,
     second: Items<'p, A>,
+    open: &'p [u8],
 ) -> Result<(), AllocError> {
     let one = first.get(here.first);
     let other = second.get(here.second);
@@ -63,7 +65,7 @@ fn add_next<'p, A: Allocator>(
     let (Some(one), Some(other)) = (one, other) else {
         return Ok(());
     };
-    match common_part(one, other) {
+    match common_part(one, other, open) {
         Some(part) => add(
             spots,
             behind(here.first, one),
@@ -105,10 +107,11 @@ fn behind<A: Allocator>(items: usize, item: &PatternItem<Vec<u8, A>>) -> usize {
     }
 }
 
-// A part that both items take, if there is one.
+// A part that both items take, if there is one: this where both leave it open.
 fn common_part<'p, A: Allocator>(
     one: &'p PatternItem<Vec<u8, A>>,
     other: &'p PatternItem<Vec<u8, A>>,
+    open: &'p [u8],
 ) -> Option<&'p [u8]> {
     match (one, other) {
         (PatternItem::Literal(text), PatternItem::Literal(same)) => {
@@ -120,7 +123,7 @@ fn common_part<'p, A: Allocator>(
         }
         (PatternItem::Literal(text), _) => Some(text),
         (_, PatternItem::Literal(text)) => Some(text),
-        _ => Some(ANY_PART),
+        _ => Some(open),
     }
 }
 
@@ -130,7 +133,7 @@ fn tag_to<A: Allocator + Copy>(
     spots: &[Spot<'_>],
     number: usize,
 ) -> Result<Option<Tag<A>>, AllocError> {
-    let mut parts = Vec::new(alloc);
+    let mut parts: Vec<&[u8], A> = Vec::new(alloc);
     let mut at = number;
     for _ in 0..spots.len() {
         let Some(spot) = spots.get(at) else {
@@ -141,9 +144,6 @@ fn tag_to<A: Allocator + Copy>(
         }
         at = spot.before;
     }
-    let mut bytes = Vec::new(alloc);
-    for part in parts.iter().rev() {
-        put_part(&mut bytes, part)?;
-    }
-    read_tag(alloc, &bytes)
+    parts.reverse();
+    tag_of_parts(alloc, &parts)
 }

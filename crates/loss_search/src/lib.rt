@@ -8,6 +8,7 @@ mod search;
 mod tags;
 mod walk;
 mod weakness;
+mod words;
 
 pub use printed::put_step;
 pub use search::find;

@@ -7,6 +7,9 @@ use tag_pattern::{PatternItem, Plain, Tag, TagError, matches};
 /// What stands for a part that a pattern leaves open.
 pub(crate) const ANY_PART: &[u8] = b"x";
 
+/// What stands there too, since a part may be empty.
+pub(crate) const EMPTY_PART: &[u8] = b"";
+
 // How many tags are tried at most for one pattern and some others.
 const MOST_TAGS: usize = 4_096;
 
@@ -24,46 +27,65 @@ impl<A: Allocator + Copy> Tags<A> {
         }
     }
 
-    /// Adds tags of the pattern: one with a part where it may have any number of them, and one with none there.
-    pub fn add_of(&mut self, alloc: A, pattern: &Plain<A>) -> Result<(), AllocError> {
-        self.add(tag_of(alloc, pattern.items(), ANY_PART)?)?;
-        self.add(tag_of(alloc, pattern.items(), &[])?)
+    /// Adds tags of the pattern, with this for each part that it leaves open: one with a part where it may have any number of them, and
+    /// one with none there.
+    pub fn add_of(&mut self, alloc: A, pattern: &Plain<A>, open: &[u8]) -> Result<(), AllocError> {
+        self.add(tag_of(alloc, pattern.items(), open, true)?)?;
+        self.add(tag_of(alloc, pattern.items(), open, false)?)
     }
 
-    /// Adds tags that the pattern has in common with the other, and with what is left of that without its first parts: where prefixes may
-    /// stand.
+    /// Adds tags that the pattern has in common with the other, and with what is left of that without its first parts, where prefixes may
+    /// stand; with this for each part that they leave open.
     pub fn add_common(
         &mut self,
         alloc: A,
         pattern: &Plain<A>,
         other: &Plain<A>,
+        open: &[u8],
     ) -> Result<(), AllocError> {
         let items = other.items();
         for first in 0..items.len() {
             let (_, rest) = items.split_at(first);
-            let full = tag_of(alloc, rest, ANY_PART)?;
+            let full = tag_of(alloc, rest, open, true)?;
             self.add(full.filter(|tag| matches(pattern, tag)))?;
-            self.add(common_tag(alloc, pattern.items(), rest)?)?;
+            self.add(common_tag(alloc, pattern.items(), rest, open)?)?;
         }
         Ok(())
     }
 
-    /// Adds tags of the pattern that are up to three of these words, of which one is empty.
+    /// Adds the tags of the pattern that are up to three of these words, each as a part: those with an empty part, or those without.
     pub fn add_of_words(
         &mut self,
         alloc: A,
         pattern: &Plain<A>,
         words: &[&[u8]],
+        has_empty: bool,
     ) -> Result<(), AllocError> {
         for first in words {
+            self.add_of_parts(alloc, pattern, &[*first], has_empty)?;
             for second in words {
+                self.add_of_parts(alloc, pattern, &[*first, *second], has_empty)?;
                 for third in words {
-                    let tag = tag_of_words(alloc, first, second, third)?;
-                    self.add(tag.filter(|tag| matches(pattern, tag)))?;
+                    self.add_of_parts(alloc, pattern, &[*first, *second, *third], has_empty)?;
                 }
             }
         }
         Ok(())
+    }
+
+    // Adds the tag of these parts, if it is the pattern's, and has an empty part as is asked.
+    fn add_of_parts(
+        &mut self,
+        alloc: A,
+        pattern: &Plain<A>,
+        parts: &[&[u8]],
+        has_empty: bool,
+    ) -> Result<(), AllocError> {
+        if has_empty != parts.iter().any(|part| part.is_empty()) {
+            return Ok(());
+        }
+        let tag = tag_of_parts(alloc, parts)?;
+        self.add(tag.filter(|tag| matches(pattern, tag)))
     }
 
     // Adds the tag, if there is one, unless it is there or there are enough.
@@ -87,57 +109,44 @@ impl<A: Allocator + Copy> Tags<A> {
     }
 }
 
-// The tag of these items, with this in place of any number of parts, if it is one and not empty.
+// The tag of these items, with this for each part that they leave open, and in place of any number of parts with one or none, if it is
+// one and not empty.
 fn tag_of<A: Allocator + Copy>(
     alloc: A,
     items: &[PatternItem<Vec<u8, A>>],
-    parts: &[u8],
+    open: &[u8],
+    has_one: bool,
 ) -> Result<Option<Tag<A>>, AllocError> {
-    let mut bytes = Vec::new(alloc);
+    let mut parts: Vec<&[u8], A> = Vec::new(alloc);
     for item in items {
-        let part = match item {
-            PatternItem::Literal(text) => text.as_slice(),
-            PatternItem::AnyPart => ANY_PART,
-            PatternItem::AnyParts => parts,
-        };
-        put_part(&mut bytes, part)?;
+        match item {
+            PatternItem::Literal(text) => parts.push(text.as_slice())?,
+            PatternItem::AnyPart => parts.push(open)?,
+            PatternItem::AnyParts if has_one => parts.push(open)?,
+            PatternItem::AnyParts => (),
+        }
     }
-    read_tag(alloc, &bytes)
+    tag_of_parts(alloc, &parts)
 }
 
-// The tag of these words, if it is one.
-fn tag_of_words<A: Allocator + Copy>(
+/// The tag of these parts, if they are one and not empty: steps have no field for an empty tag.
+pub(crate) fn tag_of_parts<A: Allocator + Copy>(
     alloc: A,
-    first: &[u8],
-    second: &[u8],
-    third: &[u8],
+    parts: &[&[u8]],
 ) -> Result<Option<Tag<A>>, AllocError> {
     let mut bytes = Vec::new(alloc);
-    put_part(&mut bytes, first)?;
-    put_part(&mut bytes, second)?;
-    put_part(&mut bytes, third)?;
-    read_tag(alloc, &bytes)
-}
-
-/// The tag of these bytes, if they are one and not empty: steps have no field for an empty tag.
-pub(crate) fn read_tag<A: Allocator>(alloc: A, bytes: &[u8]) -> Result<Option<Tag<A>>, AllocError> {
+    for (number, part) in parts.iter().enumerate() {
+        if number > 0 {
+            bytes.extend_from_slice(b".")?;
+        }
+        bytes.extend_from_slice(part)?;
+    }
     if bytes.is_empty() {
         return Ok(None);
     }
-    match Tag::read(alloc, bytes) {
+    match Tag::read(alloc, &bytes) {
         Ok(tag) => Ok(Some(tag)),
         Err(TagError::TagTooLong) => Ok(None),
         Err(TagError::Memory) => Err(AllocError),
     }
-}
-
-/// Adds a part, behind a dot unless it is the first. An empty one isn't added.
-pub(crate) fn put_part<A: Allocator>(tag: &mut Vec<u8, A>, part: &[u8]) -> Result<(), AllocError> {
-    if part.is_empty() {
-        return Ok(());
-    }
-    if !tag.is_empty() {
-        tag.extend_from_slice(b".")?;
-    }
-    tag.extend_from_slice(part)
 }

@@ -9,10 +9,10 @@ use std::alloc::Allocator;
 pub(crate) enum Weakness {
     /// A restart empties its buffer.
     Forgets,
-    /// It discards a chunk in the end.
-    GivesUp,
     /// Its oldest chunk makes room.
     DropsOldest,
+    /// It discards a chunk in the end.
+    GivesUp,
     /// It sends a chunk once, and asks for no acknowledgement.
     SendsOnce,
     /// It hands a chunk on to a server, which may lose it.
@@ -21,16 +21,16 @@ pub(crate) enum Weakness {
     Keeps,
 }
 
-/// The first of these that the output has.
+/// The first of these that the output has: those of fewer steps stand first.
 pub(crate) fn weakness_of<A: Allocator>(output: &Output<A>) -> Weakness {
     if is_in_memory(output) {
         return Weakness::Forgets;
     }
     match settings(output) {
-        Some(found) if !found.retry.forever => Weakness::GivesUp,
         Some(found) if found.overflow_action == OverflowAction::DropOldestChunk => {
             Weakness::DropsOldest
         }
+        Some(found) if !found.retry.forever => Weakness::GivesUp,
         _ => sending(output),
     }
 }
