@@ -14,5 +14,5 @@ mod words;
 
 pub use explaining::{Explained, explain};
 pub use faults::explain_fault;
-pub use site::Texts;
+pub use site::{Site, Texts};
 pub use words::{advice, meaning};

@@ -26,9 +26,12 @@ pub struct Texts<'t, A: Allocator> {
 
 /// A line of one of the texts.
 #[derive(Drop)]
-pub(crate) struct Site<'t> {
+pub struct Site<'t> {
+    /// The text's name.
     pub name: &'t str,
+    /// The text.
     pub text: &'t [u8],
+    /// The line, counted from 1.
     pub line: usize,
 }
 
@@ -66,7 +69,7 @@ impl<'t, A: Allocator> Texts<'t, A> {
     }
 
     /// This line of the configuration of the relay at this place; no text where it has none.
-    pub(crate) fn conf_site(&self, place: usize, line: usize) -> Site<'t> {
+    pub fn conf_site(&self, place: usize, line: usize) -> Site<'t> {
         Site {
             name: self.conf_name(place),
             text: match self.confs.get(place) {
@@ -94,8 +97,8 @@ impl<'t> Site<'t> {
         out.extend_from_slice(b"\n")
     }
 
-    // The line's text, without what is blank in front of it; empty where the text has no such line.
-    fn line_text<A: Allocator + Copy>(&self, alloc: A) -> Result<&'t [u8], AllocError> {
+    /// The line's text, without what is blank in front of it; empty where the text has no such line. The only error is want of memory.
+    pub fn line_text<A: Allocator + Copy>(&self, alloc: A) -> Result<&'t [u8], AllocError> {
         let all = lines(alloc, self.text)?;
         match all.get(self.line.saturating_sub(1)) {
             Some(line) => Ok(line.trim_ascii_start()),
