@@ -1,3 +1,4 @@
 pub mod Lines
 pub mod Adapting
 pub mod Answers
+pub mod Confs

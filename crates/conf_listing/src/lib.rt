@@ -2,8 +2,12 @@
 #![tactic(auto)]
 
 mod adapt;
+mod conf;
 mod draft;
 mod mark;
+mod outcome;
 mod reading_back;
 
 pub use adapt::run_adapt;
+pub use conf::adapt_conf;
+pub use outcome::{AdaptedConf, ConfText};
