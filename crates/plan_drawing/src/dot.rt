@@ -15,12 +15,13 @@ use std::alloc::{AllocError, Allocator};
 // What a red node or edge has.
 const RED: &str = "color=red, fontcolor=red, ";
 
-/// The plan as a graph in Graphviz's language, `digraph plan`: a cluster for each relay, a node for each client, source, scope, match and
-/// output, and edges along which tags go, with the tags where they come in at a client and where a match takes them. What stands in a line
-/// where a rule is broken is red; what is broken elsewhere is a red node of its own.
+/// The plan as a graph in Graphviz's language, `digraph plan`: a cluster for each relay, a node for each client,
+/// source, scope, match and output, and edges along which tags go, with the tags where they come in at a client and
+/// where a match takes them. What stands in a line where a rule is broken is red; what is broken elsewhere is a red
+/// node of its own.
 ///
-/// Names stand in quotes; only printed characters of ASCII are shown as they are. Each row is compared with each broken place. The only
-/// error is want of memory.
+/// Names stand in quotes; only printed characters of ASCII are shown as they are. Each row is compared with each broken
+/// place. The only error is want of memory.
 pub fn draw_dot<A: Allocator + Copy>(
     alloc: A,
     plan: &Plan<A>,
