@@ -1,6 +1,9 @@
--- From what is said of a plan, or of its fault, to what `explain` prints.
-use Rattle.relay_net.proofs.Pairing.{taken_more}
-use Rattle.std.proofs.lemmas.List.{append-nil, get_or_default, take_more}
+-- From what is said of a plan, or of its fault, to what `explain` and `check` print.
+use Rattle.std.proofs.lemmas.List.{append-nil, length-append, take_more}
+use Rattle.std.proofs.lemmas.List.Elements.{All-push}
+use Rattle.std.proofs.lemmas.List.Sorted.{All-permutation, length_permutation}
+use Rattle.std.specs.Prelude.{All, IsPermutation}
+use Rattle.std.specs.declared.vec.Vec.{Vec}
 use Rattle.std.proofs.Common.{◌≡◌, ℕ, List, ◌++◌, Bool, true, false, refl, ap, ◌∙◌, inl, inr, append_assoc, ◌<◌, ◌+◌, [], ◌∷◌, get_or, take, length, subst, sym}
 use Rattle.std.specs.Bool.{IsTrue}
 use Rattle.losing_steps.specs.Losses.{IsLosingText}
@@ -10,8 +13,7 @@ use Rattle.loss_rules.specs.declared.answer.Place.{Place}
 use Rattle.loss_rules.specs.declared.answer.Rule.{Rule}
 use Rattle.plan_answers.specs.Networks.{answer_line}
 use Rattle.program_text.specs.declared.status.Status.TheVariants.{No}
-use Rattle.loss_checker.specs.declared.broken.BrokenRule.{BrokenRule}
-use Rattle.relayctl.specs.Checking.{no_lines, AddsBroken, SayEach}
+use Rattle.relayctl.specs.Checking.{no_lines, AreExplained}
 use Rattle.relayctl.specs.Explaining.{last_line, IsLossOrNotes, SaysAnswer}
 
 -- with the last line behind them, lines are steps that lose an event, or notes
@@ -30,17 +32,6 @@ says_no plan broken at front text lines has_loss is loses are = record {
   is_status = refl;
 }
 
--- what is said of a broken rule behind other lines
-pub adds_broken : {A : Type 0} (plan : Subject A) (one : BrokenRule A) (before front text after : List ℕ) (has_loss : Bool) → front ≡ before ++ no_lines one.rule (one.place ∷ one.others.items)
-    → (IsTrue has_loss → IsLosingText plan.duty plan.net text) → after ≡ (front ++ text) ++ last_line has_loss → AddsBroken plan one before after
-adds_broken plan one before front text after has_loss is loses are =
-    let places = no_lines one.rule (one.place ∷ one.others.items) in
-    record {
-      said = text ++ last_line has_loss;
-      is_said = loss_or_notes plan text has_loss loses;
-      after_is = are ∙ append_assoc front text (last_line has_loss) ∙ ap (λ f. f ++ (text ++ last_line has_loss)) is ∙ append_assoc before places (text ++ last_line has_loss);
-    }
-
 -- the lines of one place more
 pub no_lines_more : (rule : Rule) (places : List Place) (at : Place) → no_lines rule (places ++ at ∷ []) ≡ no_lines rule places ++ answer_line (answer.No rule at)
 no_lines_more rule [] at = append-nil (answer_line (answer.No rule at))
@@ -54,9 +45,17 @@ places_more rule first places count other before mid after less mid_is after_is 
     after_is ∙ ap (λ f. f ++ answer_line (answer.No rule at)) mid_is ∙ append_assoc before (no_lines rule (first ∷ take count places)) (answer_line (answer.No rule at))
     ∙ ap (λ f. before ++ f) (sym (no_lines_more rule (first ∷ take count places) at)) ∙ ap (λ ps. before ++ no_lines rule (first ∷ ps)) (sym (take_more places count other less))
 
--- one broken rule more
-pub said_more : {A : Type 0} (plan : Subject A) (broken : List (BrokenRule A)) (count : ℕ) (other : BrokenRule A) (before after : List ℕ) → count < length broken
-    → SayEach plan (take count broken) before → AddsBroken plan (get_or broken count other) before after → SayEach plan (take (count + 1) broken) after
-said_more {A} plan broken count other before after less said adds =
-    let one : BrokenRule A = get_or broken count other in
-    subst (λ (found : List (BrokenRule A)). SayEach plan found after) (sym (taken_more broken count one less (get_or_default broken count other one less))) (SayEach.one_more one said adds)
+-- what explains one rule more
+pub explained_more : {A : Type 0} (plan : Subject A) (count : ℕ) (before : List (Vec ℕ A)) (said : Vec ℕ A) (after : List (Vec ℕ A)) → AreExplained plan count before → IsLossOrNotes plan said.items
+    → after ≡ before ++ said ∷ [] → AreExplained plan (count + 1) after
+explained_more {A} plan count before said after are is after_is = record {
+  each = subst (λ (l : List (Vec ℕ A)). All (λ (v : Vec ℕ A). IsLossOrNotes plan v.items) l) (sym after_is) (All-push (λ (v : Vec ℕ A). IsLossOrNotes plan v.items) before said are.each is);
+  as_many = ap length after_is ∙ length-append before (said ∷ []) ∙ ap (λ n. n + 1) are.as_many;
+}
+
+-- the same in another order
+pub explained_sorted : {A : Type 0} (plan : Subject A) (count : ℕ) (before after : List (Vec ℕ A)) → AreExplained plan count before → IsPermutation before after → AreExplained plan count after
+explained_sorted {A} plan count before after are moved = record {
+  each = All-permutation (λ (v : Vec ℕ A). IsLossOrNotes plan v.items) before after moved are.each;
+  as_many = length_permutation before after moved ∙ are.as_many;
+}

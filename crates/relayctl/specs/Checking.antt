@@ -1,5 +1,6 @@
 -- What is printed of a plan with the labels and reaches that it lacks: a yes, or every broken rule; or why there is no answer.
-use Rattle.std.specs.Prelude.{◌≡◌, ◌<◌, ◌⊎◌, Bool, true, false, ℕ, List, [], ◌∷◌, ◌++◌, codes, length, Option}
+use Rattle.std.specs.Prelude.{◌≡◌, ◌<◌, ◌≤◌, ◌⊎◌, All, Bool, true, false, ℕ, List, [], ◌∷◌, ◌++◌, codes, flat_map, get_or, length, Option}
+use Rattle.std.specs.declared.vec.Vec.{Vec}
 use Rattle.labelled_check.specs.Checks.{IsLabelledCheck}
 use Rattle.loss_checker.specs.declared.broken.BrokenRule.{BrokenRule}
 use Rattle.loss_rules.specs.Breaks.{Subject}
@@ -7,6 +8,7 @@ use Rattle.loss_rules.specs.declared.answer.Answer.TheVariants as answer
 use Rattle.loss_rules.specs.declared.answer.Place.{Place}
 use Rattle.loss_rules.specs.declared.answer.Rule.{Rule}
 use Rattle.plan_answers.specs.Networks.{AreRead, answer_line, IsStopLine}
+use Rattle.plan_warnings.specs.Notes.{AddsNotes}
 use Rattle.program_text.specs.Lines.{line}
 use Rattle.program_text.specs.Output.{IsPrinted}
 use Rattle.program_text.specs.declared.status.Status.{Status}
@@ -20,22 +22,33 @@ abbrev pub no_lines : Rule → List Place → List ℕ
 no_lines rule [] = []
 no_lines rule (at ∷ later) = answer_line (answer.No rule at) ++ no_lines rule later
 
--- what is said of one broken rule behind other lines: the line of a no for each place, and steps that lose an event or notes
-pub record AddsBroken {A : Type 0} (plan : Subject A) (one : BrokenRule A) (before after : List ℕ) : Type 0 where
-  pub said : List ℕ
-  pub is_said : IsLossOrNotes plan said
-  pub after_is : after ≡ before ++ (no_lines one.rule (one.place ∷ one.others.items) ++ said)
+-- the line of a no for every place where one of these rules is broken
+abbrev pub all_no_lines : {A : Type 0} → List (BrokenRule A) → List ℕ
+all_no_lines broken = flat_map (λ one. no_lines one.rule (one.place ∷ one.others.items)) broken
 
--- what is said of broken rules, one after another
-pub data SayEach {A : Type 0} (plan : Subject A) : List (BrokenRule A) → List ℕ → Type 0 where
-  none : SayEach plan [] []
-  one_more : {broken : List (BrokenRule A)} {before after : List ℕ} (one : BrokenRule A) → SayEach plan broken before → AddsBroken plan one before after
-      → SayEach plan (broken ++ one ∷ []) after
+abbrev pub bytes_of : {A : Type 0} → Vec ℕ A → List ℕ
+bytes_of text = text.items
 
--- what is said of the rules of a plan, of which these are broken: a yes where none are
+-- These texts explain so many broken rules: each has steps that lose an event, or notes.
+pub record AreExplained {A : Type 0} (plan : Subject A) (count : ℕ) (explained : List (Vec ℕ A)) : Type 0 where
+  pub each : All (λ said. IsLossOrNotes plan said.items) explained
+  pub as_many : length explained ≡ count
+
+-- None is longer than one behind it.
+abbrev pub AreShortestFirst : {A : Type 0} → List (Vec ℕ A) → Type 0
+AreShortestFirst {A} texts = (i j : ℕ) (other : Vec ℕ A) → i ≤ j → j < length texts → length (get_or texts i other).items ≤ length (get_or texts j other).items
+
+-- what is said of broken rules: the line of a no for every place, and behind these what explains each rule, the shortest first
+pub record SayBroken {A : Type 0} (plan : Subject A) (broken : List (BrokenRule A)) (lines : List ℕ) : Type 0 where
+  pub explained : List (Vec ℕ A)
+  pub are : AreExplained plan (length broken) explained
+  pub shortest_first : AreShortestFirst explained
+  pub lines_are : lines ≡ all_no_lines broken ++ flat_map bytes_of explained
+
+-- what is said of the rules of a plan, of which these are broken: where none are a yes, and behind it lines that each begin with `#`
 abbrev pub SaysRules : {A : Type 0} → Subject A → List (BrokenRule A) → List ℕ → Status → Type 0
-SaysRules plan [] lines status = (lines ≡ line (codes "yes")) × (status ≡ Done)
-SaysRules plan (first ∷ others) lines status = SayEach plan (first ∷ others) lines × (status ≡ No)
+SaysRules plan [] lines status = AddsNotes (line (codes "yes")) lines × (status ≡ Done)
+SaysRules plan (first ∷ others) lines status = SayBroken plan (first ∷ others) lines × (status ≡ No)
 
 -- the line behind that, where no labels were found
 abbrev pub labels_note : Bool → List ℕ

@@ -1,22 +1,24 @@
 //! The word `check`: every broken rule of a plan with the labels that it lacks, each explained.
 
-ghost use Rattle.std.specs.Prelude.{◌≡◌, ◌++◌, ◌∷◌, IfOk, OnOk};
-ghost use Rattle.plan_answers.specs.Networks.{answer_line};
-ghost use Rattle.relayctl.specs.Checking.{labels_note as labels_note_of, no_lines, AddsBroken, IsCheck, PrintsCheck, SayEach, SaysCheck, SaysRules};
+ghost use Rattle.std.specs.Prelude.{◌≡◌, ◌++◌, IfOk};
+ghost use Rattle.relayctl.specs.Checking.{labels_note as labels_note_of, IsCheck, PrintsCheck, SaysCheck, SaysRules};
 
-use crate::explain::{Said, last_line, say_fault};
+use crate::explain::{Said, say_fault};
+use crate::listing::list_broken;
 use labelled_check::{LabelledCheck, check_labelled};
-use loss_checker::{Answer, BrokenRule, Place, Plan, PlanError, Rule, conf_names};
+use loss_checker::{BrokenRule, Plan, PlanError, conf_names};
 use plan_answers::{Stop, print_stop, read_confs};
+use plan_warnings::put_warnings;
 use program_text::{Open, ReadFault, Status, put_last, read_whole};
-use rule_advice::{Texts, explain};
+use rule_advice::Texts;
 use std::alloc::{AllocError, Allocator};
 use std::io::{Read, Write};
 use text_lines::lines;
 
-/// Labels the plan that `net` gives, by this name in what is printed, and prints `yes` where each rule holds of it; or every rule that is
-/// broken, each at every place, with what it means, what mends it, and steps that lose an acknowledged event, where some were found. Of a plan without
-/// relays or clients, and of a fault, it says so in `faults`. Each text is read whole before a fault of the plan is looked for.
+/// Labels the plan that `net` gives, by this name in what is printed, and prints `yes` where each rule holds of it, with warnings of
+/// what may keep events from arriving; or every place where a rule is broken, and behind them, the shortest first, what each broken
+/// rule means, what mends it, and steps that lose an acknowledged event, where some were found. Of a plan without relays or clients,
+/// and of a fault, it says so in `faults`. Each text is read whole before a fault of the plan is looked for.
 pub fn run_check<A: Allocator + Copy, R: Read, O: Open, W: Write, F: Write>(
     alloc: A,
     name: &str,
@@ -133,7 +135,7 @@ fn labels_note(is_labelled: bool) -> &'static str
     }
 }
 
-// A yes where no rule is broken, else what is said of each that is.
+// A yes where no rule is broken, and behind it what that doesn't promise; else what is said of each that is.
 fn say_rules<A: Allocator + Copy>(
     alloc: A,
     plan: &Plan<A>,
@@ -143,76 +145,15 @@ fn say_rules<A: Allocator + Copy>(
     ensures { IfOk result (λ said. SaysRules plan.now broken.now said.lines.items said.status) }
 {
     if broken.is_empty() {
+        let mut lines = Vec::from_slice(alloc, b"yes\n")?;
+        put_warnings(alloc, plan, texts, &mut lines)?;
         return Ok(Said {
-            lines: Vec::from_slice(alloc, b"yes\n")?,
+            lines,
             status: Status::Done,
         });
     }
     Ok(Said {
-        lines: say_each(alloc, plan, texts, broken)?,
+        lines: list_broken(alloc, plan, texts, broken)?,
         status: Status::No,
     })
-}
-
-// What is said of the broken rules, one after another.
-fn say_each<A: Allocator + Copy>(
-    alloc: A,
-    plan: &Plan<A>,
-    texts: &Texts<'_, A>,
-    broken: &[BrokenRule<A>],
-) -> Result<Vec<u8, A>, AllocError>
-    ensures { IfOk result (λ lines. SayEach plan.now broken.now lines.items) }
-{
-    let mut lines = Vec::new(alloc);
-    for one in broken {
-        put_broken(alloc, plan, texts, one, &mut lines)?;
-    }
-    Ok(lines)
-}
-
-// Adds the lines of a broken rule, and what explains it.
-fn put_broken<A: Allocator + Copy>(
-    alloc: A,
-    plan: &Plan<A>,
-    texts: &Texts<'_, A>,
-    one: &BrokenRule<A>,
-    lines: &mut Vec<u8, A>,
-) -> Result<(), AllocError>
-    ensures { OnOk result (AddsBroken plan.now one.now lines.old.items lines.new.items) }
-{
-    put_places(alloc, one, lines)?;
-    let said = explain(alloc, plan, texts, one.rule, one.place, &one.others)?;
-    lines.extend_from_slice(&said.lines)?;
-    lines.extend_from_slice(last_line(said.has_loss).as_bytes())?;
-    Ok(())
-}
-
-// Adds the line of a no for each place where the rule is broken.
-fn put_places<A: Allocator + Copy>(
-    alloc: A,
-    one: &BrokenRule<A>,
-    lines: &mut Vec<u8, A>,
-) -> Result<(), AllocError>
-    ensures { OnOk result (lines.new.items ≡ lines.old.items ++ no_lines one.now.rule (one.now.place ∷ one.now.others.items)) }
-{
-    put_place(alloc, one.rule, one.place, lines)?;
-    for place in &one.others {
-        put_place(alloc, one.rule, *place, lines)?;
-    }
-    Ok(())
-}
-
-// Adds the line of a no: the rule is broken at this place.
-fn put_place<A: Allocator + Copy>(
-    alloc: A,
-    rule: Rule,
-    place: Place,
-    lines: &mut Vec<u8, A>,
-) -> Result<(), AllocError>
-    ensures { OnOk result (lines.new.items ≡ lines.old.items ++ answer_line (Answer.No rule place)) }
-{
-    let answer = Answer::No { rule, place };
-    let line = format!(in alloc; "{answer}\n")?.into_bytes();
-    lines.extend_from_slice(&line)?;
-    Ok(())
 }

@@ -2,12 +2,15 @@
 #![tactic(auto)]
 
 mod check;
+mod draw;
 mod explain;
 mod label;
+mod listing;
 mod words;
 
 use check::run_check;
 use conf_listing::run_adapt;
+use draw::run_draw;
 use explain::run_explain;
 use folder_listing::{DataFolder, run_show};
 use label::run_label;
@@ -19,16 +22,19 @@ use std::{env, io};
 use words::{Word, read_word};
 
 const USAGE: &str =
-    "usage: relayctl check NET | label NET | explain NET | ways CONF TAG.. | adapt CONF [--accept NAME].. | show DIR | --help";
+    "usage: relayctl check NET | label NET | explain NET | draw NET [--dot] | ways CONF TAG.. | adapt CONF [--accept NAME].. | show DIR | --help";
 
 const HELP: &str =
-    "usage: relayctl check NET | label NET | explain NET | ways CONF TAG.. | adapt CONF [--accept NAME].. | show DIR | --help
+    "usage: relayctl check NET | label NET | explain NET | draw NET [--dot] | ways CONF TAG.. | adapt CONF [--accept NAME].. | show DIR | --help
 
-check NET        labels the plan NET, and prints `yes`, or every rule that is broken then,
-                 each with what it means, what mends it, and steps that lose an event
+check NET        labels the plan NET, and prints `yes`, with warnings of what may keep events from
+                 arriving, or every rule that is broken then, each with what it means, what mends
+                 it, and steps that lose an event
 label NET        prints the plan NET with the label and reach lines that it lacks
 explain NET      prints the answer of relaynet check to the plan NET, what a broken
                  rule or a fault means, what mends it, and steps that lose an event
+draw NET         draws the plan NET, with the labels that it lacks, as a tree of text; --dot: for
+                 Graphviz; each place where a rule is broken has a mark
 ways CONF TAG..  prints to which outputs each TAG goes from each source of the
                  configuration CONF
 adapt CONF       prints the configuration CONF, as it runs in Fluentd, in the form that a relay
@@ -58,6 +64,18 @@ fn run(rt: &HostRuntime, word: Option<Word<'_>>) -> Status {
         Some(Word::Label(net)) => run_label(rt.alloc(), &mut folder.text(net), &folder, out),
         Some(Word::Explain(net)) => {
             run_explain(rt.alloc(), net, &mut folder.text(net), &folder, out)
+        }
+        Some(Word::Draw(net, drawing)) => {
+            let faults = &mut rt.stderr();
+            run_draw(
+                rt.alloc(),
+                net,
+                drawing,
+                &mut folder.text(net),
+                &folder,
+                out,
+                faults,
+            )
         }
         Some(Word::Ways(conf, tags)) => run_ways(rt.alloc(), &mut folder.text(conf), tags, out),
         Some(Word::Adapt(conf, accepted)) => {

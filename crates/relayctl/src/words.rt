@@ -1,5 +1,7 @@
 //! What the words of the command line ask for.
 
+use crate::draw::Drawing;
+
 /// What the program is asked to do; a path is taken from the working folder.
 #[derive(Clone, Copy, Debug, PartialEq, Eq)]
 pub enum Word<'a> {
@@ -11,6 +13,8 @@ pub enum Word<'a> {
     Label(&'a str),
     /// Explain the checker's answer to a plan, at this path.
     Explain(&'a str),
+    /// Draw the plan of a network, at this path.
+    Draw(&'a str, Drawing),
     /// Say where these tags go under the configuration at this path.
     Ways(&'a str, &'a [String]),
     /// Adapt the configuration at this path to the profile; `--accept` and a name, again and again, say what is accepted.
@@ -43,8 +47,16 @@ pub fn read_word(words: &[String]) -> Option<Word<'_>> {
             if word.as_str() == "explain" {
                 return Some(Word::Explain(path));
             }
+            if word.as_str() == "draw" {
+                return Some(Word::Draw(path, Drawing::Tree));
+            }
             if word.as_str() == "show" {
                 return Some(Word::Show(path));
+            }
+        }
+        [_, word, path, flag] => {
+            if word.as_str() == "draw" && flag.as_str() == "--dot" {
+                return Some(Word::Draw(path, Drawing::Dot));
             }
         }
         _ => (),

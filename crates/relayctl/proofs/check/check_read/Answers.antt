@@ -1,8 +1,8 @@
-use Rattle.std.proofs.Common.{rules, ◌≡◌, ◌≢◌, ap, ◌∙◌, inl, inr}
+use Rattle.std.proofs.Common.{rules, ◌≡◌, ◌≢◌, ap, ◌∙◌, inl}
 use Rattle.plan_answers.specs.Networks.{AreRead}
 use Rattle.plan_lines.specs.Faults.{IsRefusal}
 use Rattle.plan_lines.specs.Forms.{confs_named}
-use Rattle.plan_lines.specs.Plans.{IsPlanOf, texts as texts_of}
+use Rattle.plan_lines.specs.Plans.{texts as texts_of}
 use Rattle.plan_lines.specs.declared.error.PlanError.TheVariants as refusal
 use Rattle.labelled_check.specs.Checks.{IsLabelledCheck}
 use Rattle.relayctl.proofs.Stopping.{is_check}

@@ -1,7 +1,7 @@
 use Rattle.std.proofs.Common.{rules, ◌≡◌, ◌++◌, ◌∙◌, ap}
 use Rattle.loss_rules.specs.declared.answer.Answer.TheVariants as answer
 use Rattle.plan_answers.specs.Networks.{answer_line}
-use Rattle.relayctl.proofs.check.put_place.Goals as goal
+use Rattle.relayctl.proofs.listing.put_place.Goals as goal
 
 pub returns : goal.returns
 returns g c =

@@ -1,11 +1,11 @@
-use Rattle.std.proofs.Common.{◌≡◌, ◌<◌, ◌++◌, ◌∷◌, ◌∙◌, ap, sym, length, arith}
+use Rattle.std.proofs.Common.{◌<◌, ◌++◌, ◌∷◌, ◌∙◌, ap, sym, length, arith}
 use Rattle.std.proofs.lemmas.List.{append-nil, take_all}
 use Rattle.loss_rules.specs.declared.answer.Answer.TheVariants as answer
 use Rattle.loss_rules.specs.declared.answer.Place.TheVariants as place
 use Rattle.plan_answers.specs.Networks.{answer_line}
 use Rattle.relayctl.specs.Checking.{no_lines}
 use Rattle.relayctl.proofs.Explanations.{places_more}
-use Rattle.relayctl.proofs.check.put_places.Goals as goal
+use Rattle.relayctl.proofs.listing.put_places.Goals as goal
 
 pub loop-place-init : goal.loop-place-init
 loop-place-init g c = c.in_ok-put_place.ensures ∙ ap (λ f. c.args.lines.now.items ++ f) (sym (append-nil (answer_line (answer.No c.args.one.now.rule c.args.one.now.place))))
