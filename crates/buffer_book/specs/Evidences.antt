@@ -85,7 +85,7 @@ ShowsLike state serial shown = IfSome (stored_of shown) (IsLike state serial)
 abbrev pub Serves : {A : Type 0} → Leaf → Takes A → State → Claimed → Shows → Type 0
 Serves leaf takes state claim shown = IsFor leaf takes claim shown × ShowsWhole state claim.serial shown
 
--- what the evidence shows can be compared with what was appended: where it shows entries in a sink, the folder was honest when the buffer was opened, and had no stray generation
+-- what the evidence shows can be compared with what was appended: where it shows entries in a sink, the folder was honest when the buffer was opened, and had no gap of removed generations
 abbrev pub CanCompare : {D : Type 0} → (D → Type 0) → (D → History) → Held D → Shows → Type 0
 CanCompare is_honest history buffer shown = IsSome (stored_of shown) → BeganWell is_honest history buffer
 

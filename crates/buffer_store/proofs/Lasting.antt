@@ -1,5 +1,5 @@
 -- What the steps of a journal leave of a chunk that is queued.
-use Rattle.std.proofs.Common.{◌≡◌, ◌≢◌, ◌⊎◌, ⊎_elim, inl, inr, ℕ, zero, suc, ◌+◌, ◌<◌, ◌≤◌, Bool, true, false, cond, List, [], ◌∷◌, ◌++◌, take, Option, Some, None, option_map, refl, sym, ap, subst, ◌∙◌, arith}
+use Rattle.std.proofs.Common.{◌≡◌, ◌≢◌, ◌⊎◌, ⊎_elim, inl, inr, ℕ, zero, suc, ◌+◌, ◌<◌, ◌≤◌, Bool, true, false, cond, List, [], ◌∷◌, ◌++◌, take, Option, Some, None, option_map, refl, sym, ap, subst, ◌∙◌, length, arith}
 use Rattle.std.specs.Prelude.{IsSomeAnd, IfSome, drop}
 use Rattle.std.specs.Option.{option_map_or}
 use Rattle.std.specs.List.{AllByRecursion}
@@ -18,10 +18,12 @@ use Rattle.buffer_state.proofs.Serials.{at_itself, at_below, at_above, at_same}
 use Rattle.chunk_journal.specs.Records.{Record, Seal, Append, Queue, Purge}
 use Rattle.chunk_journal.specs.Meaning.{Tells, Allows, Each, after, after_all}
 use Rattle.journal_files.specs.Disks.{Recovers}
-use Rattle.journal_files.specs.JournalLogs.{JournalLog, IsJournalLog, OpensWithin, state_of, state_at_seal, reopened_at}
-use Rattle.buffer_store.specs.Buffers.{Held, with_more}
-use Rattle.buffer_store.specs.Durability.{MayBeLost, LosesOnly, KeepsQueued, Lasts, LastsNow, IsDurable, IsLeft, durably}
-use Rattle.std.proofs.lemmas.List.{take-append-le}
+use Rattle.journal_files.specs.JournalLogs.{JournalLog, IsJournalLog, OpensWithin, state_of, state_at_seal, reopened_at, all_durable, new_generation}
+use Rattle.buffer_store.specs.Buffers.{Held, with_more, durable_if}
+use Rattle.buffer_store.specs.Durability.{MayBeLost, LosesOnly, KeepsQueued, Lasts, LastsNow, IsDurable, IsLeft, IsNamed, Endures, durably}
+use Rattle.std.proofs.lemmas.Bool.{false≢true}
+use Rattle.std.proofs.lemmas.List.{length-append, take-append-le, take_all}
+use Rattle.chunk_journal.proofs.Standing.{each_more}
 use Rattle.journal_files.specs.JournalLogs.{begun}
 use Rattle.journal_files.proofs.Recovery.{recovers}
 use Rattle.buffer_store.proofs.Claims.{same_from, chunk_same, free}
@@ -414,3 +416,104 @@ lasts_now {D} is_honest history buffer serial durable claimed = by (chunk_at buf
 pub lasts_each : {D : Type 0} (is_honest : D → Type 0) (history : D → History) (buffer : Held D) (result : Option ℕ) → IsDurable is_honest history buffer → IfSome result (IsAt Claimed buffer.chunks) → IfSome result (LastsNow history buffer)
 lasts_each is_honest history buffer None durable taken = tt
 lasts_each is_honest history buffer (Some serial) durable taken = lasts_now is_honest history buffer serial durable taken
+
+-- ---- a chunk that was ever claimed
+
+-- behind more of the steps
+named_on : (t : JournalLog) (serial : ℕ) (chunk : Chunk) (k : ℕ) → Each Allows (state_at_seal t) t.steps → Rising (state_at_seal t) → t.durable ≤ k → IsNamed serial chunk (durably t) → IsNamed serial chunk (reopened_at t k)
+named_on t serial chunk k allowed rising le named =
+    let f = follows_steps serial (state_at_seal t) t.steps t.durable k le allowed rising in (
+      (let lt = named.0 in let more = f.next in omega (arith, lt, more)),
+      ⊎_elim (λ at. f.queued (record chunk { stage = Queued }) at refl) (λ none. inr (f.gone named.0 none)) named.1,
+    )
+
+lasts_at : (path : List ℕ) (t : JournalLog) (serial : ℕ) (chunk : Chunk) → Each Allows (state_at_seal t) t.steps → Rising (state_at_seal t) → IsNamed serial chunk (durably t) → (folder : Folder) → OpensWithin path t folder → Lasts path serial chunk folder
+lasts_at path t serial chunk allowed rising named folder w =
+    let n = named_on t serial chunk w.steps allowed rising w.enough named in
+    record { state = reopened_at t w.steps; opens = w.opens; above = n.0; same = n.1 }
+
+pub lasts_within : (path : List ℕ) (t : JournalLog) (serial : ℕ) (chunk : Chunk) → IsJournalLog t → IsNamed serial chunk (durably t) → (folder : Folder) → OpensWithin path t folder → Lasts path serial chunk folder
+lasts_within path t serial chunk is named = lasts_at path t serial chunk is.allowed (rising_seal t is) named
+
+-- one step more
+module _ (item : Record) (t : JournalLog) (serial : ℕ) (chunk : Chunk) (is : IsJournalLog t) (allowed : Allows (state_of t) item) (named : IsNamed serial chunk (durably t)) where
+  each_begun : Each Allows (state_at_seal t) (t.steps ++ item ∷ [])
+  each_begun = each_more Allows (state_at_seal t) t.steps (item ∷ []) is.allowed (allowed, tt)
+
+  pub named_begun : IsNamed serial chunk (durably (begun item t))
+  named_begun = subst (IsNamed serial chunk) (sym (durably_more item t is)) named
+
+  pub lasts_begun : (path : List ℕ) (folder : Folder) → OpensWithin path (begun item t) folder → Lasts path serial chunk folder
+  lasts_begun path = lasts_at path (begun item t) serial chunk each_begun (rising_seal t is) named_begun
+
+  pub named_told : (synced : Bool) → IsNamed serial chunk (durably (durable_if synced (begun item t)))
+  named_told false = named_begun
+  named_told true = named_on (begun item t) serial chunk (length (t.steps ++ item ∷ [])) each_begun (rising_seal t is) (omega (arith, is.few, length-append t.steps (item ∷ []))) named_begun
+
+-- all steps are durable
+pub named_all : (t : JournalLog) (serial : ℕ) (chunk : Chunk) → IsJournalLog t → IsNamed serial chunk (durably t) → IsNamed serial chunk (durably (all_durable t))
+named_all t serial chunk is named = named_on t serial chunk (length t.steps) is.allowed (rising_seal t is) is.few named
+
+-- a new generation tells what is live
+pub named_new : (t : JournalLog) (chunks : State) (serial : ℕ) (chunk : Chunk) → IsJournalLog t → settled (state_of t) ≡ reopened chunks → settled (state_of (new_generation chunks)) ≡ reopened chunks → IsNamed serial chunk (durably t)
+    → IsNamed serial chunk (durably (new_generation chunks))
+named_new t chunks serial chunk is means starts named =
+    subst (IsNamed serial chunk) (ap (λ (z : List Record). settled (after_all (state_at_seal t) z)) (take_all (length t.steps) t.steps (omega arith)) ∙ means ∙ sym starts) (named_all t serial chunk is named)
+
+-- what each stop leaves now
+module _ {D : Type 0} (history : D → History) (buffer : Held D) (serial : ℕ) (chunk : Chunk) where
+  pub endures_now : Endures history buffer serial chunk → (folder : Folder) → StopLeaves (now (history buffer.dir)) folder → Lasts buffer.journal.path serial chunk folder
+  endures_now e folder leaves = by buffer.failed refl
+    where
+      by : (b : Bool) → buffer.failed ≡ b → Lasts buffer.journal.path serial chunk folder
+      by false is = lasts_within buffer.journal.path e.logged serial chunk e.told e.named folder (recovers buffer.journal (now (history buffer.dir)) e.logged (e.going is).keeps folder leaves)
+      by true is = lasts_within buffer.journal.path e.logged serial chunk e.told e.named folder (e.failed is folder leaves)
+
+-- a claimed chunk of a durable buffer
+named_now : (staged : Bool) (t : JournalLog) (c : State) (serial : ℕ) (chunk : Chunk) → IsJournalLog t → LosesOnly staged t → settled (state_of t) ≡ reopened c → chunk_at c serial ≡ Some chunk → unclaimed chunk.stage ≡ Queued
+    → IsNamed serial chunk (durably t)
+named_now staged t c serial chunk is lost means there counts =
+    let same = same_from (state_of t) c means in
+    let at : chunk_at (state_of t) serial ≡ Some (record chunk { stage = Queued }) =
+    chunk_same (state_of t) c same serial ∙ ap (option_map free) there ∙ ap (λ (s : Stage). Some (record chunk { stage = s })) counts in
+    let durably_at = queued_durably staged serial t (record chunk { stage = Queued }) is lost at refl in
+    let rising = rising_steps (state_at_seal t) t.steps t.durable is.allowed (rising_seal t is) in
+    (found_below serial 0 (after_all (state_at_seal t) (take t.durable t.steps)).chunks (after_all (state_at_seal t) (take t.durable t.steps)).next (record chunk { stage = Queued }) rising durably_at, inl durably_at)
+
+endures_at : {D : Type 0} (is_honest : D → Type 0) (history : D → History) (buffer : Held D) (serial : ℕ) (chunk : Chunk) → IsDurable is_honest history buffer → chunk_at buffer.chunks serial ≡ Some chunk → chunk.stage ≡ Claimed → (b : Bool) → buffer.failed ≡ b
+    → Endures history buffer serial chunk
+endures_at is_honest history buffer serial chunk durable there is false going =
+    let k = durable.going going in
+    record {
+      logged = k.logged;
+      told = k.holds.keeps.logged;
+      named = named_now buffer.staged k.logged buffer.chunks serial chunk k.holds.keeps.logged k.loses k.holds.means there (ap unclaimed is);
+      going = λ _. k.holds;
+      failed = λ fails. absurd (false≢true (sym going ∙ fails));
+    }
+endures_at is_honest history buffer serial chunk durable there is true fails = left (durable.failed fails).0 (durable.failed fails).1
+  where
+    left : (more : Option Record) → IsLeft history buffer more → Endures history buffer serial chunk
+    left None k = record {
+      logged = k.logged;
+      told = k.told;
+      named = named_now buffer.staged k.logged buffer.chunks serial chunk k.told k.loses k.means there (ap unclaimed is);
+      going = λ going. absurd (false≢true (sym going ∙ fails));
+      failed = λ _. k.recovers;
+    }
+    left (Some item) k = record {
+      logged = begun item k.logged;
+      told = k.could;
+      named = subst (IsNamed serial chunk) (sym (durably_more item k.logged k.told)) (named_now buffer.staged k.logged buffer.chunks serial chunk k.told k.loses k.means there (ap unclaimed is));
+      going = λ going. absurd (false≢true (sym going ∙ fails));
+      failed = λ _. k.recovers;
+    }
+
+pub endures_each : {D : Type 0} (is_honest : D → Type 0) (history : D → History) (buffer : Held D) (result : Option ℕ) → IsDurable is_honest history buffer → IfSome result (IsAt Claimed buffer.chunks)
+    → IfSome result (λ serial. IfSome (chunk_at buffer.chunks serial) (Endures history buffer serial))
+endures_each is_honest history buffer None durable taken = tt
+endures_each {D} is_honest history buffer (Some serial) durable taken = by (chunk_at buffer.chunks serial) refl taken
+  where
+    by : (o : Option Chunk) → chunk_at buffer.chunks serial ≡ o → IsSomeAnd o (λ chunk. chunk.stage ≡ Claimed) → IfSome o (Endures history buffer serial)
+    by None there is = absurd is
+    by (Some chunk) there is = endures_at is_honest history buffer serial chunk durable there is buffer.failed refl

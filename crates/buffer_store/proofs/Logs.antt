@@ -13,12 +13,12 @@ use Rattle.chunk_journal.specs.Meaning.{Allows}
 use Rattle.journal_files.specs.Folders.{journal_name}
 use Rattle.journal_files.specs.JournalLogs.{JournalLog, IsJournalLog, OpensWithin, begun, state_of}
 use Rattle.journal_files.specs.Views.{OpenJournal, IsReady}
-use Rattle.journal_files.specs.Disks.{Keeps, Recovers, HasNoStray}
+use Rattle.journal_files.specs.Disks.{Keeps, Recovers, HasNoGap}
 use Rattle.journal_files.specs.Faults.{HasReason}
 use Rattle.journal_files.specs.declared.error.ReadError.{ReadError}
 use Rattle.journal_files.specs.declared.error.ReadError.TheVariants as read
 use Rattle.journal_files.proofs.Recovery.{recovers}
-use Rattle.journal_files.proofs.Strays.{kept_no_stray}
+use Rattle.journal_files.proofs.Strays.{kept_no_gap}
 use Rattle.journal_files.proofs.Steps.{more_steps, log_begun}
 use Rattle.journal_files.proofs.OpeningMoments.{quiet}
 use Rattle.buffer_store.specs.Logs.{Logged, KeepsNow, Reads, Writes, Syncs, is_append}
@@ -49,12 +49,17 @@ pub record Puts {D : Type 0} (is_honest : D → Type 0) (history : D → History
   pub ok : is_honest mid.dir → (t : JournalLog) (item : Record) → KeepsNow history mid t → IsReady mid.journal item → Allows (state_of t) item → OnOk result (KeepsNow history new (begun item t))
   pub err : is_honest mid.dir → (t : JournalLog) (item : Record) → KeepsNow history mid t → IsReady mid.journal item → Allows (state_of t) item
       → OnErr result (Recovers mid.journal.path (now (history new.dir)) (begun item t))
-  pub stray : is_honest mid.dir → (t : JournalLog) → KeepsNow history mid t → HasNoStray mid.journal.path (now (history new.dir))
+  pub gap : is_honest mid.dir → (t : JournalLog) → KeepsNow history mid t → HasNoGap mid.journal.path (now (history new.dir))
   pub moments : is_honest mid.dir → (t : JournalLog) (item : Record) → KeepsNow history mid t → IsReady mid.journal item → Allows (state_of t) item
       → LeavesOnly (history mid.dir) (history new.dir) (OpensWithin mid.journal.path (begun item t))
   pub elsewhere : is_honest mid.dir → (name : List ℕ) → name ≢ journal_name mid.journal.path mid.journal.number → now (history new.dir) name ≡ now (history mid.dir) name
   pub cause : HasCause (fault_count mid.dir) (fault_count new.dir) result
   pub only : OnErr result (result ≡ Err dir.Fault)
+
+-- what holds of a refusal
+pub at_err : {T E P : Type 0} (r : Result T E) (e : E) → r ≡ Err e → OnErr r P → P
+at_err (Ok x) e is p = absurd (cc is)
+at_err (Err x) e is p = p
 
 -- what holds of an answer
 pub ok_at : {T E P : Type 0} (r : Result T E) → is_err r ≡ false → OnOk r P → P
@@ -150,7 +155,7 @@ module _ {D : Type 0} (is_honest : D → Type 0) (history : D → History) (faul
     refused = λ honest t keeps no. ready.keeps honest t keeps;
     recovers = λ honest t keeps allowed q. absurd (cc q);
     could = λ honest t keeps allowed q. absurd (cc q);
-    stray = λ honest t keeps allowed q. absurd (cc q);
+    gap = λ honest t keeps allowed q. absurd (cc q);
     moments = λ honest t keeps allowed. more_mid honest t keeps;
     quiet = λ honest t keeps no. quiet_mid honest t keeps;
   })
@@ -175,8 +180,8 @@ module _ {D : Type 0} (is_honest : D → Type 0) (history : D → History) (faul
         joined (history old.dir) (history mid.dir) (history new.dir) (OpensWithin old.journal.path (begun item t)) (more_mid honest t keeps)
         (subst (λ (p : List ℕ). LeavesOnly (history mid.dir) (history new.dir) (OpensWithin p (begun item t))) ready.path (puts.moments (ready.honest honest) t item (ready.keeps honest t keeps) puts.ready allowed))
 
-    stray_new : is_honest old.dir → (t : JournalLog) → KeepsNow history old t → HasNoStray old.journal.path (now (history new.dir))
-    stray_new honest t keeps = subst (λ (p : List ℕ). HasNoStray p (now (history new.dir))) ready.path (puts.stray (ready.honest honest) t (ready.keeps honest t keeps))
+    gap_new : is_honest old.dir → (t : JournalLog) → KeepsNow history old t → HasNoGap old.journal.path (now (history new.dir))
+    gap_new honest t keeps = subst (λ (p : List ℕ). HasNoGap p (now (history new.dir))) ready.path (puts.gap (ready.honest honest) t (ready.keeps honest t keeps))
 
     -- and the device failed
     pub writes_torn : (synced : Bool) → is_err put ≡ true → new.failed ≡ true → new.staged ≡ mid.staged → Writes {T = Unit {0}} is_honest history fault_count old new item synced (Err fault.Fault)
@@ -199,7 +204,7 @@ module _ {D : Type 0} (is_honest : D → Type 0) (history : D → History) (faul
       refused = λ honest t keeps no. absurd (no refl);
       recovers = λ honest t keeps allowed q. subst (λ (p : List ℕ). Recovers p (now (history new.dir)) (begun item t)) ready.path (err_at put is (puts.err (ready.honest honest) t item (ready.keeps honest t keeps) puts.ready allowed));
       could = λ honest t keeps allowed q. could_new t keeps allowed;
-      stray = λ honest t keeps allowed q. stray_new honest t keeps;
+      gap = λ honest t keeps allowed q. gap_new honest t keeps;
       moments = moments_new;
       quiet = λ honest t keeps no. absurd (no refl);
     }
@@ -228,7 +233,7 @@ module _ {D : Type 0} (is_honest : D → Type 0) (history : D → History) (faul
       refused = λ honest t keeps no. tt;
       recovers = λ honest t keeps allowed q. absurd (cc q);
       could = λ honest t keeps allowed q. absurd (cc q);
-      stray = λ honest t keeps allowed q. absurd (cc q);
+      gap = λ honest t keeps allowed q. absurd (cc q);
       moments = moments_new;
       quiet = λ honest t keeps no. tt;
     }
@@ -266,7 +271,7 @@ module _ {D : Type 0} (is_honest : D → Type 0) (history : D → History) (faul
         refused = λ honest t keeps no. tt;
         recovers = λ honest t keeps allowed q. absurd (cc q);
         could = λ honest t keeps allowed q. absurd (cc q);
-        stray = λ honest t keeps allowed q. absurd (cc q);
+        gap = λ honest t keeps allowed q. absurd (cc q);
         moments = moments_last s;
         quiet = λ honest t keeps no. tt;
       }
@@ -289,7 +294,7 @@ module _ {D : Type 0} (is_honest : D → Type 0) (history : D → History) (faul
             refused = λ honest t keeps no. absurd (no s.only);
             recovers = λ honest t keeps allowed q. subst (λ (p : List ℕ). Recovers p (now (history last.dir)) (begun item t)) (path_last s.journal) (recovers last.journal (now (history last.dir)) (begun item t) (kept_last honest t keeps allowed));
             could = λ honest t keeps allowed q. could_new t keeps allowed;
-            stray = λ honest t keeps allowed q. subst (λ (p : List ℕ). HasNoStray p (now (history last.dir))) (path_last s.journal) (kept_no_stray last.journal (now (history last.dir)) (begun item t) (kept_last honest t keeps allowed));
+            gap = λ honest t keeps allowed q. subst (λ (p : List ℕ). HasNoGap p (now (history last.dir))) (path_last s.journal) (kept_no_gap last.journal (now (history last.dir)) (begun item t) (kept_last honest t keeps allowed));
             moments = moments_last s;
             quiet = λ honest t keeps no. absurd (no s.only);
           }

@@ -7,27 +7,28 @@ use Rattle.std.proofs.lemmas.List.{drop_all}
 use Rattle.disk_files.specs.Disk.{Folder, SameDisk}
 use Rattle.disk_files.specs.Moments.{History, LeavesOnly, now}
 use Rattle.disk_files.proofs.Moments.{started, weaker}
-use Rattle.buffer_state.specs.State.{State, size, total_size}
+use Rattle.buffer_state.specs.State.{State, Chunk, size, total_size}
 use Rattle.buffer_state.specs.Steps.{settled, reopened, planned, place_of, limit_of, last_serial}
 use Rattle.buffer_state.specs.declared.limits.Limits.{Limits}
 use Rattle.buffer_state.specs.declared.limits.AppendFault.TheVariants.{TooLarge, Full, LastSerial}
 use Rattle.chunk_journal.specs.Records.{Record, Seal, Append, Queue, Purge}
 use Rattle.chunk_journal.specs.Meaning.{Allows, after, after_all}
-use Rattle.journal_files.specs.JournalLogs.{JournalLog, OpensWithin, state_of, state_at_seal, begun, all_durable, new_generation}
+use Rattle.journal_files.specs.JournalLogs.{JournalLog, IsJournalLog, OpensWithin, state_of, state_at_seal, begun, all_durable, new_generation}
 use Rattle.journal_files.specs.Views.{OpenJournal, HasShortTags}
-use Rattle.journal_files.specs.Disks.{Recovers, HasNoStray}
+use Rattle.journal_files.specs.Disks.{Recovers, HasNoGap}
 use Rattle.journal_files.proofs.Recovery.{recovers}
 use Rattle.journal_files.proofs.Steps.{more_steps}
 use Rattle.journal_files.proofs.OpeningMoments.{recovers_same}
-use Rattle.journal_files.proofs.Strays.{same_stray, kept_no_stray}
+use Rattle.journal_files.proofs.Strays.{same_gap, kept_no_gap}
 use Rattle.buffer_store.specs.Buffers.{Held, Holds, HoldsNow, with_more, durable_if}
 use Rattle.buffer_store.specs.Calls.{Stays, StaysWithin, Begins}
-use Rattle.buffer_store.specs.Durability.{MayBeLost, LosesOnly, IsDurable, BeganWell, IsSound}
+use Rattle.buffer_store.specs.Durability.{MayBeLost, LosesOnly, IsDurable, BeganWell, IsSound, IsNamed, Lasts, Endures, KeepsClaims, durably}
 use Rattle.buffer_store.specs.Logs.{Logged, Writes, Syncs, Renews, is_append, held_of}
 use Rattle.buffer_store.specs.declared.settings.Settings.{Settings}
 use Rattle.buffer_store.specs.declared.fault.BufferFault.{BufferFault}
 use Rattle.buffer_store.specs.declared.fault.BufferFault.TheVariants as fault
 use Rattle.buffer_store.proofs.Claims.{Same, same_from, same_to}
+use Rattle.buffer_store.proofs.Lasting.{lasts_within, lasts_begun, named_begun, named_told, named_all, named_new, endures_now}
 use Rattle.buffer_store.proofs.Logs.{reason_none}
 
 -- ---- one step more
@@ -46,6 +47,54 @@ durable_means false t = refl
 -- a refusal of a call that answers so
 abbrev pub refusing : (T : Type 0) → BufferFault → Result T BufferFault
 refusing T e = Err e
+
+-- ---- chunks that were claimed
+
+is_fault : (e : BufferFault) → (e ≡ fault.Fault) ⊎ (e ≢ fault.Fault)
+is_fault fault.Full = inr (λ q. cc q)
+is_fault fault.TooLarge = inr (λ q. cc q)
+is_fault fault.Gone = inr (λ q. cc q)
+is_fault fault.Fault = inl refl
+is_fault fault.Failed = inr (λ q. cc q)
+is_fault fault.LastSerial = inr (λ q. cc q)
+is_fault fault.Damaged = inr (λ q. cc q)
+is_fault fault.Memory = inr (λ q. cc q)
+
+module _ {D : Type 0} (history : D → History) where
+  -- nothing changed
+  pub claims_none : (b : Held D) → KeepsClaims history b b
+  claims_none b = record {
+    moments = λ serial chunk e. started (history b.dir) (Lasts b.journal.path serial chunk) (endures_now history b serial chunk e);
+    after = λ serial chunk e. e;
+  }
+
+  -- only claims changed
+  pub claims_same : (b : Held D) (c : State) → reopened c ≡ reopened b.chunks → KeepsClaims history b (record b { chunks = c })
+  claims_same b c counts = record {
+    moments = λ serial chunk e. started (history b.dir) (Lasts b.journal.path serial chunk) (endures_now history b serial chunk e);
+    after = λ serial chunk e. record {
+      logged = e.logged;
+      told = e.told;
+      named = e.named;
+      going = λ going. record { keeps = (e.going going).keeps; means = (e.going going).means ∙ sym counts };
+      failed = e.failed;
+    };
+  }
+
+  -- a call of a buffer that goes on until then
+  claims_by : (old new : Held D) → old.failed ≡ false
+      → ((t : JournalLog) → HoldsNow history old t → (serial : ℕ) (chunk : Chunk) → IsNamed serial chunk (durably t) → LeavesOnly (history old.dir) (history new.dir) (Lasts old.journal.path serial chunk))
+      → ((t : JournalLog) → HoldsNow history old t → (serial : ℕ) (chunk : Chunk) → IsNamed serial chunk (durably t) → Endures history new serial chunk) → KeepsClaims history old new
+  claims_by old new going moments after = record {
+    moments = λ serial chunk e. moments e.logged (e.going going) serial chunk e.named;
+    after = λ serial chunk e. after e.logged (e.going going) serial chunk e.named;
+  }
+
+  endures_on : (b : Held D) (t : JournalLog) (serial : ℕ) (chunk : Chunk) → b.failed ≡ false → HoldsNow history b t → IsNamed serial chunk (durably t) → Endures history b serial chunk
+  endures_on b t serial chunk going holds named = record { logged = t; told = holds.keeps.logged; named = named; going = λ _. holds; failed = λ fails. absurd (false≢true (sym going ∙ fails)) }
+
+  endures_failed : (b : Held D) (t : JournalLog) (serial : ℕ) (chunk : Chunk) → b.failed ≡ true → IsJournalLog t → Recovers b.journal.path (now (history b.dir)) t → IsNamed serial chunk (durably t) → Endures history b serial chunk
+  endures_failed b t serial chunk fails told recovers_so named = record { logged = t; told = told; named = named; going = λ going. absurd (false≢true (sym going ∙ fails)); failed = λ _. recovers_so }
 
 -- ---- what a call leaves alone, and what it begins
 
@@ -83,9 +132,11 @@ module _ {D : Type 0} (is_honest : D → Type 0) (history : D → History) (faul
     refused = λ t holds no. holds;
     recovers = λ t holds q. absurd (not (cc q));
     could = λ t holds q. absurd (not (cc q));
-    stray = λ t holds q. absurd (not (cc q));
+    gap = λ t holds q. absurd (not (cc q));
     moments = λ t holds. weaker (history b.dir) (history b.dir) (OpensWithin b.journal.path t) (OpensWithin b.journal.path (with_more more t)) (λ folder w. more_within b.journal.path more t folder w) (still b t holds);
     quiet = λ t holds no. still b t holds;
+    failed = λ fails t before. started (history b.dir) (OpensWithin b.journal.path t) before;
+    claims = claims_none history b;
   }
 
   -- nothing was to be done
@@ -95,9 +146,11 @@ module _ {D : Type 0} (is_honest : D → Type 0) (history : D → History) (faul
     refused = λ t holds no. tt;
     recovers = λ t holds q. absurd (cc q);
     could = λ t holds q. absurd (cc q);
-    stray = λ t holds q. absurd (cc q);
+    gap = λ t holds q. absurd (cc q);
     moments = still b;
     quiet = λ t holds no. tt;
+    failed = λ fails t before. started (history b.dir) (OpensWithin b.journal.path t) before;
+    claims = claims_none history b;
   }
 
   -- the same fault answered, or another value
@@ -107,9 +160,11 @@ module _ {D : Type 0} (is_honest : D → Type 0) (history : D → History) (faul
     refused = λ t holds no. b.refused t holds (λ q. no (cc q));
     recovers = λ t holds q. b.recovers t holds (cc q);
     could = λ t holds q. b.could t holds (cc q);
-    stray = λ t holds q. b.stray t holds (cc q);
+    gap = λ t holds q. b.gap t holds (cc q);
     moments = b.moments;
     quiet = λ t holds no. b.quiet t holds (λ q. no (cc q));
+    failed = b.failed;
+    claims = b.claims;
   }
 
   pub renamed_err : {T U : Type 0} (old new : Held D) (more : Option Record) (answered : JournalLog → JournalLog) (r : Result T BufferFault) (s : Result U BufferFault) (e : BufferFault) → r ≡ Err e → s ≡ Err e → Begins history old new more answered r
@@ -122,9 +177,11 @@ module _ {D : Type 0} (is_honest : D → Type 0) (history : D → History) (faul
     refused = λ t holds no. tt;
     recovers = λ t holds q. absurd (cc q);
     could = λ t holds q. absurd (cc q);
-    stray = λ t holds q. absurd (cc q);
+    gap = λ t holds q. absurd (cc q);
     moments = b.moments;
     quiet = λ t holds no. tt;
+    failed = b.failed;
+    claims = b.claims;
   }
 
   pub renamed_ok : {T U : Type 0} (old new : Held D) (more : Option Record) (answered : JournalLog → JournalLog) (r : Result T BufferFault) (x : T) (y : U) → r ≡ Ok x → Begins history old new more answered r → Begins history old new more answered (Ok y)
@@ -164,6 +221,12 @@ module _ {D : Type 0} (is_honest : D → Type 0) (history : D → History) (faul
       means_by : (t : JournalLog) (synced : Bool) → Holds log.journal chunks (now (history log.dir)) t → other ≡ changed → settled (state_of (durable_if synced (begun item t))) ≡ reopened other
       means_by t synced holds is = ap settled (durable_means synced (begun item t)) ∙ begun_means t item other (subst (Same (after (state_of t) item)) (sym is) (step t (same_from (state_of t) chunks holds.means)).1)
 
+      named_moments : {synced : Bool} (result : Result (Unit {0}) BufferFault) → Writes is_honest history fault_count log next item synced result → is_honest log.dir → (t : JournalLog) → Holds log.journal chunks (now (history log.dir)) t → (serial : ℕ) (chunk : Chunk)
+          → IsNamed serial chunk (durably t) → LeavesOnly (history log.dir) (history next.dir) (Lasts log.journal.path serial chunk)
+      named_moments result w honest t holds serial chunk named =
+          weaker (history log.dir) (history next.dir) (OpensWithin log.journal.path (begun item t)) (Lasts log.journal.path serial chunk)
+          (lasts_begun item t serial chunk holds.keeps.logged (allowed_by t holds) named log.journal.path) (w.moments honest t holds.keeps (allowed_by t holds))
+
       pub begins_by : (synced : Bool) (result : Result (Unit {0}) BufferFault) → Writes is_honest history fault_count log next item synced result → OnOk result (other ≡ changed) → OnErr result (other ≡ chunks)
           → is_honest log.dir → Begins history (held_of log chunks settings) (held_of next other settings) (Some item) (durable_if synced) result
       begins_by synced (Ok x) w ok err honest = record {
@@ -171,18 +234,30 @@ module _ {D : Type 0} (is_honest : D → Type 0) (history : D → History) (faul
         refused = λ t holds no. tt;
         recovers = λ t holds q. absurd (cc q);
         could = λ t holds q. absurd (cc q);
-        stray = λ t holds q. absurd (cc q);
+        gap = λ t holds q. absurd (cc q);
         moments = λ t holds. w.moments honest t holds.keeps (allowed_by t holds);
         quiet = λ t holds no. tt;
+        failed = λ fails t before. absurd (false≢true (sym going ∙ fails));
+        claims = claims_by history (held_of log chunks settings) (held_of next other settings) going (λ t holds serial chunk named. named_moments (Ok x) w honest t holds serial chunk named)
+            (λ t holds serial chunk named. endures_on history (held_of next other settings) (durable_if synced (begun item t)) serial chunk (w.flags.stays (λ q. cc q) ∙ going)
+            (record { keeps = w.done honest t holds.keeps (allowed_by t holds); means = means_by t synced holds ok }) (named_told item t serial chunk holds.keeps.logged (allowed_by t holds) named synced));
       }
       begins_by synced (Err e) w ok err honest = record {
         done = λ t holds. tt;
         refused = λ t holds no. record { keeps = w.refused honest t holds.keeps no; means = holds.means ∙ ap reopened (sym err) };
         recovers = λ t holds q. w.recovers honest t holds.keeps (allowed_by t holds) q;
         could = λ t holds q. w.could honest t holds.keeps (allowed_by t holds) q;
-        stray = λ t holds q. w.stray honest t holds.keeps (allowed_by t holds) q;
+        gap = λ t holds q. w.gap honest t holds.keeps (allowed_by t holds) q;
         moments = λ t holds. w.moments honest t holds.keeps (allowed_by t holds);
         quiet = λ t holds no. w.quiet honest t holds.keeps no;
+        failed = λ fails t before. absurd (false≢true (sym going ∙ fails));
+        claims = claims_by history (held_of log chunks settings) (held_of next other settings) going (λ t holds serial chunk named. named_moments (Err e) w honest t holds serial chunk named)
+            (λ t holds serial chunk named. ⊎_elim
+            (λ is. let q = ap (λ (f : BufferFault). refusing (Unit {0}) f) is in
+            endures_failed history (held_of next other settings) (begun item t) serial chunk (w.flags.fails q) (w.could honest t holds.keeps (allowed_by t holds) q)
+            (subst (λ (p : List ℕ). Recovers p (now (history next.dir)) (begun item t)) (sym w.path) (w.recovers honest t holds.keeps (allowed_by t holds) q)) (named_begun item t serial chunk holds.keeps.logged (allowed_by t holds) named))
+            (λ not. let no : refusing (Unit {0}) e ≢ Err fault.Fault = λ q. not (cc q) in
+            endures_on history (held_of next other settings) t serial chunk (w.flags.stays no ∙ going) (record { keeps = w.refused honest t holds.keeps no; means = holds.means ∙ ap reopened (sym err) }) named) (is_fault e));
       }
 
 -- ---- what steps may be lost
@@ -224,16 +299,6 @@ loses_append staged t serial tag entries h = drop_last true t.durable t.steps (A
 
 -- ---- the buffer stays durable
 
-is_fault : (e : BufferFault) → (e ≡ fault.Fault) ⊎ (e ≢ fault.Fault)
-is_fault fault.Full = inr (λ q. cc q)
-is_fault fault.TooLarge = inr (λ q. cc q)
-is_fault fault.Gone = inr (λ q. cc q)
-is_fault fault.Fault = inl refl
-is_fault fault.Failed = inr (λ q. cc q)
-is_fault fault.LastSerial = inr (λ q. cc q)
-is_fault fault.Damaged = inr (λ q. cc q)
-is_fault fault.Memory = inr (λ q. cc q)
-
 module _ {D T : Type 0} (is_honest : D → Type 0) (history : D → History) (fault_count : D → ℕ) (old new : Held D) (more : Option Record) (answered : JournalLog → JournalLog) where
   -- a buffer that the device failed before refuses the call
   durable_failed : Stays {T = T} is_honest history fault_count old new (Err fault.Failed) → old.failed ≡ true → IsDurable is_honest history old → IsDurable is_honest history new
@@ -254,7 +319,7 @@ module _ {D T : Type 0} (is_honest : D → Type 0) (history : D → History) (fa
             means = k.1.means ∙ ap reopened (sym stays.err);
             loses = subst (λ (b : Bool). LosesOnly b k.1.logged) (sym stays.staged) k.1.loses;
             recovers = subst (λ (p : List ℕ). Recovers p (now (history new.dir)) (with_more k.0 k.1.logged)) (sym stays.path) (recovers_same old.journal.path (with_more k.0 k.1.logged) (now (history old.dir)) (now (history new.dir)) disk k.1.recovers);
-            stray = subst (λ (p : List ℕ). HasNoStray p (now (history new.dir))) (sym stays.path) (same_stray old.journal.path (now (history old.dir)) (now (history new.dir)) disk k.1.stray);
+            gap = subst (λ (p : List ℕ). HasNoGap p (now (history new.dir))) (sym stays.path) (same_gap old.journal.path (now (history old.dir)) (now (history new.dir)) disk k.1.gap);
           },
         );
       }
@@ -285,7 +350,7 @@ module _ {D T : Type 0} (is_honest : D → Type 0) (history : D → History) (fa
             means = k.holds.means ∙ ap reopened (sym stays.err);
             loses = subst (λ (b : Bool). LosesOnly b k.logged) (sym stays.staged) k.loses;
             recovers = subst (λ (p : List ℕ). Recovers p (now (history new.dir)) (with_more more k.logged)) (sym stays.path) (begins.recovers k.logged k.holds refl);
-            stray = subst (λ (p : List ℕ). HasNoStray p (now (history new.dir))) (sym stays.path) (begins.stray k.logged k.holds refl);
+            gap = subst (λ (p : List ℕ). HasNoGap p (now (history new.dir))) (sym stays.path) (begins.gap k.logged k.holds refl);
           },
         );
       }
@@ -317,7 +382,7 @@ module _ {D T : Type 0} (is_honest : D → Type 0) (history : D → History) (fa
 
   -- it began well, and so it did before
   pub began_before : {r : Result T BufferFault} → Stays is_honest history fault_count old new r → BeganWell is_honest history new → BeganWell is_honest history old
-  began_before stays began = (subst is_honest stays.start began.0, subst (λ (p : List ℕ). HasNoStray p (now (history old.start))) stays.path (subst (λ (d : D). HasNoStray new.journal.path (now (history d))) stays.start began.1))
+  began_before stays began = (subst is_honest stays.start began.0, subst (λ (p : List ℕ). HasNoGap p (now (history old.start))) stays.path (subst (λ (d : D). HasNoGap new.journal.path (now (history d))) stays.start began.1))
 
   pub sound_by : (result : Result T BufferFault) → Stays is_honest history fault_count old new result → (is_honest old.dir → Begins history old new more answered result)
       → OnOk result ((t : JournalLog) → LosesOnly old.staged t → LosesOnly new.staged (answered (with_more more t)))
@@ -396,18 +461,27 @@ module _ {D : Type 0} (is_honest : D → Type 0) (history : D → History) (faul
     refused = λ t holds no. tt;
     recovers = λ t holds q. absurd (cc q);
     could = λ t holds q. absurd (cc q);
-    stray = λ t holds q. absurd (cc q);
+    gap = λ t holds q. absurd (cc q);
     moments = λ t holds. s.moments honest t holds.keeps;
     quiet = λ t holds no. tt;
+    failed = λ fails t before. absurd (false≢true (sym going ∙ fails));
+    claims = claims_by history (held_of log chunks settings) (held_of next chunks settings) going
+        (λ t holds serial chunk named. weaker (history log.dir) (history next.dir) (OpensWithin log.journal.path t) (Lasts log.journal.path serial chunk) (lasts_within log.journal.path t serial chunk holds.keeps.logged named) (s.moments honest t holds.keeps))
+        (λ t holds serial chunk named. endures_on history (held_of next chunks settings) (all_durable t) serial chunk (s.flags.stays (λ q. cc q) ∙ going) (record { keeps = s.done honest t holds.keeps; means = holds.means })
+        (named_all t serial chunk holds.keeps.logged named));
   }
   syncs_begins (Err e) s honest = record {
     done = λ t holds. tt;
     refused = λ t holds no. absurd (no s.only);
     recovers = λ t holds q. subst (λ (p : List ℕ). Recovers p (now (history next.dir)) t) (ap (λ (j : OpenJournal). j.path) s.journal) (recovers next.journal (now (history next.dir)) t (s.failed honest t holds.keeps));
     could = λ t holds q. holds.keeps.logged;
-    stray = λ t holds q. subst (λ (p : List ℕ). HasNoStray p (now (history next.dir))) (ap (λ (j : OpenJournal). j.path) s.journal) (kept_no_stray next.journal (now (history next.dir)) t (s.failed honest t holds.keeps));
+    gap = λ t holds q. subst (λ (p : List ℕ). HasNoGap p (now (history next.dir))) (ap (λ (j : OpenJournal). j.path) s.journal) (kept_no_gap next.journal (now (history next.dir)) t (s.failed honest t holds.keeps));
     moments = λ t holds. s.moments honest t holds.keeps;
     quiet = λ t holds no. absurd (no s.only);
+    failed = λ fails t before. absurd (false≢true (sym going ∙ fails));
+    claims = claims_by history (held_of log chunks settings) (held_of next chunks settings) going
+        (λ t holds serial chunk named. weaker (history log.dir) (history next.dir) (OpensWithin log.journal.path t) (Lasts log.journal.path serial chunk) (lasts_within log.journal.path t serial chunk holds.keeps.logged named) (s.moments honest t holds.keeps))
+        (λ t holds serial chunk named. endures_failed history (held_of next chunks settings) t serial chunk (s.flags.fails s.only) holds.keeps.logged (recovers next.journal (now (history next.dir)) t (s.failed honest t holds.keeps)) named);
   }
 
   pub sound_synced : (result : Result (Unit {0}) BufferFault) → Syncs is_honest history fault_count log next result → IsSound is_honest history (held_of log chunks settings) → IsSound is_honest history (held_of next chunks settings)
@@ -453,18 +527,32 @@ module _ {D : Type 0} (is_honest : D → Type 0) (history : D → History) (faul
     refused = λ t holds no. tt;
     recovers = λ t holds q. absurd (cc q);
     could = λ t holds q. absurd (cc q);
-    stray = λ t holds q. absurd (cc q);
+    gap = λ t holds q. absurd (cc q);
     moments = λ t holds. s.moments honest t holds.keeps holds.means;
     quiet = λ t holds no. tt;
+    failed = λ fails t before. absurd (false≢true (sym going ∙ fails));
+    claims = claims_by history (held_of log chunks settings) (held_of next chunks settings) going
+        (λ t holds serial chunk named. weaker (history log.dir) (history next.dir) (OpensWithin log.journal.path t) (Lasts log.journal.path serial chunk) (lasts_within log.journal.path t serial chunk holds.keeps.logged named) (s.moments honest t holds.keeps holds.means))
+        (λ t holds serial chunk named. endures_on history (held_of next chunks settings) (new_generation chunks) serial chunk (s.flags.stays (λ q. cc q) ∙ going) (record { keeps = s.done honest t holds.keeps holds.means; means = s.starts })
+        (named_new t chunks serial chunk holds.keeps.logged holds.means s.starts named));
   }
   renews_begins (Err e) s honest = record {
     done = λ t holds. tt;
     refused = λ t holds no. record { keeps = s.refused honest t holds.keeps holds.means no; means = holds.means };
     recovers = λ t holds q. s.recovers honest t holds.keeps holds.means q;
     could = λ t holds q. holds.keeps.logged;
-    stray = λ t holds q. s.stray honest t holds.keeps;
+    gap = λ t holds q. s.gap honest t holds.keeps;
     moments = λ t holds. s.moments honest t holds.keeps holds.means;
     quiet = λ t holds no. s.moments honest t holds.keeps holds.means;
+    failed = λ fails t before. absurd (false≢true (sym going ∙ fails));
+    claims = claims_by history (held_of log chunks settings) (held_of next chunks settings) going
+        (λ t holds serial chunk named. weaker (history log.dir) (history next.dir) (OpensWithin log.journal.path t) (Lasts log.journal.path serial chunk) (lasts_within log.journal.path t serial chunk holds.keeps.logged named) (s.moments honest t holds.keeps holds.means))
+        (λ t holds serial chunk named. ⊎_elim
+        (λ is. let q = ap (λ (f : BufferFault). refusing (Unit {0}) f) is in
+        endures_failed history (held_of next chunks settings) t serial chunk (s.flags.fails q) holds.keeps.logged
+        (subst (λ (p : List ℕ). Recovers p (now (history next.dir)) t) (sym s.path) (s.recovers honest t holds.keeps holds.means q)) named)
+        (λ not. let no : refusing (Unit {0}) e ≢ Err fault.Fault = λ q. not (cc q) in
+        endures_on history (held_of next chunks settings) t serial chunk (s.flags.stays no ∙ going) (record { keeps = s.refused honest t holds.keeps holds.means no; means = holds.means }) named) (is_fault e));
   }
 
   pub sound_renewed : (result : Result (Unit {0}) BufferFault) → Renews is_honest history fault_count log next chunks result → IsSound is_honest history (held_of log chunks settings) → IsSound is_honest history (held_of next chunks settings)
@@ -485,7 +573,7 @@ durable_same is_honest history b c counts durable = record {
   going = λ going. (let k = durable.going going in record { logged = k.logged; holds = record { keeps = k.holds.keeps; means = k.holds.means ∙ sym counts }; loses = k.loses });
   failed = λ fails. (let k = durable.failed fails in (
     k.0,
-    record { logged = k.1.logged; could = k.1.could; told = k.1.told; means = k.1.means ∙ sym counts; loses = k.1.loses; recovers = k.1.recovers; stray = k.1.stray },
+    record { logged = k.1.logged; could = k.1.could; told = k.1.told; means = k.1.means ∙ sym counts; loses = k.1.loses; recovers = k.1.recovers; gap = k.1.gap },
   ));
 }
 

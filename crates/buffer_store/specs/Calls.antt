@@ -5,9 +5,10 @@ use Rattle.disk_files.specs.Moments.{History, LeavesOnly, now}
 use Rattle.chunk_journal.specs.Records.{Record}
 use Rattle.journal_files.specs.Folders.{journal_name}
 use Rattle.journal_files.specs.JournalLogs.{JournalLog, IsJournalLog, OpensWithin}
-use Rattle.journal_files.specs.Disks.{Recovers, HasNoStray}
+use Rattle.journal_files.specs.Disks.{Recovers, HasNoGap}
 use Rattle.journal_files.specs.Faults.{HasReason}
 use Rattle.buffer_store.specs.Buffers.{Held, HoldsNow, with_more}
+use Rattle.buffer_store.specs.Durability.{KeepsClaims}
 use Rattle.buffer_store.specs.declared.fault.BufferFault.{BufferFault}
 
 -- how a call leaves the failed flag: it rises with a `Fault`, and stays at all else
@@ -36,13 +37,16 @@ pub record StaysWithin {D T : Type 0} (is_honest : D → Type 0) (history : D �
   pub elsewhere : is_honest old.dir → (name : List ℕ) → name ≢ journal_name old.journal.path old.journal.number → now (history new.dir) name ≡ now (history old.dir) name
 
 -- What a call makes of what the journal tells, where it begins this step, or none. After `Ok` the journal tells what is answered. After `Fault` each stop leaves
--- the steps told before, with the one begun or without it, and no stray generation. After any other refusal the journal tells what it told.
--- A stop at any moment of the call, whatever it answers, leaves a folder that opens to the state after some of these steps, all durable ones among them.
+-- the steps told before, with the one begun or without it, and no gap of removed generations. After any other refusal the journal tells what it told.
+-- A stop at any moment of the call, whatever it answers, leaves a folder that opens to the state after some of these steps, all durable ones among them;
+-- and of a buffer that the device failed before one that opens to what it could open to before the call. So it is with the chunks that were ever claimed.
 pub record Begins {D T : Type 0} (history : D → History) (old new : Held D) (more : Option Record) (answered : JournalLog → JournalLog) (result : Result T BufferFault) : Type 0 where
   pub done : (t : JournalLog) → HoldsNow history old t → OnOk result (HoldsNow history new (answered (with_more more t)))
   pub refused : (t : JournalLog) → HoldsNow history old t → result ≢ Err BufferFault.Fault → OnErr result (HoldsNow history new t)
   pub recovers : (t : JournalLog) → HoldsNow history old t → result ≡ Err BufferFault.Fault → Recovers old.journal.path (now (history new.dir)) (with_more more t)
   pub could : (t : JournalLog) → HoldsNow history old t → result ≡ Err BufferFault.Fault → IsJournalLog (with_more more t)
-  pub stray : (t : JournalLog) → HoldsNow history old t → result ≡ Err BufferFault.Fault → HasNoStray old.journal.path (now (history new.dir))
+  pub gap : (t : JournalLog) → HoldsNow history old t → result ≡ Err BufferFault.Fault → HasNoGap old.journal.path (now (history new.dir))
   pub moments : (t : JournalLog) → HoldsNow history old t → LeavesOnly (history old.dir) (history new.dir) (OpensWithin old.journal.path (with_more more t))
   pub quiet : (t : JournalLog) → HoldsNow history old t → result ≢ Err BufferFault.Fault → OnErr result (LeavesOnly (history old.dir) (history new.dir) (OpensWithin old.journal.path t))
+  pub failed : old.failed ≡ true → (t : JournalLog) → Recovers old.journal.path (now (history old.dir)) t → LeavesOnly (history old.dir) (history new.dir) (OpensWithin old.journal.path t)
+  pub claims : KeepsClaims history old new

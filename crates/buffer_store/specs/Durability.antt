@@ -2,7 +2,7 @@
 use Rattle.std.specs.Prelude.{ℕ, ◌≡◌, ◌⊎◌, ◌<◌, ◌≤◌, Bool, true, false, List, drop, Option, Some, None, IfSome}
 use Rattle.std.specs.List.{AllByRecursion}
 use Rattle.disk_files.specs.Disk.{Folder, StopLeaves}
-use Rattle.disk_files.specs.Moments.{History, now}
+use Rattle.disk_files.specs.Moments.{History, LeavesOnly, now}
 use Rattle.buffer_state.specs.State.{Chunk, State, chunk_at}
 use Rattle.buffer_state.specs.Steps.{settled, reopened}
 use Rattle.buffer_state.specs.declared.chunk.Stage.TheVariants.{Queued}
@@ -10,7 +10,7 @@ use Rattle.chunk_journal.specs.Records.{Record, Seal, Append, Queue, Purge}
 use Rattle.journal_files.specs.Folders.{Opens}
 use Rattle.journal_files.specs.JournalLogs.{JournalLog, IsJournalLog, state_of, reopened_at}
 use Rattle.journal_files.specs.Views.{HasShortTags}
-use Rattle.journal_files.specs.Disks.{Recovers, HasNoStray}
+use Rattle.journal_files.specs.Disks.{Recovers, HasNoGap}
 use Rattle.buffer_store.specs.Buffers.{Held, HoldsNow, with_more}
 
 -- A stop may lose this step: a removal at any time, an append only while some append isn't synced, and nothing else ever.
@@ -31,7 +31,7 @@ pub record IsKept {D : Type 0} (history : D → History) (buffer : Held D) : Typ
   pub loses : LosesOnly buffer.staged logged
 
 -- The device failed the buffer in a call that had begun this step, or none: the steps told before it mean the chunks, claimed ones counted as queued.
--- Each stop leaves those of them that can't be lost, with the one begun or without it. No stray generation is left, so that the folder can be opened at once.
+-- Each stop leaves those of them that can't be lost, with the one begun or without it. No gap of removed generations is left, so that the folder can be opened at once.
 pub record IsLeft {D : Type 0} (history : D → History) (buffer : Held D) (more : Option Record) : Type 0 where
   pub logged : JournalLog
   pub could : IsJournalLog (with_more more logged)
@@ -39,7 +39,7 @@ pub record IsLeft {D : Type 0} (history : D → History) (buffer : Held D) (more
   pub means : settled (state_of logged) ≡ reopened buffer.chunks
   pub loses : LosesOnly buffer.staged logged
   pub recovers : Recovers buffer.journal.path (now (history buffer.dir)) (with_more more logged)
-  pub stray : HasNoStray buffer.journal.path (now (history buffer.dir))
+  pub gap : HasNoGap buffer.journal.path (now (history buffer.dir))
 
 -- The folder is honest; what the disk has of the buffer until the device fails it, and from then on.
 pub record IsDurable {D : Type 0} (is_honest : D → Type 0) (history : D → History) (buffer : Held D) : Type 0 where
@@ -47,9 +47,9 @@ pub record IsDurable {D : Type 0} (is_honest : D → Type 0) (history : D → Hi
   pub going : buffer.failed ≡ false → IsKept history buffer
   pub failed : buffer.failed ≡ true → (more : Option Record) × IsLeft history buffer more
 
--- the folder was honest when the buffer was opened, and had no stray generation
+-- the folder was honest when the buffer was opened, and the generations that were removed of it left no gap
 abbrev pub BeganWell : {D : Type 0} → (D → Type 0) → (D → History) → Held D → Type 0
-BeganWell is_honest history buffer = is_honest buffer.start × HasNoStray buffer.journal.path (now (history buffer.start))
+BeganWell is_honest history buffer = is_honest buffer.start × HasNoGap buffer.journal.path (now (history buffer.start))
 
 -- What every buffer keeps: no tag is too long, and it is durable where it began well.
 pub record IsSound {D : Type 0} (is_honest : D → Type 0) (history : D → History) (buffer : Held D) : Type 0 where
@@ -66,6 +66,23 @@ pub record Lasts (path : List ℕ) (serial : ℕ) (chunk : Chunk) (folder : Fold
   pub opens : Opens path folder state
   pub above : serial < state.next
   pub same : (chunk_at state serial ≡ Some (record chunk { stage = Queued })) ⊎ (chunk_at state serial ≡ None)
+
+-- In this state the chunk of this serial is queued with this content, or gone, and the serial is given to no other.
+abbrev pub IsNamed : ℕ → Chunk → State → Type 0
+IsNamed serial chunk state = (serial < state.next) × ((chunk_at state serial ≡ Some (record chunk { stage = Queued })) ⊎ (chunk_at state serial ≡ None))
+
+-- A chunk of this serial and content was claimed: the journal tells so much, durably, that whatever a stop leaves opens to a state in which it is queued as it was, or gone.
+pub record Endures {D : Type 0} (history : D → History) (buffer : Held D) (serial : ℕ) (chunk : Chunk) : Type 0 where
+  pub logged : JournalLog
+  pub told : IsJournalLog logged
+  pub named : IsNamed serial chunk (durably logged)
+  pub going : buffer.failed ≡ false → HoldsNow history buffer logged
+  pub failed : buffer.failed ≡ true → Recovers buffer.journal.path (now (history buffer.dir)) logged
+
+-- What a call leaves of each chunk that was claimed before it: at each moment of the call a stop leaves it queued as it was, or gone, and its serial is given to no other; and so it stays behind the call.
+pub record KeepsClaims {D : Type 0} (history : D → History) (old new : Held D) : Type 0 where
+  pub moments : (serial : ℕ) (chunk : Chunk) → Endures history old serial chunk → LeavesOnly (history old.dir) (history new.dir) (Lasts old.journal.path serial chunk)
+  pub after : (serial : ℕ) (chunk : Chunk) → Endures history old serial chunk → Endures history new serial chunk
 
 -- Each folder that a stop may leave opens so: what was queued durably is the same or gone, and the next serial hasn't fallen.
 pub record KeepsQueued (path : List ℕ) (t : JournalLog) (folder : Folder) : Type 0 where

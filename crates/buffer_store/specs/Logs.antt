@@ -10,8 +10,9 @@ use Rattle.chunk_journal.specs.Places.{entries_at}
 use Rattle.journal_files.specs.Folders.{journal_name}
 use Rattle.journal_files.specs.JournalLogs.{JournalLog, IsJournalLog, OpensWithin, begun, all_durable, new_generation, state_of}
 use Rattle.journal_files.specs.Views.{OpenJournal, IsOpenIn}
-use Rattle.journal_files.specs.Disks.{Keeps, Recovers, HasNoStray}
+use Rattle.journal_files.specs.Disks.{Keeps, Recovers, HasNoGap}
 use Rattle.journal_files.specs.Faults.{HasReason}
+use Rattle.journal_files.specs.Leftovers.{LeavesAtMost}
 use Rattle.buffer_state.specs.State.{State}
 use Rattle.buffer_store.specs.Buffers.{Held, durable_if}
 use Rattle.buffer_store.specs.declared.settings.Settings.{Settings}
@@ -83,7 +84,7 @@ pub record Writes {D T : Type 0} (is_honest : D → Type 0) (history : D → His
   pub recovers : is_honest old.dir → (t : JournalLog) → KeepsNow history old t → Allows (state_of t) item → result ≡ Err BufferFault.Fault
       → Recovers old.journal.path (now (history new.dir)) (begun item t)
   pub could : is_honest old.dir → (t : JournalLog) → KeepsNow history old t → Allows (state_of t) item → result ≡ Err BufferFault.Fault → IsJournalLog (begun item t)
-  pub stray : is_honest old.dir → (t : JournalLog) → KeepsNow history old t → Allows (state_of t) item → result ≡ Err BufferFault.Fault → HasNoStray old.journal.path (now (history new.dir))
+  pub gap : is_honest old.dir → (t : JournalLog) → KeepsNow history old t → Allows (state_of t) item → result ≡ Err BufferFault.Fault → HasNoGap old.journal.path (now (history new.dir))
   pub moments : is_honest old.dir → (t : JournalLog) → KeepsNow history old t → Allows (state_of t) item
       → LeavesOnly (history old.dir) (history new.dir) (OpensWithin old.journal.path (begun item t))
   pub quiet : is_honest old.dir → (t : JournalLog) → KeepsNow history old t → result ≢ Err BufferFault.Fault
@@ -120,12 +121,15 @@ pub record Renews {D T : Type 0} (is_honest : D → Type 0) (history : D → His
   pub untouched : is_honest old.dir → result ≢ Err BufferFault.Fault → result ≢ Err BufferFault.Damaged → OnErr result (SameDisk (now (history new.dir)) (now (history old.dir)))
   pub cause : HasReason (fault_count old.dir) (fault_count new.dir) result BufferFault.Fault
   pub gone : is_honest old.dir → OnOk result (reads (now (history new.dir)) (journal_name old.journal.path old.journal.number) ≡ None)
+  pub journal : OnErr result (new.journal ≡ old.journal)
   pub starts : OnOk result (settled (state_of (new_generation chunks)) ≡ reopened chunks)
   pub done : is_honest old.dir → (t : JournalLog) → KeepsNow history old t → settled (state_of t) ≡ reopened chunks → OnOk result (KeepsNow history new (new_generation chunks))
   pub refused : is_honest old.dir → (t : JournalLog) → KeepsNow history old t → settled (state_of t) ≡ reopened chunks → result ≢ Err BufferFault.Fault → OnErr result (KeepsNow history new t)
   pub recovers : is_honest old.dir → (t : JournalLog) → KeepsNow history old t → settled (state_of t) ≡ reopened chunks → result ≡ Err BufferFault.Fault
       → Recovers old.journal.path (now (history new.dir)) t
-  pub stray : is_honest old.dir → (t : JournalLog) → KeepsNow history old t → HasNoStray old.journal.path (now (history new.dir))
+  pub gap : is_honest old.dir → (t : JournalLog) → KeepsNow history old t → HasNoGap old.journal.path (now (history new.dir))
   pub moments : is_honest old.dir → (t : JournalLog) → KeepsNow history old t → settled (state_of t) ≡ reopened chunks
       → LeavesOnly (history old.dir) (history new.dir) (OpensWithin old.journal.path t)
   pub whole : is_honest old.dir → (t : JournalLog) → KeepsNow history old t → settled (state_of t) ≡ reopened chunks → result ≢ Err BufferFault.Damaged
+  pub left : is_honest old.dir → (t : JournalLog) → KeepsNow history old t → settled (state_of t) ≡ reopened chunks
+      → OnErr result (LeavesAtMost old.journal.path (old.journal.number + 1) (fault_count old.dir) (fault_count new.dir) (now (history old.dir)) (now (history new.dir)))

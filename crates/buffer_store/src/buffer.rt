@@ -13,7 +13,7 @@ ghost use Rattle.buffer_state.specs.Steps.{CanAppend, planned, queued_last, clai
 ghost use Rattle.buffer_state.specs.declared.chunk.Stage.TheVariants.{Queued, Claimed};
 ghost use Rattle.buffer_state.specs.declared.limits.AppendFault.{AppendFault};
 ghost use Rattle.journal_files.specs.Faults.{HasReason};
-ghost use Rattle.buffer_store.specs.Durability.{BeganWell, IsDurable, LastsNow};
+ghost use Rattle.buffer_store.specs.Durability.{BeganWell, IsDurable, Endures, KeepsClaims, LastsNow};
 ghost use Rattle.buffer_store.specs.Refusals.{of_plan};
 ghost use Rattle.buffer_store.specs.declared.fault.BufferFault.{BufferFault};
 
@@ -154,6 +154,10 @@ impl<D: Dir, A: Allocator + Copy> Buffer<D, A> {
         ensures counts { reopened self.new.chunks ≡ reopened self.old.chunks }
         // That the chunk is queued was synced.
         ensures lasts { BeganWell D.is_honest D.history self.old → IfSome result (LastsNow D.history self.new) }
+        // So it is from now on: each later call keeps it, at each of its moments.
+        ensures endures { BeganWell D.is_honest D.history self.old
+            → IfSome result (λ serial. IfSome (chunk_at self.new.chunks serial) (Endures D.history self.new serial)) }
+        ensures claims { KeepsClaims D.history self.old self.new }
     {
         self.chunks.claim()
     }
@@ -163,6 +167,7 @@ impl<D: Dir, A: Allocator + Copy> Buffer<D, A> {
         requires { IsAt Claimed self.old.chunks serial }
         ensures state { self.new ≡ record self.old { chunks = queued_last serial self.old.chunks } }
         ensures counts { reopened self.new.chunks ≡ reopened self.old.chunks }
+        ensures claims { KeepsClaims D.history self.old self.new }
     {
         self.chunks.give_back(serial);
     }

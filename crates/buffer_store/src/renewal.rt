@@ -5,6 +5,7 @@ ghost use Rattle.disk_files.specs.Disk.{reads};
 ghost use Rattle.disk_files.specs.Moments.{now};
 ghost use Rattle.buffer_state.specs.State.{total_size};
 ghost use Rattle.journal_files.specs.Folders.{journal_name};
+ghost use Rattle.journal_files.specs.Leftovers.{LeavesAtMost};
 ghost use Rattle.journal_files.specs.JournalLogs.{new_generation};
 ghost use Rattle.buffer_store.specs.Calls.{Stays, Begins};
 ghost use Rattle.buffer_store.specs.Durability.{BeganWell};
@@ -29,7 +30,8 @@ impl<D: Dir, A: Allocator + Copy> Buffer<D, A> {
     /// Goes on in a new generation of the journal, which tells only what is live. The chunks stay as they are.
     ///
     /// The first of `Failed`, `LastSerial`, `Memory`, `Fault` and `Damaged` that applies; `LastSerial` past the last generation,
-    /// `Damaged` where the journal hasn't the bytes that were told.
+    /// `Damaged` where the journal hasn't the bytes that were told. A new file that isn't whole is removed again, but where the device failed
+    /// in making it or fails in removing it.
     pub fn renew(&mut self) -> Result<(), BufferFault>
         ensures same { self.new.chunks ≡ self.old.chunks }
         ensures last { (result ≡ Err BufferFault.LastSerial) ↔ ((self.old.failed ≡ false) × (2 ^ 32 ≤ self.old.journal.number + 1)) }
@@ -40,6 +42,10 @@ impl<D: Dir, A: Allocator + Copy> Buffer<D, A> {
         ensures staged { OnOk result (self.new.staged ≡ false) }
         ensures rest { Stays D.is_honest D.history D.fault_count self.old self.new result }
         ensures begins { D.is_honest self.old.dir → Begins D.history self.old self.new None (λ _. new_generation self.old.chunks) result }
+        // Refused, the journal is the one that was open.
+        ensures journal { OnErr result (self.new.journal ≡ self.old.journal) }
+        ensures left { BeganWell D.is_honest D.history self.old
+            → OnErr result (LeavesAtMost self.old.journal.path (self.old.journal.number + 1) (D.fault_count self.old.dir) (D.fault_count self.new.dir) (now (D.history self.old.dir)) (now (D.history self.new.dir))) }
         ensures gone { D.is_honest self.old.dir → OnOk result (reads (now (D.history self.new.dir)) (journal_name self.old.journal.path self.old.journal.number) ≡ None) }
         // Files of other names stay as they are.
         ensures elsewhere { D.is_honest self.old.dir → (name : List ℕ) → name ≢ journal_name self.old.journal.path self.old.journal.number

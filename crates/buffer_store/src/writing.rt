@@ -173,6 +173,8 @@ impl<D: Dir, A: Allocator + Copy> Buffer<D, A> {
         ensures rest { StaysWithin D.is_honest D.history D.fault_count self.old self.new result }
         ensures begins { D.is_honest self.old.dir → (serial : ℕ) → oldest self.old.chunks ≡ Some serial
             → Begins D.history self.old self.new (Some (Purge serial)) (λ t. t) result }
+        // Where nothing is queued, no step is begun.
+        ensures empty { oldest self.old.chunks ≡ None → Begins D.history self.old self.new None (λ t. t) result }
     {
         if self.log.has_failed() {
             return Err(BufferFault::Failed);

@@ -164,59 +164,6 @@ fn limits(rt: HostRuntime) {
     );
 }
 
-// The append's sync fails once, and the buffer stays failed.
-static LOST_APPEND: [Sitting; 2] = [
-    Sitting {
-        calls: Failing::At(OPENING + 1),
-        rows: &[
-            (Act::Append(b'a', 1), Answer::Refused(BufferFault::Fault)),
-            (Act::Append(b'a', 1), Answer::Refused(BufferFault::Failed)),
-            (Act::Body(0), Answer::Refused(BufferFault::Failed)),
-        ],
-        keep: Keep::Least,
-    },
-    Sitting {
-        calls: Failing::Never,
-        rows: &[
-            (Act::Next, Answer::Serial(0)),
-            (Act::Append(b'a', 1), Answer::Serial(0)),
-        ],
-        keep: Keep::Least,
-    },
-];
-
-static KEPT_APPEND: [Sitting; 2] = [
-    Sitting {
-        calls: Failing::At(OPENING + 1),
-        rows: &[
-            (Act::Append(b'a', 1), Answer::Refused(BufferFault::Fault)),
-            (Act::Append(b'a', 1), Answer::Refused(BufferFault::Failed)),
-            (Act::Body(0), Answer::Refused(BufferFault::Failed)),
-        ],
-        keep: Keep::Greatest,
-    },
-    Sitting {
-        calls: Failing::Never,
-        rows: &[
-            (Act::Next, Answer::Serial(1)),
-            (Act::Look(0), Answer::At(Stage::Staged)),
-        ],
-        keep: Keep::Least,
-    },
-];
-
-#[test]
-fn sync_that_fails(rt: HostRuntime) {
-    assert_eq!(rt;
-        sit_all(rt.alloc(), WIDE, &LOST_APPEND),
-        (LOST_APPEND.len(), Went::Through)
-    );
-    assert_eq!(rt;
-        sit_all(rt.alloc(), WIDE, &KEPT_APPEND),
-        (KEPT_APPEND.len(), Went::Through)
-    );
-}
-
 // A read of a chunk's entries fails once, and the buffer goes on as it was. A renewal copies those of a claimed chunk and a staged one,
 // which grows then.
 static UNREAD: [Sitting; 2] = [

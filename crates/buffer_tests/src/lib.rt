@@ -11,5 +11,3 @@ mod records;
 mod script;
 #[cfg(test)]
 mod stages;
-#[cfg(test)]
-mod stops;

@@ -1,11 +1,12 @@
 -- A change of a folder in memory, as the disk sees it.
-use Rattle.std.proofs.Common.{◌≡◌, ◌≢◌, ⊎_elim, ℕ, suc, ◌+◌, ◌≤◌, cond, Bool, true, false, List, [], ◌∷◌, ◌++◌, length, Option, Some, None, IsSome, is_some, option_map, nat_lt, slice_get, get_or, position, refl, sym, ◌∙◌, ap, subst, arith}
+use Rattle.std.proofs.Common.{◌≡◌, ◌≢◌, ⊎_elim, not, ℕ, suc, ◌+◌, ◌≤◌, cond, Bool, true, false, List, [], ◌∷◌, ◌++◌, length, Option, Some, None, IsSome, is_some, option_map, nat_lt, slice_get, get_or, position, refl, sym, ◌∙◌, ap, subst, arith}
+use Rattle.std.specs.Prelude.{IsTrue, ◌↔◌}
 use Rattle.std.specs.Str.{bytes_eq}
 use Rattle.std.specs.List.{position_from}
 use Rattle.std.proofs.lemmas.Option.{slice_get_read, slice_get_within}
 use Rattle.std.proofs.lemmas.Iterator.Adapters.{position_from-zero}
 use Rattle.std.proofs.lemmas.Bool.Decides.{eqb_tells}
-use Rattle.disk_files.specs.Disk.{File, Disk, new_file, SameDisk, Makes, Changes, reads, read_of}
+use Rattle.disk_files.specs.Disk.{File, Disk, new_file, SameDisk, Makes, Changes, reads, read_of, WasRemoved}
 use Rattle.disk_files.specs.Entry.{Entry}
 use Rattle.disk_files.specs.Table.{disk_of, IsSound, name_of, room_of, ChangesAt}
 use Rattle.disk_files.specs.Past.{disk_then, history_of}
@@ -255,3 +256,30 @@ is_gone files name at e sound place read gone =
     let same = same_entry e place.entry (sym got ∙ place.found) in
     let here : disk_of files name ≡ Some e.state = sym (ap (disk_of files) (ap (λ x. x.name) same ∙ place.named)) ∙ found files at e sound got in
     ap read_of here ∙ ap (λ b. cond b None (Some e.state.written)) gone
+
+-- A file that was removed
+
+removed_at : (f : File) (o : Option File) (b there : Bool) → f.is_removed ≡ b → there ≡ not b → o ≡ Some f → IsTrue (not there) ↔ (IsSome o × (read_of o ≡ None))
+removed_at f o true there removed is here = (
+  λ yes. (subst IsSome (sym here) refl, ap read_of here ∙ ap (λ b. cond b None (Some f.written)) removed),
+  λ gone. ap not is,
+)
+removed_at f o false there removed is here = (
+  λ yes. absurd (let no = ap not is in cc (yes, no)),
+  λ gone. absurd (let read = sym (ap read_of here ∙ ap (λ b. cond b None (Some f.written)) removed) ∙ gone.1 in cc read),
+)
+
+pub removed_found : (files : List Entry) (name : List ℕ) (at : ℕ) (e : Entry) (there : Bool) → IsPlaceOf files name at → e ≡ get_or files at e → there ≡ not e.state.is_removed → IsSound files → IsTrue (not there) ↔ WasRemoved (disk_of files) name
+removed_found files name at e there place read is sound =
+    let got = slice_get_read files (length files) at e refl (slice_get_within files at place.entry place.found) read in
+    let same = same_entry e place.entry (sym got ∙ place.found) in
+    removed_at e.state (disk_of files name) e.state.is_removed there refl is (sym (ap (disk_of files) (ap (λ x. x.name) same ∙ place.named)) ∙ found files at e sound got)
+
+no_file : (o : Option File) → o ≡ None → IsSome o → ⊥
+no_file o none some = let gone = subst IsSome none some in cc gone
+
+pub removed_none : (files : List Entry) (name : List ℕ) → disk_of files name ≡ None → IsTrue false ↔ WasRemoved (disk_of files) name
+removed_none files name none = (λ yes. absurd (cc yes), λ gone. absurd (no_file (disk_of files name) none gone.0))
+
+pub removed_now : (files : List Entry) (past : List (List Entry)) (name : List ℕ) (b : Bool) → IsTrue b ↔ WasRemoved (disk_of files) name → IsTrue b ↔ WasRemoved (now (history_of files past)) name
+removed_now files past name b there = subst (λ (o : Option File). IsTrue b ↔ (IsSome o × (read_of o ≡ None))) (sym (now_is files past name)) there

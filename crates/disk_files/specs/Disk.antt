@@ -1,5 +1,5 @@
 -- A folder on a disk: what was written to its files, how much of that is certainly there, and what a stop may leave.
-use Rattle.std.specs.Prelude.{◌≡◌, ◌⊎◌, ℕ, ◌≤◌, Bool, true, false, List, [], ◌++◌, length, take, Option, Some, None, cond, option_map}
+use Rattle.std.specs.Prelude.{◌≡◌, ◌⊎◌, ℕ, ◌≤◌, Bool, true, false, List, [], ◌++◌, length, take, Option, Some, None, IsSome, cond, option_map}
 use Rattle.std.specs.Str.{bytes_eq}
 use Rattle.std.specs.Map.{update}
 
@@ -58,6 +58,10 @@ read_of (Some f) = cond f.is_removed None (Some f.written)
 -- the folder as it reads
 abbrev pub reads : Disk → Folder
 reads disk name = read_of (disk name)
+
+-- a file of this name was there, and was removed
+abbrev pub WasRemoved : Disk → List ℕ → Type 0
+WasRemoved disk name = IsSome (disk name) × (reads disk name ≡ None)
 
 -- What a stop may leave of one file: a beginning of what was written that holds at least what was synced.
 -- Nothing may be left where the file was removed, or isn't certainly on the disk.

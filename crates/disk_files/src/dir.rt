@@ -1,9 +1,9 @@
 //! A folder as one value: the calls, and what each promises of the disk.
 
-ghost use Rattle.std.specs.Prelude.{◌≡◌, ◌≢◌, ◌⊎◌, ◌↔◌, ℕ, ◌+◌, ◌-◌, ◌≤◌, List, ◌++◌, length, take, drop, min, Bool, Option, Some, None, IsSome, IfOk, OnOk, OnErr, IsErrOf, Contains};
+ghost use Rattle.std.specs.Prelude.{◌≡◌, ◌≢◌, ◌⊎◌, ◌↔◌, IsTrue, ℕ, ◌+◌, ◌-◌, ◌≤◌, List, ◌++◌, length, take, drop, min, Bool, Option, Some, None, IsSome, IfOk, OnOk, OnErr, IsErrOf, Contains};
 ghost use Rattle.std.specs.List.{IsDistinct};
 ghost use Rattle.std.specs.Str.{bytes_eq};
-ghost use Rattle.disk_files.specs.Disk.{with_bytes, flushed, unlinked, SameDisk, Makes, Changes, reads, StopLeaves};
+ghost use Rattle.disk_files.specs.Disk.{with_bytes, flushed, unlinked, SameDisk, Makes, Changes, reads, StopLeaves, WasRemoved};
 ghost use Rattle.disk_files.specs.Moments.{History, Elapses, now};
 ghost use Rattle.disk_files.specs.Faults.{HasCause, FailsInTurn};
 ghost use Rattle.disk_files.specs.declared.dir.FileNo.{FileNo};
@@ -272,6 +272,11 @@ pub trait Dir {
     /// How many calls were refused for another reason than memory, up to the greatest number of its type.
     fn faults(&self) -> u64
         ensures { result ≡ fault_count self.now };
+
+    /// Whether a file of this name was removed, so that none can be made under it again. The device isn't touched.
+    /// A folder of the system makes a removed name again, and answers no.
+    fn was_removed(&self, name: &[u8]) -> bool
+        ensures { is_honest self.now → (IsTrue result ↔ WasRemoved (now (history self.now)) name.now) };
 
     /// The folder as it reads is one that a stop may leave.
     ghost reads_stay: { (d : Self) → is_honest d → StopLeaves (now (history d)) (reads (now (history d))) };

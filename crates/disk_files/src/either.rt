@@ -98,4 +98,11 @@ impl<L: Dir, R: Dir> Dir for EitherDir<L, R> {
             EitherDir::Right(dir) => dir.faults(),
         }
     }
+
+    fn was_removed(&self, name: &[u8]) -> bool {
+        match self {
+            EitherDir::Left(dir) => dir.was_removed(name),
+            EitherDir::Right(dir) => dir.was_removed(name),
+        }
+    }
 }

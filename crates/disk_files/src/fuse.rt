@@ -14,8 +14,8 @@ enum Fails {
     Nothing,
 }
 
-/// A folder over another, whose device fails at a chosen call. Each call counts but `reserve` and `faults`, which touch
-/// no device. A call that fails here isn't passed on, so it changes nothing.
+/// A folder over another, whose device fails at a chosen call. Each call counts but `reserve`, `faults` and `was_removed`,
+/// which touch no device. A call that fails here isn't passed on, so it changes nothing.
 #[derive(Drop)]
 pub struct Fuse<D> {
     inner: D,
@@ -159,5 +159,9 @@ impl<D: Dir> Dir for Fuse<D> {
 
     fn faults(&self) -> u64 {
         self.inner.faults().saturating_add(self.failed)
+    }
+
+    fn was_removed(&self, name: &[u8]) -> bool {
+        self.inner.was_removed(name)
     }
 }

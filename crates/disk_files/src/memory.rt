@@ -10,7 +10,7 @@ ghost use Rattle.disk_files.specs.Faults.{Rises};
 
 use crate::memory_file::{
     MemoryFile, cut_last, flush_at, grow_at, place_of, place_there, reserve_at, stop_each, sweep,
-    unlink_at,
+    unlink_at, was_removed_in,
 };
 use crate::past::Past;
 use crate::{Dir, DirError, FileName, FileNo, Keep};
@@ -186,6 +186,10 @@ impl<A: Allocator + Copy> Dir for MemoryDir<A> {
 
     fn faults(&self) -> u64 {
         self.faults
+    }
+
+    fn was_removed(&self, name: &[u8]) -> bool {
+        was_removed_in(&self.files, name)
     }
 }
 

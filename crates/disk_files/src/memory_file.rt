@@ -1,8 +1,8 @@
 //! A file of a folder in memory.
 
-ghost use Rattle.std.specs.Prelude.{◌≡◌, ◌+◌, ◌≤◌, ◌<◌, false, not, List, ℕ, length, position, Some, None, IsSome, is_some, IfSome, IfNone, IfOk, OnOk, OnErr, slice_get, vec_len};
+ghost use Rattle.std.specs.Prelude.{◌≡◌, ◌↔◌, IsTrue, ◌+◌, ◌≤◌, ◌<◌, false, not, List, ℕ, length, position, Some, None, IsSome, is_some, IfSome, IfNone, IfOk, OnOk, OnErr, slice_get, vec_len};
 ghost use Rattle.std.specs.Str.{bytes_eq};
-ghost use Rattle.disk_files.specs.Disk.{new_file, with_bytes, flushed, unlinked, read_of, after_stop};
+ghost use Rattle.disk_files.specs.Disk.{new_file, with_bytes, flushed, unlinked, read_of, after_stop, WasRemoved};
 ghost use Rattle.disk_files.specs.declared.keep.Keep.TheVariants.{Last};
 ghost use Rattle.disk_files.specs.Stop.{left_of, name_at};
 ghost use Rattle.disk_files.specs.Stopped.{stopped, cut_to, left_state, StoppedTo, those_there};
@@ -178,6 +178,16 @@ pub fn place_there<A: Allocator>(files: &Vec<MemoryFile<A>, A>, name: &[u8]) -> 
 {
     let at = place_of(files, name)?;
     if files[at].is_there() { Some(at) } else { None }
+}
+
+/// Whether the file of this name was removed.
+pub fn was_removed_in<A: Allocator>(files: &Vec<MemoryFile<A>, A>, name: &[u8]) -> bool
+    ensures { IsSound files.now.items → (IsTrue result ↔ WasRemoved (disk_of files.now.items) name.now) }
+{
+    match place_of(files, name) {
+        Some(at) => !files[at].is_there(),
+        None => false,
+    }
 }
 
 /// Adds bytes to the file at a place.

@@ -343,6 +343,10 @@ where
     fn faults(&self) -> u64 {
         self.faults
     }
+
+    fn was_removed(&self, _name: &[u8]) -> bool {
+        false
+    }
 }
 
 // The names in the folder of this path. A name that is no text is passed over: no call can name it.

@@ -1,6 +1,6 @@
 //! Sinks: their bytes, receipts, contents and failures.
 
-use disk_files::{Dir, DirError, EitherDir, Fuse, Keep, MemoryDir, RealDir};
+use disk_files::{Dir, DirError, EitherDir, Keep, MemoryDir, RealDir};
 use event_modes::Entries;
 use numbered_files::read_file;
 use sink_series::{
@@ -174,46 +174,20 @@ fn items_of_a_file(rt: HostRuntime) -> Result<(), Fail> {
     Ok(())
 }
 
-// How an opening and two writes end, as far as they come.
-#[derive(Clone, Copy, Debug, PartialEq, Eq)]
-enum Went {
-    Unopened(SeriesFault),
-    Written([Option<SeriesFault>; 2]),
-}
-
-fn tried<D: Dir>(alloc: Global, dir: D) -> Went
-where
-    D: Drop,
-{
-    let mut series = match opened(alloc, dir) {
-        Ok(series) => series,
-        Err(fault) => return Went::Unopened(fault),
-    };
-    let first = write(alloc, &mut series, b"a").err();
-    Went::Written([first, write(alloc, &mut series, b"a").err()])
-}
-
-// After how many calls the device fails, and whether the sink is open then.
-static FAILING: [(u64, bool); 4] = [(0, false), (1, false), (2, true), (3, true)];
-
-// How a device that fails shows: in the opening, or in the first write, behind which there is none.
-fn failed(is_open: bool) -> Went {
-    if is_open {
-        Went::Written([Some(SeriesFault::Fault), Some(SeriesFault::Failed)])
-    } else {
-        Went::Unopened(SeriesFault::Fault)
+// Why a sink in this folder doesn't open.
+fn unopened<D: Dir + Drop>(alloc: Global, dir: D) -> Option<SeriesFault> {
+    match opened(alloc, dir) {
+        Ok(_) => None,
+        Err(fault) => Some(fault),
     }
 }
 
+// A sink's calls on a device that fails are what stop_trial tries.
 #[test]
-fn failures(rt: HostRuntime) -> Result<(), Fail> {
+fn last_file(rt: HostRuntime) -> Result<(), Fail> {
     let alloc = rt.alloc();
-    for (passes, is_open) in &FAILING {
-        let fuse = Fuse::once(MemoryDir::new(alloc), *passes);
-        assert_eq!(rt; tried(alloc, fuse), failed(*is_open), "{passes}");
-    }
     let last = folder(alloc, b"out.4294967295.sink", ITEM)?;
-    assert_eq!(rt; tried(alloc, last), Went::Unopened(SeriesFault::LastNumber));
+    assert_eq!(rt; unopened(alloc, last), Some(SeriesFault::LastNumber));
     assert_eq!(rt;
         format!(in alloc; "{}", SeriesFault::Failed)?.as_str(),
         "F2"

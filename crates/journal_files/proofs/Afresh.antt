@@ -1,7 +1,7 @@
 -- What opening has as it begins a new generation.
 use Rattle.std.proofs.Common.{◌≡◌, ℕ, ◌+◌, ◌-◌, ◌<◌, ◌^◌, List, Option, refl, subst, ◌∙◌, arith}
 use Rattle.std.specs.Prelude.{IsSome}
-use Rattle.disk_files.specs.Disk.{Disk, SameDisk, reads}
+use Rattle.disk_files.specs.Disk.{Disk, SameDisk}
 use Rattle.disk_files.specs.Moments.{History, Elapses, LeavesOnly, now}
 use Rattle.disk_files.specs.declared.dir.FileNo.{FileNo}
 use Rattle.disk_files.proofs.Moments.{joined}
@@ -9,24 +9,23 @@ use Rattle.buffer_state.specs.State.{State}
 use Rattle.chunk_journal.specs.Places.{Spots}
 use Rattle.journal_files.specs.Folders.{journal_name}
 use Rattle.journal_files.specs.JournalLogs.{JournalLog, OpensWithin}
-use Rattle.journal_files.specs.Disks.{Recovers, HasNoneFrom, HasNoStray}
-use Rattle.journal_files.specs.Found.{IsFound, FindsSource}
+use Rattle.journal_files.specs.Disks.{Recovers, HasNoneFrom, HasAllBelow, HasNoGap}
+use Rattle.journal_files.specs.Found.{IsLastTaken, FindsSource}
 use Rattle.journal_files.specs.Sources.{HasSource}
-use Rattle.journal_files.proofs.Fresh.{none_above}
+use Rattle.journal_files.proofs.Fresh.{none_above, all_below}
 use Rattle.journal_files.proofs.OpeningMoments.{looked, recovers_same}
 use Rattle.journal_files.proofs.Sourced.{still_source}
-use Rattle.journal_files.proofs.Strays.{same_stray}
 
 -- the disk is as it was at first, this is its greatest generation, and the next one has a source
 pub record BeginsAfresh (opened : FileNo → Option (List ℕ)) (first mid : Disk) (path : List ℕ) (greatest : ℕ) (file : Option FileNo) (spots : Spots) (state : State) : Type 0 where
   pub same : SameDisk mid first
   pub small : greatest + 1 < 2 ^ 32
-  pub found : IsFound path (reads first) greatest
+  pub found : IsLastTaken path first greatest
   pub source : HasSource opened mid (journal_name path (greatest + 1)) file spots state
 
 -- so it is once the folder was looked at, and the older generations were opened
 pub afresh : (before after : FileNo → Option (List ℕ)) → ((other : FileNo) → IsSome (before other) → after other ≡ before other) → (first near mid : Disk) (path : List ℕ) (greatest : ℕ) (file : Option FileNo) (spots : Spots) (state : State)
-    → SameDisk near first → SameDisk mid near → greatest < 2 ^ 32 - 1 → IsFound path (reads first) greatest → FindsSource before first path greatest file spots state → BeginsAfresh after first mid path greatest file spots state
+    → SameDisk near first → SameDisk mid near → greatest < 2 ^ 32 - 1 → IsLastTaken path first greatest → FindsSource before first path greatest file spots state → BeginsAfresh after first mid path greatest file spots state
 afresh before after others first near mid path greatest file spots state near_same mid_same below found source =
     let same : SameDisk mid first = λ name. mid_same name ∙ near_same name in
     let small : greatest + 1 < 2 ^ 32 = omega (arith, below) in
@@ -38,11 +37,11 @@ afresh before after others first near mid path greatest file spots state near_sa
     }
 
 module _ {opened : FileNo → Option (List ℕ)} {first mid : Disk} {path : List ℕ} {greatest : ℕ} {file : Option FileNo} {spots : Spots} {state : State} (on : BeginsAfresh opened first mid path greatest file spots state) where
-  pub none : HasNoStray path first → HasNoneFrom path mid (greatest + 1)
-  none stray = none_above path first mid greatest (greatest + 1) refl on.found stray on.same
+  pub none : HasNoGap path first → HasNoneFrom path mid (greatest + 1)
+  none gap = none_above path first mid greatest (greatest + 1) refl on.found gap on.same
 
-  pub stray_still : HasNoStray path first → HasNoStray path mid
-  stray_still stray = same_stray path first mid on.same stray
+  pub all : HasNoGap path first → HasAllBelow path mid (greatest + 1)
+  all gap = all_below path first mid greatest on.found gap on.small on.same
 
 -- a stop while the new generation is begun, once the folder was looked at twice
 pub beginning : (path : List ℕ) (t : JournalLog) (old near mid new : History) → Recovers path (now old) t → Elapses old near → SameDisk (now near) (now old) → Elapses near mid → SameDisk (now mid) (now near)

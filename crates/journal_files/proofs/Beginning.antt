@@ -69,6 +69,13 @@ some_second name told seal old mid new first second =
       };
     })
 
+-- so many bytes more
+pub new_more : (name told seal : List ℕ) (old mid new : Disk) → HasNew name told old mid → (second : Partly name seal mid new) → HasNew name (told ++ take second.len seal) old new
+new_more name told seal old mid new first second = record {
+  none = first.none;
+  made = follows old mid new name (Some (with_bytes told new_file)) (with_bytes (take second.len seal)) first.made second.grew;
+}
+
 -- ---- whole
 
 module _ (journal : OpenJournal) (s : State) (can : CanOpen s) (old mid new : Disk) (told seal : List ℕ) where

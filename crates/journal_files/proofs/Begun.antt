@@ -41,12 +41,6 @@ module _ (path : List ℕ) (number : ℕ) (name bytes seal : List ℕ) (old mid 
   pub new_reads : IsSome (reads new (journal_name path number))
   new_reads = subst (λ (n : List ℕ). IsSome (reads new n)) name_is (subst (λ (o : Option File). IsSome (read_of o)) (sym at) refl)
 
-  pub new_no_stray : number < 2 ^ 32 → HasNoneFrom path old number → HasNoStray path new
-  new_no_stray last none =
-      highest_reads path new number last new_reads
-      (λ n above below. elsewhere old new name (journal_name path n) _ (follows old mid new name (Some (with_bytes bytes new_file)) (sealed seal) made.made changes)
-      (apart name (journal_name path n) (λ e. omega (arith, same_number path number n last below (sym name_is ∙ e), above))) ∙ none n (omega (arith, above)) below)
-
 -- what the older file gives to go on from
 pub own_source : (opened : FileNo → Option (List ℕ)) (journal : OpenJournal) (disk : Disk) (t : JournalLog) (s : State) (path : List ℕ) (number : ℕ) (file : FileNo) (spots : Spots) → Keeps journal disk t → journal.len < 2 ^ 64
     → settled (state_of t) ≡ reopened s → path ≡ journal.path → number ≡ journal.number + 1 → number < 2 ^ 32 → spots ≡ journal.places → opened file ≡ Some (journal_name journal.path journal.number)

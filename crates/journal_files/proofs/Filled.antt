@@ -1,7 +1,6 @@
 -- A new file is filled with pieces.
 use Rattle.std.proofs.Common.{◌≡◌, ⊎_elim, ℕ, ◌+◌, ◌≤◌, List, [], length, Option, Some, None, Result, Ok, Err, OnOk, OnErr, refl, sym, ap, subst, ◌∙◌, arith, inr}
 use Rattle.std.specs.Prelude.{IsSome, IsOk, IsErrOf}
-use Rattle.std.proofs.lemmas.List.{take_all}
 use Rattle.disk_files.specs.Disk.{Disk, Makes, new_file, with_bytes, SameDisk, with_file, read_of}
 use Rattle.disk_files.specs.Moments.{History, now, LeavesOnly}
 use Rattle.disk_files.specs.Faults.{HasCause}
@@ -16,12 +15,12 @@ use Rattle.file_pieces.specs.declared.error.PieceError.TheVariants as piece
 use Rattle.file_pieces.specs.declared.piece.Piece.{Piece}
 use Rattle.journal_files.specs.Faults.{HasReason, begin_error, copy_error}
 use Rattle.journal_files.specs.Pieces.{HasNew, IsUnfinished}
-use Rattle.journal_files.specs.Sources.{CanGive, Fills, HasAnyNew, IsAnyUnfinished, IsOther}
+use Rattle.journal_files.specs.Sources.{CanGive, Fills, HasAnyNew, IsOther}
 use Rattle.journal_files.specs.declared.error.BeginError.{BeginError}
 use Rattle.journal_files.specs.declared.error.BeginError.TheVariants as beginning
 use Rattle.journal_files.proofs.Names.{apart}
 use Rattle.journal_files.proofs.Renewing.{is_some_name}
-use Rattle.journal_files.proofs.Steps.{on_ok, on_err, any_err}
+use Rattle.journal_files.proofs.Steps.{on_ok}
 use Rattle.journal_files.proofs.Written.{begun_so_far}
 
 any_ok : {T E : Type 0} {A : Type 0} (result : Result T E) → A → OnOk result A
@@ -76,13 +75,6 @@ copies opened_old opened_mid old mid name from to seen others named makes other 
 empty : (name : List ℕ) (old mid : Disk) → Makes name old mid → HasNew name [] old mid
 empty name old mid makes = record { none = makes.0; made = makes.1 }
 
--- some of the bytes
-some_of : (name bytes : List ℕ) (old new : Disk) → HasNew name bytes old new → IsUnfinished name bytes old new
-some_of name bytes old new has = inr (record {
-  len = length bytes;
-  new = record { none = has.none; made = subst (λ (b : List ℕ). SameDisk new (with_file old name (Some (with_bytes b new_file)))) (sym (take_all (length bytes) bytes (omega arith))) has.made };
-})
-
 module _ {A D T : Type 0} (honest : D → Type 0) (history : D → History) (opened : D → FileNo → Option (List ℕ)) (bytes_left : D → FileNo → ℕ) (fault_count : D → ℕ) (to : FileNo) (pieces : List (Piece A)) (name : List ℕ)
     (old mid new : D) (result : Result T PieceError) where
   pub fill_honest : (from : Option FileNo) → Fills honest history opened bytes_left fault_count from to pieces mid new result → honest mid → honest new
@@ -113,11 +105,6 @@ module _ {A D T : Type 0} (honest : D → Type 0) (history : D → History) (ope
         let grows = fills.grows h name named in
         record { bytes = grows.bytes; new = record { none = makes.0; made = follows (now (history old)) (now (history mid)) (now (history new)) name (Some new_file) (with_bytes grows.bytes) makes.1 grows.grew } }
 
-    pub fill_some : (from : Option FileNo) → Fills honest history opened bytes_left fault_count from to pieces mid new result → IsAnyUnfinished name (now (history old)) (now (history new))
-    fill_some from fills =
-        let any = fill_any from fills in
-        record { bytes = any.bytes; some = some_of name any.bytes (now (history old)) (now (history new)) any.new }
-
     -- where the pieces come to certain bytes
     module _ (others : (file : FileNo) → IsSome (opened old file) → opened mid file ≡ opened old file) (bytes : List ℕ) where
       pub fill_ok : (from : Option FileNo) → Fills honest history opened bytes_left fault_count from to pieces mid new result → CanGive (opened old) (now (history old)) name from pieces bytes
@@ -133,15 +120,6 @@ module _ {A D T : Type 0} (honest : D → Type 0) (history : D → History) (ope
       begun : (seen : List ℕ) (disk : Disk) → pieces_bytes seen pieces ≡ bytes → Partly name (pieces_bytes seen pieces) (now (history mid)) disk → IsUnfinished name bytes (now (history old)) disk
       begun seen disk come part =
           subst (λ (b : List ℕ). IsUnfinished name b (now (history old)) disk) come (begun_so_far name (pieces_bytes seen pieces) part.len (now (history old)) (now (history mid)) disk makes part.grew)
-
-      pub fill_err : (from : Option FileNo) → Fills honest history opened bytes_left fault_count from to pieces mid new result → CanGive (opened old) (now (history old)) name from pieces bytes
-          → OnErr result (IsUnfinished name bytes (now (history old)) (now (history new)))
-      fill_err None fills can =
-          any_err result (subst (λ (b : List ℕ). IsUnfinished name b (now (history old)) (now (history new))) (sym can)
-          (subst (λ (d : D). IsUnfinished name [] (now (history old)) (now (history d))) (sym fills.0) (some_of name [] (now (history old)) (now (history mid)) (empty name (now (history old)) (now (history mid)) makes))))
-      fill_err (Some file) fills can =
-          on_err result (fills.err h can.other.source name can.seen (copies (opened old) (opened mid) (now (history old)) (now (history mid)) name file to can.seen others named makes can.other) can.within)
-          (λ part. begun can.seen (now (history new)) can.come part)
 
       none_whole : (r : Result T PieceError) → IsOk r → IsErrOf r piece.Short → ⊥
       none_whole (Ok x) ok short = cc short

@@ -13,6 +13,7 @@ pub mod Beginning
 pub mod OlderFiles
 pub mod Searched
 pub mod Renewing
+pub mod GivenUp
 pub mod Filled
 pub mod Reopened
 pub mod Begun

@@ -1,5 +1,5 @@
 -- What a journal has that goes on in the next generation.
-use Rattle.std.proofs.Common.{◌≡◌, ℕ, ◌+◌, ◌<◌, ◌^◌, List, Option, Some, ap, subst, ◌∙◌}
+use Rattle.std.proofs.Common.{◌≡◌, ℕ, ◌+◌, ◌<◌, ◌^◌, List, Option, Some, ap, subst, ◌∙◌, arith}
 use Rattle.std.specs.Prelude.{IsSome}
 use Rattle.disk_files.specs.Disk.{Disk}
 use Rattle.disk_files.specs.Moments.{History, LeavesOnly, now}
@@ -10,11 +10,12 @@ use Rattle.chunk_journal.specs.Places.{Spots}
 use Rattle.journal_files.specs.Folders.{journal_name}
 use Rattle.journal_files.specs.JournalLogs.{JournalLog, IsOfSome, OpensWithin, state_of}
 use Rattle.journal_files.specs.Views.{OpenJournal, IsOpenIn}
-use Rattle.journal_files.specs.Disks.{Keeps, Recovers, HasNoneFrom, HasNoStray}
+use Rattle.journal_files.specs.Disks.{Keeps, Recovers, HasNoneFrom, HasAllBelow}
 use Rattle.journal_files.specs.Sources.{HasSource}
 use Rattle.journal_files.proofs.Beginning.{of_all}
 use Rattle.journal_files.proofs.Begun.{own_source}
-use Rattle.journal_files.proofs.Renewing.{none_from, recovers_at, no_stray_at, is_some_name}
+use Rattle.journal_files.proofs.Names.{same_number}
+use Rattle.journal_files.proofs.Renewing.{none_from, recovers_at, all_at, is_some_name}
 
 -- the next generation has this path and number, and copies from the journal's own open file, where entries lie at these places
 pub record GoesOnward (opened : FileNo → Option (List ℕ)) (journal : OpenJournal) (path : List ℕ) (number : ℕ) (file : FileNo) (spots : Spots) : Type 0 where
@@ -41,12 +42,18 @@ module _ {opened : FileNo → Option (List ℕ)} {journal : OpenJournal} {path :
   pub still : (opened_now : FileNo → Option (List ℕ)) → ((other : FileNo) → IsSome (opened other) → opened_now other ≡ opened other) → opened_now file ≡ Some (journal_name journal.path journal.number)
   still opened_now others = others file (is_some_name _ _ on.named) ∙ on.named
 
+  -- its file is not the new one
+  pub own_differs : journal_name journal.path journal.number ≡ journal_name path number → ⊥
+  own_differs e =
+      let numbers = same_number journal.path journal.number number (omega (arith, on.number_is, on.last)) on.last (e ∙ ap (λ (p : List ℕ). journal_name p number) on.path_is) in
+      omega (arith, numbers, on.number_is)
+
   module _ {old : Disk} {t : JournalLog} (keeps : Keeps journal old t) where
     pub none : HasNoneFrom path old number
     none = none_from journal old t keeps path number on.path_is on.number_is
 
-    pub no_stray : HasNoStray path old
-    no_stray = no_stray_at journal old t keeps path number on.path_is on.number_is
+    pub all : HasAllBelow path old number
+    all = all_at journal old t keeps path number on.path_is on.number_is
 
     pub source : (s : State) → settled (state_of t) ≡ reopened s → HasSource opened old (journal_name path number) (Some file) spots s
     source s means = own_source opened journal old t s path number file spots keeps on.small means on.path_is on.number_is on.last on.spots_are on.named

@@ -7,13 +7,14 @@ use Rattle.buffer_state.specs.State.{State}
 use Rattle.buffer_state.specs.Steps.{settled, reopened}
 use Rattle.journal_files.specs.JournalLogs.{JournalLog, state_of, new_generation as opened_with, IsOfSome, OpensWithin}
 use Rattle.journal_files.specs.Views.{OpenJournal}
-use Rattle.journal_files.specs.Disks.{Keeps, Recovers, HasNoStray}
+use Rattle.journal_files.specs.Disks.{Keeps, Recovers, HasNoGap}
+use Rattle.journal_files.specs.Leftovers.{IsWholeAt}
 use Rattle.file_pieces.specs.Adding.{IsLeftOf}
 use Rattle.journal_files.specs.Pieces.{ChangesBelow}
 use Rattle.journal_files.proofs.Beginning.{renewed}
 use Rattle.journal_files.proofs.Fresh.{keeps_alone}
 use Rattle.journal_files.proofs.Recovery.{recovers}
-use Rattle.journal_files.proofs.Strays.{kept_no_stray}
+use Rattle.journal_files.proofs.Strays.{kept_no_gap}
 
 pub recovers_same : (path : List ℕ) (t : JournalLog) (old new : Disk) → SameDisk new old → Recovers path old t → Recovers path new t
 recovers_same path t old new same before folder leaves = before folder (leaves_same new old folder same leaves)
@@ -31,8 +32,11 @@ module _ (path : List ℕ) (number : ℕ) (journal : OpenJournal) (mid : Disk) (
   pub keeps_still : (new : Disk) → ChangesBelow path number mid new → Keeps journal new (opened_with s)
   keeps_still new below = keeps_alone path number journal mid new (opened_with s) path_is number_is keeps below
 
-  pub no_stray_still : (new : Disk) → ChangesBelow path number mid new → HasNoStray path new
-  no_stray_still new below = subst (λ (p : List ℕ). HasNoStray p new) path_is (kept_no_stray journal new (opened_with s) (keeps_still new below))
+  pub no_gap_still : (new : Disk) → ChangesBelow path number mid new → HasNoGap path new
+  no_gap_still new below = subst (λ (p : List ℕ). HasNoGap p new) path_is (kept_no_gap journal new (opened_with s) (keeps_still new below))
+
+  pub whole_still : (new : Disk) → ChangesBelow path number mid new → IsWholeAt path number new
+  whole_still new below = record { journal = journal; chunks = s; path_is = path_is; number_is = number_is; keeps = keeps_still new below }
 
   pub opens_still : (t : JournalLog) → settled (state_of (opened_with s)) ≡ reopened s → IsOfSome t (reopened s) → (new : Disk) → ChangesBelow path number mid new → Recovers path new t
   opens_still t leads m new below folder leaves =

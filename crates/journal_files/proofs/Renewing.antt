@@ -12,12 +12,11 @@ use Rattle.buffer_state.specs.Steps.{settled, reopened}
 use Rattle.journal_files.specs.Folders.{journal_name}
 use Rattle.journal_files.specs.JournalLogs.{JournalLog, state_of, new_generation, IsOfSome, OpensWithin}
 use Rattle.journal_files.specs.Views.{OpenJournal, IsOpenIn}
-use Rattle.journal_files.specs.Disks.{Keeps, Recovers, HasNoneFrom, HasNoStray}
+use Rattle.journal_files.specs.Disks.{Keeps, Recovers, HasNoneFrom, IsBelowSome, HasAllBelow}
 use Rattle.journal_files.proofs.Names.{same_number, numbers_apart}
 use Rattle.journal_files.proofs.Recovery.{recovers}
 use Rattle.journal_files.proofs.Steps.{either}
 use Rattle.journal_files.proofs.Beginning.{kept_above, renewed}
-use Rattle.journal_files.proofs.Strays.{kept_no_stray}
 
 -- what the older generation gives to begin with
 module _ (journal : OpenJournal) (old : Disk) (t : JournalLog) (keeps : Keeps journal old t) (path : List ℕ) (number : ℕ) (path_is : path ≡ journal.path) (number_is : number ≡ journal.number + 1) where
@@ -27,8 +26,13 @@ module _ (journal : OpenJournal) (old : Disk) (t : JournalLog) (keeps : Keeps jo
   pub recovers_at : Recovers path old t
   recovers_at = subst (λ (p : List ℕ). Recovers p old t) (sym path_is) (recovers journal old t keeps)
 
-  pub no_stray_at : HasNoStray path old
-  no_stray_at = subst (λ (p : List ℕ). HasNoStray p old) (sym path_is) (kept_no_stray journal old t keeps)
+  pub all_at : HasAllBelow path old number
+  all_at m low under = inr (subst (λ (p : List ℕ). IsBelowSome p old m) (sym path_is) (record {
+    number = journal.number;
+    above = omega (arith, under, number_is);
+    last = keeps.last;
+    there = subst (λ (o : Option File). IsSome (read_of o)) (sym keeps.there) refl;
+  }))
 
 -- the older file is removed
 module _ (journal next : OpenJournal) (mid new : Disk) (path_is : next.path ≡ journal.path) (number_is : next.number ≡ journal.number + 1) (last : journal.number < 2 ^ 32) where

@@ -34,6 +34,12 @@ found_source opened disk path greatest number file spots state found below named
   placed = m.means.placed;
 }
 
+-- the same, where more numbers are taken
+pub finds_too : (opened : FileNo → Option (List ℕ)) (disk : Disk) (path : List ℕ) (there taken : ℕ) (spots : Spots) (state : State) → there ≤ taken → (file : Option FileNo) → FindsSource opened disk path there file spots state
+    → FindsSource opened disk path taken file spots state
+finds_too opened disk path there taken spots state from None none = none
+finds_too opened disk path there taken spots state from (Some file) g = record { number = g.number; within = omega (arith, g.within, from); named = g.named; bytes = g.bytes; there = g.there; small = g.small; placed = g.placed }
+
 -- the same, as it is answered
 pub finds_so : (opened : FileNo → Option (List ℕ)) (disk : Disk) (path : List ℕ) (greatest k : ℕ) (file : FileNo) (o : Option FileNo) (spots places : Spots) (state chunks : State) → k ≡ greatest → o ≡ Some file → places ≡ spots → chunks ≡ state
     → IsGeneration opened disk path greatest file spots state → FindsSource opened disk path k o places chunks

@@ -1,5 +1,5 @@
 -- A journal on a disk.
-use Rattle.std.specs.Prelude.{ℕ, ◌≡◌, ◌<◌, ◌≤◌, ◌^◌, true, false, List, length, None, Some, IsSome}
+use Rattle.std.specs.Prelude.{ℕ, ◌≡◌, ◌⊎◌, ◌<◌, ◌≤◌, ◌^◌, true, false, List, length, None, Some, IsSome}
 use Rattle.disk_files.specs.Disk.{Disk, Folder, StopLeaves, reads}
 use Rattle.chunk_journal.specs.Journal.{journal_bytes}
 use Rattle.chunk_journal.specs.Places.{ArePlaced}
@@ -45,3 +45,11 @@ pub record IsBelowSome (path : List ℕ) (disk : Disk) (n : ℕ) : Type 0 where
 -- no generation that was ever begun is above all that read
 abbrev pub HasNoStray : List ℕ → Disk → Type 0
 HasNoStray path disk = (n : ℕ) → 1 ≤ n → n < 2 ^ 32 → IsSome (disk (journal_name path n)) → IsBelowSome path disk n
+
+-- each generation below this one was begun at some time, or is at or below one that reads
+abbrev pub HasAllBelow : List ℕ → Disk → ℕ → Type 0
+HasAllBelow path disk number = (n : ℕ) → 1 ≤ n → n < number → IsSome (disk (journal_name path n)) ⊎ IsBelowSome path disk n
+
+-- Above all that read, the generations that were begun and removed follow one another without a gap. (So the first number that is free is above all that were ever begun.)
+abbrev pub HasNoGap : List ℕ → Disk → Type 0
+HasNoGap path disk = (n : ℕ) → 1 ≤ n → n < 2 ^ 32 → IsSome (disk (journal_name path n)) → HasAllBelow path disk n

@@ -1,5 +1,5 @@
 -- Why a call of a journal fails.
-use Rattle.std.specs.Prelude.{ℕ, ◌≡◌, ◌≤◌, Result, OnOk, IsErrOf}
+use Rattle.std.specs.Prelude.{ℕ, ◌≡◌, ◌⊎◌, ◌+◌, ◌-◌, ◌^◌, ◌≤◌, Result, OnOk, IsErrOf}
 use Rattle.disk_files.specs.Faults.{Rises}
 use Rattle.disk_files.specs.declared.dir.DirError.{DirError}
 use Rattle.disk_files.specs.declared.dir.DirError.TheVariants as dir
@@ -20,6 +20,10 @@ pub record HasReason {T E : Type 0} (before after : ℕ) (result : Result T E) (
   pub passed : OnOk result (after ≡ before)
   pub failed : IsErrOf result fault → Rises before after
   pub others : (IsErrOf result fault → ⊥) → after ≡ before
+
+-- the device has failed twice at least, as far as its count goes
+abbrev pub FailsAgain : ℕ → ℕ → Type 0
+FailsAgain before after = (before + 2 ≤ after) ⊎ (2 ^ 64 - 1 ≤ after)
 
 -- what a folder's refusal is answered as: any but for want of memory is the device's
 abbrev pub open_error : DirError → OpenError

@@ -1,6 +1,6 @@
 -- What opening a folder gives: the meaning of the greatest generation of a journal that isn't to be passed over.
 use Rattle.std.specs.Prelude.{ℕ, ◌≡◌, ◌⊎◌, ◌-◌, ◌<◌, ◌≤◌, ◌^◌, IsSome, List, [], ◌∷◌, ◌++◌, Option, None, Some}
-use Rattle.disk_files.specs.Disk.{Folder}
+use Rattle.disk_files.specs.Disk.{Disk, Folder, WasRemoved, reads}
 use Rattle.numbered_files.specs.Names.{ten_digits}
 use Rattle.buffer_state.specs.State.{State, empty}
 use Rattle.chunk_journal.specs.Meaning.{IsReplayed, EndsUnsealed, IsDamaged}
@@ -48,8 +48,8 @@ pub record IsDamagedFolder (path : List ℕ) (folder : Folder) : Type 0 where
   pub highest : IsHighest path folder number bytes
   pub damaged : IsDamaged bytes
 
--- the number of the next generation: one above the greatest that is there, and 1 where there is none
-pub record IsNext (path : List ℕ) (folder : Folder) (number : ℕ) : Type 0 where
+-- the number of the next generation: one above the greatest that was ever begun, and 1 where there is none
+pub record IsNext (path : List ℕ) (disk : Disk) (number : ℕ) : Type 0 where
   pub some : 0 < number
-  pub before : (number ≡ 1) ⊎ IsSome (folder (journal_name path (number - 1)))
-  pub above : (n : ℕ) → number ≤ n → n < 2 ^ 32 → folder (journal_name path n) ≡ None
+  pub before : (number ≡ 1) ⊎ (IsSome (reads disk (journal_name path (number - 1))) ⊎ WasRemoved disk (journal_name path (number - 1)))
+  pub above : (n : ℕ) → number ≤ n → n < 2 ^ 32 → reads disk (journal_name path n) ≡ None

@@ -1,6 +1,6 @@
 -- What opening finds in a folder. (Words of private functions.)
-use Rattle.std.specs.Prelude.{ℕ, ◌≡◌, ◌⊎◌, ◌<◌, ◌≤◌, ◌^◌, List, [], length, Option, None, Some, IsSome}
-use Rattle.disk_files.specs.Disk.{Disk, Folder, reads}
+use Rattle.std.specs.Prelude.{ℕ, ◌≡◌, ◌⊎◌, ◌+◌, ◌<◌, ◌≤◌, ◌^◌, List, [], length, Option, None, Some, IsSome}
+use Rattle.disk_files.specs.Disk.{Disk, Folder, WasRemoved, reads}
 use Rattle.disk_files.specs.declared.dir.FileNo.{FileNo}
 use Rattle.buffer_state.specs.State.{State}
 use Rattle.chunk_journal.specs.Feeding.{Heard, IsAfter}
@@ -12,6 +12,12 @@ use Rattle.journal_files.specs.Folders.{journal_name}
 pub record IsFound (path : List ℕ) (folder : Folder) (number : ℕ) : Type 0 where
   pub there : (number ≡ 0) ⊎ IsSome (folder (journal_name path number))
   pub above : (n : ℕ) → number < n → n < 2 ^ 32 → folder (journal_name path n) ≡ None
+
+-- the last number that is taken: that of a generation that is there or was removed, or 0, with none there above it, and the next one free
+pub record IsLastTaken (path : List ℕ) (disk : Disk) (number : ℕ) : Type 0 where
+  pub begun : (number ≡ 0) ⊎ (IsSome (reads disk (journal_name path number)) ⊎ WasRemoved disk (journal_name path number))
+  pub above : (n : ℕ) → number < n → n < 2 ^ 32 → reads disk (journal_name path n) ≡ None
+  pub free : WasRemoved disk (journal_name path (number + 1)) → ⊥
 
 -- the file is there, and means this, and the entries lie at these places of it
 pub record IsMeant (file : Option (List ℕ)) (state : State) (spots : Spots) : Type 0 where

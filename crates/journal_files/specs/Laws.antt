@@ -5,7 +5,7 @@ use Rattle.buffer_state.specs.State.{State}
 use Rattle.journal_files.specs.Folders.{Opens, IsDamagedFolder}
 use Rattle.journal_files.specs.JournalLogs.{JournalLog}
 use Rattle.journal_files.specs.Views.{OpenJournal}
-use Rattle.journal_files.specs.Disks.{Keeps, Recovers, HasNoStray}
+use Rattle.journal_files.specs.Disks.{Keeps, Recovers, HasNoStray, HasNoGap}
 
 -- Recovery: whatever a stop leaves of a journal opens to the state after some of its steps, all durable ones among them.
 abbrev pub RecoversAll : Type 0
@@ -18,6 +18,10 @@ KeepsNoStray = (journal : OpenJournal) (disk : Disk) (t : JournalLog) → Keeps 
 -- nor is one after a stop
 abbrev pub LeavesNoStray : Type 0
 LeavesNoStray = (path : List ℕ) (folder : Folder) → HasNoStray path (after_stop folder)
+
+-- where none is above all that read, the removed ones leave no gap
+abbrev pub StrayIsGap : Type 0
+StrayIsGap = (path : List ℕ) (disk : Disk) → HasNoStray path disk → HasNoGap path disk
 
 -- a folder opens one way
 abbrev pub OpensOneWay : Type 0

@@ -5,6 +5,7 @@ pub mod Placings
 pub mod Views
 pub mod Faults
 pub mod Pieces
+pub mod Leftovers
 pub mod Sources
 pub mod Found
 pub mod Laws

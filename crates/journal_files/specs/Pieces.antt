@@ -1,11 +1,14 @@
 -- What the pieces of opening and renewing do to a disk. (Words of private functions.)
-use Rattle.std.specs.Prelude.{ℕ, ◌≡◌, ◌≢◌, ◌⊎◌, ◌<◌, List, take, Option, None, Some, IsSome}
+use Rattle.std.specs.Prelude.{ℕ, ◌≡◌, ◌≢◌, ◌⊎◌, ◌<◌, ◌≤◌, List, take, Option, None, Some, IsSome}
 use Rattle.std.specs.Ordering.{nat_cmp}
 use Rattle.std.specs.BTreeMap.{BTreeMap, get}
-use Rattle.disk_files.specs.Disk.{Disk, File, Changes, new_file, with_bytes, flushed, with_file, SameDisk, reads}
+use Rattle.disk_files.specs.Disk.{Disk, File, Changes, new_file, with_bytes, flushed, unlinked, with_file, SameDisk, reads}
 use Rattle.disk_files.specs.declared.dir.FileNo.{FileNo}
+use Rattle.disk_files.specs.Faults.{Rises}
 use Rattle.file_pieces.specs.Adding.{Partly}
 use Rattle.journal_files.specs.Folders.{journal_name}
+use Rattle.journal_files.specs.declared.error.BeginError.{BeginError}
+use Rattle.journal_files.specs.declared.error.BeginError.TheVariants.{Fault}
 
 -- a new file of this name has these bytes, of which nothing is certainly on the disk
 pub record HasNew (name bytes : List ℕ) (before after : Disk) : Type 0 where
@@ -28,6 +31,15 @@ sealed bytes f = flushed (with_bytes bytes f)
 -- nothing changed yet, or some of these bytes were added, or all of them and they are synced with all before them
 abbrev pub IsSealing : List ℕ → List ℕ → Disk → Disk → Type 0
 IsSealing name bytes before after = SameDisk after before ⊎ (Partly name bytes before after ⊎ Changes name (sealed bytes) before after)
+
+-- the file of this name was removed, or the disk is as it was, and the device failed
+abbrev pub IsTakenAway : ℕ → ℕ → List ℕ → Disk → Disk → Type 0
+IsTakenAway first last name before after = Changes name unlinked before after ⊎ (SameDisk after before × Rises first last)
+
+-- the answer is the refusal, or `Fault` where the device failed
+pub record AnswersFor (first last : ℕ) (refused answer : BeginError) : Type 0 where
+  pub later : first ≤ last
+  pub so : ((answer ≡ refused) × (last ≡ first)) ⊎ ((answer ≡ Fault) × Rises first last)
 
 -- the name of no generation below this one
 abbrev pub IsAbove : List ℕ → ℕ → List ℕ → Type 0

@@ -9,7 +9,7 @@ use Rattle.file_pieces.specs.Adding.{Adds}
 use Rattle.file_pieces.specs.Pieces.{AreWithin, pieces_bytes, total_room}
 use Rattle.file_pieces.specs.declared.error.PieceError.{PieceError}
 use Rattle.file_pieces.specs.declared.piece.Piece.{Piece}
-use Rattle.journal_files.specs.Pieces.{HasNew, IsUnfinished}
+use Rattle.journal_files.specs.Pieces.{HasNew}
 
 -- the open file has another name than the new one, and these bytes
 pub record IsOther (opened : FileNo → Option (List ℕ)) (disk : Disk) (name : List ℕ) (file : FileNo) (seen : List ℕ) : Type 0 where
@@ -46,11 +46,6 @@ CanGive opened disk name (Some file) pieces bytes = Gives opened disk name file 
 pub record HasAnyNew (name : List ℕ) (before after : Disk) : Type 0 where
   pub bytes : List ℕ
   pub new : HasNew name bytes before after
-
--- some of it may be there
-pub record IsAnyUnfinished (name : List ℕ) (before after : Disk) : Type 0 where
-  pub bytes : List ℕ
-  pub some : IsUnfinished name bytes before after
 
 -- The pieces are added to a new file where there is a file that they are copied from, or a beginning of them after an error; and nothing where there is none.
 abbrev pub Fills : {A D T : Type 0} → (D → Type 0) → (D → History) → (D → FileNo → Option (List ℕ)) → (D → FileNo → ℕ) → (D → ℕ) → Option FileNo → FileNo → List (Piece A) → D → D → Result T PieceError → Type 0

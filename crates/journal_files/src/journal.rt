@@ -13,7 +13,8 @@ ghost use Rattle.chunk_journal.specs.Spelled.{record_of, HasShortTag};
 ghost use Rattle.journal_files.specs.JournalLogs.{JournalLog, begun, all_durable, new_generation, state_of, OpensWithin};
 ghost use Rattle.journal_files.specs.Views.{IsOpenIn, IsReady, HasShortTags};
 ghost use Rattle.journal_files.specs.Folders.{journal_name};
-ghost use Rattle.journal_files.specs.Disks.{Keeps, Recovers, HasNoStray};
+ghost use Rattle.journal_files.specs.Disks.{Keeps, Recovers, HasNoStray, HasNoGap};
+ghost use Rattle.journal_files.specs.Leftovers.{LeavesAtMost};
 ghost use Rattle.journal_files.specs.Faults.{HasReason};
 ghost use Rattle.journal_files.specs.declared.error.ReadError.{ReadError};
 ghost use Rattle.journal_files.specs.declared.error.RenewError.{RenewError};
@@ -203,7 +204,8 @@ impl<A: Allocator + Copy> Journal<A> {
     ///
     /// The chunks' entries are copied from the older file. `Short`: that has fewer bytes than were told.
     /// `LastGeneration` comes first, and it and `Memory` change nothing. After `Fault` every stop leaves a folder
-    /// that opens as before; the journal is not to be used again.
+    /// that opens as before; the journal is not to be used again. The new file is removed again where it isn't whole, but where the device
+    /// failed in making it or fails in removing it.
     pub fn renew<D: Dir>(&mut self, dir: &mut D, chunks: &Chunks<A>) -> Result<(), RenewError>
         requires open { IsOpenIn self.old (D.opened dir.old) }
         requires tags { HasShortTags chunks.now }
@@ -221,7 +223,10 @@ impl<A: Allocator + Copy> Journal<A> {
         ensures moments { D.is_honest dir.old → (t : JournalLog) → Keeps self.old (now (D.history dir.old)) t
             → settled (state_of t) ≡ reopened chunks.now
             → LeavesOnly (D.history dir.old) (D.history dir.new) (OpensWithin self.old.path t) }
-        ensures stray { D.is_honest dir.old → (t : JournalLog) → Keeps self.old (now (D.history dir.old)) t → HasNoStray self.old.path (now (D.history dir.new)) }
+        ensures gap { D.is_honest dir.old → (t : JournalLog) → Keeps self.old (now (D.history dir.old)) t → HasNoGap self.old.path (now (D.history dir.new)) }
+        ensures left { D.is_honest dir.old → (t : JournalLog) → Keeps self.old (now (D.history dir.old)) t
+            → settled (state_of t) ≡ reopened chunks.now
+            → OnErr result (LeavesAtMost self.old.path (self.old.number + 1) (D.fault_count dir.old) (D.fault_count dir.new) (now (D.history dir.old)) (now (D.history dir.new))) }
         ensures gone { D.is_honest dir.old → OnOk result (reads (now (D.history dir.new)) (journal_name self.old.path self.old.number) ≡ None) }
         ensures memory { D.is_honest dir.old → (t : JournalLog) → Keeps self.old (now (D.history dir.old)) t
             → (result ≡ Err RenewError.Memory) → Keeps self.new (now (D.history dir.new)) t }

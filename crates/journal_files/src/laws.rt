@@ -1,6 +1,6 @@
 //! What holds of journals on a disk. These functions do nothing: each stands for a theorem.
 
-ghost use Rattle.journal_files.specs.Laws.{RecoversAll, OpensOneWay, OpensUndamaged, KeepsNoStray, LeavesNoStray};
+ghost use Rattle.journal_files.specs.Laws.{RecoversAll, OpensOneWay, OpensUndamaged, KeepsNoStray, LeavesNoStray, StrayIsGap};
 
 use chunk_journal::{answers_one_way, cuts_generation, cuts_whole};
 use numbered_files::names_differ;
@@ -14,10 +14,12 @@ pub fn recovers_all()
     cuts_generation();
 }
 
-/// Neither a journal that is whole on its disk nor a stop leaves a removed generation above all that are there.
+/// Neither a journal that is whole on its disk nor a stop leaves a removed generation above all that are there; and where
+/// there is none, those that were removed leave no gap, which is what opening asks.
 pub fn has_no_stray()
     ensures kept { KeepsNoStray }
     ensures left { LeavesNoStray }
+    ensures gap { StrayIsGap }
 {}
 
 /// A folder opens to one state, and one that opens isn't damaged.

@@ -1,18 +1,19 @@
 //! Opening a journal: what the folder means, and a new generation that says so.
 
-ghost use Rattle.std.specs.Prelude.{◌≡◌, ◌≢◌, ◌⊎◌, ℕ, ◌+◌, ◌-◌, ◌^◌, ◌<◌, ◌≤◌, List, Some, None, false, Ok, IsSome, IsTrue, OnErr, IfOk, IfSome, Err};
+ghost use Rattle.std.specs.Prelude.{◌≡◌, ◌≢◌, ◌⊎◌, ◌↔◌, ℕ, ◌+◌, ◌-◌, ◌^◌, ◌<◌, ◌≤◌, List, Some, None, false, Ok, IsSome, IsTrue, OnErr, IfOk, IfSome, Err};
 ghost use Rattle.std.specs.Ordering.{nat_cmp};
 ghost use Rattle.std.specs.BTreeSet.{contains};
-ghost use Rattle.disk_files.specs.Disk.{SameDisk, reads};
+ghost use Rattle.disk_files.specs.Disk.{SameDisk, WasRemoved, reads};
 ghost use Rattle.disk_files.specs.Moments.{Elapses, LeavesOnly, now};
 ghost use Rattle.buffer_state.specs.Steps.{settled, reopened};
 ghost use Rattle.journal_files.specs.Folders.{journal_name, Opens, IsDamagedFolder, IsNext};
 ghost use Rattle.journal_files.specs.JournalLogs.{JournalLog, OpensWithin, new_generation, state_of};
 ghost use Rattle.journal_files.specs.Views.{IsOpenIn, HasShortTags};
-ghost use Rattle.journal_files.specs.Disks.{Keeps, Recovers, HasNoStray, HasNoneBelow};
+ghost use Rattle.journal_files.specs.Disks.{Keeps, Recovers, HasNoGap, HasNoneBelow};
 ghost use Rattle.journal_files.specs.Faults.{HasReason};
 ghost use Rattle.chunk_journal.specs.Meaning.{EndsUnsealed, IsDamaged};
-ghost use Rattle.journal_files.specs.Found.{FindsSource, IsFound, IsMeant, IsSo};
+ghost use Rattle.journal_files.specs.Found.{FindsSource, IsFound, IsLastTaken, IsMeant, IsSo};
+ghost use Rattle.journal_files.specs.Leftovers.{ReadsAs, LeavesNext};
 ghost use Rattle.journal_files.specs.declared.error.OpenError.{OpenError};
 
 use crate::error::OpenError;
@@ -24,7 +25,7 @@ use buffer_state::Chunks;
 use chunk_journal::{Outlined, Places, answers_one_way};
 use disk_files::{Dir, FileNo};
 use numbered_files::numbers;
-use std::alloc::Allocator;
+use std::alloc::{AllocError, Allocator};
 use std::collections::BTreeSet;
 
 /// An opened journal, and what it means.
@@ -38,23 +39,25 @@ pub struct Opened<A: Allocator> {
 
 impl<A: Allocator + Copy> Journal<A> {
     /// Opens the journal whose files' names begin with this path: takes the greatest generation that has a whole Seal, passing over
-    /// those without one, writes what it means as the generation above the greatest file there is, syncs it, and removes the older ones.
+    /// those without one, writes what it means as the generation above the greatest there is, and above those that were removed since the
+    /// folder was started, syncs it, and removes the older ones.
     ///
     /// `LastGeneration`: the greatest file there is is number 4,294,967,295; then none is read.
     /// `Damaged`: the greatest generation that isn't passed over has a whole record that can't stand there, or what is none.
     /// These two and `Memory` change nothing.
-    /// After `Fault` the new file may be there, whole or not, and older ones removed once it is synced; the folder opens to what it opened to.
+    /// After `Fault` the folder opens to what it opened to. It reads as before, since the new file is removed again, but where the device
+    /// failed in making it or in removing it; or the new file is whole, and the device failed as older ones were removed.
     pub fn open<D: Dir>(alloc: A, dir: &mut D, path: &[u8]) -> Result<Opened<A>, OpenError>
         ensures honest { D.is_honest dir.old → D.is_honest dir.new }
         ensures state { D.is_honest dir.old
             → IfOk result (λ opened. Opens path.now (reads (now (D.history dir.old))) opened.chunks) }
-        ensures keeps { D.is_honest dir.old → HasNoStray path.now (now (D.history dir.old))
+        ensures keeps { D.is_honest dir.old → HasNoGap path.now (now (D.history dir.old))
             → IfOk result (λ opened. Keeps opened.journal (now (D.history dir.new)) (new_generation opened.chunks)) }
         // No chunk is claimed, and the queue goes by rising serial.
         ensures unclaimed { IfOk result (λ opened. reopened opened.chunks ≡ opened.chunks) }
         ensures starts { IfOk result (λ opened. settled (state_of (new_generation opened.chunks)) ≡ reopened opened.chunks) }
         ensures tags { IfOk result (λ opened. HasShortTags opened.chunks) }
-        ensures next { D.is_honest dir.old → IfOk result (λ opened. IsNext path.now (reads (now (D.history dir.old))) opened.journal.number) }
+        ensures next { D.is_honest dir.old → IfOk result (λ opened. IsNext path.now (now (D.history dir.old)) opened.journal.number) }
         ensures path { IfOk result (λ opened. opened.journal.path ≡ path.now) }
         ensures open { IfOk result (λ opened. IsOpenIn opened.journal (D.opened dir.new)) }
         ensures damaged { D.is_honest dir.old → (result ≡ Err OpenError.Damaged)
@@ -69,11 +72,14 @@ impl<A: Allocator + Copy> Journal<A> {
             → now (D.history dir.new) name ≡ now (D.history dir.old) name }
         ensures unchanged { D.is_honest dir.old → result ≢ Err OpenError.Fault
             → OnErr result (SameDisk (now (D.history dir.new)) (now (D.history dir.old))) }
+        ensures left { D.is_honest dir.old → HasNoGap path.now (now (D.history dir.old))
+            → OnErr result (ReadsAs (now (D.history dir.old)) (now (D.history dir.new))
+            ⊎ LeavesNext path.now (D.fault_count dir.old) (D.fault_count dir.new) (now (D.history dir.old)) (now (D.history dir.new))) }
         // A stop at any moment of the call, whatever it answers, leaves a folder that opens to what one before the call could open to.
-        ensures moments { D.is_honest dir.old → HasNoStray path.now (now (D.history dir.old))
+        ensures moments { D.is_honest dir.old → HasNoGap path.now (now (D.history dir.old))
             → (t : JournalLog) → Recovers path.now (now (D.history dir.old)) t
             → LeavesOnly (D.history dir.old) (D.history dir.new) (OpensWithin path.now t) }
-        ensures stray { D.is_honest dir.old → HasNoStray path.now (now (D.history dir.old)) → HasNoStray path.now (now (D.history dir.new)) }
+        ensures gap { D.is_honest dir.old → HasNoGap path.now (now (D.history dir.old)) → HasNoGap path.now (now (D.history dir.new)) }
         ensures alone { D.is_honest dir.old → IfOk result (λ opened. HasNoneBelow path.now (now (D.history dir.new)) opened.journal.number) }
         ensures cause { HasReason (D.fault_count dir.old) (D.fault_count dir.new) result OpenError.Fault }
     {
@@ -99,8 +105,8 @@ impl<A: Allocator + Copy> Journal<A> {
     }
 }
 
-// What a folder means, where the entries lie in the open file that says so, if there is one, and the greatest number of its generations,
-// 0 where there is none. No file is read where that is the last.
+// What a folder means, where the entries lie in the open file that says so, if there is one, and the greatest number that is taken: that of
+// a generation that is there or was removed, 0 where there is none. No file is read where the last is there.
 #[derive(Drop)]
 pub struct Found<A: Allocator> {
     chunks: Chunks<A>,
@@ -117,6 +123,39 @@ struct Meant<A: Allocator> {
 }
 
 fn find<A: Allocator + Copy, D: Dir>(
+    alloc: A,
+    dir: &mut D,
+    path: &[u8],
+) -> Result<Found<A>, OpenError>
+    ensures honest { D.is_honest dir.old → D.is_honest dir.new }
+    ensures time { D.is_honest dir.old → Elapses (D.history dir.old) (D.history dir.new) }
+    ensures same { D.is_honest dir.old → SameDisk (now (D.history dir.new)) (now (D.history dir.old)) }
+    ensures state { D.is_honest dir.old
+        → IfOk result (λ found. Opens path.now (reads (now (D.history dir.old))) found.chunks) }
+    ensures greatest { D.is_honest dir.old
+        → IfOk result (λ found. IsLastTaken path.now (now (D.history dir.old)) found.greatest) }
+    ensures source { D.is_honest dir.old
+        → IfOk result (λ found. FindsSource (D.opened dir.new) (now (D.history dir.old)) path.now found.greatest found.file found.places found.chunks) }
+    ensures open { IfOk result (λ found. IfSome found.file (λ file. IsSome (D.opened dir.new file))) }
+    ensures tags { IfOk result (λ found. HasShortTags found.chunks) }
+    ensures unclaimed { IfOk result (λ found. reopened found.chunks ≡ found.chunks) }
+    ensures damaged { D.is_honest dir.old → (result ≡ Err OpenError.Damaged)
+        → IsDamagedFolder path.now (reads (now (D.history dir.old))) }
+    ensures last { D.is_honest dir.old → (result ≡ Err OpenError.LastGeneration)
+        → IsSome (reads (now (D.history dir.old)) (journal_name path.now (2 ^ 32 - 1))) }
+    ensures unread { D.is_honest dir.old → IsSome (reads (now (D.history dir.old)) (journal_name path.now (2 ^ 32 - 1)))
+        → result ≢ Err OpenError.Damaged }
+    ensures below { IfOk result (λ found. found.greatest < 2 ^ 32 - 1) }
+    ensures cause { HasReason (D.fault_count dir.old) (D.fault_count dir.new) result OpenError.Fault }
+{
+    let mut found = search_folder(alloc, dir, path)?;
+    let taken = last_taken(alloc, dir, path, found.greatest)?;
+    found.greatest = taken;
+    Ok(found)
+}
+
+// The same, with the greatest number of a generation that is there.
+fn search_folder<A: Allocator + Copy, D: Dir>(
     alloc: A,
     dir: &mut D,
     path: &[u8],
@@ -190,6 +229,44 @@ fn greatest_of<A: Allocator>(numbers: &BTreeSet<u32, A>) -> u32
         Some(number) => *number,
         None => 0,
     }
+}
+
+// The last number that is taken, where this is the greatest that is there: numbers of removed generations may follow it.
+// The error is want of memory, or of a number.
+fn last_taken<A: Allocator + Copy, D: Dir>(
+    alloc: A,
+    dir: &D,
+    path: &[u8],
+    there: u32,
+) -> Result<u32, AllocError>
+    requires { there < 2 ^ 32 - 1 }
+    ensures from { IfOk result (λ taken. there ≤ taken) }
+    ensures below { IfOk result (λ taken. taken < 2 ^ 32 - 1) }
+    ensures removed { D.is_honest dir.now
+        → IfOk result (λ taken. (taken ≡ there) ⊎ WasRemoved (now (D.history dir.now)) (journal_name path.now taken)) }
+    ensures free { D.is_honest dir.now → IfOk result (λ taken. WasRemoved (now (D.history dir.now)) (journal_name path.now (taken + 1)) → ⊥) }
+{
+    let mut taken = there;
+    while taken < u32::MAX - 1 {
+        if !was_removed(alloc, dir, path, taken + 1)? {
+            return Ok(taken);
+        }
+        taken += 1;
+    }
+    Err(AllocError)
+}
+
+// Whether the generation of this number was removed. The error is want of memory.
+fn was_removed<A: Allocator, D: Dir>(
+    alloc: A,
+    dir: &D,
+    path: &[u8],
+    number: u32,
+) -> Result<bool, AllocError>
+    ensures { D.is_honest dir.now → IfOk result (λ was. IsTrue was ↔ WasRemoved (now (D.history dir.now)) (journal_name path.now number)) }
+{
+    let name = generations(path).name(alloc, number)?;
+    Ok(dir.was_removed(&name))
 }
 
 // What the generation of this number means: none where it ends before a Seal.

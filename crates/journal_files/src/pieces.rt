@@ -2,7 +2,7 @@
 
 ghost use Rattle.std.specs.Prelude.{◌≡◌, ◌≢◌, ℕ, ◌+◌, ◌-◌, ◌*◌, ◌^◌, ◌<◌, ◌≤◌, List, [], ◌++◌, length, take, Some, None, IsSome, IfSome, OnOk, OnErr, IfOk, Err, IsErrOf};
 ghost use Rattle.disk_files.specs.Disk.{SameDisk, Changes, reads};
-ghost use Rattle.disk_files.specs.Moments.{LeavesOnly, now};
+ghost use Rattle.disk_files.specs.Moments.{Elapses, LeavesOnly, now};
 ghost use Rattle.disk_files.specs.Faults.{HasCause};
 ghost use Rattle.disk_files.specs.declared.dir.FileNo.{FileNo};
 ghost use Rattle.buffer_state.specs.Steps.{settled, reopened};
@@ -10,13 +10,14 @@ ghost use Rattle.numbered_files.specs.Names.{file_name};
 ghost use Rattle.journal_files.specs.Folders.{journal_name};
 ghost use Rattle.journal_files.specs.JournalLogs.{JournalLog, IsOfSome, OpensWithin, new_generation, state_of};
 ghost use Rattle.journal_files.specs.Views.{IsOpenIn, HasShortTags};
-ghost use Rattle.journal_files.specs.Disks.{Keeps, Recovers, HasNoneFrom, HasNoStray};
+ghost use Rattle.journal_files.specs.Disks.{Keeps, Recovers, HasNoneFrom, HasAllBelow, HasNoGap};
+ghost use Rattle.journal_files.specs.Leftovers.{IsGivenUp};
 ghost use Rattle.file_pieces.specs.Adding.{IsLeftOf, Partly};
 ghost use Rattle.file_pieces.specs.Pieces.{total_room};
-ghost use Rattle.journal_files.specs.Sources.{CanGive, Fills, HasAnyNew, HasSource, IsAnyUnfinished};
+ghost use Rattle.journal_files.specs.Sources.{CanGive, Fills, HasAnyNew, HasSource};
 ghost use Rattle.journal_files.specs.Faults.{HasReason};
 ghost use Rattle.journal_files.specs.declared.error.BeginError.{BeginError};
-ghost use Rattle.journal_files.specs.Pieces.{HasNew, IsUnfinished, IsSealing, sealed};
+ghost use Rattle.journal_files.specs.Pieces.{AnswersFor, HasNew, IsTakenAway, IsUnfinished, IsSealing, sealed};
 
 use crate::error::BeginError;
 use crate::journal::Journal;
@@ -42,7 +43,8 @@ pub(crate) fn generations(path: &[u8]) -> Family<'_>
 /// Writes a generation that begins with these chunks, and syncs it. Their entries are copied from the file that there is, where they lie
 /// at these places. All memory is asked for before the folder is changed.
 ///
-/// After an error what there is of the new file may be there; after `Memory` nothing changed. `Short`: the file has fewer bytes than that.
+/// After an error the new file is removed again: it stays where the device failed in making it, or fails in removing it too. After `Memory`
+/// nothing changed. `Short`: the file has fewer bytes than that.
 pub(crate) fn begin<A: Allocator + Copy, D: Dir>(
     alloc: A,
     dir: &mut D,
@@ -64,8 +66,11 @@ pub(crate) fn begin<A: Allocator + Copy, D: Dir>(
         → HasNoneFrom path.now (now (D.history dir.old)) number → IsOfSome t (reopened chunks.now)
         → HasSource (D.opened dir.old) (now (D.history dir.old)) (journal_name path.now number) from places.now chunks.now
         → LeavesOnly (D.history dir.old) (D.history dir.new) (OpensWithin path.now t) }
-    ensures stray { D.is_honest dir.old → HasNoneFrom path.now (now (D.history dir.old)) number
-        → HasNoStray path.now (now (D.history dir.old)) → HasNoStray path.now (now (D.history dir.new)) }
+    ensures gap { D.is_honest dir.old → HasNoneFrom path.now (now (D.history dir.old)) number
+        → HasAllBelow path.now (now (D.history dir.old)) number → HasNoGap path.now (now (D.history dir.new)) }
+    ensures left { D.is_honest dir.old
+        → HasSource (D.opened dir.old) (now (D.history dir.old)) (journal_name path.now number) from places.now chunks.now
+        → OnErr result (IsGivenUp (D.fault_count dir.old) (D.fault_count dir.new) (journal_name path.now number) (now (D.history dir.old)) (now (D.history dir.new))) }
     ensures whole { D.is_honest dir.old
         → HasSource (D.opened dir.old) (now (D.history dir.old)) (journal_name path.now number) from places.now chunks.now
         → IsErrOf result BeginError.Short → ⊥ }
@@ -78,8 +83,10 @@ pub(crate) fn begin<A: Allocator + Copy, D: Dir>(
     ensures path { IfOk result (λ journal. journal.path ≡ path.now) }
     ensures number { IfOk result (λ journal. journal.number ≡ number) }
     ensures open { IfOk result (λ journal. IsOpenIn journal (D.opened dir.new)) }
-    ensures others { (other : FileNo) → IsSome (D.opened dir.old other)
-        → D.opened dir.new other ≡ D.opened dir.old other }
+    ensures others { OnOk result ((other : FileNo) → IsSome (D.opened dir.old other)
+        → D.opened dir.new other ≡ D.opened dir.old other) }
+    ensures kept { (other : FileNo) (name : List ℕ) → D.opened dir.old other ≡ Some name → name ≢ journal_name path.now number
+        → D.opened dir.new other ≡ Some name }
     ensures cause { HasReason (D.fault_count dir.old) (D.fault_count dir.new) result BeginError.Fault }
 {
     let told = tell_chunks(alloc, chunks, places)?;
@@ -88,16 +95,34 @@ pub(crate) fn begin<A: Allocator + Copy, D: Dir>(
     let mut buffer = vec![in alloc; 0u8; copied_at_once(told.len)]?;
     let len = whole_len(&told)?;
     let file = make(dir, &name, from, &told.pieces, told.seal.len(), &mut buffer)?;
-    seal_with(dir, file, &told.seal)?;
-    Ok(Journal {
-        path: kept,
-        number,
-        file,
-        len,
-        ready: Vec::new(alloc),
-        places: told.places,
-        placing: Placing::Stays,
-    })
+    match seal_with(dir, file, &told.seal) {
+        Ok(()) => Ok(Journal {
+            path: kept,
+            number,
+            file,
+            len,
+            ready: Vec::new(alloc),
+            places: told.places,
+            placing: Placing::Stays,
+        }),
+        Err(refused) => Err(give_up(dir, file, BeginError::from(refused))),
+    }
+}
+
+// Removes a file that isn't whole. What is answered is the refusal, or `Fault` where the device fails here.
+fn give_up<D: Dir>(dir: &mut D, file: FileNo, refused: BeginError) -> BeginError
+    requires open { IsSome (D.opened dir.old file) }
+    ensures honest { D.is_honest dir.old → D.is_honest dir.new }
+    ensures time { D.is_honest dir.old → Elapses (D.history dir.old) (D.history dir.new) }
+    ensures gone { D.is_honest dir.old → (name : List ℕ) → D.opened dir.old file ≡ Some name
+        → IsTakenAway (D.fault_count dir.old) (D.fault_count dir.new) name (now (D.history dir.old)) (now (D.history dir.new)) }
+    ensures answer { AnswersFor (D.fault_count dir.old) (D.fault_count dir.new) refused result }
+    ensures others { (other : FileNo) → other ≢ file → D.opened dir.new other ≡ D.opened dir.old other }
+{
+    match dir.remove(file) {
+        Ok(()) => refused,
+        Err(_) => BeginError::Fault,
+    }
 }
 
 /// How many bytes are read at once, at most.
@@ -122,6 +147,7 @@ fn whole_len<A: Allocator>(told: &Told<'_, A>) -> Result<u64, AllocError>
 }
 
 // Makes a file of these pieces, and with room for so many bytes more. A stop leaves some beginning of them, or no file.
+// After an error the file is given up.
 fn make<A: Allocator, D: Dir>(
     dir: &mut D,
     name: &[u8],
@@ -135,26 +161,31 @@ fn make<A: Allocator, D: Dir>(
     ensures honest { D.is_honest dir.old → D.is_honest dir.new }
     ensures ok { D.is_honest dir.old → (bytes : List ℕ) → CanGive (D.opened dir.old) (now (D.history dir.old)) name.now from pieces.now bytes
         → OnOk result (HasNew name.now bytes (now (D.history dir.old)) (now (D.history dir.new))) }
-    ensures err { D.is_honest dir.old → (bytes : List ℕ) → CanGive (D.opened dir.old) (now (D.history dir.old)) name.now from pieces.now bytes
-        → OnErr result (IsUnfinished name.now bytes (now (D.history dir.old)) (now (D.history dir.new))) }
+    ensures left { D.is_honest dir.old → (bytes : List ℕ) → CanGive (D.opened dir.old) (now (D.history dir.old)) name.now from pieces.now bytes
+        → OnErr result (IsGivenUp (D.fault_count dir.old) (D.fault_count dir.new) name.now (now (D.history dir.old)) (now (D.history dir.new))) }
     ensures moments { D.is_honest dir.old → (bytes : List ℕ) → CanGive (D.opened dir.old) (now (D.history dir.old)) name.now from pieces.now bytes
         → LeavesOnly (D.history dir.old) (D.history dir.new) (IsLeftOf (IsUnfinished name.now bytes (now (D.history dir.old)))) }
     ensures whole { D.is_honest dir.old → (bytes : List ℕ) → CanGive (D.opened dir.old) (now (D.history dir.old)) name.now from pieces.now bytes
         → IsErrOf result BeginError.Short → ⊥ }
     ensures any { D.is_honest dir.old → OnOk result (HasAnyNew name.now (now (D.history dir.old)) (now (D.history dir.new))) }
-    ensures some { D.is_honest dir.old → OnErr result (IsAnyUnfinished name.now (now (D.history dir.old)) (now (D.history dir.new))) }
+    ensures elsewhere { D.is_honest dir.old → (other : List ℕ) → other ≢ name.now
+        → now (D.history dir.new) other ≡ now (D.history dir.old) other }
     ensures memory { D.is_honest dir.old → IsErrOf result BeginError.Memory
         → SameDisk (now (D.history dir.new)) (now (D.history dir.old)) }
     ensures opened { IfOk result (λ file. D.opened dir.new file ≡ Some name.now) }
-    ensures others { (other : FileNo) → IsSome (D.opened dir.old other)
-        → D.opened dir.new other ≡ D.opened dir.old other }
+    ensures others { OnOk result ((other : FileNo) → IsSome (D.opened dir.old other)
+        → D.opened dir.new other ≡ D.opened dir.old other) }
+    ensures kept { (other : FileNo) (own : List ℕ) → D.opened dir.old other ≡ Some own → own ≢ name.now
+        → D.opened dir.new other ≡ Some own }
     ensures room { IfOk result (λ file. more ≤ D.bytes_left dir.new file) }
     ensures cause { HasReason (D.fault_count dir.old) (D.fault_count dir.new) result BeginError.Fault }
 {
     let room = room_with(pieces, more)?;
     let file = dir.create(name, room)?;
-    fill(dir, from, file, pieces, buffer)?;
-    Ok(file)
+    match fill(dir, from, file, pieces, buffer) {
+        Ok(()) => Ok(file),
+        Err(refused) => Err(give_up(dir, file, BeginError::from(refused))),
+    }
 }
 
 // How much room the pieces need, and so many bytes more.

@@ -29,7 +29,7 @@ pub use fitting::fits_any;
 pub use label::{Duty, Label, Reach, RelayLine};
 pub use laws::{each_plan_has_one_answer, labelled_leaves_keep, labelled_tags_are_safe};
 pub use outputs::{reached_matches_keep, relabels_are_labelled};
-pub use paths::paths_are_distinct;
+pub use paths::{buffer_path, paths_are_distinct, sink_path};
 pub use plan::{clients_are_labelled, labels_are_matched, reaches_cover};
 pub use servers::{forwards_are_labelled, servers_are_sources};
 pub use site::line_of;

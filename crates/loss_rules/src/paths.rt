@@ -123,8 +123,8 @@ fn are_same_path(one: Option<&[u8]>, two: Option<&[u8]>) -> bool
     }
 }
 
-// The path of the output's buffer, if it has one that is a file.
-fn buffer_path<A: Allocator>(output: &Output<A>) -> Option<&[u8]>
+/// The path of the output's buffer, if it has one that is a file.
+pub fn buffer_path<A: Allocator>(output: &Output<A>) -> Option<&[u8]>
     ensures { option_copied result ≡ path_of_buffer output.now }
 {
     match &settings(output)?.kind {
@@ -133,8 +133,8 @@ fn buffer_path<A: Allocator>(output: &Output<A>) -> Option<&[u8]>
     }
 }
 
-// The path of the output's sink, if it has one.
-fn sink_path<A: Allocator>(output: &Output<A>) -> Option<&[u8]>
+/// The path of the output's sink, if it has one.
+pub fn sink_path<A: Allocator>(output: &Output<A>) -> Option<&[u8]>
     ensures { option_copied result ≡ path_of_sink output.now }
 {
     match output {

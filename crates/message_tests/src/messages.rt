@@ -116,10 +116,23 @@ fn is_case(message: &Message<Global>, case: &Case) -> bool {
         && ack == case.ack
 }
 
-// Whether these bytes are that message and nothing more.
+// Whether each beginning of these bytes wants more.
+fn wants_more(alloc: Global, bytes: &[u8]) -> Result<bool, AllocError> {
+    for n in 0..bytes.len() {
+        let (beginning, _) = bytes.split_at(n);
+        if answered(alloc, beginning)? != Answer::Need {
+            return Ok(false);
+        }
+    }
+    Ok(true)
+}
+
+// Whether these bytes are that message and nothing more, and no fewer of them are one or bad.
 fn comes_to(alloc: Global, case: &Case) -> Result<bool, AllocError> {
     Ok(match read(alloc, case.bytes)? {
-        Read::Message(message, n) => n == case.bytes.len() && is_case(&message, case),
+        Read::Message(message, n) => {
+            n == case.bytes.len() && is_case(&message, case) && wants_more(alloc, case.bytes)?
+        }
         _ => false,
     })
 }

@@ -1,17 +1,22 @@
-use Rattle.std.proofs.Common.{◌≡◌, ℕ, ◌+◌, List, Err, length, arith, refl, ap, subst, sym, ◌++◌, ◌∙◌}
+use Rattle.std.proofs.Common.{◌≡◌, ℕ, ◌+◌, List, Err, length, arith, refl, ap, subst, sym, ◌∙◌, inl}
 use Rattle.std.specs.List.{flat_map}
 use Rattle.disk_files.specs.Moments.{now}
 use Rattle.disk_files.proofs.Moments.{started}
 use Rattle.chunk_journal.specs.Journal.{journal_bytes}
 use Rattle.chunk_journal.specs.Meaning.{chunk_records}
 use Rattle.journal_files.specs.Faults.{begin_error}
-use Rattle.journal_files.specs.Pieces.{IsUnfinished}
+use Rattle.disk_files.specs.Faults.{Rises}
+use Rattle.journal_files.specs.JournalLogs.{OpensWithin}
+use Rattle.journal_files.specs.Leftovers.{IsGivenUp}
 use Rattle.journal_files.specs.declared.error.BeginError.TheVariants as beginning
-use Rattle.journal_files.proofs.Beginning.{can_open, making, sealing, ends, some_second, others_first, others_whole}
-use Rattle.journal_files.proofs.Begun.{gives, new_reads, new_no_stray}
+use Rattle.journal_files.proofs.Beginning.{can_open, making, sealing, ends, new_more, others_whole}
+use Rattle.journal_files.proofs.Begun.{gives, new_reads}
 use Rattle.journal_files.proofs.Filled.{reason_dir}
 use Rattle.journal_files.proofs.Heard.{answered, reason_err}
-use Rattle.journal_files.proofs.Strays.{begun_no_stray}
+use Rattle.journal_files.proofs.GivenUp.{given_up, new_young, new_given_up, others_stay, new_elsewhere, other_file, reason_given, given_as, rises_so, fault_so}
+use Rattle.journal_files.proofs.Renewing.{is_some_name}
+use Rattle.journal_files.proofs.Steps.{any_err}
+use Rattle.journal_files.proofs.Strays.{begun_no_gap}
 use Rattle.journal_files.proofs.pieces.begin.Goals as goal
 
 pub returns-in_err-told-clause-moments : goal.returns-in_err-told-clause-moments
@@ -38,12 +43,6 @@ returns-in_err-file-clause-moments g c = λ honest t before none m source.
     let give = gives (g.D.Dir.opened c.args.dir.now) (now (g.D.Dir.history c.args.dir.now)) c.args.path.now c.args.number c.deref.result.now c.args.places.now s c.deref-2.result.now c.in_ok-told.told.pieces.items c.args.from name c.deref-2.ensures.value c.in_ok-told.ensures.bytes c.in_ok-told.ensures.within source in
     making c.args.path.now c.args.number s can c.deref.result.now bytes c.requires.first c.ranges.number.fits name refl t m (g.D.Dir.history c.args.dir.now) (g.D.Dir.history c.make.new.dir) none before (c.make.ensures.moments honest bytes give)
 
-pub returns-in_err-file-clause-stray : goal.returns-in_err-file-clause-stray
-returns-in_err-file-clause-stray g c = λ honest none stray.
-    let name = c.deref.ensures.value ∙ c.in_ok-name.ensures ∙ c.generations.ensures c.args.number in
-    let any = c.in_err-file.ensures.some honest in
-    begun_no_stray c.args.path.now c.args.number any.bytes (now (g.D.Dir.history c.args.dir.now)) (now (g.D.Dir.history c.make.new.dir)) c.ranges.number.fits none stray (subst (λ (z : List ℕ). IsUnfinished z any.bytes (now (g.D.Dir.history c.args.dir.now)) (now (g.D.Dir.history c.make.new.dir))) name any.some)
-
 pub returns-in_err-file-clause-whole : goal.returns-in_err-file-clause-whole
 returns-in_err-file-clause-whole g c = λ honest source short.
     let s = c.args.chunks.now in
@@ -58,19 +57,85 @@ returns-in_err-file-clause-memory g c = λ honest memory.
     let answer = answered c.in_err-file.field-0.0 c.from_residual-in_err-file.result c.from_residual-in_err-file.ensures.1 in
     c.in_err-file.ensures.memory honest (let z = sym answer ∙ memory in ap Err (cc z))
 
-pub returns-in_err-file-clause-elsewhere : goal.returns-in_err-file-clause-elsewhere
-returns-in_err-file-clause-elsewhere g c = λ honest other differ.
-    let name = c.deref.ensures.value ∙ c.in_ok-name.ensures ∙ c.generations.ensures c.args.number in
-    let any = c.in_err-file.ensures.some honest in
-    others_first c.deref.result.now any.bytes other (now (g.D.Dir.history c.args.dir.now)) (now (g.D.Dir.history c.make.new.dir)) (λ e. differ (e ∙ name)) any.some
-
 pub returns-in_err-file-clause-cause : goal.returns-in_err-file-clause-cause
 returns-in_err-file-clause-cause g c =
     reason_err (g.D.Dir.fault_count c.args.dir.now) (g.D.Dir.fault_count c.args.dir.now) (g.D.Dir.fault_count c.make.new.dir) c.in_err-file.field-0.0 beginning.Fault c.from_residual-in_err-file.result refl c.in_err-file.ensures.cause
     (answered c.in_err-file.field-0.0 c.from_residual-in_err-file.result c.from_residual-in_err-file.ensures.1)
 
-pub returns-in_err-seal_with-clause-moments : goal.returns-in_err-seal_with-clause-moments
-returns-in_err-seal_with-clause-moments g c = λ honest t before none m source.
+pub returns-in_err-told-clause-gap : goal.returns-in_err-told-clause-gap
+returns-in_err-told-clause-gap g c = λ honest none all. begun_no_gap c.args.path.now c.args.number _ _ c.ranges.number.fits none all (λ other differ. refl)
+
+pub returns-in_err-told-clause-left : goal.returns-in_err-told-clause-left
+returns-in_err-told-clause-left g c = λ honest source. any_err _ (inl (λ q. refl))
+
+pub returns-in_err-kept-clause-gap : goal.returns-in_err-kept-clause-gap
+returns-in_err-kept-clause-gap g c = λ honest none all. begun_no_gap c.args.path.now c.args.number _ _ c.ranges.number.fits none all (λ other differ. refl)
+
+pub returns-in_err-kept-clause-left : goal.returns-in_err-kept-clause-left
+returns-in_err-kept-clause-left g c = λ honest source. any_err _ (inl (λ q. refl))
+
+pub returns-in_err-name-clause-gap : goal.returns-in_err-name-clause-gap
+returns-in_err-name-clause-gap g c = λ honest none all. begun_no_gap c.args.path.now c.args.number _ _ c.ranges.number.fits none all (λ other differ. refl)
+
+pub returns-in_err-name-clause-left : goal.returns-in_err-name-clause-left
+returns-in_err-name-clause-left g c = λ honest source. any_err _ (inl (λ q. refl))
+
+pub returns-in_err-buffer-clause-gap : goal.returns-in_err-buffer-clause-gap
+returns-in_err-buffer-clause-gap g c = λ honest none all. begun_no_gap c.args.path.now c.args.number _ _ c.ranges.number.fits none all (λ other differ. refl)
+
+pub returns-in_err-buffer-clause-left : goal.returns-in_err-buffer-clause-left
+returns-in_err-buffer-clause-left g c = λ honest source. any_err _ (inl (λ q. refl))
+
+pub returns-in_err-len-clause-gap : goal.returns-in_err-len-clause-gap
+returns-in_err-len-clause-gap g c = λ honest none all. begun_no_gap c.args.path.now c.args.number _ _ c.ranges.number.fits none all (λ other differ. refl)
+
+pub returns-in_err-len-clause-left : goal.returns-in_err-len-clause-left
+returns-in_err-len-clause-left g c = λ honest source. any_err _ (inl (λ q. refl))
+
+pub returns-in_err-file-clause-elsewhere : goal.returns-in_err-file-clause-elsewhere
+returns-in_err-file-clause-elsewhere g c = λ honest other differ.
+    let name = c.deref.ensures.value ∙ c.in_ok-name.ensures ∙ c.generations.ensures c.args.number in
+    c.in_err-file.ensures.elsewhere honest other (λ e. differ (e ∙ name))
+
+pub returns-in_err-file-clause-gap : goal.returns-in_err-file-clause-gap
+returns-in_err-file-clause-gap g c = λ honest none all.
+    let name = c.deref.ensures.value ∙ c.in_ok-name.ensures ∙ c.generations.ensures c.args.number in
+    begun_no_gap c.args.path.now c.args.number (now (g.D.Dir.history c.args.dir.now)) (now (g.D.Dir.history c.make.new.dir)) c.ranges.number.fits none all (λ other differ. c.in_err-file.ensures.elsewhere honest other (λ e. differ (e ∙ name)))
+
+pub returns-in_err-file-clause-left : goal.returns-in_err-file-clause-left
+returns-in_err-file-clause-left g c = λ honest source.
+    let s = c.args.chunks.now in
+    let bytes = journal_bytes (flat_map chunk_records s.chunks) in
+    let name = c.deref.ensures.value ∙ c.in_ok-name.ensures ∙ c.generations.ensures c.args.number in
+    let give = gives (g.D.Dir.opened c.args.dir.now) (now (g.D.Dir.history c.args.dir.now)) c.args.path.now c.args.number c.deref.result.now c.args.places.now s c.deref-2.result.now c.in_ok-told.told.pieces.items c.args.from name c.deref-2.ensures.value c.in_ok-told.ensures.bytes c.in_ok-told.ensures.within source in
+    any_err _ (subst (λ (n : List ℕ). IsGivenUp (g.D.Dir.fault_count c.args.dir.now) (g.D.Dir.fault_count c.make.new.dir) n (now (g.D.Dir.history c.args.dir.now)) (now (g.D.Dir.history c.make.new.dir))) name (c.in_err-file.ensures.left honest bytes give))
+
+pub returns-in_err-file-clause-kept : goal.returns-in_err-file-clause-kept
+returns-in_err-file-clause-kept g c = λ other own is differ.
+    let name = c.deref.ensures.value ∙ c.in_ok-name.ensures ∙ c.generations.ensures c.args.number in
+    c.in_err-file.ensures.kept other own is (λ e. differ (e ∙ name))
+
+pub give_up-requires : goal.give_up-requires
+give_up-requires g c = record { «open» = is_some_name _ _ (c.in-Err.ensures.opened c.in_ok-file.file ∙ c.in_ok-file.ensures.opened) }
+
+pub returns-in-Err-clause-honest : goal.returns-in-Err-clause-honest
+returns-in-Err-clause-honest g c = λ honest. c.give_up.ensures.honest (c.in-Err.ensures.honest (c.in_ok-file.ensures.honest honest))
+
+pub returns-in-Err-clause-left : goal.returns-in-Err-clause-left
+returns-in-Err-clause-left g c = λ honest source.
+    let name = c.deref.ensures.value ∙ c.in_ok-name.ensures ∙ c.generations.ensures c.args.number in
+    let after = c.in_ok-file.ensures.honest honest in
+    let sealed = c.in-Err.ensures.honest after in
+    let named = c.in-Err.ensures.opened c.in_ok-file.file ∙ c.in_ok-file.ensures.opened in
+    let any = c.in_ok-file.ensures.any honest in
+    let some = c.in-Err.ensures.err after c.deref.result.now c.in_ok-file.ensures.opened in
+    let has = new_more c.deref.result.now any.bytes c.deref-3.result.now (now (g.D.Dir.history c.args.dir.now)) (now (g.D.Dir.history c.make.new.dir)) (now (g.D.Dir.history c.seal_with.new.dir)) any.new some in
+    let rises = subst (λ (n : ℕ). Rises n (g.D.Dir.fault_count c.seal_with.new.dir)) c.in_ok-file.ensures.cause.passed (rises_so (g.D.Dir.fault_count c.make.new.dir) (g.D.Dir.fault_count c.seal_with.new.dir) c.in-Err.refused (cc c.in-Err.ensures.only) c.in-Err.ensures.cause) in
+    subst (λ (n : List ℕ). IsGivenUp (g.D.Dir.fault_count c.args.dir.now) (g.D.Dir.fault_count c.give_up.new.dir) n (now (g.D.Dir.history c.args.dir.now)) (now (g.D.Dir.history c.give_up.new.dir))) name
+    (new_given_up (g.D.Dir.fault_count c.args.dir.now) (g.D.Dir.fault_count c.seal_with.new.dir) (g.D.Dir.fault_count c.give_up.new.dir) c.deref.result.now _ (now (g.D.Dir.history c.args.dir.now)) (now (g.D.Dir.history c.seal_with.new.dir)) (now (g.D.Dir.history c.give_up.new.dir)) has rises c.give_up.ensures.answer.later (c.give_up.ensures.gone sealed c.deref.result.now named))
+
+pub returns-in-Err-clause-moments : goal.returns-in-Err-clause-moments
+returns-in-Err-clause-moments g c = λ honest t before none m source.
     let s = c.args.chunks.now in
     let bytes = journal_bytes (flat_map chunk_records s.chunks) in
     let can = can_open s c.in_ok-told.ensures.told c.in_ok-told.ensures.records c.in_ok-told.ensures.next in
@@ -78,33 +143,69 @@ returns-in_err-seal_with-clause-moments g c = λ honest t before none m source.
     let seal = c.deref-3.ensures.value ∙ c.in_ok-told.ensures.seal in
     let give = gives (g.D.Dir.opened c.args.dir.now) (now (g.D.Dir.history c.args.dir.now)) c.args.path.now c.args.number c.deref.result.now c.args.places.now s c.deref-2.result.now c.in_ok-told.told.pieces.items c.args.from name c.deref-2.ensures.value c.in_ok-told.ensures.bytes c.in_ok-told.ensures.within source in
     let after = c.in_ok-file.ensures.honest honest in
-    sealing c.args.path.now c.args.number s can c.deref.result.now bytes c.requires.first c.ranges.number.fits name refl t m (g.D.Dir.history c.args.dir.now) (g.D.Dir.history c.make.new.dir) none before (c.make.ensures.moments honest bytes give)
-    c.in_ok-file.file c.in_ok-told.told.places c.in_ok-told.ensures.places c.deref-3.result.now seal (c.in_ok-file.ensures.ok honest bytes give) (g.D.Dir.history c.seal_with.new.dir) (c.seal_with.ensures.moments after c.deref.result.now c.in_ok-file.ensures.opened)
+    let sealed = c.in-Err.ensures.honest after in
+    let named = c.in-Err.ensures.opened c.in_ok-file.file ∙ c.in_ok-file.ensures.opened in
+    let any = c.in_ok-file.ensures.any honest in
+    let some = c.in-Err.ensures.err after c.deref.result.now c.in_ok-file.ensures.opened in
+    let has = new_more c.deref.result.now any.bytes c.deref-3.result.now (now (g.D.Dir.history c.args.dir.now)) (now (g.D.Dir.history c.make.new.dir)) (now (g.D.Dir.history c.seal_with.new.dir)) any.new some in
+    let so_far = sealing c.args.path.now c.args.number s can c.deref.result.now bytes c.requires.first c.ranges.number.fits name refl t m (g.D.Dir.history c.args.dir.now) (g.D.Dir.history c.make.new.dir) none before (c.make.ensures.moments honest bytes give)
+    c.in_ok-file.file c.in_ok-told.told.places c.in_ok-told.ensures.places c.deref-3.result.now seal (c.in_ok-file.ensures.ok honest bytes give) (g.D.Dir.history c.seal_with.new.dir) (c.seal_with.ensures.moments after c.deref.result.now c.in_ok-file.ensures.opened) in
+    given_up (OpensWithin c.args.path.now t) (g.D.Dir.fault_count c.seal_with.new.dir) (g.D.Dir.fault_count c.give_up.new.dir) c.deref.result.now (g.D.Dir.history c.args.dir.now) (g.D.Dir.history c.seal_with.new.dir) (g.D.Dir.history c.give_up.new.dir) so_far (c.give_up.ensures.time sealed)
+    (new_young c.deref.result.now _ (now (g.D.Dir.history c.args.dir.now)) (now (g.D.Dir.history c.seal_with.new.dir)) has) (c.give_up.ensures.gone sealed c.deref.result.now named)
 
-pub returns-in_err-seal_with-clause-stray : goal.returns-in_err-seal_with-clause-stray
-returns-in_err-seal_with-clause-stray g c = λ honest none stray.
+pub returns-in-Err-clause-elsewhere : goal.returns-in-Err-clause-elsewhere
+returns-in-Err-clause-elsewhere g c = λ honest other differ.
+    let name = c.deref.ensures.value ∙ c.in_ok-name.ensures ∙ c.generations.ensures c.args.number in
+    let after = c.in_ok-file.ensures.honest honest in
+    let sealed = c.in-Err.ensures.honest after in
+    let named = c.in-Err.ensures.opened c.in_ok-file.file ∙ c.in_ok-file.ensures.opened in
+    let any = c.in_ok-file.ensures.any honest in
+    let some = c.in-Err.ensures.err after c.deref.result.now c.in_ok-file.ensures.opened in
+    let has = new_more c.deref.result.now any.bytes c.deref-3.result.now (now (g.D.Dir.history c.args.dir.now)) (now (g.D.Dir.history c.make.new.dir)) (now (g.D.Dir.history c.seal_with.new.dir)) any.new some in
+    others_stay (g.D.Dir.fault_count c.seal_with.new.dir) (g.D.Dir.fault_count c.give_up.new.dir) c.deref.result.now other (now (g.D.Dir.history c.seal_with.new.dir)) (now (g.D.Dir.history c.give_up.new.dir)) (λ e. differ (e ∙ name)) (c.give_up.ensures.gone sealed c.deref.result.now named)
+    ∙ new_elsewhere c.deref.result.now _ other (now (g.D.Dir.history c.args.dir.now)) (now (g.D.Dir.history c.seal_with.new.dir)) (λ e. differ (e ∙ name)) has
+
+pub returns-in-Err-clause-gap : goal.returns-in-Err-clause-gap
+returns-in-Err-clause-gap g c = λ honest none all.
+    begun_no_gap c.args.path.now c.args.number (now (g.D.Dir.history c.args.dir.now)) (now (g.D.Dir.history c.give_up.new.dir)) c.ranges.number.fits none all (returns-in-Err-clause-elsewhere g c honest)
+
+pub returns-in-Err-clause-kept : goal.returns-in-Err-clause-kept
+returns-in-Err-clause-kept g c = λ other own is differ.
+    let name = c.deref.ensures.value ∙ c.in_ok-name.ensures ∙ c.generations.ensures c.args.number in
+    let named = c.in-Err.ensures.opened c.in_ok-file.file ∙ c.in_ok-file.ensures.opened in
+    let still = c.in-Err.ensures.opened other ∙ c.in_ok-file.ensures.others other (is_some_name _ _ is) ∙ is in
+    c.give_up.ensures.others other (other_file (g.D.Dir.opened c.seal_with.new.dir) c.in_ok-file.file other c.deref.result.now own named still (λ e. differ (e ∙ name))) ∙ still
+
+pub returns-in-Err-clause-cause : goal.returns-in-Err-clause-cause
+returns-in-Err-clause-cause g c =
+    reason_given {T = Unit {0}} (g.D.Dir.fault_count c.args.dir.now) (g.D.Dir.fault_count c.seal_with.new.dir) (g.D.Dir.fault_count c.give_up.new.dir) c.from.result c.give_up.result
+    (reason_dir (g.D.Dir.fault_count c.args.dir.now) (g.D.Dir.fault_count c.make.new.dir) (g.D.Dir.fault_count c.seal_with.new.dir) c.in-Err.refused (Err c.from.result) c.in_ok-file.ensures.cause.passed c.in-Err.ensures.cause (ap Err c.from.ensures)) c.give_up.ensures.answer
+
+pub returns-in-Err-clause-memory : goal.returns-in-Err-clause-memory
+returns-in-Err-clause-memory g c = λ honest memory.
+    let was = given_as (g.D.Dir.fault_count c.seal_with.new.dir) (g.D.Dir.fault_count c.give_up.new.dir) c.from.result c.give_up.result beginning.Memory c.give_up.ensures.answer (cc memory) (λ e. cc e) in
+    let fault = fault_so c.in-Err.refused c.from.result (cc c.in-Err.ensures.only) c.from.ensures in
+    absurd (cc (was, fault))
+
+pub returns-in-Err-clause-whole : goal.returns-in-Err-clause-whole
+returns-in-Err-clause-whole g c = λ honest source short.
+    let was = given_as (g.D.Dir.fault_count c.seal_with.new.dir) (g.D.Dir.fault_count c.give_up.new.dir) c.from.result c.give_up.result beginning.Short c.give_up.ensures.answer (cc short) (λ e. cc e) in
+    let fault = fault_so c.in-Err.refused c.from.result (cc c.in-Err.ensures.only) c.from.ensures in
+    absurd (cc (was, fault))
+
+pub returns-in-Ok-clause-gap : goal.returns-in-Ok-clause-gap
+returns-in-Ok-clause-gap g c = λ honest none all.
     let name = c.deref.ensures.value ∙ c.in_ok-name.ensures ∙ c.generations.ensures c.args.number in
     let after = c.in_ok-file.ensures.honest honest in
     let any = c.in_ok-file.ensures.any honest in
-    let some = some_second c.deref.result.now any.bytes c.deref-3.result.now (now (g.D.Dir.history c.args.dir.now)) (now (g.D.Dir.history c.make.new.dir)) (now (g.D.Dir.history c.seal_with.new.dir)) any.new (c.in_err-seal_with.ensures.err after c.deref.result.now c.in_ok-file.ensures.opened) in
-    begun_no_stray c.args.path.now c.args.number (any.bytes ++ c.deref-3.result.now) (now (g.D.Dir.history c.args.dir.now)) (now (g.D.Dir.history c.seal_with.new.dir)) c.ranges.number.fits none stray
-    (subst (λ (z : List ℕ). IsUnfinished z (any.bytes ++ c.deref-3.result.now) (now (g.D.Dir.history c.args.dir.now)) (now (g.D.Dir.history c.seal_with.new.dir))) name some)
+    begun_no_gap c.args.path.now c.args.number (now (g.D.Dir.history c.args.dir.now)) (now (g.D.Dir.history c.seal_with.new.dir)) c.ranges.number.fits none all
+    (λ other differ. others_whole c.deref.result.now any.bytes c.deref-3.result.now other (now (g.D.Dir.history c.args.dir.now)) (now (g.D.Dir.history c.make.new.dir)) (now (g.D.Dir.history c.seal_with.new.dir)) (λ e. differ (e ∙ name)) any.new (c.in-Ok.ensures.ok after c.deref.result.now c.in_ok-file.ensures.opened))
 
-pub returns-in_err-seal_with-clause-elsewhere : goal.returns-in_err-seal_with-clause-elsewhere
-returns-in_err-seal_with-clause-elsewhere g c = λ honest other differ.
-    let name = c.deref.ensures.value ∙ c.in_ok-name.ensures ∙ c.generations.ensures c.args.number in
-    let after = c.in_ok-file.ensures.honest honest in
-    let any = c.in_ok-file.ensures.any honest in
-    let some = some_second c.deref.result.now any.bytes c.deref-3.result.now (now (g.D.Dir.history c.args.dir.now)) (now (g.D.Dir.history c.make.new.dir)) (now (g.D.Dir.history c.seal_with.new.dir)) any.new (c.in_err-seal_with.ensures.err after c.deref.result.now c.in_ok-file.ensures.opened) in
-    others_first c.deref.result.now (any.bytes ++ c.deref-3.result.now) other (now (g.D.Dir.history c.args.dir.now)) (now (g.D.Dir.history c.seal_with.new.dir)) (λ e. differ (e ∙ name)) some
+pub returns-in-Ok-clause-kept : goal.returns-in-Ok-clause-kept
+returns-in-Ok-clause-kept g c = λ other own is differ. c.in-Ok.ensures.opened other ∙ c.in_ok-file.ensures.others other (is_some_name _ _ is) ∙ is
 
-pub returns-in_err-seal_with-clause-cause : goal.returns-in_err-seal_with-clause-cause
-returns-in_err-seal_with-clause-cause g c =
-    reason_dir (g.D.Dir.fault_count c.args.dir.now) (g.D.Dir.fault_count c.make.new.dir) (g.D.Dir.fault_count c.seal_with.new.dir) c.in_err-seal_with.field-0.0 c.from_residual-in_err-seal_with.result c.in_ok-file.ensures.cause.passed c.in_err-seal_with.ensures.cause
-    (answered (begin_error c.in_err-seal_with.field-0.0) c.from_residual-in_err-seal_with.result c.from_residual-in_err-seal_with.ensures.1)
-
-pub returns-clause-ok : goal.returns-clause-ok
-returns-clause-ok g c = λ honest none source.
+pub returns-in-Ok-clause-ok : goal.returns-in-Ok-clause-ok
+returns-in-Ok-clause-ok g c = λ honest none source.
     let s = c.args.chunks.now in
     let bytes = journal_bytes (flat_map chunk_records s.chunks) in
     let can = can_open s c.in_ok-told.ensures.told c.in_ok-told.ensures.records c.in_ok-told.ensures.next in
@@ -114,31 +215,24 @@ returns-clause-ok g c = λ honest none source.
     let after = c.in_ok-file.ensures.honest honest in
     let len : c.in_ok-len.len ≡ length bytes + length c.deref-3.result.now = omega (arith, c.in_ok-len.ensures, c.in_ok-told.ensures.len, ap length c.deref-3.ensures.value) in
     ends c.args.path.now c.args.number s can c.deref.result.now bytes c.requires.first c.ranges.number.fits name refl _ (now (g.D.Dir.history c.args.dir.now)) (now (g.D.Dir.history c.make.new.dir)) (now (g.D.Dir.history c.seal_with.new.dir)) c.deref-3.result.now c.in_ok-kept.ensures.items refl len c.in_ok-told.ensures.places seal none
-    (c.in_ok-file.ensures.ok honest bytes give) (c.in_ok-seal_with.ensures.ok after c.deref.result.now c.in_ok-file.ensures.opened)
+    (c.in_ok-file.ensures.ok honest bytes give) (c.in-Ok.ensures.ok after c.deref.result.now c.in_ok-file.ensures.opened)
 
-pub returns-clause-there : goal.returns-clause-there
-returns-clause-there g c = λ honest.
+pub returns-in-Ok-clause-there : goal.returns-in-Ok-clause-there
+returns-in-Ok-clause-there g c = λ honest.
     let name = c.deref.ensures.value ∙ c.in_ok-name.ensures ∙ c.generations.ensures c.args.number in
     let after = c.in_ok-file.ensures.honest honest in
     let any = c.in_ok-file.ensures.any honest in
-    new_reads c.args.path.now c.args.number c.deref.result.now any.bytes c.deref-3.result.now (now (g.D.Dir.history c.args.dir.now)) (now (g.D.Dir.history c.make.new.dir)) (now (g.D.Dir.history c.seal_with.new.dir)) name any.new (c.in_ok-seal_with.ensures.ok after c.deref.result.now c.in_ok-file.ensures.opened)
+    new_reads c.args.path.now c.args.number c.deref.result.now any.bytes c.deref-3.result.now (now (g.D.Dir.history c.args.dir.now)) (now (g.D.Dir.history c.make.new.dir)) (now (g.D.Dir.history c.seal_with.new.dir)) name any.new (c.in-Ok.ensures.ok after c.deref.result.now c.in_ok-file.ensures.opened)
 
-pub returns-clause-stray : goal.returns-clause-stray
-returns-clause-stray g c = λ honest none stray.
+pub returns-in-Ok-clause-elsewhere : goal.returns-in-Ok-clause-elsewhere
+returns-in-Ok-clause-elsewhere g c = λ honest other differ.
     let name = c.deref.ensures.value ∙ c.in_ok-name.ensures ∙ c.generations.ensures c.args.number in
     let after = c.in_ok-file.ensures.honest honest in
     let any = c.in_ok-file.ensures.any honest in
-    new_no_stray c.args.path.now c.args.number c.deref.result.now any.bytes c.deref-3.result.now (now (g.D.Dir.history c.args.dir.now)) (now (g.D.Dir.history c.make.new.dir)) (now (g.D.Dir.history c.seal_with.new.dir)) name any.new (c.in_ok-seal_with.ensures.ok after c.deref.result.now c.in_ok-file.ensures.opened) c.ranges.number.fits none
+    others_whole c.deref.result.now any.bytes c.deref-3.result.now other (now (g.D.Dir.history c.args.dir.now)) (now (g.D.Dir.history c.make.new.dir)) (now (g.D.Dir.history c.seal_with.new.dir)) (λ e. differ (e ∙ name)) any.new (c.in-Ok.ensures.ok after c.deref.result.now c.in_ok-file.ensures.opened)
 
-pub returns-clause-elsewhere : goal.returns-clause-elsewhere
-returns-clause-elsewhere g c = λ honest other differ.
-    let name = c.deref.ensures.value ∙ c.in_ok-name.ensures ∙ c.generations.ensures c.args.number in
-    let after = c.in_ok-file.ensures.honest honest in
-    let any = c.in_ok-file.ensures.any honest in
-    others_whole c.deref.result.now any.bytes c.deref-3.result.now other (now (g.D.Dir.history c.args.dir.now)) (now (g.D.Dir.history c.make.new.dir)) (now (g.D.Dir.history c.seal_with.new.dir)) (λ e. differ (e ∙ name)) any.new (c.in_ok-seal_with.ensures.ok after c.deref.result.now c.in_ok-file.ensures.opened)
-
-pub returns-clause-moments : goal.returns-clause-moments
-returns-clause-moments g c = λ honest t before none m source.
+pub returns-in-Ok-clause-moments : goal.returns-in-Ok-clause-moments
+returns-in-Ok-clause-moments g c = λ honest t before none m source.
     let s = c.args.chunks.now in
     let bytes = journal_bytes (flat_map chunk_records s.chunks) in
     let can = can_open s c.in_ok-told.ensures.told c.in_ok-told.ensures.records c.in_ok-told.ensures.next in
@@ -149,6 +243,6 @@ returns-clause-moments g c = λ honest t before none m source.
     sealing c.args.path.now c.args.number s can c.deref.result.now bytes c.requires.first c.ranges.number.fits name refl t m (g.D.Dir.history c.args.dir.now) (g.D.Dir.history c.make.new.dir) none before (c.make.ensures.moments honest bytes give)
     c.in_ok-file.file c.in_ok-told.told.places c.in_ok-told.ensures.places c.deref-3.result.now seal (c.in_ok-file.ensures.ok honest bytes give) (g.D.Dir.history c.seal_with.new.dir) (c.seal_with.ensures.moments after c.deref.result.now c.in_ok-file.ensures.opened)
 
-pub returns-clause-state : goal.returns-clause-state
-returns-clause-state g c =
+pub returns-in-Ok-clause-state : goal.returns-in-Ok-clause-state
+returns-in-Ok-clause-state g c =
     (can_open c.args.chunks.now c.in_ok-told.ensures.told c.in_ok-told.ensures.records c.in_ok-told.ensures.next).leads

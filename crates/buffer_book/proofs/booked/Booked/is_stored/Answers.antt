@@ -15,3 +15,8 @@ returns-clause-whole g c = λ began.
     (subst (λ (b : Book g.row.D.Denot). IsSomeAnd (chunk_at b.buffer.chunks c.args.serial) (λ chunk. c.in_ok-entries.entries ≡ chunk.entries)) c.self.view_is read)
     (subst (λ (entries : List (List ℕ)). (IsTrue c.are_same.result → c.in_ok-entries.entries ≡ entries) × (c.in_ok-entries.entries ≡ entries → IsTrue c.are_same.result)) c.entries-2.ensures c.are_same.ensures)
     like
+
+pub returns-in_err-entries-clause-undamaged : goal.returns-in_err-entries-clause-undamaged
+returns-in_err-entries-clause-undamaged g c = λ began.
+    let undamaged = c.in_err-entries.ensures.undamaged (subst (λ (b : Book g.row.D.Denot). BeganWell g.D.Dir.is_honest g.D.Dir.history b.buffer) (sym c.self.view_is) began) in
+    search rules

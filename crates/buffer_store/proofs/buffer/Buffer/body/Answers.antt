@@ -17,6 +17,10 @@ returns-in_err-bytes-clause-undamaged g c = λ began q.
     let same : c.in_err-bytes.field-0.0 ≡ BufferFault.Damaged = cc (is, q) in
     c.body.ensures.whole durable.honest told.logged told.holds.keeps (c.in_err-bytes.was ∙ ap (λ (e : BufferFault). Err e) same)
 
+pub invariant_of-self : goal.invariant_of-self
+invariant_of-self g c = sound_read g.D.Dir.is_honest g.D.Dir.history c.self.inside.log c.self.inside.chunks c.self.inside.settings (ap (λ (b : Held g.row.D.Denot). b.failed) c.self.view_is ∙ sym c.has_failed.ensures ∙ c.if-has_failed.false) c.self.invariant
+    c.body.new.self c.body.ensures.rest c.body.ensures.honest c.body.ensures.same
+
 pub invariant_of-self-2 : goal.invariant_of-self-2
 invariant_of-self-2 g c = sound_read g.D.Dir.is_honest g.D.Dir.history c.self.inside.log c.self.inside.chunks c.self.inside.settings (ap (λ (b : Held g.row.D.Denot). b.failed) c.self.view_is ∙ sym c.has_failed.ensures ∙ c.if-has_failed.false) c.self.invariant
     c.body.new.self c.body.ensures.rest c.body.ensures.honest c.body.ensures.same

@@ -1,4 +1,4 @@
-use Rattle.std.proofs.Common.{◌≡◌, ℕ, inl, false, Some, Ok, sym, ap, subst, ◌∙◌, rules}
+use Rattle.std.proofs.Common.{◌≡◌, ℕ, inl, false, None, Some, Ok, sym, ap, subst, ◌∙◌, rules}
 use Rattle.std.proofs.lemmas.Option.{same_Some}
 use Rattle.buffer_state.specs.State.{IsAt}
 use Rattle.buffer_state.specs.Steps.{removed, oldest}
@@ -66,3 +66,19 @@ returns-clause-begins g c = λ honest serial first.
     (begins_by g.D.Dir.is_honest g.D.Dir.history g.D.Dir.fault_count c.self.inside.log c.remove_chunk.new.log chunks c.remove_chunk.new.chunks c.self.inside.settings (sym c.has_failed.ensures ∙ c.if-has_failed.false) (Purge found) (removed found chunks)
     (λ t same. (purge_allowed (state_of t) chunks same found (inl at), purge_same (state_of t) chunks same found)) false c.remove_chunk.result c.remove_chunk.ensures.wrote c.remove_chunk.ensures.ok c.remove_chunk.ensures.err
     (subst (λ (b : Held g.row.D.Denot). g.D.Dir.is_honest b.dir) (sym v) honest))))
+
+pub returns-then-has_failed-clause-empty : goal.returns-then-has_failed-clause-empty
+returns-then-has_failed-clause-empty g c = λ none. begins_none g.D.Dir.is_honest g.D.Dir.history g.D.Dir.fault_count c.args.self.now BufferFault.Failed None (λ t. t) (λ q. cc q)
+
+pub returns-in_default-clause-empty : goal.returns-in_default-clause-empty
+returns-in_default-clause-empty g c = λ none. begins_none g.D.Dir.is_honest g.D.Dir.history g.D.Dir.fault_count c.args.self.now BufferFault.Gone None (λ t. t) (λ q. cc q)
+
+pub returns-in_err-remove_chunk-clause-empty : goal.returns-in_err-remove_chunk-clause-empty
+returns-in_err-remove_chunk-clause-empty g c = λ none.
+    let here : oldest c.self.inside.chunks ≡ Some c.in-Some.serial = search rules in
+    absurd (let gone = sym here ∙ ap (λ (b : Held g.row.D.Denot). oldest b.chunks) c.self.view_is ∙ none in cc gone)
+
+pub returns-clause-empty : goal.returns-clause-empty
+returns-clause-empty g c = λ none.
+    let here : oldest c.self.inside.chunks ≡ Some c.in-Some.serial = search rules in
+    absurd (let gone = sym here ∙ ap (λ (b : Held g.row.D.Denot). oldest b.chunks) c.self.view_is ∙ none in cc gone)

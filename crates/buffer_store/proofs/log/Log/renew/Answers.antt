@@ -1,7 +1,11 @@
-use Rattle.std.proofs.Common.{true, false, Ok, Err, inl, inr, refl, ap, subst, ◌∙◌}
+use Rattle.std.proofs.Common.{true, false, Ok, Err, inl, inr, refl, sym, ap, subst, ◌∙◌}
+use Rattle.disk_files.specs.Moments.{now}
+use Rattle.journal_files.specs.Disks.{Keeps}
+use Rattle.journal_files.specs.Views.{OpenJournal}
+use Rattle.journal_files.proofs.Steps.{kept}
 use Rattle.buffer_store.specs.Logs.{Logged, Renews}
 use Rattle.buffer_store.specs.declared.fault.BufferFault.{BufferFault}
-use Rattle.buffer_store.proofs.Logs.{reason_ok, reason_fault, reason_none}
+use Rattle.buffer_store.proofs.Logs.{at_err, reason_ok, reason_fault, reason_none}
 use Rattle.buffer_store.proofs.log.Log.renew.Goals as goal
 
 pub returns-in-Ok : goal.returns-in-Ok
@@ -22,13 +26,15 @@ returns-in-Ok g c =
       untouched = λ honest no torn. tt;
       cause = reason_ok (g.D.Dir.fault_count c.self.inside.dir) (g.D.Dir.fault_count c.renew.new.dir) (tt {0}) c.in-Ok.ensures.cause.passed;
       gone = c.in-Ok.ensures.gone;
+      journal = tt;
       starts = c.in-Ok.ensures.state;
       done = λ honest t keeps means. c.in-Ok.ensures.ok honest t keeps means;
       refused = λ honest t keeps means no. tt;
       recovers = λ honest t keeps means q. absurd (cc q);
-      stray = c.renew.ensures.stray;
+      gap = c.renew.ensures.gap;
       moments = c.renew.ensures.moments;
       whole = λ honest t keeps means q. absurd (cc q);
+      left = λ honest t keeps means. tt;
     })
 
 pub returns-in-Err-Memory : goal.returns-in-Err-Memory
@@ -50,13 +56,15 @@ returns-in-Err-Memory g c =
       untouched = λ honest no torn. c.renew.ensures.memory_same honest is;
       cause = reason_none (g.D.Dir.fault_count c.self.inside.dir) (g.D.Dir.fault_count c.renew.new.dir) BufferFault.Memory (λ q. cc q) (c.renew.ensures.cause.others (λ q. cc (q, is)));
       gone = λ honest. tt;
+      journal = at_err c.renew.result _ is c.renew.ensures.journal;
       starts = tt;
       done = λ honest t keeps means. tt;
       refused = λ honest t keeps means no. c.renew.ensures.memory honest t keeps is;
       recovers = λ honest t keeps means q. absurd (cc q);
-      stray = c.renew.ensures.stray;
+      gap = c.renew.ensures.gap;
       moments = c.renew.ensures.moments;
       whole = λ honest t keeps means q. absurd (cc q);
+      left = λ honest t keeps means. at_err c.renew.result _ is (c.renew.ensures.left honest t keeps means);
     })
 
 pub returns-in-Err-Fault : goal.returns-in-Err-Fault
@@ -78,13 +86,15 @@ returns-in-Err-Fault g c =
       untouched = λ honest no torn. absurd (no refl);
       cause = reason_fault (g.D.Dir.fault_count c.self.inside.dir) (g.D.Dir.fault_count c.renew.new.dir) c.renew.ensures.cause.later (c.renew.ensures.cause.failed is);
       gone = λ honest. tt;
+      journal = at_err c.renew.result _ is c.renew.ensures.journal;
       starts = tt;
       done = λ honest t keeps means. tt;
       refused = λ honest t keeps means no. absurd (no refl);
       recovers = λ honest t keeps means q. c.renew.ensures.fault honest t keeps means is;
-      stray = c.renew.ensures.stray;
+      gap = c.renew.ensures.gap;
       moments = c.renew.ensures.moments;
       whole = λ honest t keeps means q. absurd (cc q);
+      left = λ honest t keeps means. at_err c.renew.result _ is (c.renew.ensures.left honest t keeps means);
     })
 
 pub returns-in-Err-Short : goal.returns-in-Err-Short
@@ -106,11 +116,44 @@ returns-in-Err-Short g c =
       untouched = λ honest no torn. absurd (torn refl);
       cause = reason_none (g.D.Dir.fault_count c.self.inside.dir) (g.D.Dir.fault_count c.renew.new.dir) BufferFault.Damaged (λ q. cc q) (c.renew.ensures.cause.others (λ q. cc (q, is)));
       gone = λ honest. tt;
+      journal = at_err c.renew.result _ is c.renew.ensures.journal;
       starts = tt;
       done = λ honest t keeps means. tt;
       refused = λ honest t keeps means no. absurd (c.renew.ensures.whole honest t keeps means is);
       recovers = λ honest t keeps means q. absurd (cc q);
-      stray = c.renew.ensures.stray;
+      gap = c.renew.ensures.gap;
       moments = c.renew.ensures.moments;
       whole = λ honest t keeps means q. c.renew.ensures.whole honest t keeps means is;
+      left = λ honest t keeps means. at_err c.renew.result _ is (c.renew.ensures.left honest t keeps means);
+    })
+
+pub returns-in-Err-LastGeneration : goal.returns-in-Err-LastGeneration
+returns-in-Err-LastGeneration g c =
+    let is = c.in-Err-LastGeneration.is ∙ ap Err c.in-Err-LastGeneration.field-0-is in
+    subst (λ (b : Logged g.row.D.Denot). Renews g.D.Dir.is_honest g.D.Dir.history g.D.Dir.fault_count b
+    (record { dir = c.renew.new.dir; journal = c.renew.new.self; failed = c.self.inside.failed; staged = c.self.inside.staged; start = c.self.inside.start.value }) c.args.chunks.now (Err BufferFault.LastSerial)) c.self.view_is
+    (record {
+      only = inl refl;
+      last = (λ q. c.renew.ensures.last.0 is, λ le. refl);
+      flags = record { fails = λ q. absurd (cc q); stays = λ _. refl };
+      kept = refl;
+      staged = tt;
+      path = c.renew.ensures.path;
+      number = tt;
+      start = refl;
+      honest = c.renew.ensures.honest;
+      elsewhere = c.renew.ensures.elsewhere;
+      untouched = λ honest no torn. c.renew.ensures.unchanged is honest;
+      cause = reason_none (g.D.Dir.fault_count c.self.inside.dir) (g.D.Dir.fault_count c.renew.new.dir) BufferFault.LastSerial (λ q. cc q) (c.renew.ensures.cause.others (λ q. cc (q, is)));
+      gone = λ honest. tt;
+      journal = at_err c.renew.result _ is c.renew.ensures.journal;
+      starts = tt;
+      done = λ honest t keeps means. tt;
+      refused = λ honest t keeps means no. subst (λ (j : OpenJournal). Keeps j (now (g.D.Dir.history c.renew.new.dir)) t) (sym (at_err c.renew.result _ is c.renew.ensures.journal))
+          (kept c.self.inside.journal (now (g.D.Dir.history c.self.inside.dir)) (now (g.D.Dir.history c.renew.new.dir)) t keeps (c.renew.ensures.unchanged is honest));
+      recovers = λ honest t keeps means q. absurd (cc q);
+      gap = c.renew.ensures.gap;
+      moments = c.renew.ensures.moments;
+      whole = λ honest t keeps means q. absurd (cc q);
+      left = λ honest t keeps means. at_err c.renew.result _ is (c.renew.ensures.left honest t keeps means);
     })

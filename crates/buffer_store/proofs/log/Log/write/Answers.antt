@@ -1,6 +1,7 @@
 use Rattle.std.proofs.Common.{Bool, true, false, Ok, refl, sym, ap, subst, ◌∙◌, rules, Err}
 use Rattle.chunk_journal.specs.Spelled.{record_of}
 use Rattle.journal_files.specs.Views.{OpenJournal}
+use Rattle.journal_files.proofs.Strays.{no_gap_of}
 use Rattle.buffer_store.specs.Logs.{Logged, Writes}
 use Rattle.buffer_store.specs.declared.fault.BufferFault.{BufferFault}
 use Rattle.buffer_store.proofs.Logs.{IsReadied, Puts, writes_memory, writes_torn, writes_told, writes_synced}
@@ -30,7 +31,7 @@ returns-then-is_err g c =
       honest = c.put.ensures.honest;
       ok = c.put.ensures.ok;
       err = c.put.ensures.err;
-      stray = c.put.ensures.stray;
+      gap = λ honest t keeps. no_gap_of _ _ (c.put.ensures.stray honest t keeps);
       moments = c.put.ensures.moments;
       elsewhere = c.put.ensures.elsewhere;
       cause = c.put.ensures.cause;
@@ -54,7 +55,7 @@ returns-then-synced g c =
       honest = c.put.ensures.honest;
       ok = c.put.ensures.ok;
       err = c.put.ensures.err;
-      stray = c.put.ensures.stray;
+      gap = λ honest t keeps. no_gap_of _ _ (c.put.ensures.stray honest t keeps);
       moments = c.put.ensures.moments;
       elsewhere = c.put.ensures.elsewhere;
       cause = c.put.ensures.cause;
@@ -79,7 +80,7 @@ returns g c =
       honest = c.put.ensures.honest;
       ok = c.put.ensures.ok;
       err = c.put.ensures.err;
-      stray = c.put.ensures.stray;
+      gap = λ honest t keeps. no_gap_of _ _ (c.put.ensures.stray honest t keeps);
       moments = c.put.ensures.moments;
       elsewhere = c.put.ensures.elsewhere;
       cause = c.put.ensures.cause;

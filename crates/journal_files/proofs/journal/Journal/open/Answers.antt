@@ -1,22 +1,23 @@
-use Rattle.std.proofs.Common.{◌≡◌, None, ℕ, ◌+◌, ◌<◌, ◌^◌, List, Err, refl, ap, arith, subst, sym, ◌∙◌}
+use Rattle.std.proofs.Common.{◌≡◌, inl, inr, None, ℕ, ◌+◌, ◌<◌, ◌^◌, List, Err, refl, ap, arith, subst, sym, ◌∙◌}
 use Rattle.journal_files.specs.declared.error.BeginError.{BeginError}
 use Rattle.journal_files.specs.declared.error.OpenError.TheVariants as opening
 use Rattle.journal_files.specs.Faults.{HasReason, open_error, opening_error}
 use Rattle.journal_files.proofs.Heard.{answered, reason_dir}
 use Rattle.journal_files.proofs.Steps.{any_err}
-use Rattle.disk_files.specs.Disk.{reads}
+use Rattle.disk_files.specs.Disk.{reads, read_of}
 use Rattle.disk_files.specs.Moments.{LeavesOnly, now}
 use Rattle.journal_files.specs.Folders.{journal_name}
 use Rattle.file_pieces.specs.Adding.{IsLeftOf}
 use Rattle.journal_files.specs.Pieces.{AreOlder, ChangesBelow, IsGoneBut}
 use Rattle.journal_files.proofs.Beginning.{of_folder}
-use Rattle.journal_files.proofs.Afresh.{afresh, beginning, none, said_of, stray_still}
+use Rattle.journal_files.proofs.Afresh.{afresh, all, beginning, none, said_of}
 use Rattle.journal_files.proofs.Fresh.{is_next, own_is_above, opened_alone}
+use Rattle.journal_files.proofs.GivenUp.{given_up_behind, left_next}
 use Rattle.journal_files.proofs.OlderFiles.{still_older}
 use Rattle.journal_files.proofs.OneWay.{one_way}
-use Rattle.journal_files.proofs.OpeningMoments.{quiet, looked, keeps_still, no_stray_still, removed_so}
+use Rattle.journal_files.proofs.OpeningMoments.{quiet, looked, keeps_still, no_gap_still, whole_still, removed_so}
 use Rattle.journal_files.proofs.Sourced.{still_open}
-use Rattle.journal_files.proofs.Strays.{same_stray}
+use Rattle.journal_files.proofs.Strays.{same_gap}
 use Rattle.journal_files.proofs.Unopened.{was_memory, was_short, not_last, reason_begun}
 use Rattle.journal_files.proofs.journal.Journal.open.Goals as goal
 
@@ -69,34 +70,23 @@ returns-clause-moments g c = λ honest stray t before.
     t c.in_ok-journal.ensures.state m (g.D.Dir.history c.args.dir.now) (g.D.Dir.history c.begin.new.dir) (g.D.Dir.history c.remove.new.dir) refl (beginning c.args.path.now t (g.D.Dir.history c.args.dir.now) (g.D.Dir.history c.find.new.dir) (g.D.Dir.history c.open.new.dir) (g.D.Dir.history c.begin.new.dir) before (c.find.ensures.time honest) (c.find.ensures.same honest) (c.open.ensures.time (c.in_ok-found.ensures.honest honest)) (c.open.ensures.same (c.in_ok-found.ensures.honest honest))
     (λ then. c.begin.ensures.moments older_honest t then (none on stray) m on.source)) removing
 
-pub returns-in_err-found-clause-stray : goal.returns-in_err-found-clause-stray
-returns-in_err-found-clause-stray g c = λ honest stray. same_stray c.args.path.now (now (g.D.Dir.history c.args.dir.now)) (now (g.D.Dir.history c.find.new.dir)) (c.find.ensures.same honest) stray
+pub returns-in_err-found-clause-gap : goal.returns-in_err-found-clause-gap
+returns-in_err-found-clause-gap g c = λ honest stray. same_gap c.args.path.now (now (g.D.Dir.history c.args.dir.now)) (now (g.D.Dir.history c.find.new.dir)) (c.find.ensures.same honest) stray
 
-pub returns-in_err-older-clause-stray : goal.returns-in_err-older-clause-stray
-returns-in_err-older-clause-stray g c = λ honest stray.
-    same_stray c.args.path.now (now (g.D.Dir.history c.args.dir.now)) (now (g.D.Dir.history c.open.new.dir)) (λ name. c.open.ensures.same (c.in_ok-found.ensures.honest honest) name ∙ c.in_ok-found.ensures.same honest name) stray
+pub returns-in_err-older-clause-gap : goal.returns-in_err-older-clause-gap
+returns-in_err-older-clause-gap g c = λ honest stray.
+    same_gap c.args.path.now (now (g.D.Dir.history c.args.dir.now)) (now (g.D.Dir.history c.open.new.dir)) (λ name. c.open.ensures.same (c.in_ok-found.ensures.honest honest) name ∙ c.in_ok-found.ensures.same honest name) stray
 
-pub returns-in_err-journal-clause-stray : goal.returns-in_err-journal-clause-stray
-returns-in_err-journal-clause-stray g c = λ honest stray.
+pub returns-in_err-journal-clause-gap : goal.returns-in_err-journal-clause-gap
+returns-in_err-journal-clause-gap g c = λ honest stray.
     let older_honest = c.in_ok-older.ensures.honest (c.in_ok-found.ensures.honest honest) in
     let on = afresh (g.D.Dir.opened c.find.new.dir) (g.D.Dir.opened c.open.new.dir) c.in_ok-older.ensures.others (now (g.D.Dir.history c.args.dir.now)) (now (g.D.Dir.history c.find.new.dir)) (now (g.D.Dir.history c.open.new.dir)) c.args.path.now
     c.in_ok-found.found.greatest c.in_ok-found.found.file c.in_ok-found.found.places c.in_ok-found.found.chunks (c.in_ok-found.ensures.same honest) (c.in_ok-older.ensures.same (c.in_ok-found.ensures.honest honest)) c.in_ok-found.ensures.below (c.in_ok-found.ensures.greatest honest)
     (c.in_ok-found.ensures.source honest) in
-    c.begin.ensures.stray older_honest (none on stray) (stray_still on stray)
+    c.begin.ensures.gap older_honest (none on stray) (all on stray)
 
-pub returns-in_err-remove-clause-stray : goal.returns-in_err-remove-clause-stray
-returns-in_err-remove-clause-stray g c = λ honest stray.
-    let older_honest = c.in_ok-older.ensures.honest (c.in_ok-found.ensures.honest honest) in
-    let on = afresh (g.D.Dir.opened c.find.new.dir) (g.D.Dir.opened c.open.new.dir) c.in_ok-older.ensures.others (now (g.D.Dir.history c.args.dir.now)) (now (g.D.Dir.history c.find.new.dir)) (now (g.D.Dir.history c.open.new.dir)) c.args.path.now
-    c.in_ok-found.found.greatest c.in_ok-found.found.file c.in_ok-found.found.places c.in_ok-found.found.chunks (c.in_ok-found.ensures.same honest) (c.in_ok-older.ensures.same (c.in_ok-found.ensures.honest honest)) c.in_ok-found.ensures.below (c.in_ok-found.ensures.greatest honest)
-    (c.in_ok-found.ensures.source honest) in
-    let begun_honest = c.in_ok-journal.ensures.honest older_honest in
-    let keeps = c.in_ok-journal.ensures.ok older_honest (none on stray) on.source in
-    let below = said_of (λ (p : List ℕ) (k : ℕ). ChangesBelow p k (now (g.D.Dir.history c.begin.new.dir)) (now (g.D.Dir.history c.remove.new.dir))) c.in_ok-older.ensures.path c.in_ok-older.ensures.number (c.remove.ensures.elsewhere begun_honest) in
-    no_stray_still c.args.path.now (c.in_ok-found.found.greatest + 1) c.in_ok-journal.journal (now (g.D.Dir.history c.begin.new.dir)) c.in_ok-found.found.chunks c.in_ok-journal.ensures.path c.in_ok-journal.ensures.number keeps (now (g.D.Dir.history c.remove.new.dir)) below
-
-pub returns-clause-stray : goal.returns-clause-stray
-returns-clause-stray g c = λ honest stray.
+pub returns-in_err-remove-clause-gap : goal.returns-in_err-remove-clause-gap
+returns-in_err-remove-clause-gap g c = λ honest stray.
     let older_honest = c.in_ok-older.ensures.honest (c.in_ok-found.ensures.honest honest) in
     let on = afresh (g.D.Dir.opened c.find.new.dir) (g.D.Dir.opened c.open.new.dir) c.in_ok-older.ensures.others (now (g.D.Dir.history c.args.dir.now)) (now (g.D.Dir.history c.find.new.dir)) (now (g.D.Dir.history c.open.new.dir)) c.args.path.now
     c.in_ok-found.found.greatest c.in_ok-found.found.file c.in_ok-found.found.places c.in_ok-found.found.chunks (c.in_ok-found.ensures.same honest) (c.in_ok-older.ensures.same (c.in_ok-found.ensures.honest honest)) c.in_ok-found.ensures.below (c.in_ok-found.ensures.greatest honest)
@@ -104,7 +94,18 @@ returns-clause-stray g c = λ honest stray.
     let begun_honest = c.in_ok-journal.ensures.honest older_honest in
     let keeps = c.in_ok-journal.ensures.ok older_honest (none on stray) on.source in
     let below = said_of (λ (p : List ℕ) (k : ℕ). ChangesBelow p k (now (g.D.Dir.history c.begin.new.dir)) (now (g.D.Dir.history c.remove.new.dir))) c.in_ok-older.ensures.path c.in_ok-older.ensures.number (c.remove.ensures.elsewhere begun_honest) in
-    no_stray_still c.args.path.now (c.in_ok-found.found.greatest + 1) c.in_ok-journal.journal (now (g.D.Dir.history c.begin.new.dir)) c.in_ok-found.found.chunks c.in_ok-journal.ensures.path c.in_ok-journal.ensures.number keeps (now (g.D.Dir.history c.remove.new.dir)) below
+    no_gap_still c.args.path.now (c.in_ok-found.found.greatest + 1) c.in_ok-journal.journal (now (g.D.Dir.history c.begin.new.dir)) c.in_ok-found.found.chunks c.in_ok-journal.ensures.path c.in_ok-journal.ensures.number keeps (now (g.D.Dir.history c.remove.new.dir)) below
+
+pub returns-clause-gap : goal.returns-clause-gap
+returns-clause-gap g c = λ honest stray.
+    let older_honest = c.in_ok-older.ensures.honest (c.in_ok-found.ensures.honest honest) in
+    let on = afresh (g.D.Dir.opened c.find.new.dir) (g.D.Dir.opened c.open.new.dir) c.in_ok-older.ensures.others (now (g.D.Dir.history c.args.dir.now)) (now (g.D.Dir.history c.find.new.dir)) (now (g.D.Dir.history c.open.new.dir)) c.args.path.now
+    c.in_ok-found.found.greatest c.in_ok-found.found.file c.in_ok-found.found.places c.in_ok-found.found.chunks (c.in_ok-found.ensures.same honest) (c.in_ok-older.ensures.same (c.in_ok-found.ensures.honest honest)) c.in_ok-found.ensures.below (c.in_ok-found.ensures.greatest honest)
+    (c.in_ok-found.ensures.source honest) in
+    let begun_honest = c.in_ok-journal.ensures.honest older_honest in
+    let keeps = c.in_ok-journal.ensures.ok older_honest (none on stray) on.source in
+    let below = said_of (λ (p : List ℕ) (k : ℕ). ChangesBelow p k (now (g.D.Dir.history c.begin.new.dir)) (now (g.D.Dir.history c.remove.new.dir))) c.in_ok-older.ensures.path c.in_ok-older.ensures.number (c.remove.ensures.elsewhere begun_honest) in
+    no_gap_still c.args.path.now (c.in_ok-found.found.greatest + 1) c.in_ok-journal.journal (now (g.D.Dir.history c.begin.new.dir)) c.in_ok-found.found.chunks c.in_ok-journal.ensures.path c.in_ok-journal.ensures.number keeps (now (g.D.Dir.history c.remove.new.dir)) below
 
 pub returns-clause-keeps : goal.returns-clause-keeps
 returns-clause-keeps g c = λ honest stray.
@@ -176,7 +177,7 @@ returns-clause-alone g c = λ honest n from lt.
 
 pub returns-clause-next : goal.returns-clause-next
 returns-clause-next g c = λ honest.
-    is_next c.args.path.now (reads (now (g.D.Dir.history c.args.dir.now))) c.in_ok-found.found.greatest c.in_ok-journal.journal.number c.in_ok-journal.ensures.number (c.in_ok-found.ensures.greatest honest)
+    is_next c.args.path.now (now (g.D.Dir.history c.args.dir.now)) c.in_ok-found.found.greatest c.in_ok-journal.journal.number c.in_ok-journal.ensures.number (c.in_ok-found.ensures.greatest honest)
 
 pub returns-in_err-journal-clause-unchanged : goal.returns-in_err-journal-clause-unchanged
 returns-in_err-journal-clause-unchanged g c = λ honest not_fault.
@@ -240,3 +241,35 @@ returns-in_err-remove-clause-cause g c =
     let so_far : g.D.Dir.fault_count c.begin.new.dir ≡ g.D.Dir.fault_count c.args.dir.now = c.in_ok-journal.ensures.cause.passed ∙ c.in_ok-older.ensures.cause.passed ∙ c.in_ok-found.ensures.cause.passed in
     subst (λ (n : ℕ). HasReason n (g.D.Dir.fault_count c.remove.new.dir) c.from_residual-in_err-remove.result opening.Fault) so_far
     (reason_dir (g.D.Dir.fault_count c.begin.new.dir) (g.D.Dir.fault_count c.remove.new.dir) e c.from_residual-in_err-remove.result c.in_err-remove.ensures.only c.in_err-remove.ensures.cause answer)
+
+pub returns-in_err-found-clause-left : goal.returns-in_err-found-clause-left
+returns-in_err-found-clause-left g c = λ honest gap. any_err _ (inl (λ q. ap read_of (c.find.ensures.same honest q)))
+
+pub returns-in_err-older-clause-left : goal.returns-in_err-older-clause-left
+returns-in_err-older-clause-left g c = λ honest gap. any_err _ (inl (λ q. ap read_of (c.open.ensures.same (c.in_ok-found.ensures.honest honest) q ∙ c.in_ok-found.ensures.same honest q)))
+
+pub returns-in_err-journal-clause-left : goal.returns-in_err-journal-clause-left
+returns-in_err-journal-clause-left g c = λ honest gap.
+    let older_honest = c.in_ok-older.ensures.honest (c.in_ok-found.ensures.honest honest) in
+    let on = afresh (g.D.Dir.opened c.find.new.dir) (g.D.Dir.opened c.open.new.dir) c.in_ok-older.ensures.others (now (g.D.Dir.history c.args.dir.now)) (now (g.D.Dir.history c.find.new.dir)) (now (g.D.Dir.history c.open.new.dir)) c.args.path.now
+    c.in_ok-found.found.greatest c.in_ok-found.found.file c.in_ok-found.found.places c.in_ok-found.found.chunks (c.in_ok-found.ensures.same honest) (c.in_ok-older.ensures.same (c.in_ok-found.ensures.honest honest)) c.in_ok-found.ensures.below (c.in_ok-found.ensures.greatest honest)
+    (c.in_ok-found.ensures.source honest) in
+    let next = is_next c.args.path.now (now (g.D.Dir.history c.args.dir.now)) c.in_ok-found.found.greatest (c.in_ok-found.found.greatest + 1) refl (c.in_ok-found.ensures.greatest honest) in
+    any_err _ (left_next c.args.path.now (c.in_ok-found.found.greatest + 1) _ _ (now (g.D.Dir.history c.args.dir.now)) (now (g.D.Dir.history c.begin.new.dir)) next
+    (given_up_behind (g.D.Dir.fault_count c.args.dir.now) (g.D.Dir.fault_count c.open.new.dir) (g.D.Dir.fault_count c.begin.new.dir) _ (now (g.D.Dir.history c.args.dir.now)) (now (g.D.Dir.history c.open.new.dir)) (now (g.D.Dir.history c.begin.new.dir))
+    (c.in_ok-older.ensures.cause.passed ∙ c.in_ok-found.ensures.cause.passed) on.same (c.in_err-journal.ensures.left older_honest on.source)))
+
+pub returns-in_err-remove-clause-left : goal.returns-in_err-remove-clause-left
+returns-in_err-remove-clause-left g c = λ honest gap.
+    let older_honest = c.in_ok-older.ensures.honest (c.in_ok-found.ensures.honest honest) in
+    let on = afresh (g.D.Dir.opened c.find.new.dir) (g.D.Dir.opened c.open.new.dir) c.in_ok-older.ensures.others (now (g.D.Dir.history c.args.dir.now)) (now (g.D.Dir.history c.find.new.dir)) (now (g.D.Dir.history c.open.new.dir)) c.args.path.now
+    c.in_ok-found.found.greatest c.in_ok-found.found.file c.in_ok-found.found.places c.in_ok-found.found.chunks (c.in_ok-found.ensures.same honest) (c.in_ok-older.ensures.same (c.in_ok-found.ensures.honest honest)) c.in_ok-found.ensures.below (c.in_ok-found.ensures.greatest honest)
+    (c.in_ok-found.ensures.source honest) in
+    let begun_honest = c.in_ok-journal.ensures.honest older_honest in
+    let keeps = c.in_ok-journal.ensures.ok older_honest (none on gap) on.source in
+    let below = said_of (λ (p : List ℕ) (k : ℕ). ChangesBelow p k (now (g.D.Dir.history c.begin.new.dir)) (now (g.D.Dir.history c.remove.new.dir))) c.in_ok-older.ensures.path c.in_ok-older.ensures.number (c.remove.ensures.elsewhere begun_honest) in
+    any_err _ (inr (record {
+      number = c.in_ok-found.found.greatest + 1;
+      next = is_next c.args.path.now (now (g.D.Dir.history c.args.dir.now)) c.in_ok-found.found.greatest (c.in_ok-found.found.greatest + 1) refl (c.in_ok-found.ensures.greatest honest);
+      left = inr (whole_still c.args.path.now (c.in_ok-found.found.greatest + 1) c.in_ok-journal.journal (now (g.D.Dir.history c.begin.new.dir)) c.in_ok-found.found.chunks c.in_ok-journal.ensures.path c.in_ok-journal.ensures.number keeps (now (g.D.Dir.history c.remove.new.dir)) below);
+    }))
