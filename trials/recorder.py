@@ -1,5 +1,5 @@
 """Servers of the Forward Protocol that keep what relays send: standard library alone."""
-import base64, os, socket, struct, threading
+import base64, os, socket, struct, threading, time
 from client import HOST, Stream, array, digest, table, text
 
 
@@ -9,7 +9,7 @@ class Recorder(threading.Thread):
     def __init__(self, key=None, silent=0, host=HOST):
         super().__init__(daemon=True)
         self.key, self.silent, self.host = key, silent, host
-        self.chunks, self.salts, self.connections = [], [], []
+        self.chunks, self.times, self.salts, self.connections = [], [], [], []
         self.socket = socket.create_server((host, 0), backlog=128)
         self.port = self.socket.getsockname()[1]
         self.start()
@@ -30,6 +30,7 @@ class Recorder(threading.Thread):
                 self.shake(stream)
             while True:
                 tag, packed, option = stream.value()
+                self.times.append(time.monotonic())
                 self.chunks.append((tag, packed, option[b"chunk"]))
                 if place > self.silent:
                     stream.send(table([("ack", text(option[b"chunk"]))]))

@@ -4,3 +4,4 @@ pub mod Drawing
 pub mod Holding
 pub mod Terms
 pub mod Redeeming
+pub mod Shown

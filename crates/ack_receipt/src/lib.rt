@@ -13,7 +13,7 @@ pub use book_audit::{AuditError, BookFault, Leaf, Part, Stub};
 pub use buffer_book::{Basis, Claim, Closed, Evidence, PurgeFault, Takes};
 pub use delivery::{Delivery, Unbegun};
 pub use fault::RedeemFault;
-pub use locked::{Pending, Receipt};
+pub use locked::{GivenBack, GivenUp, Pending, Receipt, Unstaged};
 pub use number::{DeliveryNo, Numbers};
 pub use reserved::Reserved;
 pub use shared::SharedBuffer;

@@ -2,16 +2,17 @@
 //! a delivery, pending appends, a claim with its evidence, a stub. Receipts and pending appends are made in this module's
 //! parts alone, and nobody outside is lent the book.
 
-ghost use Rattle.std.specs.Prelude.{◌≡◌, ◌↔◌, ◌⊎◌, [], ℕ, true, cond, length, Some, None, Ok, Err, IfOk, IfErr, IfSome, IsSome, IsTrue, OnOk, OnErr, option_map};
+ghost use Rattle.std.specs.Prelude.{◌≡◌, ◌↔◌, ◌⊎◌, ◌+◌, [], ℕ, true, false, cond, length, Some, None, Ok, Err, IfOk, IfErr, IfSome, IsSome, IsSomeAnd, IsTrue, OnOk, OnErr, option_map};
 ghost use Rattle.std.specs.Ordering.{nat_cmp};
 ghost use Rattle.std.specs.BTreeMap.{is_at};
 ghost use Rattle.book_audit.specs.Audits.{AreInBook, Closes, IsAgain, Settles, lines_of};
 ghost use Rattle.book_audit.specs.declared.fault.BookFault.{BookFault};
 ghost use Rattle.buffer_state.specs.State.{IsAt, chunk_at};
 ghost use Rattle.buffer_state.specs.Steps.{claimed, first_of, queued_last};
-ghost use Rattle.buffer_state.specs.declared.chunk.Stage.TheVariants.{Claimed};
+ghost use Rattle.buffer_state.specs.declared.chunk.Stage.TheVariants.{Claimed, Staged};
+ghost use Rattle.buffer_store.specs.Durability.{BeganWell};
 ghost use Rattle.buffer_book.specs.Told.{counts_of};
-ghost use Rattle.buffer_book.specs.Books.{IsWaiting, Removes, Syncs, Unchanged, waiting_at};
+ghost use Rattle.buffer_book.specs.Books.{IsWaiting, Removes, Syncs, Unchanged, WantsRenewal, waiting_at};
 ghost use Rattle.buffer_book.specs.Claims.{IsCopied};
 ghost use Rattle.buffer_book.specs.Evidences.{CanCompare, IsFor, Serves, ShowsLike, to_drop};
 ghost use Rattle.ack_receipt.specs.Redeeming.{IsRedeemable, line_of};
@@ -20,6 +21,7 @@ mod appending;
 mod pending;
 mod receipt;
 mod redeeming;
+mod shown;
 mod terms;
 
 use book_audit::{BookFault, Leaf, Stub};
@@ -29,8 +31,10 @@ use disk_files::Dir;
 use event_modes::Entries;
 pub use pending::Pending;
 pub use receipt::Receipt;
+pub use shown::{GivenBack, GivenUp, Unstaged};
 use std::alloc::{AllocError, Allocator};
 use std::marker::Model;
+use std::snapshot::Snapshot;
 pub(crate) use terms::Terms;
 
 /// A buffer with its book, as the lock of a shared buffer keeps it. Contracts see the `Book`.
@@ -67,7 +71,8 @@ impl<D: Dir, A: Allocator + Copy> LockedBuffer<D, A> {
 
     /// Ends an append's wait for a receipt, and takes its note out of the book where it is of this buffer. Its entries
     /// stay in the buffer.
-    pub(crate) fn give_up(&mut self, terms: &Terms<A>, pending: Pending<A>)
+    pub(crate) fn give_up(&mut self, terms: &Terms<A>, pending: Pending<A>) -> GivenUp<A>
+        ensures shown { result ≡ pending }
         ensures own { IsRedeemable terms.now.leaf self.old.waiting pending
             → (other : ℕ) → waiting_at self.new.waiting other
             ≡ cond (is_at (nat_cmp pending.place) other) None (waiting_at self.old.waiting other) }
@@ -77,7 +82,9 @@ impl<D: Dir, A: Allocator + Copy> LockedBuffer<D, A> {
         if pending.leaf == terms.leaf {
             self.booked.forget(pending.place, &pending.line());
         }
+        let of = Snapshot::of(&pending);
         pending.give_up();
+        GivenUp { of }
     }
 
     /// Queues the staged chunk of this serial, and syncs the journal. See `Booked::enqueue`.
@@ -90,11 +97,35 @@ impl<D: Dir, A: Allocator + Copy> LockedBuffer<D, A> {
         self.booked.enqueue(serial)
     }
 
+    /// The same, and shows that no chunk of this serial is staged any more. It changes nothing where none was.
+    pub(crate) fn enqueue_shown(
+        &mut self,
+        terms: &Terms<A>,
+        serial: u64,
+    ) -> Result<Unstaged, BufferFault>
+        ensures shown { IfOk result (λ shown. shown ≡ record { leaf = terms.now.leaf; serial = serial }) }
+        ensures done { OnOk result ((self.new.buffer.chunks ≡ queued_last serial self.old.buffer.chunks)
+            ⊎ ((IsAt Staged self.old.buffer.chunks serial → ⊥) × (self.new.buffer.chunks ≡ self.old.buffer.chunks))) }
+        ensures err { OnErr result (self.new.buffer.chunks ≡ self.old.buffer.chunks) }
+        ensures book { self.new ≡ record self.old { buffer = self.new.buffer; synced = self.new.synced } }
+        ensures syncs { Syncs self.old self.new }
+    {
+        match self.booked.enqueue(serial) {
+            Ok(()) | Err(BufferFault::Gone) => Ok(Unstaged {
+                leaf: terms.leaf,
+                serial,
+            }),
+            Err(fault) => Err(fault),
+        }
+    }
+
     /// Goes on in a new generation of the journal, where it is long enough; else it does nothing. See `Booked::renew`.
     pub(crate) fn renew(&mut self) -> Result<(), BufferFault>
         ensures chunks { self.new.buffer.chunks ≡ self.old.buffer.chunks }
         ensures book { self.new ≡ record self.old { buffer = self.new.buffer; synced = self.new.synced } }
         ensures syncs { Syncs self.old self.new }
+        ensures idle { self.old.buffer.failed ≡ false → (WantsRenewal self.old.buffer → ⊥) → (result ≡ Ok tt) × (self.new ≡ self.old) }
+        ensures number { WantsRenewal self.old.buffer → OnOk result (self.new.buffer.journal.number ≡ self.old.buffer.journal.number + 1) }
     {
         self.booked.renew()
     }
@@ -131,6 +162,8 @@ impl<D: Dir, A: Allocator + Copy> LockedBuffer<D, A> {
         claim: &Claim<A>,
     ) -> Result<Entries<A>, BufferFault>
         ensures own { OnOk result ((claim.now.leaf ≡ terms.now.leaf) × IsCopied claim.now self.old.buffer.chunks) }
+        ensures entries { BeganWell D.is_honest D.history self.old.buffer
+            → IfOk result (λ entries. IsSomeAnd (chunk_at self.old.buffer.chunks claim.now.serial) (λ chunk. entries ≡ chunk.entries)) }
         ensures counted { IfOk result (λ entries. length entries ≡ claim.now.count) }
         ensures rest { self.new ≡ record self.old { buffer = record self.old.buffer { dir = self.new.buffer.dir } } }
     {
@@ -139,13 +172,17 @@ impl<D: Dir, A: Allocator + Copy> LockedBuffer<D, A> {
 
     /// Ends a claim of this buffer whose chunk wasn't delivered: the chunk goes to the end of the queue where it is
     /// claimed, and else nothing changes.
-    pub(crate) fn give_back(&mut self, terms: &Terms<A>, claim: Claim<A>)
+    pub(crate) fn give_back(&mut self, terms: &Terms<A>, claim: Claim<A>) -> GivenBack<A>
         requires own { claim.leaf ≡ terms.now.leaf }
+        ensures shown { result ≡ claim }
         ensures back { IsAt Claimed self.old.buffer.chunks claim.serial
             → self.new ≡ record self.old { buffer = record self.old.buffer { chunks = queued_last claim.serial self.old.buffer.chunks } } }
         ensures other { (IsAt Claimed self.old.buffer.chunks claim.serial → ⊥) → self.new ≡ self.old }
+        ensures ended { IsAt Claimed self.new.buffer.chunks claim.serial → ⊥ }
     {
+        let of = Snapshot::of(&claim);
         self.booked.give_back(terms.leaf, claim);
+        GivenBack { of }
     }
 
     /// Lets the chunk of a claim go, on evidence that it may, and notes that it is removed. See `Booked::purge`.

@@ -6,7 +6,7 @@ ghost use Rattle.ack_receipt.specs.Redeeming.{AreReceiptsOf};
 
 use crate::delivery::Delivery;
 use crate::fault::RedeemFault;
-use crate::locked::{LockedBuffer, Pending, Receipt, Terms};
+use crate::locked::{GivenBack, GivenUp, LockedBuffer, Pending, Receipt, Terms, Unstaged};
 use book_audit::{BookFault, Leaf, Stub};
 use buffer_book::{Claim, Closed, Evidence, PurgeFault, Takes};
 use buffer_store::{Buffer, BufferFault};
@@ -100,8 +100,10 @@ impl<D: Dir, A: Allocator + Copy> SharedBuffer<D, A> {
     }
 
     /// Ends an append's wait for a receipt, and takes its note out of the book where it is of this buffer. Its entries stay in the buffer.
-    pub fn give_up<R: Wait>(&self, rt: &R, pending: Pending<A>) {
-        self.lock.lock(rt).give_up(&self.terms, pending);
+    pub fn give_up<R: Wait>(&self, rt: &R, pending: Pending<A>) -> GivenUp<A>
+        ensures { result ≡ pending }
+    {
+        self.lock.lock(rt).give_up(&self.terms, pending)
     }
 
     /// Queues the staged chunk of this serial, and syncs the journal.
@@ -109,6 +111,16 @@ impl<D: Dir, A: Allocator + Copy> SharedBuffer<D, A> {
     /// The first of `Failed`, `Gone`, `LastSerial`, `Memory` and `Fault` that applies. None changes the chunks.
     pub fn enqueue<R: Wait>(&self, rt: &R, serial: u64) -> Result<(), BufferFault> {
         self.lock.lock(rt).enqueue(serial)
+    }
+
+    /// The same, where what comes back shows that no chunk of this serial is staged any more. Where none was, it changes nothing, and
+    /// shows it too.
+    ///
+    /// The first of `Failed`, `LastSerial`, `Memory` and `Fault` that applies.
+    pub fn enqueue_shown<R: Wait>(&self, rt: &R, serial: u64) -> Result<Unstaged, BufferFault>
+        ensures { IfOk result (λ shown. shown ≡ record { leaf = self.now.leaf; serial = serial }) }
+    {
+        self.lock.lock(rt).enqueue_shown(&self.terms, serial)
     }
 
     /// Lets the queued chunk of least serial go, and gives its serial.
@@ -179,7 +191,15 @@ impl<D: Dir, A: Allocator + Copy> SharedBuffer<D, A> {
     pub fn give_back<R: Wait>(&self, rt: &R, claim: Claim<A>)
         requires { claim.leaf ≡ self.now.leaf }
     {
-        self.lock.lock(rt).give_back(&self.terms, claim);
+        let _ = self.give_back_shown(rt, claim);
+    }
+
+    /// The same, where what comes back shows it.
+    pub fn give_back_shown<R: Wait>(&self, rt: &R, claim: Claim<A>) -> GivenBack<A>
+        requires { claim.leaf ≡ self.now.leaf }
+        ensures { result ≡ claim }
+    {
+        self.lock.lock(rt).give_back(&self.terms, claim)
     }
 
     /// Closes the lines of the book that the stub's parts of this buffer name. It takes no memory.

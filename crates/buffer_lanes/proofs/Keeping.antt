@@ -25,8 +25,15 @@ still_after before (Ok _) first is = is
 still_after before (Err fault) first is = ap (λ (b : Option BufferFault). first_fault b fault) is
 
 -- the buffers, as contracts see them
-abbrev lanes_of : {A : Type 0} → List (LaneState A) → ℕ → Option BufferFault → LanesState A
-lanes_of lanes room fault = record { terms = map (λ l. l.terms) lanes; plans = map (λ l. l.plan) lanes; later = map (λ l. l.later) lanes; room = room; fault = fault }
+abbrev pub lanes_of : {A : Type 0} → List (LaneState A) → ℕ → Option BufferFault → LanesState A
+lanes_of lanes room fault = record {
+  terms = map (λ l. l.terms) lanes;
+  plans = map (λ l. l.plan) lanes;
+  waiting = map (λ l. l.waiting) lanes;
+  later = map (λ l. l.later) lanes;
+  room = room;
+  fault = fault;
+}
 
 -- one of them did something that keeps it, and answered so
 pub one_kept : {A T : Type 0} (lanes : List (LaneState A)) (i : ℕ) (old new : LaneState A) (room room' : ℕ) (first : Option BufferFault) (answer : Result T BufferFault)

@@ -1,1 +1,4 @@
 pub mod Keeping
+pub mod Appending
+pub mod Redeeming
+pub mod Leaving

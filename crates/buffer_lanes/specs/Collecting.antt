@@ -1,5 +1,5 @@
 -- What becomes of a delivery that waits for its receipts.
-use Rattle.std.specs.Prelude.{◌≡◌, ◌≢◌, ◌⊎◌, ⊤, All, Bool, true, false, List, [], filter, map, IsSomeAnd}
+use Rattle.std.specs.Prelude.{◌≡◌, ◌≢◌, ◌⊎◌, All, Bool, true, false, List, [], filter, map, IsSomeAnd}
 use Rattle.book_audit.specs.Stubs.{Left}
 use Rattle.ack_receipt.specs.Deliveries.{Appended, IsReceived, part_of}
 use Rattle.ack_receipt.specs.Reservations.{Reservation, answer_to}
@@ -20,10 +20,16 @@ pub record IsAcknowledged (awaited : Awaited) (left : Left) : Type 0 where
   pub each : All (IsReceived awaited.number receipts) awaited.leaves
   pub is : left ≡ record { delivery = awaited.number; parts = map part_of receipts }
 
--- An answer is that to the message, and each buffer gave a receipt for it; what waits on is the same delivery.
+-- what is left of the delivery has a part of each receipt that it took, and one of its buffers gave none
+pub record IsAbandoned (awaited : Awaited) (left : Left) : Type 0 where
+  pub receipts : List Appended
+  pub missing : ¬ All (IsReceived awaited.number receipts) awaited.leaves
+  pub is : left ≡ record { delivery = awaited.number; parts = map part_of receipts }
+
+-- An answer is that to the message, and each buffer gave a receipt for it; it is abandoned where one of them gave none; what waits on is the same delivery.
 abbrev pub IsCollected : {A : Type 0} → Awaited → Collected A → Type 0
 IsCollected awaited (Answered reserved stub) = IsAnswerTo awaited reserved × IsAcknowledged awaited stub
-IsCollected awaited (Abandoned stub) = ⊤
+IsCollected awaited (Abandoned stub) = IsAbandoned awaited stub
 IsCollected awaited (Later waiting) = waiting.awaited ≡ awaited
 
 -- those of the buffers whose receipts come later

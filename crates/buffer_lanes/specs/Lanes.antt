@@ -1,24 +1,34 @@
 -- The buffers of a relay, as its loop uses them.
-use Rattle.std.specs.Prelude.{ℕ, ◌≡◌, Bool, true, false, List, map, Option, None, Some, Result, Ok, Err, if◌then◌else◌, slice_get, unwrap_or}
+use Rattle.std.specs.Prelude.{ℕ, ◌≡◌, ◌-◌, ◌++◌, ◌∷◌, ◌⊎◌, ◌<◌, Bool, true, false, List, [], map, length, take, Option, None, Some, Result, Ok, Err, if◌then◌else◌, slice_get, slice_set, unwrap_or}
 use Rattle.buffer_store.specs.declared.fault.BufferFault.{BufferFault}
 use Rattle.buffer_store.specs.declared.fault.BufferFault.TheVariants.{Full, TooLarge, Gone, Fault, Failed, LastSerial, Damaged, Memory}
 use Rattle.relay_conf.specs.declared.output.BufferNo.{BufferNo}
+use Rattle.ack_receipt.specs.Deliveries.{Appended, Pended}
+use Rattle.ack_receipt.specs.Redeeming.{AreReceiptsOf}
 use Rattle.ack_receipt.specs.Terms.{Terms}
 use Rattle.buffer_lanes.specs.Schedules.{Plan, Timing, timing_of}
 
--- a buffer: its terms, when its staged chunks are queued, and whether there was no memory for its receipts, so that they come later
+-- a buffer: its terms, when its staged chunks are queued, its appends that wait for receipts, its receipts that nobody took yet, both in the order of the
+-- appends, and whether there was no memory for its receipts, so that they come later
 pub record LaneState (A : Type 0) : Type 0 where
   pub terms : Terms A
   pub plan : Plan
+  pub waiting : List Pended
+  pub receipts : List Appended
   pub later : Bool
 
 -- the buffers by their numbers, each with those; for how many more there is room; and the first fault of a device, if there was one
 pub record LanesState (A : Type 0) : Type 0 where
   pub terms : List (Terms A)
   pub plans : List Plan
+  pub waiting : List (List Pended)
   pub later : List Bool
   pub room : ℕ
   pub fault : Option BufferFault
+
+-- what is listed of this buffer; nothing of one that isn't there
+abbrev pub listed_at : {X : Type 0} → List (List X) → BufferNo → List X
+listed_at lists buffer = unwrap_or (slice_get lists buffer.0) []
 
 -- whether receipts of this buffer come later; one that isn't there gives none
 abbrev pub later_at : List Bool → BufferNo → Bool
@@ -59,3 +69,60 @@ first_fault None next = if is_lost next then Some next else None
 abbrev pub fault_after : {T : Type 0} → Option BufferFault → Result T BufferFault → Option BufferFault
 fault_after first (Ok answer) = first
 fault_after first (Err next) = first_fault first next
+
+-- The delivery was appended: its append waits behind the others, in the chunk of this serial.
+pub record IsAppended (number serial : ℕ) (before behind : List Pended) : Type 0 where
+  pub last : Pended
+  pub own : last.delivery ≡ number
+  pub chunk : last.serial ≡ serial
+  pub is : behind ≡ before ++ last ∷ []
+
+-- the last of these appends is of this delivery
+pub record EndsWith (number : ℕ) (waiting : List Pended) : Type 0 where
+  pub before : List Pended
+  pub last : Pended
+  pub own : last.delivery ≡ number
+  pub is : waiting ≡ before ++ last ∷ []
+
+-- appends without the last
+abbrev pub undone : List Pended → List Pended
+undone waiting = take (length waiting - 1) waiting
+
+-- Each of the appends that waited has its receipt, in their order, and none waits.
+pub record HaveReceipts {A : Type 0} (old new : LaneState A) : Type 0 where
+  pub later : new.later ≡ false
+  pub waiting : new.waiting ≡ []
+  pub receipts : AreReceiptsOf old.terms.leaf old.waiting new.receipts
+
+-- Their receipts come later: the same appends wait.
+pub record WaitOn {A : Type 0} (old new : LaneState A) : Type 0 where
+  pub later : new.later ≡ true
+  pub waiting : new.waiting ≡ old.waiting
+  pub receipts : new.receipts ≡ []
+
+-- They get none: nothing waits.
+pub record GetNone {A : Type 0} (new : LaneState A) : Type 0 where
+  pub later : new.later ≡ false
+  pub waiting : new.waiting ≡ []
+  pub receipts : new.receipts ≡ []
+
+-- The same at one of the buffers; the others' appends are as they were.
+pub record IsAppendedAt (buffer : BufferNo) (number serial : ℕ) (before behind : List (List Pended)) : Type 0 where
+  pub there : buffer.0 < length before
+  pub now : List Pended
+  pub one : IsAppended number serial (listed_at before buffer) now
+  pub is : behind ≡ slice_set before buffer.0 now
+
+-- What became of a buffer's appends that waited: they wait on where their receipts come later, and else none waits.
+abbrev pub AreRedeemed : List Pended → Bool → List Pended → Type 0
+AreRedeemed before true waiting = waiting ≡ before
+AreRedeemed before false waiting = waiting ≡ []
+
+-- the same at the buffer of this number
+abbrev pub AreRedeemedAt : {A : Type 0} → BufferNo → LanesState A → LanesState A → Type 0
+AreRedeemedAt buffer old new = AreRedeemed (listed_at old.waiting buffer) (later_at new.later buffer) (listed_at new.waiting buffer)
+
+-- nothing changed of the appends of this buffer that wait for receipts
+pub record IsUntouched {A : Type 0} (buffer : BufferNo) (old new : LanesState A) : Type 0 where
+  pub waiting : listed_at new.waiting buffer ≡ listed_at old.waiting buffer
+  pub later : later_at new.later buffer ≡ later_at old.later buffer

@@ -1,5 +1,5 @@
 -- When the staged chunks of a buffer are queued (Fluentd, "Config: Buffer Section", flush_mode, flush_interval).
-use Rattle.std.specs.Prelude.{ℕ, ◌-◌, Bool, List, [], ◌∷◌, ◌++◌, length, map, slice_get, Option, None, Some, if◌then◌else◌, nat_lt, not, true}
+use Rattle.std.specs.Prelude.{ℕ, ◌≡◌, ◌-◌, Bool, List, [], ◌∷◌, ◌++◌, length, map, slice_get, Option, None, Some, if◌then◌else◌, nat_lt, not, true}
 use Rattle.std.specs.List.{flat_map}
 use Rattle.buffer_state.specs.Shown.{Facts, numbered_facts}
 use Rattle.buffer_state.specs.State.{State, is_staged}
@@ -53,3 +53,8 @@ is_due Interval interval now staged = not (nat_lt (now - staged.since) interval)
 abbrev pub due_in : FlushMode → ℕ → ℕ → List Staged → Option ℕ
 due_in mode interval now [] = None
 due_in mode interval now (staged ∷ more) = if is_due mode interval now staged then Some staged.serial else None
+
+-- these are left of those, where the first ones are staged no more
+pub record AreLastOf (left before : List Staged) : Type 0 where
+  pub gone : List Staged
+  pub is : before ≡ gone ++ left

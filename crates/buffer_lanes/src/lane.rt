@@ -1,9 +1,10 @@
 //! A buffer as the loop uses it.
 
-ghost use Rattle.std.specs.Prelude.{◌≡◌, ◌<◌, false, length, IfOk, OnErr};
+ghost use Rattle.std.specs.Prelude.{◌≡◌, ◌<◌, ◌⊎◌, ◌↔◌, ◌++◌, [], false, length, IfOk, IfNone, IsTrue, OnOk, OnErr};
 ghost use Rattle.std.specs.Arc.{arc_value};
-ghost use Rattle.buffer_lanes.specs.Lanes.{KeepsLane};
-ghost use Rattle.buffer_lanes.specs.Schedules.{noted};
+ghost use Rattle.std.specs.Option.{option_to_list};
+ghost use Rattle.buffer_lanes.specs.Lanes.{GetNone, HaveReceipts, IsAppended, KeepsLane, WaitOn, undone};
+ghost use Rattle.buffer_lanes.specs.Schedules.{AreLastOf, noted};
 
 use crate::schedule::Schedule;
 use ack_receipt::{Delivery, Pending, Receipt, RedeemFault, SharedBuffer, Stub};
@@ -13,6 +14,7 @@ use std::alloc::Allocator;
 use std::marker::Model;
 use std::mem;
 use std::sync::{Arc, Wait};
+use std::vec::IntoIter;
 
 /// A buffer, its appends that wait for their receipts, the receipts that nobody took yet, and its staged chunks.
 ///
@@ -21,31 +23,37 @@ pub struct Lane<D: Dir, A: Allocator> {
     buffer: Arc<SharedBuffer<D, A>, A>,
     schedule: Schedule<A>,
     pendings: Vec<Pending<A>, A>,
-    // The last one first.
-    receipts: Vec<Receipt<A>, A>,
+    receipts: IntoIter<Receipt<A>, A>,
     // There was no memory for receipts.
     is_later: bool,
 }
 
 impl<D: Dir, A: Allocator> Model for Lane<D, A> {
     ghost use Rattle.std.specs.Arc.{arc_value};
+    ghost use Rattle.std.specs.Vec.Iter.{into_iter_items};
     ghost use Rattle.buffer_lanes.specs.Lanes.{LaneState};
 
     ghost Value = { LaneState A };
 
-    ghost view = { λ l. record { terms = arc_value l.buffer; plan = l.schedule; later = l.is_later } };
+    ghost view = { λ l. record {
+      terms = arc_value l.buffer;
+      plan = l.schedule;
+      waiting = l.pendings.items;
+      receipts = into_iter_items l.receipts;
+      later = l.is_later;
+    } };
 }
 
 impl<D: Dir + Drop, A: Allocator + Copy> Lane<D, A> {
     /// Nothing was appended yet.
     pub fn new(alloc: A, buffer: Arc<SharedBuffer<D, A>, A>, schedule: Schedule<A>) -> Self
-        ensures { result ≡ record { terms = arc_value buffer; plan = schedule; later = false } }
+        ensures { result ≡ record { terms = arc_value buffer; plan = schedule; waiting = []; receipts = []; later = false } }
     {
         Lane {
             buffer,
             schedule,
             pendings: Vec::new(alloc),
-            receipts: Vec::new(alloc),
+            receipts: Vec::new(alloc).into_iter(),
             is_later: false,
         }
     }
@@ -58,7 +66,9 @@ impl<D: Dir + Drop, A: Allocator + Copy> Lane<D, A> {
     }
 
     /// Whether appends wait for their receipts.
-    pub fn has_pendings(&self) -> bool {
+    pub fn has_pendings(&self) -> bool
+        ensures { IsTrue result ↔ (0 < length self.now.waiting) }
+    {
         !self.pendings.is_empty()
     }
 
@@ -70,7 +80,9 @@ impl<D: Dir + Drop, A: Allocator + Copy> Lane<D, A> {
     }
 
     /// How many receipts nobody took yet.
-    pub fn ready(&self) -> usize {
+    pub fn ready(&self) -> usize
+        ensures { result ≡ length self.now.receipts }
+    {
         self.receipts.len()
     }
 
@@ -89,6 +101,9 @@ impl<D: Dir + Drop, A: Allocator + Copy> Lane<D, A> {
         ensures later { self.new.later ≡ self.old.later }
         ensures staged { IfOk result (λ serial. self.new.plan.chunks ≡ noted serial now self.old.plan.chunks) }
         ensures err { OnErr result (self.new.plan.chunks ≡ self.old.plan.chunks) }
+        ensures appended { IfOk result (λ serial. IsAppended delivery.now.number serial self.old.waiting self.new.waiting) }
+        ensures none { OnErr result (self.new.waiting ≡ self.old.waiting) }
+        ensures receipts { self.new.receipts ≡ self.old.receipts }
     {
         self.schedule.reserve()?;
         self.pendings.reserve(1)?;
@@ -101,7 +116,7 @@ impl<D: Dir + Drop, A: Allocator + Copy> Lane<D, A> {
 
     /// The last append gets no receipt.
     pub fn undo<R: Wait>(&mut self, rt: &R)
-        ensures { self.new ≡ self.old }
+        ensures { self.new ≡ record self.old { waiting = undone self.old.waiting } }
     {
         if let Some(pending) = self.pendings.pop() {
             self.buffer.give_up(rt, pending);
@@ -113,14 +128,15 @@ impl<D: Dir + Drop, A: Allocator + Copy> Lane<D, A> {
     /// The error is that of the device.
     pub fn queue_due<R: Wait>(&mut self, rt: &R, now: u64) -> Result<(), BufferFault>
         ensures kept { KeepsLane self.old self.new }
-        ensures later { self.new.later ≡ self.old.later }
+        ensures rest { self.new ≡ record self.old { plan = self.new.plan } }
+        ensures chunks { AreLastOf self.new.plan.chunks self.old.plan.chunks }
     {
         'chunks: for _ in rt.forever() {
             let Some(serial) = self.schedule.due(now) else {
                 return Ok(());
             };
-            match self.buffer.enqueue(rt, serial) {
-                Ok(()) | Err(BufferFault::Gone) => self.schedule.forget_first(),
+            match self.buffer.enqueue_shown(rt, serial) {
+                Ok(unstaged) => self.schedule.forget_first(unstaged),
                 Err(BufferFault::Memory) => return Ok(()),
                 Err(fault) => return Err(fault),
             }
@@ -131,10 +147,13 @@ impl<D: Dir + Drop, A: Allocator + Copy> Lane<D, A> {
     /// Makes receipts of the appends, in their order, by one sync where one is needed. Receipts that nobody took before are of
     /// deliveries that ended without them: they are spent. Without memory the appends wait for the next turn.
     ///
-    /// The error is that of the device: the appends get no receipts.
+    /// The error is that of the device: the appends get no receipts. `Gone` doesn't come, since each of the appends waits in the
+    /// buffer's book.
     pub fn redeem<R: Wait>(&mut self, rt: &R) -> Result<(), BufferFault>
-        ensures rest { self.new ≡ record self.old { later = self.new.later } }
-        ensures err { OnErr result (self.new.later ≡ false) }
+        ensures terms { self.new.terms ≡ self.old.terms }
+        ensures plan { self.new.plan ≡ self.old.plan }
+        ensures ok { OnOk result (HaveReceipts self.old self.new ⊎ WaitOn self.old self.new) }
+        ensures err { OnErr result (GetNone self.new) }
     {
         let alloc = *self.pendings.allocator();
         self.keep(rt, Vec::new(alloc));
@@ -159,17 +178,16 @@ impl<D: Dir + Drop, A: Allocator + Copy> Lane<D, A> {
             }
             Err((RedeemFault::Stranger, list)) => {
                 give_up(rt, &self.buffer, list);
-                Ok(())
+                Err(BufferFault::Gone)
             }
         }
     }
 
     // These receipts are to be handed out, and no others: those are spent.
-    fn keep<R: Wait>(&mut self, rt: &R, mut receipts: Vec<Receipt<A>, A>)
-        ensures { self.new ≡ self.old }
+    fn keep<R: Wait>(&mut self, rt: &R, receipts: Vec<Receipt<A>, A>)
+        ensures { self.new ≡ record self.old { receipts = receipts.items } }
     {
-        receipts.reverse();
-        let mut others = mem::replace(&mut self.receipts, receipts).into_iter();
+        let mut others = mem::replace(&mut self.receipts, receipts.into_iter());
         while let Some(receipt) = others.next() {
             let stub = receipt.spend();
             self.settle(rt, &stub);
@@ -179,9 +197,11 @@ impl<D: Dir + Drop, A: Allocator + Copy> Lane<D, A> {
 
     /// The receipt of the first append of those that nobody took it of yet; `None` where there is none.
     pub fn give(&mut self) -> Option<Receipt<A>>
-        ensures { self.new ≡ self.old }
+        ensures first { self.old.receipts ≡ option_to_list result ++ self.new.receipts }
+        ensures none { IfNone result (self.old.receipts ≡ []) }
+        ensures rest { self.new ≡ record self.old { receipts = self.new.receipts } }
     {
-        self.receipts.pop()
+        self.receipts.next()
     }
 
     /// What a delivery left is accounted for in the buffer's book.
@@ -212,7 +232,7 @@ impl<D: Dir + Drop, A: Allocator + Copy> Lane<D, A> {
             is_later: _,
         } = self;
         give_up(rt, &buffer, pendings);
-        let mut rest = receipts.into_iter();
+        let mut rest = receipts;
         while let Some(receipt) = rest.next() {
             let _ = buffer.settle(rt, &receipt.spend());
         }
@@ -227,6 +247,7 @@ fn append_to<R: Wait, D: Dir, A: Allocator + Copy>(
     delivery: &Delivery<A>,
 ) -> Result<Pending<A>, BufferFault>
     requires { 0 < length delivery.now.message.entries }
+    ensures { IfOk result (λ pending. pending.delivery ≡ delivery.now.number) }
 {
     for _ in rt.forever() {
         match buffer.append_pending(rt, delivery) {

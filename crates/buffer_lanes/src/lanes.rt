@@ -1,7 +1,8 @@
 //! The buffers of a relay, as its loop uses them.
 
-ghost use Rattle.std.specs.Prelude.{◌≡◌, ◌<◌, ◌≤◌, ◌+◌, ◌++◌, ◌∷◌, [], None, length, IfOk, IfSome};
-ghost use Rattle.buffer_lanes.specs.Lanes.{KeepsLanes, fault_after, is_lost as is_lost_fault, later_at};
+ghost use Rattle.std.specs.Prelude.{◌≡◌, ◌≢◌, ◌<◌, ◌≤◌, ◌+◌, ◌++◌, ◌∷◌, [], None, length, slice_set, Contains, IfOk, IfSome, IsFalse, IsTrue, OnErr};
+ghost use Rattle.relay_conf.specs.declared.output.BufferNo.{BufferNo};
+ghost use Rattle.buffer_lanes.specs.Lanes.{AreRedeemedAt, EndsWith, IsAppendedAt, IsUntouched, KeepsLanes, fault_after, is_lost as is_lost_fault, later_at, listed_at, undone};
 ghost use Rattle.buffer_lanes.specs.Waits.{HasEntries};
 
 use crate::lane::Lane;
@@ -33,6 +34,7 @@ impl<D: Dir, A: Allocator> Model for Lanes<D, A> {
     ghost view = { λ l. record {
       terms = map (λ lane. lane.terms) l.lanes.items;
       plans = map (λ lane. lane.plan) l.lanes.items;
+      waiting = map (λ lane. lane.waiting) l.lanes.items;
       later = map (λ lane. lane.later) l.lanes.items;
       room = vec_capacity l.lanes - vec_len l.lanes;
       fault = l.fault;
@@ -42,7 +44,7 @@ impl<D: Dir, A: Allocator> Model for Lanes<D, A> {
 impl<D: Dir + Drop, A: Allocator + Copy> Lanes<D, A> {
     /// No buffers yet, and room for so many. The error is want of memory.
     pub fn with_capacity(alloc: A, count: usize) -> Result<Self, AllocError>
-        ensures none { IfOk result (λ lanes. lanes ≡ record { terms = []; plans = []; later = []; room = lanes.room; fault = None }) }
+        ensures none { IfOk result (λ lanes. lanes ≡ record { terms = []; plans = []; waiting = []; later = []; room = lanes.room; fault = None }) }
         ensures room { IfOk result (λ lanes. count ≤ lanes.room) }
     {
         let lanes = Vec::with_capacity(alloc, count)?;
@@ -60,6 +62,7 @@ impl<D: Dir + Drop, A: Allocator + Copy> Lanes<D, A> {
         ensures room { self.new.room + 1 ≡ self.old.room }
         ensures terms { self.new.terms ≡ self.old.terms ++ lane.terms ∷ [] }
         ensures plans { self.new.plans ≡ self.old.plans ++ lane.plan ∷ [] }
+        ensures waiting { self.new.waiting ≡ self.old.waiting ++ lane.waiting ∷ [] }
         ensures later { self.new.later ≡ self.old.later ++ lane.later ∷ [] }
         ensures fault { self.new.fault ≡ self.old.fault }
     {
@@ -106,19 +109,30 @@ impl<D: Dir + Drop, A: Allocator + Copy> Lanes<D, A> {
         answer
     }
 
-    /// Appends the delivery's entries to each of these buffers. `false` where one refuses: then none of them gives a receipt.
+    /// Appends the delivery's entries to each of these buffers, in their order. `false` where one refuses: then none of them has an
+    /// append of the delivery that waits for a receipt.
     pub fn append<R: Wait>(&mut self, rt: &R, buffers: &[BufferNo], delivery: &Delivery<A>) -> bool
         requires { HasEntries delivery.now buffers.now }
         ensures kept { KeepsLanes self.old self.new }
         ensures later { self.new.later ≡ self.old.later }
+        ensures appended { IsTrue result → (buffer : BufferNo) → Contains buffers.now buffer
+            → EndsWith delivery.now.number (listed_at self.new.waiting buffer) }
+        ensures undone { IsFalse result → self.new.waiting ≡ self.old.waiting }
+        // Behind an append of the delivery come others of it alone.
+        ensures last { (buffer : BufferNo) → EndsWith delivery.now.number (listed_at self.old.waiting buffer)
+            → EndsWith delivery.now.number (listed_at self.new.waiting buffer) }
     {
-        for at in 0..buffers.len() {
-            if self.append_to(rt, buffers[at], delivery).is_err() {
-                self.undo(rt, buffers.split_at(at).0);
-                return false;
-            }
+        let Some((first, others)) = buffers.split_first() else {
+            return true;
+        };
+        let Ok(_) = self.append_to(rt, *first, delivery) else {
+            return false;
+        };
+        if self.append(rt, others, delivery) {
+            return true;
         }
-        true
+        self.undo_at(rt, *first);
+        false
     }
 
     // Appends to one of them, and gives the serial of the chunk that has the entries.
@@ -131,6 +145,8 @@ impl<D: Dir + Drop, A: Allocator + Copy> Lanes<D, A> {
         requires { 0 < length delivery.now.message.entries }
         ensures kept { KeepsLanes self.old self.new }
         ensures later { self.new.later ≡ self.old.later }
+        ensures appended { IfOk result (λ serial. IsAppendedAt buffer delivery.now.number serial self.old.waiting self.new.waiting) }
+        ensures none { OnErr result (self.new.waiting ≡ self.old.waiting) }
         ensures fault { self.new.fault ≡ fault_after self.old.fault result }
     {
         let now = self.time;
@@ -141,17 +157,9 @@ impl<D: Dir + Drop, A: Allocator + Copy> Lanes<D, A> {
         self.heed(answer)
     }
 
-    // The last append to each of these gets no receipt.
-    fn undo<R: Wait>(&mut self, rt: &R, buffers: &[BufferNo])
-        ensures { self.new ≡ self.old }
-    {
-        for buffer in buffers {
-            self.undo_at(rt, *buffer);
-        }
-    }
-
+    // The last append to this one gets no receipt.
     fn undo_at<R: Wait>(&mut self, rt: &R, buffer: BufferNo)
-        ensures { self.new ≡ self.old }
+        ensures { self.new ≡ record self.old { waiting = slice_set self.old.waiting buffer.0 (undone (listed_at self.old.waiting buffer)) } }
     {
         let Some(lane) = self.lanes.get_mut(buffer.0) else {
             return;
@@ -162,7 +170,7 @@ impl<D: Dir + Drop, A: Allocator + Copy> Lanes<D, A> {
     /// Queues the chunks that are to be queued now.
     pub fn queue_due<R: Wait>(&mut self, rt: &R)
         ensures kept { KeepsLanes self.old self.new }
-        ensures later { self.new.later ≡ self.old.later }
+        ensures rest { self.new ≡ record self.old { plans = self.new.plans; fault = self.new.fault } }
     {
         for at in 0..self.lanes.len() {
             let _ = self.queue_due_at(rt, at);
@@ -171,8 +179,7 @@ impl<D: Dir + Drop, A: Allocator + Copy> Lanes<D, A> {
 
     fn queue_due_at<R: Wait>(&mut self, rt: &R, at: usize) -> Result<(), BufferFault>
         ensures kept { KeepsLanes self.old self.new }
-        ensures later { self.new.later ≡ self.old.later }
-        ensures fault { self.new.fault ≡ fault_after self.old.fault result }
+        ensures rest { self.new ≡ record self.old { plans = self.new.plans; fault = fault_after self.old.fault result } }
     {
         let now = self.time;
         let Some(lane) = self.lanes.get_mut(at) else {
@@ -186,6 +193,7 @@ impl<D: Dir + Drop, A: Allocator + Copy> Lanes<D, A> {
     pub fn redeem<R: Wait>(&mut self, rt: &R)
         ensures kept { KeepsLanes self.old self.new }
         ensures plans { self.new.plans ≡ self.old.plans }
+        ensures redeemed { (buffer : BufferNo) → AreRedeemedAt buffer self.old self.new }
     {
         for at in 0..self.lanes.len() {
             let _ = self.redeem_at(rt, at);
@@ -195,6 +203,8 @@ impl<D: Dir + Drop, A: Allocator + Copy> Lanes<D, A> {
     fn redeem_at<R: Wait>(&mut self, rt: &R, at: usize) -> Result<(), BufferFault>
         ensures kept { KeepsLanes self.old self.new }
         ensures plans { self.new.plans ≡ self.old.plans }
+        ensures redeemed { (buffer : BufferNo) → buffer.0 ≡ at → AreRedeemedAt buffer self.old self.new }
+        ensures others { (buffer : BufferNo) → buffer.0 ≢ at → IsUntouched buffer self.old self.new }
         ensures fault { self.new.fault ≡ fault_after self.old.fault result }
     {
         let Some(lane) = self.lanes.get_mut(at) else {
@@ -247,7 +257,10 @@ impl<D: Dir + Drop, A: Allocator + Copy> Lanes<D, A> {
     pub fn give(&mut self, buffer: BufferNo) -> Option<Receipt<A>>
         ensures { self.new ≡ self.old }
     {
-        self.lanes.get_mut(buffer.0)?.give()
+        let Some(lane) = self.lanes.get_mut(buffer.0) else {
+            return None;
+        };
+        lane.give()
     }
 
     /// What is left of a delivery: it is kept, or accounted for in the books of its buffers, also where there is no memory to

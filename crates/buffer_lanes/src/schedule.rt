@@ -1,8 +1,9 @@
 //! When the staged chunks of a buffer are queued.
 
-ghost use Rattle.std.specs.Prelude.{◌≡◌, ◌<◌, ◌-◌, ◌*◌, ◌^◌, ◌++◌, ◌∷◌, [], drop, min, IfOk, OnOk};
+ghost use Rattle.std.specs.Prelude.{◌≡◌, ◌<◌, ◌-◌, ◌*◌, ◌^◌, ◌++◌, ◌∷◌, [], drop, min, slice_get, IfOk, IsSomeAnd, OnOk};
 ghost use Rattle.buffer_lanes.specs.Schedules.{due_in, noted, staged_at};
 
+use ack_receipt::Unstaged;
 use buffer_state::{LiveChunks, Stage};
 use relay_conf::FlushMode;
 use std::alloc::{AllocError, Allocator};
@@ -133,11 +134,12 @@ impl<A: Allocator> Schedule<A> {
         }
     }
 
-    /// The first chunk is staged no more.
-    pub fn forget_first(&mut self)
+    /// The first chunk is this one, which is staged no more.
+    pub fn forget_first(&mut self, unstaged: Unstaged)
+        requires { IsSomeAnd (slice_get self.old.chunks 0) (λ first. first.serial ≡ unstaged.serial) }
         ensures chunks { self.new.chunks ≡ drop 1 self.old.chunks }
         ensures rest { self.new ≡ record self.old { chunks = self.new.chunks; room = self.new.room } }
     {
-        let _ = self.chunks.pop_front();
+        let _ = (self.chunks.pop_front(), unstaged);
     }
 }

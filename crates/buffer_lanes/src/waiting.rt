@@ -32,7 +32,7 @@ impl<A: Allocator> Model for Waiting<A> {
 pub enum Collected<A: Allocator> {
     /// It is acknowledged: this is the answer, and what is left.
     Answered(Reserved<A>, Stub<A>),
-    /// It was abandoned.
+    /// It was abandoned: one of its buffers gave no receipt.
     Abandoned(Stub<A>),
     /// It waits for the next turn.
     Later(Waiting<A>),
@@ -46,16 +46,12 @@ impl<A: Allocator + Copy> Waiting<A> {
         ensures { result ≡ record { awaited = awaited_by delivery; buffers = buffers.items } }
     {
         Waiting {
-            gathered: Gathered {
-                delivery,
-                reserved,
-                is_refused: false,
-            },
+            gathered: Gathered { delivery, reserved },
             buffers,
         }
     }
 
-    /// Takes the receipts that are there, and acknowledges the delivery where all came; where a buffer refused, the delivery
+    /// Takes the receipts that are there, and acknowledges the delivery where all came; where a buffer gave none, the delivery
     /// is abandoned. It waits on where receipts come later, for those alone, or where it is to be `held` behind another.
     pub fn collect<R: Wait, D: Dir + Drop>(
         self,
@@ -92,7 +88,6 @@ impl<A: Allocator + Copy> Waiting<A> {
         let Gathered {
             delivery,
             reserved: _,
-            is_refused: _,
         } = gathered;
         delivery.abandon()
     }
@@ -112,8 +107,6 @@ fn keep_later<D: Dir + Drop, A: Allocator + Copy>(
 struct Gathered<A: Allocator> {
     delivery: Delivery<A>,
     reserved: Reserved<A>,
-    // A buffer refused.
-    is_refused: bool,
 }
 
 impl<A: Allocator> Model for Gathered<A> {
@@ -130,8 +123,8 @@ impl<A: Allocator> Model for Gathered<A> {
 }
 
 impl<A: Allocator + Copy> Gathered<A> {
-    // Takes the receipt that this buffer has for the delivery; where it has none, it refused. Receipts that stand before it are
-    // of deliveries that ended without them: they are spent.
+    // Takes the receipt that this buffer has for the delivery, if it has one. Receipts that stand before it are of deliveries that
+    // ended without them: they are spent.
     fn ask<R: Wait, D: Dir + Drop>(self, rt: &R, buffer: BufferNo, lanes: &mut Lanes<D, A>) -> Self
         ensures same { result ≡ self }
         ensures lanes { lanes.new ≡ lanes.old }
@@ -139,7 +132,7 @@ impl<A: Allocator + Copy> Gathered<A> {
         let mut gathered = self;
         'receipts: for _ in 0..lanes.ready(buffer) {
             let Some(receipt) = lanes.give(buffer) else {
-                return gathered.refused();
+                return gathered;
             };
             match gathered.with(receipt) {
                 Ok(with) => return with,
@@ -149,7 +142,7 @@ impl<A: Allocator + Copy> Gathered<A> {
                 }
             }
         }
-        gathered.refused()
+        gathered
     }
 
     // With one receipt more; one that isn't the delivery's is handed back.
@@ -157,35 +150,11 @@ impl<A: Allocator + Copy> Gathered<A> {
         ensures ok { IfOk result (λ gathered. gathered ≡ self) }
         ensures err { IfErr result (λ refused. (refused.0 ≡ self) × (refused.1 ≡ receipt)) }
     {
-        let Gathered {
-            delivery,
-            reserved,
-            is_refused,
-        } = self;
+        let Gathered { delivery, reserved } = self;
         match delivery.add(receipt) {
-            Ok(delivery) => Ok(Gathered {
-                delivery,
-                reserved,
-                is_refused,
-            }),
-            Err((_, delivery, receipt)) => Err((
-                Gathered {
-                    delivery,
-                    reserved,
-                    is_refused,
-                },
-                receipt,
-            )),
+            Ok(delivery) => Ok(Gathered { delivery, reserved }),
+            Err((_, delivery, receipt)) => Err((Gathered { delivery, reserved }, receipt)),
         }
-    }
-
-    // A buffer has no receipt for it.
-    fn refused(self) -> Self
-        ensures { result ≡ self }
-    {
-        let mut gathered = self;
-        gathered.is_refused = true;
-        gathered
     }
 
     // Every buffer was asked.
@@ -196,11 +165,7 @@ impl<A: Allocator + Copy> Gathered<A> {
         let Gathered {
             delivery,
             mut reserved,
-            is_refused,
         } = self;
-        if is_refused {
-            return Collected::Abandoned(delivery.abandon());
-        }
         match delivery.acknowledge(&mut reserved) {
             Ok(stub) => Collected::Answered(reserved, stub),
             Err((_, delivery)) => Collected::Abandoned(delivery.abandon()),

@@ -1,3 +1,3 @@
+mod Lawful
 mod Pooling
-mod Settling
 pub mod Sharing

@@ -4,6 +4,7 @@ pub mod Carriages
 pub mod Counts
 pub mod Passes
 pub mod Acts
+pub mod Laws
 pub mod Diaries
 pub mod Answers
 pub mod Rounds

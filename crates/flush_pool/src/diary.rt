@@ -3,25 +3,31 @@
 ghost use Rattle.std.specs.Prelude.{◌≡◌, [], ◌∷◌};
 ghost use Rattle.flush_pool.specs.Diaries.{act_of};
 
-use crate::verdict::Verdict;
-use buffer_book::Evidence;
+use crate::fault::CarryFault;
+use crate::retries::{Forgotten, Judgement, Noted};
+use ack_receipt::GivenBack;
+use buffer_book::{Claim, Evidence, PurgeFault};
 use std::alloc::Allocator;
 use std::marker::Model;
 use std::snapshot::Snapshot;
 
-/// One act of a worker, on the chunk of this serial.
+/// One act of a worker. What shows that a lock was used stands in it where there is such a thing: else the chunk's serial.
 #[derive(Drop)]
 pub(crate) enum Deed<A: Allocator> {
-    Claimed(u64),
-    Judged(u64, Verdict),
+    Looked(bool),
+    Unclaimed,
+    Claimed(Snapshot<Claim<A>>),
+    Judged(Judgement),
     Asked(u64, bool),
     Carried(u64, Snapshot<Evidence<A>>),
-    NotCarried(u64),
+    NotCarried(u64, CarryFault),
+    Checked(u64, bool),
     Purged(u64, Snapshot<Evidence<A>>),
-    NotPurged(u64, Snapshot<Evidence<A>>),
-    Noted(u64),
-    Forgot(u64),
-    GaveBack(u64),
+    NotPurged(u64, Snapshot<Evidence<A>>, PurgeFault),
+    Noted(Noted),
+    NotNoted(u64),
+    Forgot(Forgotten),
+    GaveBack(GivenBack<A>),
 }
 
 /// What a worker did, the last first. A snapshot has no bytes, so at run time there is no list.

@@ -1,9 +1,17 @@
 //! Which chunks may be carried now.
 
+ghost use Rattle.std.specs.Prelude.{◌≡◌, true};
+
 /// Lets chunks through to be carried. Workers ask it again while it says no.
 pub trait Gate {
+    ghost use Rattle.std.specs.Prelude.{ℕ};
+
+    /// What its yes to a serial says. Of a gate that says nothing of it, nothing is known; but nobody else says it in its place.
+    ghost lets: { ℕ → Type 0 } = { λ _. Unit {0} };
+
     /// Whether the chunk of this serial may be carried now.
-    fn pass(&self, serial: u64) -> bool;
+    fn pass(&self, serial: u64) -> bool
+        ensures { result ≡ true → lets serial };
 }
 
 /// A gate that always says yes.
@@ -20,7 +28,9 @@ impl Gate for OpenGate {
 const MOST_ASKED: u32 = 1_000_000;
 
 /// Whether the gate says yes at one of the times that a worker asks.
-pub(crate) fn passes<G: Gate>(gate: &G, serial: u64) -> bool {
+pub(crate) fn passes<G: Gate>(gate: &G, serial: u64) -> bool
+    ensures { result ≡ true → G.lets serial }
+{
     for _ in 0..MOST_ASKED {
         if gate.pass(serial) {
             return true;

@@ -1,16 +1,15 @@
 //! The failures of a buffer's chunks, as its workers share them.
 
-ghost use Rattle.std.specs.Prelude.{◌≡◌, ◌↔◌, OnOk, OnErr, None, max, unwrap_or};
-ghost use Rattle.std.specs.FinMap as map;
-ghost use Rattle.retry_waits.specs.Failed.{noted};
-ghost use Rattle.flush_pool.specs.Verdicts.{IsVerdict};
+ghost use Rattle.std.specs.Prelude.{◌≡◌, IfOk};
 
-use crate::verdict::{Judgement, judge};
+mod known;
+
 use ack_receipt::SharedBuffer;
 use disk_files::Dir;
-use retry_waits::{Failures, RetrySettings};
+use known::Known;
+pub(crate) use known::{Forgotten, Judgement, Noted};
+use retry_waits::RetrySettings;
 use std::alloc::{AllocError, Allocator};
-use std::collections::VecDeque;
 use std::sync::{Mutex, Wait};
 use std::time::Clock;
 
@@ -26,56 +25,46 @@ pub struct Retries<A: Allocator> {
     known: Mutex<Known<A>>,
 }
 
-/// What lies behind the lock.
-#[derive(Drop)]
-struct Known<A: Allocator> {
-    failures: Failures<A>,
-    /// Each of those chunks, the one that was looked at longest ago first. Where there was no memory to say so, one is missing.
-    turns: VecDeque<u64, A>,
-    /// The latest time that a worker read, in milliseconds of the monotonic clock.
-    latest: u64,
-}
-
 impl<A: Allocator + Copy> Retries<A> {
     /// No chunk has failed.
     pub fn new(alloc: A, settings: RetrySettings) -> Self {
-        let known = Known {
-            failures: Failures::new(alloc),
-            turns: VecDeque::new(alloc),
-            latest: 0,
-        };
         Retries {
             settings,
-            known: Mutex::new(known),
+            known: Mutex::new(Known::new(alloc)),
         }
     }
 
     /// Of how many chunks failures are known.
     pub fn chunk_count<R: Wait>(&self, rt: &R) -> usize {
-        self.known.lock(rt).failures.chunk_count()
+        self.known.lock(rt).chunk_count()
     }
 
     /// Lets what is known of a chunk go.
-    pub(crate) fn forget<R: Wait>(&self, rt: &R, serial: u64) {
-        self.known.lock(rt).failures.forget(serial);
+    pub(crate) fn forget<R: Wait>(&self, rt: &R, serial: u64) -> Forgotten
+        ensures { result.serial ≡ serial }
+    {
+        self.known.lock(rt).forget(serial)
     }
 
     /// Forgets those of the next chunks that the buffer has no more.
     pub(crate) fn look_for_gone<R: Wait, D: Dir>(&self, rt: &R, buffer: &SharedBuffer<D, A>) {
         for _ in 0..LOOKS {
-            let Some(serial) = self.known.lock(rt).turns.pop_front() else {
+            let Some(serial) = self.known.lock(rt).next_turn() else {
                 return;
             };
             if buffer.is_live(rt, serial) {
-                let _ = self.known.lock(rt).turns.push_back(serial);
+                self.known.lock(rt).put_last(serial);
             } else {
-                self.forget(rt, serial);
+                let _ = self.forget(rt, serial);
             }
         }
     }
 
     /// What is to become of the chunk of this serial now, where its buffer lets chunks expire or doesn't.
-    pub(crate) fn judge<R: Wait + Clock>(&self, rt: &R, expires: bool, serial: u64) -> Judgement {
+    pub(crate) fn judge<R: Wait + Clock>(&self, rt: &R, expires: bool, serial: u64) -> Judgement
+        ensures serial { result.serial ≡ serial }
+        ensures expires { result.expires ≡ expires }
+    {
         let read = read_clock(rt);
         self.known
             .lock(rt)
@@ -83,56 +72,12 @@ impl<A: Allocator + Copy> Retries<A> {
     }
 
     /// The chunk of this serial has failed once more, now. The error changes nothing.
-    pub(crate) fn note<R: Wait + Clock>(&self, rt: &R, serial: u64) -> Result<(), AllocError> {
+    pub(crate) fn note<R: Wait + Clock>(&self, rt: &R, serial: u64) -> Result<Noted, AllocError>
+        ensures { IfOk result (λ shown. shown.serial ≡ serial) }
+    {
         let read = read_clock(rt);
         self.known.lock(rt).note(serial, read)
     }
-}
-
-impl<A: Allocator + Copy> Known<A> {
-    /// What is to become of the chunk of this serial, at the time that was read.
-    fn judge(
-        &mut self,
-        settings: &RetrySettings,
-        expires: bool,
-        serial: u64,
-        read: Option<u64>,
-    ) -> Judgement
-        ensures verdict { IsVerdict settings.now expires (map.get self.old.failures serial) self.new.latest result.verdict }
-        ensures failed { result.failed ≡ map.len self.old.failures }
-        ensures time { self.new.latest ≡ max self.old.latest (unwrap_or read 0) }
-        ensures failures { self.new.failures ≡ self.old.failures }
-    {
-        self.latest = later(self.latest, read);
-        Judgement {
-            verdict: judge(settings, &self.failures, expires, serial, self.latest),
-            failed: self.failures.chunk_count(),
-        }
-    }
-
-    /// One failure more of the chunk of this serial, at the time that was read. The error comes only at its first failure.
-    fn note(&mut self, serial: u64, read: Option<u64>) -> Result<(), AllocError>
-        ensures ok { OnOk result (self.new.failures ≡ map.insert self.old.failures serial (noted self.new.latest (map.get self.old.failures serial))) }
-        ensures err { OnErr result (self.new.failures ≡ self.old.failures) }
-        ensures first { OnErr result (map.get self.old.failures serial ≡ None) }
-        ensures time { self.new.latest ≡ max self.old.latest (unwrap_or read 0) }
-    {
-        self.latest = later(self.latest, read);
-        let count = self.failures.chunk_count();
-        self.failures.note(serial, self.latest)?;
-        if self.failures.chunk_count() > count {
-            let _ = self.turns.push_back(serial);
-        }
-        Ok(())
-    }
-}
-
-/// The later of the last time known and the one that was read. A clock that can't be read leaves the time where it is, so
-/// that no chunk is tried or given up too early.
-fn later(latest: u64, read: Option<u64>) -> u64
-    ensures { result ≡ max latest (unwrap_or read 0) }
-{
-    latest.max(read.unwrap_or(0))
 }
 
 /// The monotonic clock in milliseconds, if it can be read.

@@ -1,7 +1,12 @@
 //! A worker's rounds: each claims a chunk and settles it.
 
-ghost use Rattle.std.specs.Prelude.{◌≡◌};
-ghost use Rattle.flush_pool.specs.Rounds.{IsBack, IsLetGo, IsDelivered, IsSettled, IsWorked};
+ghost use Rattle.std.specs.Prelude.{◌≡◌, ◌≢◌, ◌↔◌, [], Some, IsTrue};
+ghost use Rattle.buffer_book.specs.declared.fault.PurgeFault.{PurgeFault};
+ghost use Rattle.flush_pool.specs.declared.fault.CarryFault.{CarryFault};
+ghost use Rattle.flush_pool.specs.Acts.{Claimed, Judged, NotCarried, last};
+ghost use Rattle.flush_pool.specs.declared.verdict.Verdict.TheVariants.{Try};
+ghost use Rattle.flush_pool.specs.Laws.{HasFailed, IsEarned, ends_at_purge};
+ghost use Rattle.flush_pool.specs.Rounds.{HasEnded, Holds, IsSettled, IsWorked};
 
 use crate::acts::Outcome;
 use crate::courier::Courier;
@@ -26,12 +31,26 @@ where
     C: Courier<R, D, A>,
     G: Gate,
 {
-    /// Works until it is told to stop, and gives the counts of its rounds. Each chunk that it claims is purged or given back
-    /// before it looks at anything else. It sleeps where no chunk is queued, or where it has seen all that wait.
+    /// Works until it is told to stop, and gives the counts of what it did. Each chunk that it claims is purged or given back
+    /// before it looks at anything else. It sleeps where no chunk is queued, or where it has seen all that wait. Asks for a
+    /// worker that did nothing yet.
     ///
     /// `Memory` and `Failed` end it earlier. The chunk of that round is given back; what was done before stands.
     pub fn work(&mut self) -> Result<Worked, BufferFault>
+        requires { self.old.acts ≡ [] }
         ensures { IsWorked self.old self.new result }
+    {
+        let ended = self.go_on();
+        self.stays_lawful();
+        ended
+    }
+
+    // Rounds until it is told to stop, or has to end.
+    fn go_on(&mut self) -> Result<Worked, BufferFault>
+        requires { self.old.acts ≡ [] }
+        ensures leaf { self.new.leaf ≡ self.old.leaf }
+        ensures takes { self.new.takes ≡ self.old.takes }
+        ensures ended { HasEnded self.new.acts result }
     {
         let mut worked = Worked::new();
         let mut pass = Pass::new();
@@ -68,14 +87,17 @@ where
 
     // Purges a claimed chunk or gives it back, by its verdict.
     fn settle(&mut self, claim: Claim<A>) -> Result<Outcome, BufferFault>
-        requires { claim.leaf ≡ self.old.leaf }
-        ensures { IsSettled claim self.old self.new result }
+        requires holds { Holds claim self.old }
+        requires claimed { last self.old.acts ≡ Some (Claimed claim.serial) }
+        ensures leaf { self.new.leaf ≡ self.old.leaf }
+        ensures takes { self.new.takes ≡ self.old.takes }
+        ensures settled { IsSettled self.old.acts self.new.acts result }
     {
-        let judged = self.judge(claim.serial());
-        match judged.verdict {
+        let judged = self.judge(&claim);
+        match judged.verdict() {
             Verdict::Wait => {
                 self.give_back(claim);
-                Ok(Outcome::Waits(judged.failed))
+                Ok(Outcome::Waits(judged.failed()))
             }
             Verdict::GiveUp => {
                 let evidence = Evidence::expired(&claim);
@@ -85,32 +107,49 @@ where
         }
     }
 
-    // Has a chunk carried, and purges it at once on what shows that it arrived. Where the buffer failed, whose entries can't be read then, the worker ends.
+    // Has a chunk carried, and purges it at once on what shows that it arrived.
     fn deliver(&mut self, claim: Claim<A>) -> Result<Outcome, BufferFault>
-        requires { claim.leaf ≡ self.old.leaf }
-        ensures { IsDelivered claim self.old self.new result }
+        requires holds { Holds claim self.old }
+        requires tried { last self.old.acts ≡ Some (Judged claim.serial Try) }
+        ensures leaf { self.new.leaf ≡ self.old.leaf }
+        ensures takes { self.new.takes ≡ self.old.takes }
+        ensures settled { IsSettled self.old.acts self.new.acts result }
     {
-        if !self.ask_gate(claim.serial()) {
+        if !self.ask_gate(&claim) {
             return self.put_back(claim);
         }
         match self.carry(&claim) {
             Ok(evidence) => self.let_go(claim, evidence),
-            Err(CarryFault::Memory) => {
-                self.give_back(claim);
-                Err(BufferFault::Memory)
-            }
-            Err(_) if self.has_failed() => {
-                self.give_back(claim);
-                Err(BufferFault::Failed)
-            }
-            Err(_) => self.put_back(claim),
+            Err(fault) => self.take_fault(claim, fault),
         }
+    }
+
+    // What becomes of a chunk whose courier failed. Where the buffer has failed, whose entries can't be read then, the worker ends.
+    fn take_fault(&mut self, claim: Claim<A>, fault: CarryFault) -> Result<Outcome, BufferFault>
+        requires holds { Holds claim self.old }
+        requires failed { last self.old.acts ≡ Some (NotCarried claim.serial fault) }
+        ensures leaf { self.new.leaf ≡ self.old.leaf }
+        ensures takes { self.new.takes ≡ self.old.takes }
+        ensures settled { IsSettled self.old.acts self.new.acts result }
+    {
+        if is_memory(fault) {
+            self.give_back(claim);
+            return Err(BufferFault::Memory);
+        }
+        if self.has_failed(&claim, fault) {
+            self.give_back(claim);
+            return Err(BufferFault::Failed);
+        }
+        self.put_back(claim)
     }
 
     // Purges a chunk on this evidence. What the buffer refuses counts as a failed delivery, but for where the worker ends.
     fn let_go(&mut self, claim: Claim<A>, evidence: Evidence<A>) -> Result<Outcome, BufferFault>
-        requires { claim.leaf ≡ self.old.leaf }
-        ensures { IsLetGo claim evidence self.old self.new result }
+        requires holds { Holds claim self.old }
+        requires earned { IsEarned self.old.leaf claim.serial evidence self.old.acts }
+        ensures leaf { self.new.leaf ≡ self.old.leaf }
+        ensures takes { self.new.takes ≡ self.old.takes }
+        ensures settled { IsSettled self.old.acts self.new.acts result }
     {
         let serial = claim.serial();
         let Err((fault, claim, evidence)) = self.purge(claim, evidence) else {
@@ -118,27 +157,50 @@ where
             return Ok(Outcome::Purged);
         };
         evidence.waste();
-        match fault {
-            PurgeFault::Buffer(BufferFault::Memory) => {
+        match ending(fault) {
+            Some(fault) => {
                 self.give_back(claim);
-                Err(BufferFault::Memory)
+                Err(fault)
             }
-            PurgeFault::Buffer(BufferFault::Failed) => {
-                self.give_back(claim);
-                Err(BufferFault::Failed)
-            }
-            _ => self.put_back(claim),
+            None => self.put_back(claim),
         }
     }
 
     // Notes a failed delivery and gives the chunk back.
     fn put_back(&mut self, claim: Claim<A>) -> Result<Outcome, BufferFault>
-        requires { claim.leaf ≡ self.old.leaf }
-        ensures { IsBack claim.serial self.old self.new result }
+        requires holds { Holds claim self.old }
+        requires failed { HasFailed claim.serial self.old.acts }
+        ensures leaf { self.new.leaf ≡ self.old.leaf }
+        ensures takes { self.new.takes ≡ self.old.takes }
+        ensures settled { IsSettled self.old.acts self.new.acts result }
     {
-        let noted = self.note(claim.serial());
-        self.give_back(claim);
-        noted?;
-        Ok(Outcome::Failed)
+        match self.note(&claim) {
+            Ok(()) => {
+                self.give_back(claim);
+                Ok(Outcome::Failed)
+            }
+            Err(_) => {
+                self.give_back(claim);
+                Err(BufferFault::Memory)
+            }
+        }
+    }
+}
+
+// Whether there was no memory.
+fn is_memory(fault: CarryFault) -> bool
+    ensures { IsTrue result ↔ (fault ≡ CarryFault.Memory) }
+{
+    matches!(fault, CarryFault::Memory)
+}
+
+// The fault that ends a worker whose purge was refused so.
+fn ending(fault: PurgeFault) -> Option<BufferFault>
+    ensures { result ≡ ends_at_purge fault }
+{
+    match fault {
+        PurgeFault::Buffer(BufferFault::Memory) => Some(BufferFault::Memory),
+        PurgeFault::Buffer(BufferFault::Failed) => Some(BufferFault::Failed),
+        _ => None,
     }
 }

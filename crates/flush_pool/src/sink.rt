@@ -1,6 +1,6 @@
 //! Chunks that go to the files of a sink.
 
-ghost use Rattle.std.specs.Prelude.{IfOk};
+ghost use Rattle.std.specs.Prelude.{◌≡◌, IfOk, Ok};
 ghost use Rattle.flush_pool.specs.Carriages.{IsStoredFor};
 
 use crate::courier::Courier;
@@ -31,12 +31,17 @@ impl<S: Dir, A: Allocator> SinkCourier<S, A> {
 }
 
 impl<R: Wait, D: Dir, S: Dir, A: Allocator + Copy> Courier<R, D, A> for SinkCourier<S, A> {
+    ghost use Rattle.buffer_book.specs.Evidences.{Shows};
+
+    ghost gives = { IsStoredFor };
+
     /// Reads the chunk's entries, writes them and syncs them.
     ///
     /// `Memory` writes nothing. `Device`: the chunk couldn't be read, or not be written; after a write that failed, each later
     /// one does until the sink is opened again.
     fn carry(&self, rt: &R, chunk: &ClaimView<'_, D, A>) -> Result<Evidence<A>, CarryFault>
-        ensures { IfOk result (λ evidence. IsStoredFor chunk.now evidence) }
+        ensures stored { IfOk result (λ evidence. IsStoredFor chunk.now evidence) }
+        ensures gives { (shown : Shows) → result ≡ Ok shown → IsStoredFor chunk.now shown }
     {
         // A buffer takes no longer tag; it is looked at all the same.
         if chunk.tag().len() > LONGEST_TAG {

@@ -18,15 +18,6 @@ pub(crate) enum Verdict {
     GiveUp,
 }
 
-/// A verdict, and how many chunks of the buffer have failed.
-#[derive(Clone, Copy, Debug, PartialEq, Eq)]
-pub(crate) struct Judgement {
-    /// What is to become of the chunk.
-    pub verdict: Verdict,
-    /// How many chunks have failed and aren't forgotten: no more can wait.
-    pub failed: usize,
-}
-
 /// What is to become of the chunk of this serial, now. Times are milliseconds since one fixed start.
 /// Where the buffer lets no chunk expire, a chunk whose retries are over is tried like any other.
 pub(crate) fn judge<A: Allocator + Copy>(

@@ -1,15 +1,19 @@
 //! A worker at a shared buffer.
 
-ghost use Rattle.std.specs.Prelude.{◌≡◌, []};
-ghost use Rattle.flush_pool.specs.Acts.{at, did, Judged, Asked, Forgot, GaveBack};
+ghost use Rattle.std.specs.Prelude.{◌≡◌, ◌≢◌, [], true, false, Some, IfOk};
+ghost use Rattle.flush_pool.specs.Acts.{Looked, Claimed, Judged, Asked, NotCarried, Checked, Forgot, GaveBack, at, did, last};
 ghost use Rattle.flush_pool.specs.Answers.{IsClaimed, IsCarried, IsPurged, IsNoted};
+ghost use Rattle.flush_pool.specs.Diaries.{act_of};
+ghost use Rattle.flush_pool.specs.Laws.{AreLawful, HasFailed, IsEarned, IsToGoBack, May, WasPurged};
+ghost use Rattle.flush_pool.specs.Rounds.{Holds, IsFree};
+ghost use Rattle.flush_pool.specs.declared.fault.CarryFault.{CarryFault};
+ghost use Rattle.flush_pool.specs.declared.verdict.Verdict.TheVariants.{Try};
 
 use crate::courier::Courier;
 use crate::diary::{Deed, Diary};
 use crate::fault::CarryFault;
 use crate::gate::{Gate, passes};
-use crate::retries::Retries;
-use crate::verdict::Judgement;
+use crate::retries::{Judgement, Retries};
 use crate::view::ClaimView;
 use ack_receipt::SharedBuffer;
 use buffer_book::{Claim, Evidence, PurgeFault};
@@ -27,6 +31,7 @@ const REST: u64 = 10;
 
 /// A worker at a shared buffer, with all that it shares with the others. Contracts see the buffer's name and what lets its
 /// chunks go, and what this worker did there, one act after another: that is kept for the proofs alone, and takes no memory.
+/// Each act stands where the laws let it stand: a call for it asks so.
 ///
 /// What an act answers isn't known from what this worker did, since others do the same at once.
 pub struct Worker<'a, R, D: Dir, A: Allocator, C, G> {
@@ -41,10 +46,14 @@ pub struct Worker<'a, R, D: Dir, A: Allocator, C, G> {
 
 impl<'a, R, D: Dir, A: Allocator, C, G> Model for Worker<'a, R, D, A, C, G> {
     ghost use Rattle.flush_pool.specs.Acts.{Place, at};
+    ghost use Rattle.flush_pool.specs.Laws.{AreLawful};
 
     ghost Value = { Place A };
 
     ghost view = { λ s. at s.buffer.now.leaf s.buffer.now.takes s.diary };
+
+    // Each act stands where it may.
+    ghost invariant = { λ s. AreLawful s.buffer.now.leaf s.buffer.now.takes s.diary };
 }
 
 impl<'a, R, D: Dir, A: Allocator, C, G> Drop for Worker<'a, R, D, A, C, G> {
@@ -96,54 +105,109 @@ where
         self.rt
     }
 
-    /// Claims a queued chunk, if there is one. The error is want of memory.
-    pub(crate) fn claim(&mut self) -> Result<Option<Claim<A>>, AllocError>
-        ensures { IsClaimed self.old self.new result }
+    // Writes down what it did just now, which may stand behind the rest.
+    fn write(&mut self, deed: &Deed<A>)
+        requires { May self.old.leaf self.old.takes self.old.acts (act_of deed.now) }
+        ensures { self.new ≡ did (act_of deed.now) self.old }
     {
-        let Some(claim) = self.buffer.claim(self.rt)? else {
-            return Ok(None);
-        };
-        self.diary = self.diary.then(&Deed::Claimed(claim.serial()));
-        Ok(Some(claim))
+        self.diary = self.diary.then(deed);
     }
 
-    /// Asks what is to become of the chunk of this serial.
-    pub(crate) fn judge(&mut self, serial: u64) -> Judgement
-        ensures { self.new ≡ did (Judged serial result.verdict) self.old }
+    /// All that it did is by the laws. The call does nothing: it stands for a theorem.
+    pub(crate) fn stays_lawful(&self)
+        ensures { AreLawful self.now.leaf self.now.takes self.now.acts }
+    {
+        let _ = &self.diary;
+    }
+
+    /// Whether it is to end.
+    pub(crate) fn is_stopped(&mut self) -> bool
+        requires { IsFree self.old.acts }
+        ensures { self.new ≡ did (Looked result) self.old }
+    {
+        let stop = self.stop.load(Ordering::SeqCst);
+        self.write(&Deed::Looked(stop));
+        stop
+    }
+
+    /// Claims a queued chunk, if there is one. The error is want of memory.
+    pub(crate) fn claim(&mut self) -> Result<Option<Claim<A>>, AllocError>
+        requires { last self.old.acts ≡ Some (Looked false) }
+        ensures { IsClaimed self.old self.new result }
+    {
+        match self.buffer.claim(self.rt) {
+            Ok(Some(claim)) => {
+                let deed = Deed::Claimed(Snapshot::of(&claim));
+                self.write(&deed);
+                Ok(Some(claim))
+            }
+            Ok(None) => Ok(None),
+            Err(fault) => {
+                self.write(&Deed::Unclaimed);
+                Err(fault)
+            }
+        }
+    }
+
+    /// Asks what is to become of the chunk that was claimed.
+    pub(crate) fn judge(&mut self, claim: &Claim<A>) -> Judgement
+        requires { last self.old.acts ≡ Some (Claimed claim.now.serial) }
+        ensures judged { self.new ≡ did (Judged claim.now.serial result.verdict) self.old }
+        // By what its own buffer says of the end of retries.
+        ensures expires { result.expires ≡ self.old.takes.expires }
     {
         let judged = self
             .retries
-            .judge(self.rt, self.buffer.takes().expires, serial);
-        self.diary = self.diary.then(&Deed::Judged(serial, judged.verdict));
+            .judge(self.rt, self.buffer.takes().expires, claim.serial());
+        self.write(&Deed::Judged(judged));
         judged
     }
 
     /// Asks the gate whether the chunk may be carried, as often as it takes up to the limit.
-    pub(crate) fn ask_gate(&mut self, serial: u64) -> bool
-        ensures { self.new ≡ did (Asked serial result) self.old }
+    pub(crate) fn ask_gate(&mut self, claim: &Claim<A>) -> bool
+        requires { last self.old.acts ≡ Some (Judged claim.now.serial Try) }
+        ensures asked { self.new ≡ did (Asked claim.now.serial result) self.old }
+        ensures lets { result ≡ true → G.lets claim.now.serial }
     {
+        let serial = claim.serial();
         let answer = passes(self.gate, serial);
-        self.diary = self.diary.then(&Deed::Asked(serial, answer));
+        self.write(&Deed::Asked(serial, answer));
         answer
     }
 
     /// Has the chunk carried, and gives what the courier gave. The buffer's lock isn't held.
     pub(crate) fn carry(&mut self, claim: &Claim<A>) -> Result<Evidence<A>, CarryFault>
-        requires { claim.now.leaf ≡ self.old.leaf }
-        ensures { IsCarried claim.now.serial self.old self.new result }
+        requires own { claim.now.leaf ≡ self.old.leaf }
+        requires passed { last self.old.acts ≡ Some (Asked claim.now.serial true) }
+        ensures carried { IsCarried claim.now.serial self.old self.new result }
+        ensures gives { IfOk result (λ shown. C.gives claim.now shown) }
     {
         let chunk = ClaimView::new(self.buffer, claim);
         match self.courier.carry(self.rt, &chunk) {
             Ok(evidence) => {
                 let deed = Deed::Carried(claim.serial(), Snapshot::of(&evidence));
-                self.diary = self.diary.then(&deed);
+                self.write(&deed);
                 Ok(evidence)
             }
             Err(fault) => {
-                self.diary = self.diary.then(&Deed::NotCarried(claim.serial()));
+                let deed = Deed::NotCarried(claim.serial(), fault);
+                self.write(&deed);
                 Err(fault)
             }
         }
+    }
+
+    /// Whether the buffer has failed, whose chunks can neither be read nor purged then: it is asked after its courier failed so.
+    pub(crate) fn has_failed(&mut self, claim: &Claim<A>, fault: CarryFault) -> bool
+        requires failed { last self.old.acts ≡ Some (NotCarried claim.now.serial fault) }
+        requires other { fault ≢ CarryFault.Memory }
+        ensures { self.new ≡ did (Checked claim.now.serial result) self.old }
+    {
+        let _ = fault;
+        let failed = self.buffer.has_failed(self.rt);
+        let deed = Deed::Checked(claim.serial(), failed);
+        self.write(&deed);
+        failed
     }
 
     /// Purges the chunk on this evidence. A refusal hands both back.
@@ -152,58 +216,60 @@ where
         claim: Claim<A>,
         evidence: Evidence<A>,
     ) -> Result<(), (PurgeFault, Claim<A>, Evidence<A>)>
-        requires { claim.leaf ≡ self.old.leaf }
+        requires own { claim.leaf ≡ self.old.leaf }
+        requires earned { IsEarned self.old.leaf claim.serial evidence self.old.acts }
         ensures { IsPurged claim evidence self.old self.new result }
     {
         let serial = claim.serial();
         let shown = Snapshot::of(&evidence);
         match self.buffer.purge(self.rt, claim, evidence) {
             Ok(()) => {
-                self.diary = self.diary.then(&Deed::Purged(serial, shown));
+                self.write(&Deed::Purged(serial, shown));
                 Ok(())
             }
-            Err(refused) => {
-                self.diary = self.diary.then(&Deed::NotPurged(serial, shown));
-                Err(refused)
+            Err((fault, claim, evidence)) => {
+                let deed = Deed::NotPurged(serial, shown, fault);
+                self.write(&deed);
+                Err((fault, claim, evidence))
             }
         }
     }
 
     /// Gives the chunk back to the queue.
     pub(crate) fn give_back(&mut self, claim: Claim<A>)
-        requires { claim.leaf ≡ self.old.leaf }
+        requires holds { Holds claim self.old }
+        requires done { IsToGoBack claim.serial self.old.acts }
         ensures { self.new ≡ did (GaveBack claim.serial) self.old }
     {
-        self.diary = self.diary.then(&Deed::GaveBack(claim.serial()));
-        self.buffer.give_back(self.rt, claim);
+        let shown = self.buffer.give_back_shown(self.rt, claim);
+        self.write(&Deed::GaveBack(shown));
     }
 
     /// Notes that the chunk's delivery failed, and looks for chunks that failed and are gone. The error is want of memory.
-    pub(crate) fn note(&mut self, serial: u64) -> Result<(), AllocError>
-        ensures { IsNoted serial self.old self.new result }
+    pub(crate) fn note(&mut self, claim: &Claim<A>) -> Result<(), AllocError>
+        requires { HasFailed claim.now.serial self.old.acts }
+        ensures { IsNoted claim.now.serial self.old self.new result }
     {
-        self.retries.note(self.rt, serial)?;
-        self.diary = self.diary.then(&Deed::Noted(serial));
-        self.retries.look_for_gone(self.rt, self.buffer);
-        Ok(())
+        match self.retries.note(self.rt, claim.serial()) {
+            Ok(noted) => {
+                self.write(&Deed::Noted(noted));
+                self.retries.look_for_gone(self.rt, self.buffer);
+                Ok(())
+            }
+            Err(fault) => {
+                self.write(&Deed::NotNoted(claim.serial()));
+                Err(fault)
+            }
+        }
     }
 
-    /// Lets what is known of the chunk's failures go.
+    /// Lets what is known of the failures of a chunk go that was purged just now.
     pub(crate) fn forget(&mut self, serial: u64)
+        requires { WasPurged serial self.old.acts }
         ensures { self.new ≡ did (Forgot serial) self.old }
     {
-        self.retries.forget(self.rt, serial);
-        self.diary = self.diary.then(&Deed::Forgot(serial));
-    }
-
-    /// Whether the buffer has failed, whose chunks can neither be read nor purged then.
-    pub(crate) fn has_failed(&self) -> bool {
-        self.buffer.has_failed(self.rt)
-    }
-
-    /// Whether the worker is to end.
-    pub(crate) fn is_stopped(&self) -> bool {
-        self.stop.load(Ordering::SeqCst)
+        let forgotten = self.retries.forget(self.rt, serial);
+        self.write(&Deed::Forgot(forgotten));
     }
 
     /// Sleeps for a while.

@@ -1,6 +1,6 @@
 -- What a connection keeps.
-use Rattle.std.proofs.Common.{ℕ, ◌≡◌, ◌∙◌, ◌<◌, ◌⊎◌, inl, inr, Bool, true, false, cond, List, [], ◌∷◌, ◌++◌, length, ap, refl, sym, subst, Option, None, Some}
-use Rattle.std.specs.Prelude.{IsSomeAnd, Contains, ◌≢◌, slice_index_or}
+use Rattle.std.proofs.Common.{ℕ, suc, ◌≡◌, ◌∙◌, ◌+◌, ◌<◌, ◌⊎◌, inl, inr, arith, Bool, true, false, not, cond, ◌||◌, List, [], ◌∷◌, ◌++◌, length, map, ap, refl, sym, subst, append_assoc, append-nil, length-append, Option, None, Some, Result, Ok, Err}
+use Rattle.std.specs.Prelude.{IsSomeAnd, OnOk, OnErr, Contains, ◌≢◌, slice_index_or}
 use Rattle.std.proofs.lemmas.List.{get_or-map, length-map}
 use Rattle.std.specs.List.{All, filter}
 use Rattle.relay_conf.specs.declared.output.BufferNo.{BufferNo}
@@ -10,12 +10,21 @@ use Rattle.std.proofs.lemmas.List.Elements.{All-nil, All-push, All-head, All-res
 use Rattle.ack_receipt.specs.Deliveries.{OpenDelivery}
 use Rattle.ack_receipt.specs.Reservations.{Asked, Answer, Reservation, answer_to}
 use Rattle.forward_core.specs.declared.security.Security.{Security}
-use Rattle.forward_core.specs.Demands.{asked_in}
-use Rattle.forward_core.specs.Server.{ServerState, Outcome, after, initial_server}
+use Rattle.event_modes.specs.declared.fault.ModeFault.{ModeFault}
+use Rattle.event_modes.specs.Message.{Parts}
+use Rattle.event_modes.specs.declared.message.Message.{Message}
+use Rattle.forward_core.specs.declared.demand.Demand.{Demand}
+use Rattle.forward_core.specs.declared.demand.Demand.TheVariants.{Deliver, Close}
+use Rattle.forward_core.specs.declared.fault.SessionError.{SessionError}
+use Rattle.forward_core.specs.declared.fault.SessionError.TheVariants as error
+use Rattle.forward_core.specs.declared.fault.SessionFault.{SessionFault}
+use Rattle.forward_core.specs.declared.fault.SessionFault.TheVariants.{Closed}
+use Rattle.forward_core.specs.Demands.{Wanted, Delivers, asked_in, wanted}
+use Rattle.forward_core.specs.Server.{ServerPhase, Awaiting, Opened, Over, ServerReads, ReadsOn, ServerState, Outcome, after, close_by, phase_by, initial_server}
 use Rattle.relay_ports.specs.Leaves.{Entry, IsRoutedTo}
 use Rattle.buffer_lanes.specs.Waits.{Awaited, HasEntries, Waits}
 use Rattle.buffer_lanes.specs.Collecting.{IsAnswerTo, those_later}
-use Rattle.loop_core.specs.Peers.{AreAmong, IsOwed, IsEarned, IsFaithful, awaited_in}
+use Rattle.loop_core.specs.Peers.{AreAmong, BecomeInOrder, Becomes, GoOnWaiting, IsOwed, IsEarned, IsFaithful, IsRead, IsTaken, OneMoreWaits, Standing, awaited_in, wants_close}
 
 -- a connection that was opened
 pub opened : (entry : Entry) (security : Option Security) (nonce : List ℕ)
@@ -116,3 +125,114 @@ keeps_on old between new first next = record {
   timings = next.timings ∙ first.timings;
   fault = λ fault is. next.fault fault (first.fault fault is);
 }
+
+-- what waits, waits on
+pub goes_on : (old between new : List Waits) → GoOnWaiting old between → GoOnWaiting between new → GoOnWaiting old new
+goes_on old between new first next = record {
+  more = first.more ++ next.more;
+  is = next.is ∙ ap (λ (l : List Waits). l ++ next.more) first.is ∙ append_assoc old first.more next.more;
+}
+
+-- and so where one comes at most
+pub begins_on : (old between new : List Waits) → GoOnWaiting old between → (new ≡ between) ⊎ OneMoreWaits between new → GoOnWaiting old new
+begins_on old between new first (inl same) = record { more = first.more; is = same ∙ first.is }
+begins_on old between new first (inr next) = goes_on old between new first (record { more = next.one ∷ []; is = next.is })
+
+-- so where nothing came
+pub stays_waiting : (old new : List Waits) → new ≡ old → GoOnWaiting old new
+stays_waiting old new same = record { more = []; is = same ∙ sym (append-nil old) }
+
+-- A message that is to be delivered closes nothing, and is one that was asked for.
+pub delivers : {A : Type 0} (all left : List (Demand A)) (demand : Demand A) (message : Message A) → all ≡ demand ∷ left → demand ≡ Deliver message
+    → (wants_close (map wanted all) ≡ wants_close (map wanted left)) × (length (asked_in (map wanted all)) ≡ suc (length (asked_in (map wanted left))))
+delivers {A} all left demand message e is =
+    let whole : all ≡ Deliver message ∷ left = e ∙ ap (λ (d : Demand A). d ∷ left) is in
+    (ap (λ (l : List (Demand A)). wants_close (map wanted l)) whole, ap (λ (l : List (Demand A)). length (asked_in (map wanted l))) whole)
+
+-- A demand to close is no message.
+pub closes : {A : Type 0} (all left : List (Demand A)) (demand : Demand A) (fault : SessionFault) → all ≡ demand ∷ left → demand ≡ Close fault
+    → (wants_close (map wanted all) ≡ true) × (length (asked_in (map wanted all)) ≡ length (asked_in (map wanted left)))
+closes {A} all left demand fault e is =
+    let whole : all ≡ Close fault ∷ left = e ∙ ap (λ (d : Demand A). d ∷ left) is in
+    (ap (λ (l : List (Demand A)). wants_close (map wanted l)) whole, ap (λ (l : List (Demand A)). length (asked_in (map wanted l))) whole)
+
+pub or_true : (b : Bool) → (b || true) ≡ true
+or_true true = refl
+or_true false = refl
+
+pub or_false : (b : Bool) → (b || false) ≡ b
+or_false true = refl
+or_false false = refl
+
+-- the messages are delivered, and then the connection is closed
+closes_behind : (messages : List Parts) (fault : ModeFault) → wants_close (map Delivers messages ++ close_by (Some fault)) ≡ true
+closes_behind [] fault = refl
+closes_behind (m ∷ messages) fault = closes_behind messages fault
+
+-- an open session that is over then wants the connection closed
+over_reading : (sends bytes : List ℕ) (out : Outcome) → ReadsOn sends bytes out → out.phase ≡ Over → wants_close out.wants ≡ true
+over_reading sends bytes out r over = by r.fault (ap (λ (o : Outcome). o.phase) r.is) (ap (λ (o : Outcome). o.wants) r.is)
+  where
+    by : (fault : Option ModeFault) → out.phase ≡ phase_by fault → out.wants ≡ map Delivers r.messages ++ close_by fault → wants_close out.wants ≡ true
+    by None phase wants = let no : Opened ≡ Over = sym phase ∙ over in cc
+    by (Some fault) phase wants = ap wants_close wants ∙ closes_behind r.messages fault
+
+-- so does any
+pub over_closes : (phase : ServerPhase) (bytes : List ℕ) (out : Outcome) → ServerReads phase bytes out → out.phase ≡ Over → wants_close out.wants ≡ true
+over_closes (Awaiting server) bytes out (inl w) over = let no : Awaiting server ≡ Over = sym (ap (λ (o : Outcome). o.phase) w.is) ∙ over in cc
+over_closes (Awaiting server) bytes out (inr (inl l)) over = over_reading l.pong l.more out l.reads over
+over_closes (Awaiting server) bytes out (inr (inr s)) over = ap (λ (o : Outcome). wants_close o.wants) s.is
+over_closes Opened bytes out r over = over_reading [] bytes out r over
+over_closes Over bytes out r over = absurd r
+
+-- what was read is what the session is
+pub has_read : (piece : List ℕ) (old between new : ServerState) (out : Outcome) → ServerReads old.phase (old.held ++ piece) out → between ≡ after old out → new ≡ between
+    → IsRead piece old new
+has_read piece old between new out reads is same = record { out = out; reads = reads; is = same ∙ is }
+
+-- each message that was demanded has its number
+pub numbered_on : {T E : Type 0} (r : Result T E) (before behind : ℕ) (old between new : ServerState) (out : Outcome) (wants : List Wanted)
+    → OnOk r (behind ≡ before + length (asked_in wants)) → wants ≡ out.wants → between ≡ after old out → new ≡ between
+    → OnOk r (behind + length old.asked ≡ before + length new.asked)
+numbered_on (Ok _) before behind old between new out wants n w is same =
+    let count : length new.asked ≡ length old.asked + length (asked_in wants) =
+    ap (λ (s : ServerState). length s.asked) (same ∙ is) ∙ length-append old.asked (asked_in out.wants)
+    ∙ ap (λ (l : List Wanted). length old.asked + length (asked_in l)) (sym w) in
+    omega (arith, n, count)
+numbered_on (Err _) before behind old between new out wants n w is same = tt
+
+-- a session that is over then is closed
+pub closes_on : {T E : Type 0} (r : Result T E) (old between new : ServerState) (out : Outcome) (piece : List ℕ) (wants : List Wanted) (was closing : Bool)
+    → OnOk r (closing ≡ (was || wants_close wants)) → wants ≡ out.wants → ServerReads old.phase (old.held ++ piece) out → between ≡ after old out → new ≡ between
+    → OnOk r (new.phase ≡ Over → closing ≡ true)
+closes_on (Ok _) old between new out piece wants was closing c w reads is same =
+    λ over.
+    let phase : out.phase ≡ Over = sym (ap (λ (s : ServerState). s.phase) (same ∙ is)) ∙ over in
+    c ∙ ap (λ (b : Bool). was || b) (ap wants_close w ∙ over_closes old.phase (old.held ++ piece) out reads phase) ∙ or_true was
+closes_on (Err _) old between new out piece wants was closing c w reads is same = tt
+
+-- what holds anyway holds where it is answered so
+pub on_ok : {T E : Type 0} (r : Result T E) (P : Type 0) → P → OnOk r P
+on_ok (Ok _) P p = p
+on_ok (Err _) P p = tt
+
+pub on_err : {T E : Type 0} (r : Result T E) (P : Type 0) → P → OnErr r P
+on_err (Ok _) P p = tt
+on_err (Err _) P p = p
+
+-- the first of these became so, and then the others
+pub first_becomes : (all rest : List Waits) (w : Waits) (old between new : Standing) → all ≡ w ∷ rest → Becomes w old between → BecomeInOrder rest between new → BecomeInOrder all old new
+first_becomes all rest w old between new e first others = subst (λ (l : List Waits). BecomeInOrder l old new) (sym e) (between, first, others)
+
+-- the session took the answer, or had no memory for it
+pub answer_becomes : (w : Waits) (reserved : Reservation) (left : List Waits) (took : Bool) (old new : ServerState) → IsAnswerTo w.awaited reserved → left ≡ []
+    → (took ≡ true → IsTaken reserved old new) → (took ≡ false → new ≡ old) → Becomes w (record { left = left; session = old }) (record { left = left; session = new })
+answer_becomes w reserved left true old new answer none took refused =
+    inl (record { first = none; left = none; reserved = reserved; answer = answer; taken = took refl })
+answer_becomes w reserved left false old new answer none took refused = inr (inr (ap (λ (s : ServerState). record { left = left; session = s }) (refused refl)))
+
+-- A session that refuses a piece by a fault met one before.
+pub met_before : {T : Type 0} (e : SessionError) (fault : SessionFault) (phase : ServerPhase) → e ≡ error.Fault fault → (e ≡ error.Fault Closed) ⊎ (e ≡ error.Memory)
+    → (◌≡◌ {A = Result T SessionError} (Err e) (Err (error.Fault Closed)) → phase ≡ Over) → phase ≡ Over
+met_before {T} e fault phase is (inl closed) over = over (ap {B = Result T SessionError} (λ (x : SessionError). Err x) closed)
+met_before e fault phase is (inr memory) over = let never : error.Fault fault ≡ error.Memory = sym is ∙ memory in cc

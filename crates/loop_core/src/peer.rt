@@ -1,15 +1,15 @@
 //! A client's connection, without its socket.
 
-ghost use Rattle.std.specs.Prelude.{◌≡◌, ◌≤◌, [], List, drop, length, All, Contains, IfOk};
+ghost use Rattle.std.specs.Prelude.{◌≡◌, ◌≤◌, ◌<◌, ◌+◌, ◌⊎◌, ◌↔◌, ◌||◌, [], List, true, false, drop, length, map, All, Contains, IfOk, OnOk, OnErr, IsTrue};
 ghost use Rattle.ack_receipt.specs.Reservations.{asked_of};
 ghost use Rattle.event_modes.specs.Reading.{meaning};
 ghost use Rattle.buffer_lanes.specs.Lanes.{KeepsLanes, NoneLater};
 ghost use Rattle.buffer_lanes.specs.Waits.{Awaited};
-ghost use Rattle.loop_core.specs.Peers.{AreAmong, IsEarned, IsFaithful, IsOwed, awaited_in};
+ghost use Rattle.loop_core.specs.Peers.{AreAmong, BecomeInOrder, Becomes, GoOnWaiting, IsEarned, IsFaithful, IsOwed, IsRead, IsTaken, OneMoreWaits, awaited_in, wants_close};
 ghost use Rattle.std.specs.Arc.{arc_value};
 ghost use Rattle.forward_core.specs.Handshakes.{IsHosted};
-ghost use Rattle.forward_core.specs.Demands.{wanted};
-ghost use Rattle.forward_core.specs.Server.{IsAskedIn, initial_server};
+ghost use Rattle.forward_core.specs.Demands.{asked_in, wanted};
+ghost use Rattle.forward_core.specs.Server.{IsAskedIn, Over, initial_server};
 
 use crate::fault::LoopFault;
 use ack_receipt::{Delivery, Numbers, Reserved};
@@ -38,7 +38,7 @@ impl<A: Allocator> Model for Peer<A> {
 
     ghost Value = { PeerState };
 
-    ghost view = { λ p. record { entry = arc_value p.inlet; session = p.session; waits = p.waiting.items } };
+    ghost view = { λ p. record { entry = arc_value p.inlet; session = p.session; waits = p.waiting.items; closing = p.is_closing } };
 
     ghost invariant = { λ p. IsFaithful (arc_value p.inlet) p.session.asked p.session.taken p.waiting.items };
 }
@@ -54,7 +54,7 @@ impl<A: Allocator + Copy> Peer<A> {
         nonce: [u8; 16],
     ) -> Result<Peer<A>, AllocError>
         requires { IsHosted security }
-        ensures { IfOk result (λ peer. peer ≡ record { entry = arc_value inlet.now; session = initial_server security.entry nonce; waits = [] }) }
+        ensures { IfOk result (λ peer. peer ≡ record { entry = arc_value inlet.now; session = initial_server security.entry nonce; waits = []; closing = false }) }
     {
         let session = ServerSession::open(alloc, security, nonce)?;
         let inlet = Arc::try_clone(inlet)?;
@@ -69,7 +69,8 @@ impl<A: Allocator + Copy> Peer<A> {
     /// Takes a piece of what the client sent, and begins a delivery of each message that is whole now.
     ///
     /// A fault of the stream or the handshake ends the reading. `NoNumber`: the numbers of deliveries have run out. `Memory`:
-    /// the connection is to be closed, since what came may be lost; what began before stands.
+    /// the connection is to be closed, since what came may be lost; what began before stands. After an error the session is as it
+    /// was, or has read the piece: then of some of its messages no delivery began.
     pub fn receive<R: Wait, D: Dir + Drop>(
         &mut self,
         rt: &R,
@@ -80,6 +81,18 @@ impl<A: Allocator + Copy> Peer<A> {
     ) -> Result<(), LoopFault>
         ensures entry { self.new.entry ≡ self.old.entry }
         ensures lanes { KeepsLanes lanes.old lanes.new }
+        // No piece is passed over: it is read, unless the session met a fault before.
+        ensures read { OnOk result (IsRead piece.now self.old.session self.new.session
+            ⊎ ((self.old.session.phase ≡ Over) × (self.new.session ≡ self.old.session))) }
+        ensures err { OnErr result ((self.new.session ≡ self.old.session)
+            ⊎ IsRead piece.now self.old.session self.new.session) }
+        // Each message that was demanded got its number.
+        ensures numbered { OnOk result (numbers.new + length self.old.session.asked
+            ≡ numbers.old + length self.new.session.asked) }
+        // After a fault of the stream or the handshake nothing more is read.
+        ensures closes { OnOk result (self.new.session.phase ≡ Over → self.new.closing ≡ true) }
+        ensures closed { self.old.closing ≡ true → self.new.closing ≡ true }
+        ensures waits { GoOnWaiting self.old.waits self.new.waits }
     {
         let demands = match self.session.feed(piece) {
             Ok(demands) => demands,
@@ -104,6 +117,11 @@ impl<A: Allocator + Copy> Peer<A> {
         requires { All (λ demand. IsAskedIn self.old.session.asked (wanted demand)) demands.items }
         ensures entry { self.new.entry ≡ self.old.entry }
         ensures lanes { KeepsLanes lanes.old lanes.new }
+        ensures session { self.new.session ≡ self.old.session }
+        ensures numbered { OnOk result (numbers.new ≡ numbers.old + length (asked_in (map wanted demands.items))) }
+        ensures closes { OnOk result (self.new.closing ≡ (self.old.closing || wants_close (map wanted demands.items))) }
+        ensures closed { self.old.closing ≡ true → self.new.closing ≡ true }
+        ensures waits { GoOnWaiting self.old.waits self.new.waits }
     {
         let mut rest = demands.into_iter();
         while let Some(demand) = rest.next() {
@@ -117,12 +135,12 @@ impl<A: Allocator + Copy> Peer<A> {
 
     // Nothing more is read.
     fn close(&mut self)
-        ensures { self.new ≡ self.old }
+        ensures { self.new ≡ record self.old { closing = true } }
     {
         self.is_closing = true;
     }
 
-    // Begins the delivery of a message, unless its way is a loop. Where a buffer refuses, it is abandoned.
+    // Begins the delivery of a message under a number of its own, unless its way is a loop. Where a buffer refuses, it is abandoned.
     fn deliver<R: Wait, D: Dir + Drop>(
         &mut self,
         rt: &R,
@@ -135,7 +153,13 @@ impl<A: Allocator + Copy> Peer<A> {
         ensures entry { self.new.entry ≡ self.old.entry }
         ensures session { self.new.session ≡ self.old.session }
         ensures lanes { KeepsLanes lanes.old lanes.new }
+        ensures numbered { OnOk result (numbers.new ≡ numbers.old + 1) }
+        ensures closing { self.new.closing ≡ self.old.closing }
+        ensures waits { (self.new.waits ≡ self.old.waits) ⊎ OneMoreWaits self.old.waits self.new.waits }
     {
+        let Some(number) = numbers.draw() else {
+            return Err(LoopFault::NoNumber);
+        };
         let Some(branches) = self.inlet.branches(alloc, &message)? else {
             return Ok(());
         };
@@ -146,9 +170,6 @@ impl<A: Allocator + Copy> Peer<A> {
         } = branches;
         let reserved = Reserved::for_message(alloc, &message)?;
         self.waiting.reserve(1)?;
-        let Some(number) = numbers.draw() else {
-            return Err(LoopFault::NoNumber);
-        };
         let delivery = match Delivery::begin_as(alloc, number, message, tag.as_bytes(), leaves) {
             Ok(delivery) => delivery,
             Err(_) => return Err(LoopFault::Memory),
@@ -170,6 +191,10 @@ impl<A: Allocator + Copy> Peer<A> {
         // What waits on waited before: nothing, where no buffer's receipts come later.
         ensures waited { AreAmong (awaited_in self.old.waits) self.new.waits }
         ensures ended { NoneLater lanes.old.later → self.new.waits ≡ [] }
+        // None is answered behind one that waits on.
+        ensures order { BecomeInOrder self.old.waits (record { left = []; session = self.old.session })
+            (record { left = self.new.waits; session = self.new.session }) }
+        ensures closed { self.old.closing ≡ true → self.new.closing ≡ true }
     {
         let list = mem::replace(&mut self.waiting, Vec::new(alloc));
         let (later, answered) = settle_all(rt, alloc, &self.inlet, &mut self.session, list, lanes);
@@ -196,12 +221,16 @@ impl<A: Allocator + Copy> Peer<A> {
     }
 
     /// Whether nothing more is read: send what is outgoing, and close the connection.
-    pub fn is_closing(&self) -> bool {
+    pub fn is_closing(&self) -> bool
+        ensures { result ≡ self.now.closing }
+    {
         self.is_closing
     }
 
     /// Whether deliveries wait for receipts.
-    pub fn is_waiting(&self) -> bool {
+    pub fn is_waiting(&self) -> bool
+        ensures { IsTrue result ↔ (0 < length self.now.waits) }
+    {
         !self.waiting.is_empty()
     }
 
@@ -257,6 +286,8 @@ fn settle_all<R: Wait, D: Dir + Drop, A: Allocator + Copy>(
     ensures lanes { lanes.new ≡ lanes.old }
     ensures waited { AreAmong (awaited_in list.items) result.0.items }
     ensures ended { NoneLater lanes.old.later → result.0.items ≡ [] }
+    ensures order { BecomeInOrder list.items (record { left = []; session = session.old })
+        (record { left = result.0.items; session = session.new }) }
 {
     let mut later = Vec::new(alloc);
     let mut answered = true;
@@ -284,6 +315,8 @@ fn settle_one<R: Wait, D: Dir + Drop, A: Allocator + Copy>(
     ensures lanes { lanes.new ≡ lanes.old }
     ensures waited { (before : List Awaited) → AreAmong before later.old.items → Contains before waiting.awaited → AreAmong before later.new.items }
     ensures ended { NoneLater lanes.old.later → later.old.items ≡ [] → later.new.items ≡ [] }
+    ensures becomes { Becomes waiting (record { left = later.old.items; session = session.old })
+        (record { left = later.new.items; session = session.new }) }
 {
     let held = !later.is_empty();
     match waiting.collect(rt, lanes, held) {
@@ -312,8 +345,10 @@ fn answer<A: Allocator + Copy>(
 ) -> bool
     requires demanded { Contains session.old.asked reserved.asked }
     requires earned { IsEarned inlet.now reserved }
+    ensures taken { result ≡ true → IsTaken reserved session.old session.new }
+    ensures refused { result ≡ false → session.new ≡ session.old }
     ensures asked { session.new.asked ≡ session.old.asked }
-    ensures taken { All (IsEarned inlet.now) session.old.taken → All (IsEarned inlet.now) session.new.taken }
+    ensures kept { All (IsEarned inlet.now) session.old.taken → All (IsEarned inlet.now) session.new.taken }
 {
     let _ = inlet.number();
     session.answer(reserved).is_ok()

@@ -1,5 +1,5 @@
 -- The connections of a relay's loop, and the sources that they came in at.
-use Rattle.std.specs.Prelude.{ℕ, ◌≡◌, ◌<◌, List, [], length, map, Option, Some, IfSome, slice_get, slice_index_or, string_bytes}
+use Rattle.std.specs.Prelude.{ℕ, ◌≡◌, ◌<◌, false, List, [], length, map, Option, Some, IfSome, slice_get, slice_index_or, string_bytes}
 use Rattle.std.specs.List.{All}
 use Rattle.relay_conf.specs.declared.relay.Relay.{Relay}
 use Rattle.relay_conf.specs.declared.relay.Source.{Source}
@@ -101,4 +101,4 @@ AreSettledBelow end slots = (key : ℕ) (none : Option ConnectionState) → key 
 pub record BeginsAt (source : Served) (nonce : List ℕ) (peer : PeerState) : Type 0 where
   pub security : Option Security
   pub asks : credentials_in security ≡ source.asks
-  pub begins : peer ≡ record { entry = source.entry; session = initial_server security nonce; waits = [] }
+  pub begins : peer ≡ record { entry = source.entry; session = initial_server security nonce; waits = []; closing = false }

@@ -1,7 +1,8 @@
 -- Lists whose elements go from one to another.
 use Rattle.std.proofs.Common.{ℕ, ◌≡◌, ◌∙◌, ◌<◌, ◌≤◌, ◌+◌, ◌-◌, arith, List, [], ◌∷◌, ◌++◌, length, take, get_or, map, ap, sym, add-one, append_assoc, append-nil, subst}
-use Rattle.std.specs.List.{AllZip}
+use Rattle.std.specs.List.{All, AllZip}
 use Rattle.std.proofs.lemmas.List.{map_push}
+use Rattle.std.proofs.lemmas.List.Elements.{All-push, All-same}
 use Rattle.std.proofs.Math.Seq.{take-suc}
 
 -- the first of what is left goes to what was made
@@ -51,6 +52,10 @@ pushed_to {E} {X} {Y} R f g made made' e m all one =
     let on_f : AllZip R (map f (made ++ e ∷ [])) (map g made ++ g e ∷ []) = subst (λ (l : List X). AllZip R l (map g made ++ g e ∷ [])) (sym (map_push f made e)) more in
     let on_g : AllZip R (map f (made ++ e ∷ [])) (map g (made ++ e ∷ [])) = subst (λ (l : List Y). AllZip R (map f (made ++ e ∷ [])) l) (sym (map_push g made e)) on_f in
     subst (λ (l : List E). AllZip R (map f l) (map g l)) (sym m) on_g
+
+-- what holds of each of these holds where one more is made
+pub all_more : {E X : Type 0} (P : X → Type 0) (f : E → X) (made made' : List E) (e : E) → made' ≡ made ++ e ∷ [] → All P (map f made) → P (f e) → All P (map f made')
+all_more P f made made' e m all one = All-same P (map f made') (map f made ++ f e ∷ []) (ap (map f) m ∙ map_push f made e) (All-push P (map f made) (f e) all one)
 
 -- nothing is made yet, and all is left
 pub all_left : {X S : Type 0} (f : X → S) (made : List S) (left xs : List X) → made ≡ [] → left ≡ xs → made ++ map f left ≡ map f xs

@@ -1,6 +1,6 @@
 -- The buffers of a relay, as they are opened.
-use Rattle.std.specs.Prelude.{ℕ, List}
-use Rattle.std.specs.List.{AllZip}
+use Rattle.std.specs.Prelude.{ℕ, ◌≡◌, List, Option}
+use Rattle.std.specs.List.{All, AllZip}
 use Rattle.disk_files.specs.Disk.{reads}
 use Rattle.disk_files.specs.Moments.{History, now}
 use Rattle.journal_files.specs.Folders.{Opens}
@@ -24,6 +24,10 @@ pub record OpenState (D A : Type 0) : Type 0 where
   pub owned : Owned A
   pub folder : D
   pub plan : Plan
+
+-- each of these buffers was opened in the folder of the system that its kind has, or in memory
+abbrev pub ArePlaced : {A : Type 0} → (path : BufferKind A → Option (List ℕ)) → List (Owned A) → Type 0
+ArePlaced path owned = All (λ one. one.path ≡ path (settings_of one.output).kind) owned
 
 -- A buffer was opened as its output's settings say, in a folder for its kind: if that is honest, its chunks are those that the journal there means.
 pub record IsOpenIn {D A : Type 0} (is_for : BufferKind A → D → Type 0) (is_honest : D → Type 0) (history : D → History) (one : OpenState D A) : Type 0 where

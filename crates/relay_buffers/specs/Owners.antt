@@ -1,5 +1,5 @@
 -- Which buffer is of which output.
-use Rattle.std.specs.Prelude.{ℕ, ◌≡◌, ◌*◌, ◌-◌, ◌^◌, List, min, string_bytes}
+use Rattle.std.specs.Prelude.{ℕ, ◌≡◌, ◌*◌, ◌-◌, ◌^◌, List, Option, min, string_bytes}
 use Rattle.ack_receipt.specs.Terms.{Terms}
 use Rattle.buffer_lanes.specs.Schedules.{Plan, staged_at}
 use Rattle.buffer_state.specs.declared.limits.Limits.{Limits}
@@ -21,6 +21,11 @@ pub record Opened : Type 0 where
 abbrev pub opened_as : {D : Type 0} → Held D → Opened
 opened_as buffer = record { limits = buffer.limits; name = buffer.journal.path; chunks = buffer.chunks }
 
+-- a buffer that is shared: its terms, and the buffer itself as it was opened
+pub record Shared (D A : Type 0) : Type 0 where
+  pub terms : Terms A
+  pub opened : Held D
+
 -- how many bytes of entries a chunk, and all of them, may have by these settings
 abbrev pub limits_of : {A : Type 0} → BufferSettings A → Limits
 limits_of settings = record { chunk = settings.chunk_limit_size; total = settings.total_limit_size }
@@ -40,12 +45,17 @@ pub record IsBufferOf {A B : Type 0} (number : ℕ) (found : BufferedOutput A) (
   pub leaf : terms.leaf ≡ record { relay = number; buffer = number_of found }
   pub takes : AreTakesOf found terms.takes
 
--- an output of the relay with this number, and its buffer, also as it was opened
+-- an output of the relay with this number, and its buffer, also as it was opened, and in which folder of the system, if it isn't in memory
 pub record Owned (A : Type 0) : Type 0 where
   pub number : ℕ
   pub output : BufferedOutput A
   pub terms : Terms A
   pub opened : Opened
+  pub path : Option (List ℕ)
+
+-- this output of the relay with this number, and this buffer, which was opened there
+abbrev pub owned_by : {D A : Type 0} → (number : ℕ) → BufferedOutput A → Shared D A → (path : Option (List ℕ)) → Owned A
+owned_by number output share path = record { number = number; output = output; terms = share.terms; opened = opened_as share.opened; path = path }
 
 -- the buffer is the output's own, and was opened as the output's settings say
 pub record IsOwned {A : Type 0} (owned : Owned A) : Type 0 where

@@ -1,16 +1,19 @@
 //! Opening the buffers of a relay.
 
-ghost use Rattle.std.specs.Prelude.{◌≡◌, All, map, IfOk};
+ghost use Rattle.std.specs.Prelude.{◌≡◌, All, map, option_map, string_bytes, IfOk};
 ghost use Rattle.disk_files.specs.Disk.{reads};
 ghost use Rattle.disk_files.specs.Moments.{now as now_of};
 ghost use Rattle.journal_files.specs.Folders.{Opens};
 ghost use Rattle.buffer_lanes.specs.Schedules.{staged_at};
 ghost use Rattle.relay_buffers.specs.Owners.{IsBufferOf, IsPlanned, IsScheduledBy, IsSetAs, limits_of, opened_as};
-ghost use Rattle.relay_buffers.specs.Buffers.{AreBuffersOf, ArePlanned, IsOpenIn};
+ghost use Rattle.relay_buffers.specs.Buffers.{AreBuffersOf, ArePlaced, ArePlanned, IsOpenIn};
+ghost use Rattle.relay_ports.specs.Outputs.{settings_of};
 
 use crate::folders::Folders;
 use crate::job::DeliveryJob;
-use ack_receipt::{Leaf, SharedBuffer};
+use crate::placed::PlacedDir;
+use crate::shared::Share;
+use ack_receipt::Leaf;
 use buffer_lanes::Schedule;
 use buffer_state::Limits;
 use buffer_store::{Buffer, BufferFault, RENEWED_PAST_IN_FILES, RENEWED_PAST_IN_MEMORY, Settings};
@@ -20,8 +23,6 @@ use relay_conf::{BufferKind, BufferSettings};
 use relay_ports::{BufferedOutput, takes_of};
 use std::alloc::Allocator;
 use std::marker::Model;
-use std::snapshot::Snapshot;
-use std::sync::Arc;
 
 /// The name under which a buffer in memory keeps its journal, in a folder of its own.
 const MEMORY_NAME: &[u8] = b"memory";
@@ -31,23 +32,22 @@ const MEMORY_NAME: &[u8] = b"memory";
 #[derive(Drop)]
 pub struct OpenOutput<D: Dir + Drop, A: Allocator> {
     pub(crate) job: DeliveryJob<D, A>,
-    pub(crate) buffer: Arc<SharedBuffer<D, A>, A>,
+    pub(crate) share: Share<D, A>,
     pub(crate) schedule: Schedule<A>,
-    pub(crate) opened: Snapshot<Buffer<D, A>>,
 }
 
 impl<D: Dir + Drop, A: Allocator> Model for OpenOutput<D, A> {
     ghost use Rattle.std.specs.Prelude.{◌≡◌};
-    ghost use Rattle.std.specs.Arc.{arc_value};
     ghost use Rattle.relay_ports.specs.Outputs.{settings_of};
-    ghost use Rattle.relay_buffers.specs.Owners.{IsOwned, IsScheduledBy};
+    ghost use Rattle.relay_buffers.specs.Owners.{IsOwned, IsScheduledBy, opened_as};
     ghost use Rattle.relay_buffers.specs.Buffers.{OpenState};
 
     ghost Value = { OpenState D A };
 
-    ghost view = { λ o. record { owned = o.job; folder = o.opened.value.start; plan = o.schedule } };
+    ghost view = { λ o. record { owned = o.job; folder = o.share.opened.start; plan = o.schedule } };
 
-    ghost invariant = { λ o. IsOwned o.job × (arc_value o.buffer ≡ o.job.terms) × IsScheduledBy (settings_of o.job.output) o.schedule };
+    ghost invariant = { λ o. IsOwned o.job × (o.share.terms ≡ o.job.terms) × (opened_as o.share.opened ≡ o.job.opened)
+        × IsScheduledBy (settings_of o.job.output) o.schedule };
 }
 
 /// Makes the folders of the relay's buffers ready, and opens the buffers of these outputs, in their order.
@@ -64,6 +64,7 @@ pub fn open_all<D: Dir + Drop, A: Allocator + Copy, F: Folders<D, A>>(
     ensures outputs { IfOk result (λ all. map (λ one. one.owned.output) all.items ≡ outputs.items) }
     ensures buffers { IfOk result (λ all. AreBuffersOf number outputs.items (map (λ one. one.owned.terms) all.items)) }
     ensures opened { IfOk result (λ all. All (IsOpenIn (F.is_for folders.now) D.is_honest D.history) all.items) }
+    ensures placed { IfOk result (λ all. ArePlaced (F.place folders.now) (map (λ one. one.owned) all.items)) }
     ensures planned { IfOk result (λ all. ArePlanned now (map (λ one. one.owned) all.items) (map (λ one. one.plan) all.items)) }
 {
     if !folders.make_ready() {
@@ -89,6 +90,7 @@ fn open_one<D: Dir + Drop, A: Allocator + Copy, F: Folders<D, A>>(
     ensures output { IfOk result (λ one. one.owned.output ≡ output) }
     ensures buffer { IfOk result (λ one. IsBufferOf number output one.owned.terms) }
     ensures opened { IfOk result (IsOpenIn (F.is_for folders.now) D.is_honest D.history) }
+    ensures placed { IfOk result (λ one. one.owned.path ≡ F.place folders.now (settings_of output).kind) }
     ensures planned { IfOk result (λ one. IsPlanned now one.owned one.plan) }
 {
     let Ok(place) = u32::try_from(output.number().0) else {
@@ -99,24 +101,26 @@ fn open_one<D: Dir + Drop, A: Allocator + Copy, F: Folders<D, A>>(
         buffer: place,
     };
     let takes = takes_of(alloc, &output)?;
-    let OpenBuffer { buffer, schedule } = open_buffer(alloc, output.buffer(), folders, now)?;
-    let (opened, remembered) = (Snapshot::of(&buffer), Snapshot::of(&buffer));
-    let buffer = Arc::new(alloc, SharedBuffer::new(alloc, buffer, leaf, takes))?;
-    let theirs = Arc::try_clone(&buffer)?;
-    let job = DeliveryJob::new(number, output, theirs, remembered);
-    Ok(OpenOutput {
-        job,
+    let OpenBuffer {
         buffer,
         schedule,
-        opened,
+        path,
+    } = open_buffer(alloc, output.buffer(), folders, now)?;
+    let (share, theirs) = Share::two_of(alloc, buffer, leaf, takes)?;
+    let job = DeliveryJob::new(number, output, theirs, path);
+    Ok(OpenOutput {
+        job,
+        share,
+        schedule,
     })
 }
 
-// A buffer that was opened, and when its staged chunks are queued.
+// A buffer that was opened, when its staged chunks are queued, and in which folder of the system it is.
 #[derive(Drop)]
 struct OpenBuffer<D: Dir + Drop, A: Allocator> {
     buffer: Buffer<D, A>,
     schedule: Schedule<A>,
+    path: Option<String<A>>,
 }
 
 // Opens the buffer that has these settings; the chunks that are staged there are so since now.
@@ -127,16 +131,17 @@ fn open_buffer<D: Dir + Drop, A: Allocator + Copy, F: Folders<D, A>>(
     now: u64,
 ) -> Result<OpenBuffer<D, A>, LoopFault>
     ensures set { IfOk result (λ opened. IsSetAs settings.now (opened_as opened.buffer)) }
+    ensures path { IfOk result (λ opened. option_map string_bytes opened.path ≡ F.place folders.now settings.now.kind) }
     ensures folder { IfOk result (λ opened. F.is_for folders.now settings.now.kind opened.buffer.start) }
     ensures chunks { IfOk result (λ opened. D.is_honest opened.buffer.start
         → Opens opened.buffer.journal.path (reads (now_of (D.history opened.buffer.start))) opened.buffer.chunks) }
     ensures queues { IfOk result (λ opened. IsScheduledBy settings.now opened.schedule) }
     ensures staged { IfOk result (λ opened. opened.schedule.chunks ≡ staged_at now opened.buffer.chunks) }
 {
-    let dir = folders.folder_of(&settings.kind)?;
+    let PlacedDir { dir, path } = folders.folder_of(&settings.kind)?;
     let name = match &settings.kind {
         BufferKind::Memory => MEMORY_NAME,
-        BufferKind::File { path } => path.as_bytes(),
+        BufferKind::File { path: name } => name.as_bytes(),
     };
     let buffer = match Buffer::open(alloc, dir, name, store_settings(settings)) {
         Ok(buffer) => buffer,
@@ -145,7 +150,11 @@ fn open_buffer<D: Dir + Drop, A: Allocator + Copy, F: Folders<D, A>>(
     };
     let (mode, interval) = (settings.flush_mode, settings.flush_interval);
     let schedule = Schedule::of_staged(alloc, mode, interval, &buffer.chunks(), now)?;
-    Ok(OpenBuffer { buffer, schedule })
+    Ok(OpenBuffer {
+        buffer,
+        schedule,
+        path,
+    })
 }
 
 // What the configuration says of a buffer, as the buffer takes it.

@@ -37,11 +37,10 @@ pub fn parts_of<D: Dir + Drop, A: Allocator + Copy>(
     while let Some(each) = rest.next() {
         let OpenOutput {
             job,
-            buffer,
+            share,
             schedule,
-            opened: _,
         } = each;
-        lanes.add(Lane::new(alloc, buffer, schedule));
+        lanes.add(Lane::new(alloc, share.into_buffer(), schedule));
         jobs.push_reserved(job);
     }
     Ok(RelayParts {
@@ -60,7 +59,7 @@ fn shares_of<D: Dir + Drop, A: Allocator + Copy>(
 {
     let mut shares = Vec::with_capacity(alloc, opened.len())?;
     for one in opened {
-        shares.push(Arc::try_clone(&one.buffer)?)?;
+        shares.push(Arc::try_clone(one.share.buffer())?)?;
     }
     Ok(shares)
 }

@@ -8,7 +8,7 @@ use disk_files::Dir;
 use flush_pool::CarryFault;
 use forward_core::SessionFault;
 use mio_relay::{Ended, OpenRelay};
-use relay_buffers::{DeliveryJob, Folders, MemoryFolders};
+use relay_buffers::{DeliveryJob, Folders, MemoryFolders, PlacedDir};
 use relay_conf::{BufferKind, BufferNo};
 use std::alloc::Global;
 use std::net::Net;
@@ -36,7 +36,7 @@ where
         dialer: system(rt)?,
     };
     let courier = courier_to(rt, text, port, dialer)?;
-    let dir = folders.folder_of(&BufferKind::Memory)?;
+    let PlacedDir { dir, path: _ } = folders.folder_of(&BufferKind::Memory)?;
     let (fault, _) = carried_from(rt, dir, &courier)?;
     Ok(fault)
 }

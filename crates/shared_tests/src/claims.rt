@@ -1,7 +1,7 @@
 //! What lets chunks go.
 
 use crate::shelves::{
-    ENTRY, LEAF, Shelf, WIDE, buffer_in, dropped, enqueue, is_live, shelf_in, stored,
+    ENTRY, LEAF, Shelf, WIDE, buffer_in, dropped, eager_in, enqueue, is_live, shelf_in, stored,
 };
 use ack_receipt::{Basis, Claim, Evidence, Leaf, Numbers, PurgeFault, SharedBuffer, Takes};
 use buffer_store::BufferFault;
@@ -191,5 +191,32 @@ fn the_oldest_is_dropped_once(rt: HostRuntime) -> Result<(), Fail> {
     let (stays, drops) = oldest(rt.alloc(), &rt, MemoryDir::new(rt.alloc()))?;
     assert!(rt; stays);
     assert_eq!(rt; drops, [Ok(0), Err(BufferFault::Gone)]);
+    Ok(())
+}
+
+// What renewing a journal answers that is long, since the only chunk was dropped; `None` where this folder failed before.
+fn renewed_long<R: Wait, D: Dir + Drop>(
+    alloc: Global,
+    rt: &R,
+    dir: D,
+) -> Option<Result<(), BufferFault>> {
+    let shelf = eager_in(alloc, dir).ok()?;
+    queued(alloc, rt, &shelf).ok()?;
+    dropped(rt, &shelf).ok()?;
+    Some(shelf.renew(rt))
+}
+
+// A journal that is long is written anew: where the folder fails every call from then on, that is told.
+#[test]
+fn a_long_journal_is_renewed(rt: HostRuntime) -> Result<(), Fail> {
+    let alloc = rt.alloc();
+    let mut told = false;
+    for passes in 0..40u64 {
+        let fuse = Fuse::after(MemoryDir::new(alloc), passes);
+        told |= renewed_long(alloc, &rt, fuse) == Some(Err(BufferFault::Fault));
+    }
+    assert!(rt; told);
+    let whole = renewed_long(alloc, &rt, MemoryDir::new(alloc));
+    assert_eq!(rt; whole, Some(Ok(())));
     Ok(())
 }

@@ -40,7 +40,24 @@ pub fn buffer_in<D: Dir + Drop>(
         limits,
         renewed_past: RENEWED_PAST_IN_MEMORY,
     };
+    opened(alloc, dir, settings)
+}
+
+fn opened<D: Dir + Drop>(
+    alloc: Global,
+    dir: D,
+    settings: Settings,
+) -> Result<Buffer<D, Global>, BufferFault> {
     Buffer::open(alloc, dir, b"buf", settings).map_err(|(fault, _dir)| fault)
+}
+
+// What lets its chunks go: acknowledgements. They may be dropped too.
+fn takes() -> Takes<Global> {
+    Takes {
+        basis: Basis::Acknowledged,
+        expires: false,
+        drops: true,
+    }
 }
 
 // The same under this name, shared; its chunks go by acknowledgements, and may be dropped.
@@ -50,13 +67,18 @@ pub fn shelf_in<D: Dir + Drop>(
     leaf: Leaf,
     limits: Limits,
 ) -> Result<Shelf<D>, BufferFault> {
-    let takes = Takes {
-        basis: Basis::Acknowledged,
-        expires: false,
-        drops: true,
-    };
     let buffer = buffer_in(alloc, dir, limits)?;
-    Ok(SharedBuffer::new(alloc, buffer, leaf, takes))
+    Ok(SharedBuffer::new(alloc, buffer, leaf, takes()))
+}
+
+// Such a buffer in this folder, whose journal is renewed wherever it is twice as long as what it keeps.
+pub fn eager_in<D: Dir + Drop>(alloc: Global, dir: D) -> Result<Shelf<D>, BufferFault> {
+    let settings = Settings {
+        limits: WIDE,
+        renewed_past: 0,
+    };
+    let buffer = opened(alloc, dir, settings)?;
+    Ok(SharedBuffer::new(alloc, buffer, LEAF, takes()))
 }
 
 // The tag `a` and one entry.

@@ -1,6 +1,6 @@
 //! Receipts of appends that waited for them.
 
-ghost use Rattle.std.specs.Prelude.{◌≡◌, ◌≢◌, ◌↔◌, ◌⊎◌, ◌<◌, ◌≤◌, [], ℕ, true, cond, length, vec_len, vec_capacity, All, None, Ok, Err, IfOk, IfErr, OnOk, OnErr, IsTrue};
+ghost use Rattle.std.specs.Prelude.{◌≡◌, ◌≢◌, ◌↔◌, ◌⊎◌, ◌<◌, ◌≤◌, [], ℕ, true, cond, length, vec_len, vec_capacity, All, None, Ok, Err, IfOk, IfErr, OnOk, OnErr, IsErr, IsTrue};
 ghost use Rattle.std.specs.Ordering.{nat_cmp};
 ghost use Rattle.std.specs.BTreeMap.{is_at};
 ghost use Rattle.buffer_store.specs.declared.fault.BufferFault.{BufferFault};
@@ -41,6 +41,8 @@ impl<D: Dir, A: Allocator + Copy> LockedBuffer<D, A> {
         ensures quiet { AreBefore self.old.synced pendings.items → self.new.buffer ≡ self.old.buffer }
         ensures stranger { IfErr result (λ refused. (refused.0 ≡ RedeemFault.Stranger) ↔ (CanRedeem terms.now.leaf self.old.waiting pendings.items → ⊥)) }
         ensures failed { IfErr result (λ refused. refused.0 ≡ RedeemFault.Buffer BufferFault.Failed → self.old.buffer.failed ≡ true) }
+        // A failed buffer gives no receipts.
+        ensures stopped { self.old.buffer.failed ≡ true → IsErr result }
         ensures back { IfErr result (λ refused. refused.1 ≡ pendings) }
         ensures lines { OnErr result (self.new.lines ≡ self.old.lines) }
     {

@@ -1,11 +1,12 @@
 use Rattle.std.proofs.Common.{◌≡◌, ◌∙◌, List, [], refl, sym, subst}
 use Rattle.std.specs.Prelude.{Contains}
 use Rattle.std.specs.Vec.Iter.{into_iter_items}
+use Rattle.std.proofs.lemmas.List.{nil_from_length}
 use Rattle.std.proofs.lemmas.List.Elements.{All-nil, All-rest, All-same}
 use Rattle.buffer_lanes.specs.Lanes.{LanesState, NoneLater}
 use Rattle.buffer_lanes.specs.Waits.{Waits}
-use Rattle.loop_core.specs.Peers.{IsOwed, awaited_in}
-use Rattle.loop_core.proofs.Keeping.{among_itself, first_owed, rest_owed}
+use Rattle.loop_core.specs.Peers.{BecomeInOrder, IsOwed, Standing, awaited_in}
+use Rattle.loop_core.proofs.Keeping.{among_itself, first_becomes, first_owed, rest_owed}
 use Rattle.loop_core.proofs.peer.settle_all.Goals as goal
 
 pub loop-waiting-init : goal.loop-waiting-init
@@ -22,6 +23,9 @@ loop-waiting-init g c =
       rest = All-same Q (into_iter_items c.into_iter-rest.result) c.args.list.items c.into_iter-rest.ensures.rest (among_itself c.args.list.items);
       waited = All-same Q c.new-later.result.items [] c.new-later.ensures.items (All-nil Q);
       ended = λ none. c.new-later.ensures.items;
+      order = λ end rest.
+          subst (λ (l : List Waits). BecomeInOrder l (record { left = []; session = c.args.session.now }) end) c.into_iter-rest.ensures.rest
+          (subst (λ (l : List Waits). BecomeInOrder (into_iter_items c.into_iter-rest.result) (record { left = l; session = c.args.session.now }) end) c.new-later.ensures.items rest);
     }
 
 pub settle_one-requires-clause-owed : goal.settle_one-requires-clause-owed
@@ -44,6 +48,8 @@ loop-waiting-preserved-then-settle_one g c =
           (first_owed Q c.in-Some.waiting left' left c.in-Some.ensures.items c.loop-waiting.invariant.rest);
       ended = λ none.
           c.settle_one.ensures.ended (subst (λ (l : LanesState _). NoneLater l.later) (sym c.loop-waiting.invariant.lanes) none) (c.loop-waiting.invariant.ended none);
+      order = λ end rest.
+          c.loop-waiting.invariant.order end (first_becomes left left' c.in-Some.waiting _ _ end c.in-Some.ensures.items c.settle_one.ensures.becomes rest);
     }
 
 pub loop-waiting-preserved : goal.loop-waiting-preserved
@@ -61,4 +67,12 @@ loop-waiting-preserved g c =
           (first_owed Q c.in-Some.waiting left' left c.in-Some.ensures.items c.loop-waiting.invariant.rest);
       ended = λ none.
           c.settle_one.ensures.ended (subst (λ (l : LanesState _). NoneLater l.later) (sym c.loop-waiting.invariant.lanes) none) (c.loop-waiting.invariant.ended none);
+      order = λ end rest.
+          c.loop-waiting.invariant.order end (first_becomes left left' c.in-Some.waiting _ _ end c.in-Some.ensures.items c.settle_one.ensures.becomes rest);
     }
+
+pub returns-clause-order : goal.returns-clause-order
+returns-clause-order g c =
+    let none = nil_from_length (into_iter_items c.loop-waiting.rest) (sym c.loop-waiting.rest.rest.ok.0 ∙ c.in_default.ensures.cases.0) in
+    let end : Standing = record { left = c.loop-waiting.later.items; session = c.loop-waiting.session } in
+    c.loop-waiting.invariant.order end (subst (λ (l : List Waits). BecomeInOrder l end end) (sym none) refl)

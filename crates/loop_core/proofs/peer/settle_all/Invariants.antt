@@ -2,7 +2,7 @@ use Rattle.std.proofs.Common.{◌≡◌, []}
 use Rattle.std.specs.List.{All}
 use Rattle.std.specs.Vec.Iter.{into_iter_items, into_iter_len}
 use Rattle.buffer_lanes.specs.Lanes.{NoneLater}
-use Rattle.loop_core.specs.Peers.{AreAmong, IsOwed, IsFaithful, awaited_in}
+use Rattle.loop_core.specs.Peers.{AreAmong, BecomeInOrder, Standing, IsOwed, IsFaithful, awaited_in}
 use Rattle.loop_core.proofs.peer.settle_all.Given as goal
 
 abbrev pub invariant-loop-waiting : goal.invariant-loop-waiting
@@ -13,6 +13,8 @@ invariant-loop-waiting g l = record {
   rest : AreAmong (awaited_in l.fn.list.items) (into_iter_items l.rest);
   waited : AreAmong (awaited_in l.fn.list.items) l.later.items;
   ended : NoneLater l.initial.lanes.later → l.later.items ≡ [];
+  order : (end : Standing) → BecomeInOrder (into_iter_items l.rest) (record { left = l.later.items; session = l.session }) end
+      → BecomeInOrder l.fn.list.items (record { left = []; session = l.initial.session }) end;
 }
 
 abbrev pub decreases-loop-waiting : goal.decreases-loop-waiting

@@ -9,4 +9,4 @@ returns-clause-chunks g c honest =
     let start = c.in-Ok.ensures.start in
     let was = subst (λ d. g.D.Dir.is_honest d) start honest in
     subst (λ d. Opens c.in-Ok.buffer.journal.path (reads (now (g.D.Dir.history d))) c.in-Ok.buffer.chunks) (sym start)
-    (subst (λ (path : List ℕ). Opens path (reads (now (g.D.Dir.history c.in_ok-dir.dir))) c.in-Ok.buffer.chunks) (sym c.in-Ok.ensures.path) (c.in-Ok.ensures.map was))
+    (subst (λ (path : List ℕ). Opens path (reads (now (g.D.Dir.history c.in_ok-dir.field-0.dir))) c.in-Ok.buffer.chunks) (sym c.in-Ok.ensures.path) (c.in-Ok.ensures.map was))

@@ -39,7 +39,7 @@ loop-each-preserved g c =
       terms =
           made_of (λ (one : OpenState _ _). one.owned.terms) c.loop-each.lanes.terms c.add.new.self.terms c.new.result.terms left left' c.in-Some.each
           (map (λ (one : OpenState _ _). one.owned.terms) c.args.opened.items) c.add.ensures.terms c.in-Some.ensures.items
-          (ap (λ (l : LaneState _). l.terms) c.new.ensures ∙ c.each.invariant.1 ∙ ap (λ (o : OpenState _ _). o.owned.terms) c.each.view_is) c.loop-each.invariant.terms;
+          (ap (λ (l : LaneState _). l.terms) c.new.ensures ∙ c.into_buffer.ensures ∙ c.each.invariant.1 ∙ ap (λ (o : OpenState _ _). o.owned.terms) c.each.view_is) c.loop-each.invariant.terms;
       plans =
           made_of (λ (one : OpenState _ _). one.plan) c.loop-each.lanes.plans c.add.new.self.plans c.new.result.plan left left' c.in-Some.each
           (map (λ (one : OpenState _ _). one.plan) c.args.opened.items) c.add.ensures.plans c.in-Some.ensures.items

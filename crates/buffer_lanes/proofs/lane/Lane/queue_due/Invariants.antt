@@ -1,9 +1,21 @@
 use Rattle.std.proofs.Common.{◌≡◌}
 use Rattle.std.specs.Arc.{arc_value}
-use Rattle.buffer_lanes.specs.Lanes.{KeepsLane}
+use Rattle.std.specs.Vec.Iter.{into_iter_items}
+use Rattle.buffer_lanes.specs.Lanes.{KeepsLane, LaneState}
+use Rattle.buffer_lanes.specs.Schedules.{AreLastOf}
 use Rattle.buffer_lanes.proofs.lane.Lane.queue_due.Given as goal
 
 abbrev pub invariant-chunks : goal.invariant-chunks
-invariant-chunks g l = ((goal.iterator-chunks g).can_next l.iterator' × (goal.iterator-chunks g).is_finite l.iterator')
-    × KeepsLane l.fn.self (record { terms = arc_value l.self-inside.buffer; plan = l.self-inside.schedule; later = l.self-inside.is_later })
-    × (l.fn.self.later ≡ l.self-inside.is_later)
+invariant-chunks g l =
+    let now : LaneState _ = record {
+      terms = arc_value l.self-inside.buffer;
+      plan = l.self-inside.schedule;
+      waiting = l.self-inside.pendings.items;
+      receipts = into_iter_items l.self-inside.receipts;
+      later = l.self-inside.is_later;
+    } in record {
+      turns : (goal.iterator-chunks g).can_next l.iterator' × (goal.iterator-chunks g).is_finite l.iterator';
+      kept : KeepsLane l.fn.self now;
+      rest : now ≡ record l.fn.self { plan = l.self-inside.schedule };
+      chunks : AreLastOf l.self-inside.schedule.chunks l.fn.self.plan.chunks;
+    }

@@ -1,5 +1,6 @@
-use Rattle.std.proofs.Common.{◌∙◌, ap}
+use Rattle.std.proofs.Common.{◌∙◌, ap, arith, refl}
 use Rattle.buffer_lanes.specs.Lanes.{LaneState, LanesState}
+use Rattle.buffer_lanes.proofs.Appending.{appended_at, refused_at}
 use Rattle.buffer_lanes.proofs.Keeping.{kept_at, one_kept}
 use Rattle.buffer_lanes.proofs.lanes.Lanes.append_to.Goals as goal
 
@@ -13,3 +14,15 @@ returns-clause-later g c =
     ap (λ (s : LanesState _). s.later) c.heed.ensures.rest
     ∙ kept_at (λ (l : LaneState _). l.later) c.self.inside.lanes.items c.args.buffer.0 c.in-Some.lane.now c.append-answer.new.self c.in-Some.ensures.value c.append-answer.ensures.later
     ∙ ap (λ (s : LanesState _). s.later) c.self.view_is
+
+pub returns-clause-appended : goal.returns-clause-appended
+returns-clause-appended g c =
+    appended_at c.self.inside.lanes.items c.args.buffer c.in-Some.lane.now c.append-answer.new.self c.args.delivery.now.number c.append-answer.result c.heed.result _ _
+    c.heed.ensures.same (omega (arith, c.in-Some.ensures.variant.0 refl, c.self.inside.lanes.ok.0)) c.in-Some.ensures.value c.append-answer.ensures.appended
+    (ap (λ (s : LanesState _). s.waiting) c.self.view_is) (ap (λ (s : LanesState _). s.waiting) c.heed.ensures.rest)
+
+pub returns-clause-none : goal.returns-clause-none
+returns-clause-none g c =
+    refused_at c.self.inside.lanes.items c.args.buffer.0 c.in-Some.lane.now c.append-answer.new.self c.append-answer.result c.heed.result _ _
+    c.heed.ensures.same c.in-Some.ensures.value c.append-answer.ensures.none
+    (ap (λ (s : LanesState _). s.waiting) c.self.view_is) (ap (λ (s : LanesState _). s.waiting) c.heed.ensures.rest)

@@ -1,5 +1,5 @@
-use Rattle.std.proofs.Common.{◌∙◌, ap}
-use Rattle.buffer_lanes.specs.Lanes.{LaneState, LanesState}
+use Rattle.std.proofs.Common.{◌∙◌, ap, sym}
+use Rattle.buffer_lanes.specs.Lanes.{LaneState, LanesState, fault_after}
 use Rattle.buffer_lanes.proofs.Keeping.{kept_at, one_kept}
 use Rattle.buffer_lanes.proofs.lanes.Lanes.queue_due_at.Goals as goal
 
@@ -8,8 +8,21 @@ returns-clause-kept g c =
     one_kept c.self.inside.lanes.items c.args.at c.in-Some.lane.now c.queue_due-answer.new.self _ _ c.self.inside.fault c.queue_due-answer.result c.args.self.now c.heed.new.self
     c.in-Some.ensures.value c.queue_due-answer.ensures.kept c.self.view_is c.heed.ensures.rest
 
-pub returns-clause-later : goal.returns-clause-later
-returns-clause-later g c =
-    ap (λ (s : LanesState _). s.later) c.heed.ensures.rest
-    ∙ kept_at (λ (l : LaneState _). l.later) c.self.inside.lanes.items c.args.at c.in-Some.lane.now c.queue_due-answer.new.self c.in-Some.ensures.value c.queue_due-answer.ensures.later
-    ∙ ap (λ (s : LanesState _). s.later) c.self.view_is
+pub returns-clause-rest : goal.returns-clause-rest
+returns-clause-rest g c =
+    let lanes = c.self.inside.lanes.items in
+    let old = c.in-Some.lane.now in
+    let new = c.queue_due-answer.new.self in
+    let at = c.in-Some.ensures.value in
+    let is = c.queue_due-answer.ensures.rest in
+    let heard = c.heed.ensures.rest in
+    let was = c.self.view_is in
+    λ i.
+    record {
+      terms = (ap (λ (s : LanesState _). s.terms) heard ∙ kept_at (λ (l : LaneState _). l.terms) lanes c.args.at old new at (ap (λ (l : LaneState _). l.terms) is) ∙ ap (λ (s : LanesState _). s.terms) was) i;
+      plans = c.heed.new.self.plans;
+      waiting = (ap (λ (s : LanesState _). s.waiting) heard ∙ kept_at (λ (l : LaneState _). l.waiting) lanes c.args.at old new at (ap (λ (l : LaneState _). l.waiting) is) ∙ ap (λ (s : LanesState _). s.waiting) was) i;
+      later = (ap (λ (s : LanesState _). s.later) heard ∙ kept_at (λ (l : LaneState _). l.later) lanes c.args.at old new at (ap (λ (l : LaneState _). l.later) is) ∙ ap (λ (s : LanesState _). s.later) was) i;
+      room = (ap (λ (s : LanesState _). s.room) heard ∙ ap (λ (s : LanesState _). s.room) was) i;
+      fault = (ap (λ (s : LanesState _). s.fault) heard ∙ ap (fault_after c.self.inside.fault) (sym c.heed.ensures.same) ∙ ap (λ (s : LanesState _). fault_after s.fault c.heed.result) was) i;
+    }

@@ -1,6 +1,12 @@
-use Rattle.std.proofs.Common.{◌≡◌}
-use Rattle.buffer_lanes.specs.Lanes.{KeepsLanes}
+use Rattle.std.proofs.Common.{◌≡◌, ◌<◌, ◌≤◌}
+use Rattle.relay_conf.specs.declared.output.BufferNo.{BufferNo}
+use Rattle.buffer_lanes.specs.Lanes.{AreRedeemedAt, IsUntouched, KeepsLanes}
 use Rattle.buffer_lanes.proofs.lanes.Lanes.redeem.Given as goal
 
 abbrev pub invariant-loop-at : goal.invariant-loop-at
-invariant-loop-at g l = KeepsLanes l.initial.self l.self × (l.self.plans ≡ l.initial.self.plans)
+invariant-loop-at g l = record {
+  kept : KeepsLanes l.initial.self l.self;
+  plans : l.self.plans ≡ l.initial.self.plans;
+  done : (buffer : BufferNo) → buffer.0 < l.at → AreRedeemedAt buffer l.initial.self l.self;
+  left : (buffer : BufferNo) → l.at ≤ buffer.0 → IsUntouched buffer l.initial.self l.self;
+}

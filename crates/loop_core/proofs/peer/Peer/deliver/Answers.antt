@@ -13,23 +13,23 @@ use Rattle.loop_core.proofs.peer.Peer.deliver.Goals as goal
 
 pub append-requires : goal.append-requires
 append-requires g c =
-    has_entries c.in-Ok.delivery (length c.args.message.entries) c.deref-2.result.now c.in-Some.branches.buffers.items
+    has_entries c.in-Ok.delivery (length c.args.message.entries) c.deref-2.result.now c.in-Some-2.branches.buffers.items
     (ap (λ (d : OpenDelivery). length d.message.entries) c.in-Ok.ensures.opens) c.deref-2.ensures.value
-    (subst (λ (o : Option (Branches _)). IfSome o (λ branches. (0 < length c.args.message.entries) ⊎ (branches.buffers.items ≡ []))) c.in-Some.is c.in_ok-branches.ensures.buffers)
+    (subst (λ (o : Option (Branches _)). IfSome o (λ branches. (0 < length c.args.message.entries) ⊎ (branches.buffers.items ≡ []))) c.in-Some-2.is c.in_ok-branches.ensures.buffers)
 
 pub invariant_of-self-then-append : goal.invariant_of-self-then-append
 invariant_of-self-then-append g c =
     let entry = arc_value c.self.inside.inlet in
     let asked = c.self.inside.session.asked in
     let wanted = asked_of (meaning c.args.message) in
-    let tag = c.in-Some.branches.tag in
-    let leaves = c.in-Some.branches.leaves.items in
-    let found = subst (λ (o : Option (Branches _)). IfSome o (λ branches. IsRoutedTo c.deref.result.now wanted branches.tag branches.leaves.items)) c.in-Some.is c.in_ok-branches.ensures.leaves in
+    let tag = c.in-Some-2.branches.tag in
+    let leaves = c.in-Some-2.branches.leaves.items in
+    let found = subst (λ (o : Option (Branches _)). IfSome o (λ branches. IsRoutedTo c.deref.result.now wanted branches.tag branches.leaves.items)) c.in-Some-2.is c.in_ok-branches.ensures.leaves in
     let goes = subst (λ (e : Entry). IsRoutedTo e wanted tag leaves) c.deref.ensures found in
-    let opened = c.in-Ok.ensures.opens ∙ ap (λ (t : List ℕ). record { number = c.in-Some-draw.number; message = meaning c.args.message; tag = t; leaves = leaves; receipts = [] }) c.as_bytes.ensures.bytes in
-    let is : c.new.result ≡ record { awaited = record { number = c.in-Some-draw.number; asked = wanted; tag = tag; leaves = leaves }; buffers = c.in-Some.branches.buffers.items } =
-    c.new.ensures ∙ ap (λ (d : OpenDelivery). record { awaited = awaited_by d; buffers = c.in-Some.branches.buffers.items }) opened in
-    let owed : IsOwed entry asked (record { awaited = record { number = c.in-Some-draw.number; asked = wanted; tag = tag; leaves = leaves }; buffers = c.in-Some.branches.buffers.items }) = record {
+    let opened = c.in-Ok.ensures.opens ∙ ap (λ (t : List ℕ). record { number = c.in-Some.number; message = meaning c.args.message; tag = t; leaves = leaves; receipts = [] }) c.as_bytes.ensures.bytes in
+    let is : c.new.result ≡ record { awaited = record { number = c.in-Some.number; asked = wanted; tag = tag; leaves = leaves }; buffers = c.in-Some-2.branches.buffers.items } =
+    c.new.ensures ∙ ap (λ (d : OpenDelivery). record { awaited = awaited_by d; buffers = c.in-Some-2.branches.buffers.items }) opened in
+    let owed : IsOwed entry asked (record { awaited = record { number = c.in-Some.number; asked = wanted; tag = tag; leaves = leaves }; buffers = c.in-Some-2.branches.buffers.items }) = record {
       demanded = subst (λ (p : PeerState). Contains p.session.asked wanted) (sym c.self.view_is) c.requires;
       goes = goes;
     } in
