@@ -73,18 +73,37 @@ impl<A: Allocator + Copy> Adapted<A> {
     ) -> Result<Vec<u8, A>, AllocError> {
         let mut lines = Vec::new(alloc);
         let mut names = Vec::new(alloc);
+        self.put_undecided(alloc, accepted, &mut lines, &mut names)?;
+        put_accepting(&names, &mut lines)?;
+        Ok(lines)
+    }
+
+    /// Adds a line for each thing that has to be accepted and isn't, and to the names each that would accept one and isn't among them.
+    pub fn put_undecided<'a, B: Allocator>(
+        &'a self,
+        alloc: A,
+        accepted: &[String<B>],
+        lines: &mut Vec<u8, A>,
+        names: &mut Names<'a, A>,
+    ) -> Result<(), AllocError> {
         for entry in &self.entries {
             if let Entry::Of(row) = entry {
-                put_undecided(alloc, row, accepted, &mut lines, &mut names)?;
+                put_row(alloc, row, accepted, lines, names)?;
             }
         }
-        lines.extend_from_slice(b"accept by")?;
-        for name in &names {
-            lines.extend_from_slice(b" --accept ")?;
-            lines.extend_from_slice(name)?;
+        Ok(())
+    }
+
+    /// The text of the configuration; behind each of its lines stands in brackets the line of the original that it comes from, under this
+    /// name.
+    pub fn noted_text(&self, alloc: A, name: &str) -> Result<Vec<u8, A>, AllocError> {
+        let mut text = Vec::new(alloc);
+        for entry in &self.entries {
+            let line = line_of(entry);
+            let note = format!(in alloc; " ({name}, line {line})\n")?;
+            put_noted(text_of(entry), note.as_bytes(), &mut text)?;
         }
-        lines.extend_from_slice(b"\n")?;
-        Ok(lines)
+        Ok(text)
     }
 
     /// The line of the original that a line of the text comes from, both from 1: that of its row, and at the end of a section that of the
@@ -124,16 +143,45 @@ fn lines_in(text: &[u8]) -> usize {
     text.iter().filter(|byte| **byte == b'\n').count()
 }
 
-// Names that are lent.
-type Lent<'a, A> = Vec<&'a Vec<u8, A>, A>;
+/// Names that are lent.
+pub type Names<'a, A> = Vec<&'a Vec<u8, A>, A>;
+
+/// Adds the line that says what would accept all things of these names. The only error is want of memory.
+pub fn put_accepting<A: Allocator>(
+    names: &[&Vec<u8, A>],
+    lines: &mut Vec<u8, A>,
+) -> Result<(), AllocError> {
+    lines.extend_from_slice(b"accept by")?;
+    for name in names {
+        lines.extend_from_slice(b" --accept ")?;
+        lines.extend_from_slice(name)?;
+    }
+    lines.extend_from_slice(b"\n")
+}
+
+// Adds the lines, each with this note in place of its end.
+fn put_noted<A: Allocator>(
+    lines: &[u8],
+    note: &[u8],
+    text: &mut Vec<u8, A>,
+) -> Result<(), AllocError> {
+    for byte in lines {
+        if *byte == b'\n' {
+            text.extend_from_slice(note)?;
+        } else {
+            text.push(*byte)?;
+        }
+    }
+    Ok(())
+}
 
 // Adds a line for each name by which a row isn't accepted, and each such name that isn't there.
-fn put_undecided<'a, A: Allocator + Copy, B: Allocator>(
+fn put_row<'a, A: Allocator + Copy, B: Allocator>(
     alloc: A,
     row: &'a Row<A>,
     accepted: &[String<B>],
     lines: &mut Vec<u8, A>,
-    names: &mut Lent<'a, A>,
+    names: &mut Names<'a, A>,
 ) -> Result<(), AllocError> {
     for decision in &row.decisions {
         if !is_named(accepted, decision) {

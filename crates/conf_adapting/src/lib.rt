@@ -18,6 +18,6 @@ mod rules;
 mod tables;
 mod values;
 
-pub use adapted::{Adapted, Entry, Row};
+pub use adapted::{Adapted, Entry, Names, Row, put_accepting};
 pub use decision::Decision;
 pub use draft::adapt;

@@ -50,8 +50,8 @@ fn adapt_read<A: Allocator + Copy, B: Allocator, R: Read>(
             lines: found.text,
             status: Status::Done,
         }),
-        Ok(AdaptedConf::Undecided(lines)) => Ok(Said {
-            lines,
+        Ok(AdaptedConf::Undecided(found)) => Ok(Said {
+            lines: found.text,
             status: Status::No,
         }),
         Ok(AdaptedConf::Faulty(stop)) => Err(stop),

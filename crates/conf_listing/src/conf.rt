@@ -46,7 +46,10 @@ fn adapt_text<A: Allocator + Copy, B: Allocator>(
     let elements = elements(alloc, rest)?;
     let drafted = draft_of(alloc, &elements, rest.len() < text.len(), accepted)?;
     if !drafted.is_accepted {
-        return Ok(AdaptedConf::Undecided(drafted.lines));
+        return Ok(AdaptedConf::Undecided(ConfText {
+            text: drafted.lines,
+            rows: drafted.adapted,
+        }));
     }
     let _relay = read_back(alloc, &drafted.adapted, &drafted.lines)?;
     Ok(AdaptedConf::Text(ConfText {

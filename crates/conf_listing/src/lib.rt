@@ -3,6 +3,7 @@
 
 mod adapt;
 mod conf;
+mod confs;
 mod draft;
 mod mark;
 mod outcome;
@@ -10,4 +11,5 @@ mod reading_back;
 
 pub use adapt::run_adapt;
 pub use conf::adapt_conf;
+pub use confs::{AdaptedConfs, ConfTexts, StoppedConfs, adapt_confs};
 pub use outcome::{AdaptedConf, ConfText};

@@ -1,2 +1,3 @@
-pub mod Peeling
+pub mod Keeping
 pub mod Nones
+pub mod Peeling

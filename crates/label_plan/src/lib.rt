@@ -3,6 +3,7 @@
 
 mod certificate;
 mod derive;
+mod fresh;
 mod labelled;
 mod lines;
 mod manner;
@@ -10,4 +11,5 @@ mod pattern;
 mod stock;
 mod task;
 
+pub use fresh::without_labels;
 pub use labelled::labelled_text;

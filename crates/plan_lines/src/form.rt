@@ -174,7 +174,7 @@ fn is_folder_byte(byte: u8) -> bool
 }
 
 /// The relay's number that a field spells: decimal digits, whose value is at most 4,294,967,295.
-pub(crate) fn relay_number(field: &str) -> Option<u32>
+pub fn relay_number(field: &str) -> Option<u32>
     ensures { result ≡ number_by field.now }
 {
     match whole_number(field.as_bytes()) {

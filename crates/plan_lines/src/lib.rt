@@ -5,10 +5,14 @@ mod draft;
 mod error;
 mod form;
 mod names;
+mod parts;
 mod plan;
 mod relays;
 
+pub use draft::scope_of;
 pub use error::PlanError;
+pub use form::relay_number;
 pub use loss_rules::{Label, Reach, RelayLine};
 pub use names::conf_names;
+pub use parts::PlanParts;
 pub use plan::Plan;

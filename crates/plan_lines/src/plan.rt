@@ -1,21 +1,18 @@
 //! A plan that was read: its network, its labels and reaches, and its duty.
 
-ghost use Rattle.std.specs.Prelude.{◌≡◌, true, length, IfOk, IfErr};
-ghost use Rattle.relay_net.specs.Network.{all_enter};
+ghost use Rattle.std.specs.Prelude.{◌≡◌, length, IfOk, IfErr};
 ghost use Rattle.loss_rules.specs.Sites.{BuffersAreDistinct};
-ghost use Rattle.plan_lines.specs.declared.error.PlanError.TheVariants.{Memory};
-ghost use Rattle.plan_lines.specs.Drafts.{draft_of};
 ghost use Rattle.plan_lines.specs.Faults.{IsRefusal};
 ghost use Rattle.plan_lines.specs.Forms.{confs_named};
+ghost use Rattle.plan_lines.specs.Parts.{plan_of, IsWhole};
 ghost use Rattle.plan_lines.specs.Plans.{texts, IsPlanOf};
 
-use crate::draft::Draft;
 use crate::error::PlanError;
+use crate::parts::PlanParts;
 use loss_rules::{Duty, Label, Reach, RelayLine};
 use relay_net::Net;
-use std::alloc::Allocator;
+use std::alloc::{AllocError, Allocator};
 use std::marker::Model;
-use text_lines::lines;
 
 /// A network of relays with its clients, the tags that may reach each scope and each match, and what is asked of matches. To contracts it is what
 /// the rules of a network speak of.
@@ -62,16 +59,35 @@ impl<A: Allocator + Copy> Plan<A> {
         ensures plan { IfOk result (λ plan. IsPlanOf net.now (texts confs.now) plan) }
         ensures refused { IfErr result (IsRefusal A net.now (texts confs.now)) }
     {
-        let lines = lines(alloc, net)?;
-        let all = lines.as_slice();
-        let mut draft = Draft::new(alloc);
-        for at in 0..all.len() {
-            match draft.add(alloc, at + 1, all[at], confs) {
-                Ok(()) => {}
-                Err(error) => return Err(error),
-            }
+        let parts = PlanParts::read(alloc, net, confs)?;
+        Ok(Plan::of_parts(alloc, parts)?)
+    }
+
+    /// The plan that these parts are. The only error is want of memory.
+    pub fn of_parts(alloc: A, parts: PlanParts<A>) -> Result<Plan<A>, AllocError>
+        requires { IsWhole (plan_of parts) }
+        ensures { IfOk result (λ plan. plan ≡ plan_of parts) }
+    {
+        let PlanParts {
+            relays,
+            relay_lines,
+            clients,
+            client_lines,
+            labels,
+            reaches,
+            duty,
+        } = parts;
+        match Net::new(alloc, relays, clients) {
+            Ok(net) => Ok(Plan {
+                net,
+                relay_lines,
+                client_lines,
+                labels,
+                reaches,
+                duty,
+            }),
+            Err(_refused) => Err(AllocError),
         }
-        plan_of(alloc, draft)
     }
 
     /// The network: its relays and its clients, in the order of their lines. No two outputs of a relay share a buffer.
@@ -117,36 +133,5 @@ impl<A: Allocator + Copy> Plan<A> {
         ensures { result ≡ self.now.duty }
     {
         self.duty
-    }
-}
-
-// The plan that was read: each of its clients sends to a source, and no two outputs of a relay share a buffer.
-fn plan_of<A: Allocator + Copy>(alloc: A, draft: Draft<A>) -> Result<Plan<A>, PlanError>
-    requires enter { all_enter draft.relays draft.clients.items ≡ true }
-    requires relay_lines { length draft.relay_lines.items ≡ length draft.relays }
-    requires client_lines { length draft.client_lines.items ≡ length draft.clients.items }
-    requires distinct { BuffersAreDistinct (draft_of draft).net }
-    ensures plan { IfOk result (λ plan. plan ≡ draft_of draft) }
-    ensures memory { IfErr result (λ e. e ≡ Memory) }
-{
-    let Draft {
-        relays,
-        relay_lines,
-        clients,
-        client_lines,
-        labels,
-        reaches,
-        duty,
-    } = draft;
-    match Net::new(alloc, relays.into_nodes(), clients) {
-        Ok(net) => Ok(Plan {
-            net,
-            relay_lines,
-            client_lines,
-            labels,
-            reaches,
-            duty,
-        }),
-        Err(_refused) => Err(PlanError::Memory),
     }
 }

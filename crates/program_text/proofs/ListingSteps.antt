@@ -10,7 +10,8 @@ use Rattle.program_text.specs.Listings.{AreListed}
 pub none_listed : {X : Type 0} (P : X → List ℕ → Type 0) → AreListed P [] []
 none_listed P = record { listings = []; each = tt; text_is = refl }
 
-zip_push : {X Y : Type 0} (R : X → Y → Type 0) (xs : List X) (ys : List Y) (x : X) (y : Y) → AllZip R xs ys → R x y → AllZip R (xs ++ x ∷ []) (ys ++ y ∷ [])
+-- one more item of two lists
+pub zip_push : {X Y : Type 0} (R : X → Y → Type 0) (xs : List X) (ys : List Y) (x : X) (y : Y) → AllZip R xs ys → R x y → AllZip R (xs ++ x ∷ []) (ys ++ y ∷ [])
 zip_push R [] [] x y all one = (one, tt)
 zip_push R [] (b ∷ bs) x y all one = absurd all
 zip_push R (a ∷ xs) [] x y all one = absurd all

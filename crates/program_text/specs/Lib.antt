@@ -2,3 +2,4 @@ pub mod Lines
 pub mod Listings
 pub mod Output
 pub mod Texts
+pub mod Version

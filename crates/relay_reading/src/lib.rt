@@ -5,4 +5,4 @@ mod reading;
 mod stop;
 
 pub use reading::{ConfStop, read_relay};
-pub use stop::print_conf_stop;
+pub use stop::{print_conf_stop, stop_line};

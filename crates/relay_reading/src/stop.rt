@@ -18,8 +18,8 @@ pub fn print_conf_stop<A: Allocator, W: Write>(alloc: A, stop: ConfStop, out: &m
     }
 }
 
-// The line of a fault of the configuration.
-fn stop_line<A: Allocator>(alloc: A, stop: ConfStop) -> Result<String<A>, AllocError>
+/// The line that says why there is no relay. The only error is want of memory.
+pub fn stop_line<A: Allocator>(alloc: A, stop: ConfStop) -> Result<String<A>, AllocError>
     ensures { IfOk result (λ line. string_bytes line ≡ stop_line_of stop) }
 {
     match stop {

@@ -3,7 +3,7 @@ use Rattle.std.proofs.Common.{◌≡◌, ℕ, ◌<◌, ◌≤◌, List, [], ◌�
 use Rattle.std.proofs.Common.{◌⊎◌, inl, inr}
 use Rattle.std.proofs.lemmas.List.{get_or-map, length-map}
 use Rattle.relaynet.specs.declared.words.Word.{Word}
-use Rattle.relaynet.specs.declared.words.Word.TheVariants.{Decode, Check, Replay, Relay}
+use Rattle.relaynet.specs.declared.words.Word.TheVariants.{Decode, Check, Replay, Relay, Version}
 use Rattle.relaynet.specs.Words.{Says}
 
 -- the rest of two words
@@ -65,6 +65,7 @@ places Decode = 2
 places (Check net) = 3
 places (Replay net steps) = 4
 places (Relay conf number dir) = 5
+places Version = 2
 
 -- and which is the first behind that
 abbrev pub verb : Word → List ℕ
@@ -72,6 +73,7 @@ verb Decode = codes "decode"
 verb (Check net) = codes "check"
 verb (Replay net steps) = codes "replay"
 verb (Relay conf number dir) = codes "relay"
+verb Version = codes "--version"
 
 -- what says a word has its places and its verb
 said : (word : Word) (name : List ℕ) (rest : List (List ℕ)) → Says word rest → (length (name ∷ rest) ≡ places word) × (get_or (name ∷ rest) 1 [] ≡ verb word)
@@ -79,12 +81,14 @@ said Decode name rest h = rw h (refl, refl)
 said (Check net) name rest h = rw h (refl, refl)
 said (Replay net steps) name rest h = rw h (refl, refl)
 said (Relay conf number dir) name rest h = rw h (refl, refl)
+said Version name rest h = rw h (refl, refl)
 
 places-two : (word : Word) → 2 ≤ places word
 places-two Decode = omega arith
 places-two (Check net) = omega arith
 places-two (Replay net steps) = omega arith
 places-two (Relay conf number dir) = omega arith
+places-two Version = omega arith
 
 -- words that say nothing
 pub says_nothing : {X : Type 0} (f : X → List ℕ) (xs : List X)
@@ -112,29 +116,34 @@ no_verb f xs far = says_nothing f xs (λ word same is_verb. elim word as (λ w. 
   | Check net ↦ λ e. elim far [ inl low ↦ absurd (omega arith) | inr high ↦ absurd (omega arith) ]
   | Replay net steps ↦ λ e. elim far [ inl low ↦ absurd (omega arith) | inr high ↦ absurd (omega arith) ]
   | Relay conf number dir ↦ λ e. elim far [ inl low ↦ absurd (omega arith) | inr high ↦ absurd (omega arith) ]
+  | Version ↦ λ e. elim far [ inl low ↦ absurd (omega arith) | inr high ↦ absurd (omega arith) ]
 ] same)
 
--- the verb of each count
-pub only_two : (word : Word) (w : List ℕ) → places word ≡ 2 → (w ≡ codes "decode" → ⊥) → w ≡ verb word → ⊥
-only_two Decode w e other same = other same
-only_two (Check net) w e other same = absurd (omega arith)
-only_two (Replay net steps) w e other same = absurd (omega arith)
-only_two (Relay conf number dir) w e other same = absurd (omega arith)
+-- the verbs of each count
+pub only_two : (word : Word) (w : List ℕ) → places word ≡ 2 → (w ≡ codes "decode" → ⊥) → (w ≡ codes "--version" → ⊥) → w ≡ verb word → ⊥
+only_two Decode w e other neither same = other same
+only_two (Check net) w e other neither same = absurd (omega arith)
+only_two (Replay net steps) w e other neither same = absurd (omega arith)
+only_two (Relay conf number dir) w e other neither same = absurd (omega arith)
+only_two Version w e other neither same = neither same
 
 pub only_three : (word : Word) (w : List ℕ) → places word ≡ 3 → (w ≡ codes "check" → ⊥) → w ≡ verb word → ⊥
 only_three Decode w e other same = absurd (omega arith)
 only_three (Check net) w e other same = other same
 only_three (Replay net steps) w e other same = absurd (omega arith)
 only_three (Relay conf number dir) w e other same = absurd (omega arith)
+only_three Version w e other same = absurd (omega arith)
 
 pub only_four : (word : Word) (w : List ℕ) → places word ≡ 4 → (w ≡ codes "replay" → ⊥) → w ≡ verb word → ⊥
 only_four Decode w e other same = absurd (omega arith)
 only_four (Check net) w e other same = absurd (omega arith)
 only_four (Replay net steps) w e other same = other same
 only_four (Relay conf number dir) w e other same = absurd (omega arith)
+only_four Version w e other same = absurd (omega arith)
 
 pub only_five : (word : Word) (w : List ℕ) → places word ≡ 5 → (w ≡ codes "relay" → ⊥) → w ≡ verb word → ⊥
 only_five Decode w e other same = absurd (omega arith)
 only_five (Check net) w e other same = absurd (omega arith)
 only_five (Replay net steps) w e other same = absurd (omega arith)
 only_five (Relay conf number dir) w e other same = other same
+only_five Version w e other same = absurd (omega arith)

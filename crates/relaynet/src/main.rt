@@ -4,7 +4,7 @@
 mod words;
 
 use plan_answers::{run_check, run_replay};
-use program_text::{Folder, Status};
+use program_text::{Folder, Status, print_version};
 use relay_run::{Home, Runner};
 use std::io::ErrorKind;
 use std::process::ExitCode;
@@ -33,6 +33,7 @@ fn run(rt: &HostRuntime, word: Option<Word<'_>>) -> Status {
             &folder,
             out,
         ),
+        Some(Word::Version) => print_version(rt.alloc(), "relaynet", out),
         Some(Word::Relay(..)) | None => usage(rt),
     }
 }

@@ -14,6 +14,8 @@ pub enum Word<'a> {
     Replay(&'a str, &'a str),
     /// Run a relay: the path of its configuration, its number, and the folder of its files.
     Relay(&'a str, &'a str, &'a str),
+    /// Say the version.
+    Version,
 }
 
 /// Reads the words, of which the first is the program's own name. `None` where they ask for nothing that there is.
@@ -24,6 +26,9 @@ pub fn read_word(words: &[String]) -> Option<Word<'_>>
         [_, word] => {
             if word.as_str() == "decode" {
                 return Some(Word::Decode);
+            }
+            if word.as_str() == "--version" {
+                return Some(Word::Version);
             }
         }
         [_, word, net] => {

@@ -3,17 +3,16 @@ use Rattle.std.proofs.lemmas.List.{length-map, length-take-le, take_all}
 use Rattle.std.specs.Borrow.{Bor}
 use Rattle.std.specs.List.{filter_map}
 use Rattle.text_lines.specs.Lines.{text_lines}
-use Rattle.plan_lines.specs.declared.error.PlanError.TheVariants.{Memory}
 use Rattle.plan_lines.specs.Drafts.{draft_of, HasItsConf}
 use Rattle.plan_lines.specs.Faults.{IsRefusal, Refuses}
 use Rattle.plan_lines.specs.Forms.{line_form, conf_named, confs_named}
-use Rattle.plan_lines.specs.Plans.{Adds, Say, none, one_more, texts, IsPlanOf}
+use Rattle.plan_lines.specs.Plans.{Adds, Say, none, one_more, texts}
 use Rattle.plan_lines.proofs.Counting.{has_its_conf}
-use Rattle.plan_lines.proofs.LinesRead.{bytes_of, split_at, take_next, if_ok, if_err}
+use Rattle.plan_lines.proofs.LinesRead.{bytes_of, split_at, take_next}
 use Rattle.plan_lines.proofs.OwnBuffers.{distinct_said}
 use Rattle.plan_lines.proofs.Saying.{sources_said, relay_lines_said, client_lines_said, confs_said, is_refusal}
 use Rattle.plan_lines.proofs.Words.{no_word}
-use Rattle.plan_lines.proofs.plan.Plan.read.Goals as goal
+use Rattle.plan_lines.proofs.parts.PlanParts.read.Goals as goal
 
 pub add-requires : goal.add-requires
 add-requires g c =
@@ -53,22 +52,18 @@ returns-in-Err-clause-refused g c =
 pub loop-at-init : goal.loop-at-init
 loop-at-init g c = subst (λ plan. Say (texts c.args.confs.now) [] plan) (sym c.new-draft.ensures) none
 
-pub plan_of-requires : goal.plan_of-requires
-plan_of-requires g c = record {
-  enter = sources_said c.loop-at.invariant;
-  relay_lines = relay_lines_said c.loop-at.invariant;
-  client_lines = client_lines_said c.loop-at.invariant;
-  distinct = distinct_said c.loop-at.invariant;
-}
-
 pub returns-clause-plan : goal.returns-clause-plan
 returns-clause-plan g c =
     let lines = c.as_slice-all.result.now in
     let same = length-map lines (λ (line : Bor (List ℕ)). line.now) in
     let past : length (bytes_of lines) ≤ c.loop-at.at = omega (arith, same) in
     let whole : take c.loop-at.at (bytes_of lines) ≡ text_lines c.args.net.now = take_all c.loop-at.at (bytes_of lines) past ∙ ap bytes_of c.as_slice-all.ensures.value ∙ c.in_ok-lines.ensures in
-    let said = subst (λ (ls : List (List ℕ)). Say (texts c.args.confs.now) ls (draft_of c.loop-at.draft)) whole c.loop-at.invariant in
-    if_ok c.plan_of.result (draft_of c.loop-at.draft) (IsPlanOf c.args.net.now (texts c.args.confs.now)) c.plan_of.ensures.plan said
+    rw c.parts_of.ensures (subst (λ (ls : List (List ℕ)). Say (texts c.args.confs.now) ls (draft_of c.loop-at.draft)) whole c.loop-at.invariant)
 
-pub returns-clause-refused : goal.returns-clause-refused
-returns-clause-refused g c = if_err c.plan_of.result Memory (IsRefusal g.row.A.Denot c.args.net.now (texts c.args.confs.now)) c.plan_of.ensures.memory tt
+pub returns-clause-whole : goal.returns-clause-whole
+returns-clause-whole g c = rw c.parts_of.ensures (record {
+  enter = sources_said c.loop-at.invariant;
+  relay_lines = relay_lines_said c.loop-at.invariant;
+  client_lines = client_lines_said c.loop-at.invariant;
+  distinct = distinct_said c.loop-at.invariant;
+})
