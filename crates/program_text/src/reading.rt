@@ -1,6 +1,6 @@
 //! Texts that are read whole.
 
-ghost use Rattle.std.specs.Prelude.{◌<◌, length, IfOk};
+ghost use Rattle.std.specs.Prelude.{◌<◌, ◌≤◌, length, IfOk};
 ghost use Rattle.program_text.specs.Texts.{IsTextOf};
 
 use crate::opening::Open;
@@ -12,6 +12,9 @@ pub const MOST_READS: u32 = 16_777_216;
 
 /// How many bytes are read at once, so that a long text takes but few reads.
 pub const PIECE: usize = 65_536;
+
+/// How many bytes a text that is read whole has at most: 1 GiB. One that goes on is one whose reader fails.
+pub const MOST_BYTES: usize = 1_073_741_824;
 
 /// Why a text isn't read.
 #[derive(Clone, Copy, Debug, PartialEq, Eq)]
@@ -59,12 +62,13 @@ pub fn read_named<A: Allocator + Copy, O: Open>(
     }
 }
 
-/// All that the reader has left.
+/// All that the reader has left, up to `MOST_BYTES`.
 pub fn read_whole<A: Allocator + Copy, R: Read>(
     alloc: A,
     input: &mut R,
 ) -> Result<Vec<u8, A>, ReadFault>
-    ensures { IfOk result (λ text. IsTextOf (R.remaining input.old) text.items) }
+    ensures whole { IfOk result (λ text. IsTextOf (R.remaining input.old) text.items) }
+    ensures bound { IfOk result (λ text. length text.items ≤ 1073741824) }
 {
     let mut piece = Vec::from_elem(alloc, 0, PIECE)?;
     read_pieces(alloc, &mut piece, input)
@@ -77,12 +81,14 @@ fn read_pieces<A: Allocator + Copy, R: Read>(
     input: &mut R,
 ) -> Result<Vec<u8, A>, ReadFault>
     requires { 0 < length piece.old }
-    ensures { IfOk result (λ text. IsTextOf (R.remaining input.old) text.items) }
+    ensures whole { IfOk result (λ text. IsTextOf (R.remaining input.old) text.items) }
+    ensures bound { IfOk result (λ text. length text.items ≤ 1073741824) }
 {
     let mut text = Vec::new(alloc);
     for _ in 0..MOST_READS {
         match input.read(piece) {
             Ok(0) => return Ok(text),
+            Ok(n) if n > MOST_BYTES - text.len() => return Err(ReadFault::Read),
             Ok(n) => text.extend_from_slice(&piece[..n])?,
             Err(e) if e.kind() == ErrorKind::Interrupted => (),
             Err(_) => return Err(ReadFault::Read),
