@@ -1,0 +1,11 @@
+pub mod Bools
+pub mod Numerals
+pub mod Fields
+pub mod Changing
+pub mod Outlining
+pub mod Putting
+pub mod Clashing
+pub mod Standing
+pub mod Dropping
+pub mod Gone
+pub mod Ends

@@ -1,0 +1,10 @@
+pub mod Names
+pub mod Outlines
+pub mod Sinks
+pub mod Drops
+pub mod Laws
+pub mod Printed
+pub mod Changes
+pub mod Clashes
+pub mod OneByOne
+pub mod Reading
