@@ -1,100 +1,89 @@
 //! Relays that forward to one another in a circle.
 
-use crate::flow::{Numbers, match_of};
+use crate::flow::{Numbers, Steps, flow, match_of};
+use crate::links::{Link, relays_ahead};
 use crate::notes::Notes;
-use crate::search::{is_marked, mark, next_of, onward};
+use crate::peeling::{between_circles, reversed};
+use crate::search::{Search, is_marked, next_of, put_mark};
 use crate::subject::Subject;
 use loss_rules::line_of;
-use plan_lines::Plan;
 use relay_conf::{MatchRule, Output};
 use std::alloc::{AllocError, Allocator};
 
-/// Warns of each circle of forwards, with each relay that is on it once. The only error is want of memory.
+/// Warns of each circle of forwards, with each relay that is on it once; these are the servers that lead to relays of the plan. The only error
+/// is want of memory.
 pub(crate) fn put_circles<A: Allocator + Copy>(
+    about: &Subject<'_, A>,
+    links: &[Link<'_, A>],
+    notes: &mut Notes<A>,
+) -> Result<(), AllocError> {
+    let relays = relays_ahead(about.alloc, about.plan.net().relays().len(), links)?;
+    let open = between_circles(about.alloc, &relays, &reversed(about.alloc, &relays)?)?;
+    put_along(about, &flow(about, Steps::All, &open)?, notes)
+}
+
+// Warns of each circle of these steps.
+fn put_along<A: Allocator + Copy>(
     about: &Subject<'_, A>,
     flow: &[Numbers<A>],
     notes: &mut Notes<A>,
 ) -> Result<(), AllocError> {
-    let mut named = vec![in about.alloc; false; flow.len()]?;
+    let back = reversed(about.alloc, flow)?;
+    let mut open = between_circles(about.alloc, flow, &back)?;
+    let mut ahead = Search::new(about.alloc, flow.len())?;
+    let mut behind = Search::new(about.alloc, flow.len())?;
     for start in 0..flow.len() {
-        if !is_marked(&named, start) {
-            put_circle(about, flow, start, &mut named, notes)?;
+        if is_marked(&open, start) {
+            ahead.onward(flow, next_of(flow, start))?;
+            behind.onward(&back, &[start])?;
+            put_circle(about, start, &ahead, &behind, &mut open, notes)?;
         }
     }
     Ok(())
 }
 
-// Warns of the circle that this reach is on, if it is on one, and marks those on it.
+// Warns of the circle that this reach is on, if it is on one, and takes the marks of those on it: of those ahead of it, from which
+// one comes to it.
 fn put_circle<A: Allocator + Copy>(
     about: &Subject<'_, A>,
-    flow: &[Numbers<A>],
     start: usize,
-    named: &mut [bool],
+    ahead: &Search<A>,
+    behind: &Search<A>,
+    open: &mut [bool],
     notes: &mut Notes<A>,
 ) -> Result<(), AllocError> {
-    let ahead = onward(about.alloc, flow, next_of(flow, start))?;
-    if !is_marked(&ahead, start) {
+    if !ahead.has(start) {
         return Ok(());
-    }
-    let circle = circle(about.alloc, flow, start, &ahead)?;
-    for (number, is_on) in circle.iter().enumerate() {
-        if *is_on {
-            mark(named, number);
-        }
     }
     notes.put_warning(
         about,
         "relays forward to one another in a circle: an event may go round for ever, and be taken anew each time.",
     )?;
-    put_relays(about, &circle, notes)
-}
-
-// Of each reach whether it is on a circle with this one, of those that one comes to from it.
-fn circle<A: Allocator + Copy>(
-    alloc: A,
-    flow: &[Numbers<A>],
-    start: usize,
-    ahead: &[bool],
-) -> Result<Vec<bool, A>, AllocError> {
-    let mut circle = Vec::new(alloc);
-    for number in 0..flow.len() {
-        let is_on = is_marked(ahead, number) && leads_to(alloc, flow, number, start)?;
-        circle.push(is_on)?;
-    }
-    Ok(circle)
-}
-
-// Whether one comes from the one to the other by one step or more.
-fn leads_to<A: Allocator + Copy>(
-    alloc: A,
-    flow: &[Numbers<A>],
-    one: usize,
-    other: usize,
-) -> Result<bool, AllocError> {
-    let ahead = onward(alloc, flow, next_of(flow, one))?;
-    Ok(is_marked(&ahead, other))
-}
-
-// Adds a line for each relay on the circle.
-fn put_relays<A: Allocator + Copy>(
-    about: &Subject<'_, A>,
-    circle: &[bool],
-    notes: &mut Notes<A>,
-) -> Result<(), AllocError> {
     for place in 0..about.plan.net().relays().len() {
-        if let Some(line) = line_on(about.plan, circle, place) {
+        if let Some(line) = line_on(about, place, ahead, behind) {
             notes.put_place(about, place, line)?;
+        }
+    }
+    for number in 0..open.len() {
+        if ahead.has(number) && behind.has(number) {
+            put_mark(open, number, false);
         }
     }
     Ok(())
 }
 
 // The first line of the relay at this place that forwards on the circle.
-fn line_on<A: Allocator + Copy>(plan: &Plan<A>, circle: &[bool], place: usize) -> Option<usize> {
-    for (number, reach) in plan.reaches().iter().enumerate() {
-        if reach.place == place
-            && is_marked(circle, number)
-            && let Some(line) = forward_in(match_of(plan, reach))
+fn line_on<A: Allocator + Copy>(
+    about: &Subject<'_, A>,
+    place: usize,
+    ahead: &Search<A>,
+    behind: &Search<A>,
+) -> Option<usize> {
+    for number in about.reaches_of(place) {
+        if ahead.has(*number)
+            && behind.has(*number)
+            && let Some(reach) = about.plan.reaches().get(*number)
+            && let Some(line) = forward_in(match_of(about.plan, reach))
         {
             return Some(line);
         }

@@ -1,5 +1,6 @@
 //! Where the events of a plan's reaches go on.
 
+use crate::search::is_marked;
 use crate::subject::Subject;
 use loss_rules::Reach;
 use plan_lines::Plan;
@@ -23,15 +24,20 @@ pub(crate) enum Steps {
     Relabels,
 }
 
-/// For each reach of the plan those that its events may come to by one of these steps. The only error is want of
-/// memory.
+/// For each reach of the plan those that its events may come to by one of these steps; none for those of relays without a mark here. The only
+/// error is want of memory.
 pub(crate) fn flow<A: Allocator + Copy>(
     about: &Subject<'_, A>,
     steps: Steps,
+    relays: &[bool],
 ) -> Result<Vec<Numbers<A>, A>, AllocError> {
     let mut flow = Vec::new(about.alloc);
     for reach in about.plan.reaches() {
-        flow.push(next_of(about, steps, reach)?)?;
+        flow.push(if is_marked(relays, reach.place) {
+            next_of(about, steps, reach)?
+        } else {
+            Vec::new(about.alloc)
+        })?;
     }
     Ok(flow)
 }
@@ -124,16 +130,19 @@ fn add_at<A: Allocator + Copy>(
     patterns: &[Plain<A>],
     next: &mut Numbers<A>,
 ) -> Result<(), AllocError> {
-    for (number, reach) in about.plan.reaches().iter().enumerate() {
-        if reach.place == at.relay && reach.scope == at.scope && meet(patterns, &reach.patterns) {
-            next.push(number)?;
+    for number in about.reaches_of(at.relay) {
+        if let Some(reach) = about.plan.reaches().get(*number)
+            && reach.scope == at.scope
+            && meet(patterns, &reach.patterns)
+        {
+            next.push(*number)?;
         }
     }
     Ok(())
 }
 
-// Whether a tag is of one of these patterns and of one of the others.
-fn meet<A: Allocator>(patterns: &[Plain<A>], others: &[Plain<A>]) -> bool {
+/// Whether a tag is of one of these patterns and of one of the others.
+pub(crate) fn meet<A: Allocator>(patterns: &[Plain<A>], others: &[Plain<A>]) -> bool {
     for pattern in patterns {
         if meets(pattern, others) {
             return true;

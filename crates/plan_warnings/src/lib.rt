@@ -8,9 +8,11 @@ mod keys;
 mod limits;
 mod links;
 mod notes;
+mod peeling;
 mod search;
+mod stale;
 mod subject;
 mod waits;
 mod warnings;
 
-pub use warnings::put_warnings;
+pub use warnings::{put_stale_reaches, put_warnings};

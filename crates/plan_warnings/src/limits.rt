@@ -1,12 +1,12 @@
 //! Buffers that don't take what is sent to them as one message.
 
-use crate::flow::{Numbers, add_of_servers, match_of};
+use crate::flow::{Numbers, Steps, add_of_servers, flow, match_of};
 use crate::links::{Forward, MOST_OUTPUTS};
 use crate::notes::Notes;
-use crate::search::{is_marked, onward};
+use crate::search::Search;
 use crate::subject::Subject;
 use buffer_state::GREATEST_SIZE;
-use loss_rules::line_of;
+use loss_rules::{Reach, line_of};
 use plan_lines::Plan;
 use relay_conf::{BufferSettings, MatchRule, Output};
 use relay_net::settings as buffer_of;
@@ -16,80 +16,119 @@ use std::alloc::{AllocError, Allocator};
 /// there by relabels. The only error is want of memory.
 pub(crate) fn put_limits<A: Allocator + Copy>(
     about: &Subject<'_, A>,
-    relabels: &[Numbers<A>],
     forwards: &[Forward<'_, A>],
     notes: &mut Notes<A>,
 ) -> Result<(), AllocError> {
+    let every = vec![in about.alloc; true; about.plan.net().relays().len()]?;
+    let relabels = flow(about, Steps::Relabels, &every)?;
+    let mut search = Search::new(about.alloc, relabels.len())?;
+    let least = least_bytes(about);
     for forward in forwards {
-        let behind = behind(about, relabels, forward)?;
-        put_of_forward(about, forward, &behind, notes)?;
+        if most_bytes(&forward.settings.buffer) > least {
+            let first = first_behind(about, forward)?;
+            let behind = search.onward(&relabels, &first)?;
+            put_of_forward(about, forward, behind, notes)?;
+        }
     }
     Ok(())
 }
 
-// Of each reach whether chunks of this output come to it as they were sent.
-fn behind<A: Allocator + Copy>(
+// What the buffer of the plan takes that takes least: who sends no more is passed over at once.
+fn least_bytes<A: Allocator + Copy>(about: &Subject<'_, A>) -> u64 {
+    let mut least = u64::MAX;
+    for place in 0..about.plan.net().relays().len() {
+        least = least.min(least_of_relay(about.plan, place));
+    }
+    least
+}
+
+// The same of the relay at this place.
+fn least_of_relay<A: Allocator + Copy>(plan: &Plan<A>, place: usize) -> u64 {
+    let mut least = u64::MAX;
+    for number in 0..MOST_OUTPUTS {
+        let Some(output) = plan.net().output(place, number) else {
+            return least;
+        };
+        if let Some(buffer) = buffer_of(output) {
+            least = least.min(most_bytes(buffer));
+        }
+    }
+    least
+}
+
+// The reaches that chunks of this output come to first.
+fn first_behind<A: Allocator + Copy>(
     about: &Subject<'_, A>,
-    relabels: &[Numbers<A>],
     forward: &Forward<'_, A>,
-) -> Result<Vec<bool, A>, AllocError> {
+) -> Result<Numbers<A>, AllocError> {
     let mut first = Vec::new(about.alloc);
-    for reach in about.plan.reaches() {
-        if reach.place == forward.place && has_output(match_of(about.plan, reach), forward.line) {
+    for number in about.reaches_of(forward.place) {
+        if let Some(reach) = about.plan.reaches().get(*number)
+            && has_output(match_of(about.plan, reach), forward.line)
+        {
             add_of_servers(about, reach, &forward.settings.servers, &mut first)?;
         }
     }
-    onward(about.alloc, relabels, &first)
+    Ok(first)
 }
 
-// Warns of each buffer of these reaches that is too small for what this output sends.
+// An output of the relay at this place.
+#[derive(Clone, Copy)]
+struct OutputAt<'a, A: Allocator> {
+    place: usize,
+    output: &'a Output<A>,
+}
+
+// Warns of each buffer of these reaches that is too small for what this output sends, of each once.
 fn put_of_forward<A: Allocator + Copy>(
     about: &Subject<'_, A>,
     forward: &Forward<'_, A>,
-    behind: &[bool],
+    behind: &[usize],
     notes: &mut Notes<A>,
 ) -> Result<(), AllocError> {
-    for place in 0..about.plan.net().relays().len() {
-        put_of_relay(about, forward, behind, place, notes)?;
+    let mut last = None;
+    for at in &outputs_of(about, behind)? {
+        let here = Some((at.place, line_of(at.output)));
+        if here != last {
+            put_of_output(about, forward, at.place, at.output, notes)?;
+        }
+        last = here;
     }
     Ok(())
 }
 
-// The same of the buffers of the relay at this place.
-fn put_of_relay<A: Allocator + Copy>(
-    about: &Subject<'_, A>,
-    forward: &Forward<'_, A>,
-    behind: &[bool],
-    place: usize,
-    notes: &mut Notes<A>,
-) -> Result<(), AllocError> {
-    for number in 0..MOST_OUTPUTS {
-        let Some(output) = about.plan.net().output(place, number) else {
-            return Ok(());
-        };
-        if is_behind(about.plan, behind, place, line_of(output)) {
-            put_of_output(about, forward, place, output, notes)?;
+// The outputs of the matches of these reaches, by relays in the order of the plan and then by lines.
+fn outputs_of<'a, A: Allocator + Copy>(
+    about: &Subject<'a, A>,
+    reaches: &[usize],
+) -> Result<Vec<OutputAt<'a, A>, A>, AllocError> {
+    let mut found = Vec::new(about.alloc);
+    for number in reaches {
+        if let Some(reach) = about.plan.reaches().get(*number) {
+            add_outputs(about.plan, reach, &mut found)?;
         }
     }
-    Ok(())
+    found.sort_by_key(|at| line_of(at.output))?;
+    found.sort_by_key(|at| at.place)?;
+    Ok(found)
 }
 
-// Whether the output in this line of the relay at this place is one of a match of these reaches.
-fn is_behind<A: Allocator + Copy>(
-    plan: &Plan<A>,
-    behind: &[bool],
-    place: usize,
-    line: usize,
-) -> bool {
-    for (number, reach) in plan.reaches().iter().enumerate() {
-        if is_marked(behind, number)
-            && reach.place == place
-            && has_output(match_of(plan, reach), line)
-        {
-            return true;
-        }
+// Adds those of the match of this reach.
+fn add_outputs<'a, A: Allocator + Copy>(
+    plan: &'a Plan<A>,
+    reach: &Reach<A>,
+    found: &mut Vec<OutputAt<'a, A>, A>,
+) -> Result<(), AllocError> {
+    let Some(rule) = match_of(plan, reach) else {
+        return Ok(());
+    };
+    for output in &rule.outputs {
+        found.push(OutputAt {
+            place: reach.place,
+            output,
+        })?;
     }
-    false
+    Ok(())
 }
 
 // Whether the match has an output in this line.

@@ -1,6 +1,7 @@
 //! The outputs of a plan that forward, and the sources that their servers lead to.
 
-use crate::subject::Subject;
+use crate::flow::Numbers;
+use crate::subject::{Subject, add_number};
 use plan_lines::Plan;
 use relay_conf::{ForwardSettings, Output, Server, Source};
 use std::alloc::{AllocError, Allocator};
@@ -67,6 +68,22 @@ pub(crate) fn links<'a, A: Allocator + Copy>(
         add_links(about.plan, *from, &mut found)?;
     }
     Ok(found)
+}
+
+/// For each relay of a network of so many those that it forwards to by these servers, by their places. The only error is want of memory.
+pub(crate) fn relays_ahead<A: Allocator + Copy>(
+    alloc: A,
+    count: usize,
+    links: &[Link<'_, A>],
+) -> Result<Vec<Numbers<A>, A>, AllocError> {
+    let mut ahead = Vec::new(alloc);
+    for _ in 0..count {
+        ahead.push(Vec::new(alloc))?;
+    }
+    for link in links {
+        add_number(&mut ahead, link.from.place, link.to)?;
+    }
+    Ok(ahead)
 }
 
 // Adds those of this output.

@@ -4,6 +4,7 @@ ghost use Rattle.std.specs.Prelude.{◌≡◌, ℕ, All, IfOk};
 ghost use Rattle.plan_warnings.specs.Notes.{AreNotes, IsNote};
 
 use crate::subject::Subject;
+use rule_advice::Site;
 use std::alloc::{AllocError, Allocator};
 use std::marker::Model;
 
@@ -54,12 +55,29 @@ impl<A: Allocator + Copy> Notes<A> {
         place: usize,
         line: usize,
     ) -> Result<(), AllocError> {
-        let site = about.texts.conf_site(place, line);
+        self.put_site(about.alloc, &about.texts.conf_site(place, line))
+    }
+
+    /// Adds where that is: this line of the plan, and what stands there.
+    pub fn put_plan_line(&mut self, about: &Subject<'_, A>, line: usize) -> Result<(), AllocError> {
+        let texts = about.texts;
+        let name = if line > texts.own_lines {
+            texts.added_name
+        } else {
+            texts.plan_name
+        };
+        let text = texts.plan;
+        self.put_site(about.alloc, &Site { name, text, line })
+    }
+
+    // Adds a line of a text: its name, its number, and what stands there.
+    fn put_site(&mut self, alloc: A, site: &Site<'_>) -> Result<(), AllocError> {
         let name = site.name;
-        let front = format!(in about.alloc; "   {name}, line {line}: ")?;
+        let line = site.line;
+        let front = format!(in alloc; "   {name}, line {line}: ")?;
         let mut text = front.into_bytes();
-        text.extend_from_slice(site.line_text(about.alloc)?)?;
-        self.put(about.alloc, &text)
+        text.extend_from_slice(site.line_text(alloc)?)?;
+        self.put(alloc, &text)
     }
 
     // Adds a line of this text; a line feed in it becomes a blank.

@@ -1,33 +1,63 @@
-//! A search along the steps between a plan's reaches.
+//! Searches along the steps between a plan's reaches.
 
 use crate::flow::Numbers;
 use std::alloc::{AllocError, Allocator};
 
-// Which reaches were come to, and those whose next ones are still to be looked at.
+/// A search, which can be made again and again.
 #[derive(Drop)]
-struct Search<A: Allocator> {
+pub(crate) struct Search<A: Allocator> {
     marks: Vec<bool, A>,
-    ahead: Numbers<A>,
+    // Those that are marked, each once.
+    found: Numbers<A>,
 }
 
-/// Of each reach whether it is one of these, or one comes to it from them. The only error is want of memory.
-pub(crate) fn onward<A: Allocator + Copy>(
-    alloc: A,
-    flow: &[Numbers<A>],
-    first: &[usize],
-) -> Result<Vec<bool, A>, AllocError> {
-    let mut search = Search {
-        marks: vec![in alloc; false; flow.len()]?,
-        ahead: Vec::new(alloc),
-    };
-    search.add(first)?;
-    for _ in 0..flow.len() {
-        match search.ahead.pop() {
-            Some(next) => search.add(next_of(flow, next))?,
-            None => return Ok(search.marks),
-        }
+impl<A: Allocator + Copy> Search<A> {
+    /// One among so many reaches. The only error is want of memory.
+    pub fn new(alloc: A, count: usize) -> Result<Search<A>, AllocError> {
+        Ok(Search {
+            marks: vec![in alloc; false; count]?,
+            found: Vec::new(alloc),
+        })
     }
-    Ok(search.marks)
+}
+
+impl<A: Allocator> Search<A> {
+    /// These, and those that one comes to from them, each once. The only error is want of memory.
+    pub fn onward(&mut self, flow: &[Numbers<A>], first: &[usize]) -> Result<&[usize], AllocError> {
+        self.forget();
+        self.add(first)?;
+        for at in 0..flow.len() {
+            let Some(number) = self.found.get(at).copied() else {
+                break;
+            };
+            self.add(next_of(flow, number))?;
+        }
+        Ok(&self.found)
+    }
+
+    /// Whether the last search came to this one.
+    pub fn has(&self, number: usize) -> bool {
+        is_marked(&self.marks, number)
+    }
+
+    // Marks those of these that aren't marked.
+    fn add(&mut self, numbers: &[usize]) -> Result<(), AllocError> {
+        for number in numbers {
+            if !is_marked(&self.marks, *number) {
+                put_mark(&mut self.marks, *number, true);
+                self.found.push(*number)?;
+            }
+        }
+        Ok(())
+    }
+
+    // Forgets what the last search came to.
+    fn forget(&mut self) {
+        for number in &self.found {
+            put_mark(&mut self.marks, *number, false);
+        }
+        self.found.clear();
+    }
 }
 
 /// Those that are next to this one.
@@ -43,22 +73,9 @@ pub(crate) fn is_marked(marks: &[bool], number: usize) -> bool {
     marks.get(number).copied().unwrap_or(false)
 }
 
-/// Marks this one, if it is there.
-pub(crate) fn mark(marks: &mut [bool], number: usize) {
+/// Marks this one, or takes its mark, if it is there.
+pub(crate) fn put_mark(marks: &mut [bool], number: usize, marked: bool) {
     if let Some(found) = marks.get_mut(number) {
-        *found = true;
-    }
-}
-
-impl<A: Allocator> Search<A> {
-    // Marks those of these that aren't marked, and looks at what is next to them later.
-    fn add(&mut self, numbers: &[usize]) -> Result<(), AllocError> {
-        for number in numbers {
-            if !is_marked(&self.marks, *number) {
-                mark(&mut self.marks, *number);
-                self.ahead.push(*number)?;
-            }
-        }
-        Ok(())
+        *found = marked;
     }
 }

@@ -1,3 +1,4 @@
 pub mod Explanations
+pub mod Leaving
 pub mod Stopping
 pub mod Stops

@@ -1,5 +1,5 @@
 -- What is printed of a plan with the labels and reaches that it lacks: a yes, or every broken rule; or why there is no answer.
-use Rattle.std.specs.Prelude.{◌≡◌, ◌<◌, ◌≤◌, ◌⊎◌, All, Bool, true, false, ℕ, List, [], ◌∷◌, ◌++◌, codes, flat_map, get_or, length, Option}
+use Rattle.std.specs.Prelude.{◌≡◌, ◌≢◌, ◌<◌, ◌≤◌, ◌⊎◌, All, Bool, true, false, ℕ, List, [], ◌∷◌, ◌++◌, codes, flat_map, get_or, length, Option}
 use Rattle.std.specs.declared.vec.Vec.{Vec}
 use Rattle.labelled_check.specs.Checks.{IsLabelledCheck}
 use Rattle.loss_checker.specs.declared.broken.BrokenRule.{BrokenRule}
@@ -8,12 +8,16 @@ use Rattle.loss_rules.specs.declared.answer.Answer.TheVariants as answer
 use Rattle.loss_rules.specs.declared.answer.Place.{Place}
 use Rattle.loss_rules.specs.declared.answer.Rule.{Rule}
 use Rattle.plan_answers.specs.Networks.{AreRead, answer_line, IsStopLine}
+use Rattle.plan_lines.specs.Faults.{IsRefusal}
+use Rattle.plan_lines.specs.declared.error.PlanError.{PlanError}
+use Rattle.plan_lines.specs.declared.error.PlanError.TheVariants as refusal
 use Rattle.plan_warnings.specs.Notes.{AddsNotes}
 use Rattle.program_text.specs.Lines.{line}
 use Rattle.program_text.specs.Output.{IsPrinted}
 use Rattle.program_text.specs.declared.status.Status.{Status}
 use Rattle.program_text.specs.declared.status.Status.TheVariants.{Done, No, Usage}
-use Rattle.relayctl.specs.Explaining.{IsExplainedFault, IsLossOrNotes}
+use Rattle.relayctl.specs.Explaining.{IsLossOrNotes, SaysFaults}
+use Rattle.relayctl.specs.Faults.{IsFaultLeft}
 use Rattle.relayctl.specs.declared.check.Check.{Check}
 use Rattle.relayctl.specs.declared.check.Check.TheVariants as check
 
@@ -45,10 +49,11 @@ pub record SayBroken {A : Type 0} (plan : Subject A) (broken : List (BrokenRule 
   pub shortest_first : AreShortestFirst explained
   pub lines_are : lines ≡ all_no_lines broken ++ flat_map bytes_of explained
 
--- what is said of the rules of a plan, of which these are broken: where none are a yes, and behind it lines that each begin with `#`
+-- what is said of the rules of a plan, of which these are broken: where none are a yes, else these rules; and behind it lines that each begin
+-- with `#`
 abbrev pub SaysRules : {A : Type 0} → Subject A → List (BrokenRule A) → List ℕ → Status → Type 0
 SaysRules plan [] lines status = AddsNotes (line (codes "yes")) lines × (status ≡ Done)
-SaysRules plan (first ∷ others) lines status = SayBroken plan (first ∷ others) lines × (status ≡ No)
+SaysRules plan (first ∷ others) lines status = (said : List ℕ) × SayBroken plan (first ∷ others) said × AddsNotes said lines × (status ≡ No)
 
 -- the line behind that, where no labels were found
 abbrev pub labels_note : Bool → List ℕ
@@ -73,11 +78,8 @@ abbrev pub SaysCheck : {A : Type 0} → Bool → Subject A → List (BrokenRule 
 SaysCheck is_labelled plan broken (check.Answered said) = SaysAnswer is_labelled plan broken said.lines.items said.status
 SaysCheck is_labelled plan broken (check.Refused said) = SaysEmpty plan said.lines.items said.status
 
--- The plan that is read, with the labels that it lacks, has these broken rules, and this is said of it.
-pub record IsChecked (A : Type 0) (net : Option (List ℕ)) (named : List ℕ → Option (List ℕ)) (Says : Bool → Subject A → List (BrokenRule A) → Type 0) : Type 0 where
-  pub given : List ℕ
-  pub confs : List (List ℕ)
-  pub read : AreRead net named given confs
+-- The texts are a plan and the configurations that it names. With the labels that it lacks it has these broken rules, and this is said of it.
+pub record IsChecked (A : Type 0) (given : List ℕ) (confs : List (List ℕ)) (Says : Bool → Subject A → List (BrokenRule A) → Type 0) : Type 0 where
   pub is_labelled : Bool
   pub text : List ℕ
   pub plan : Subject A
@@ -86,35 +88,51 @@ pub record IsChecked (A : Type 0) (net : Option (List ℕ)) (named : List ℕ �
   pub says : Says is_labelled plan broken
 
 -- an answer: a yes, or every broken rule
-abbrev pub IsCheckAnswer : (A : Type 0) → Option (List ℕ) → (List ℕ → Option (List ℕ)) → List ℕ → Status → Type 0
-IsCheckAnswer A net named lines status = IsChecked A net named (λ is_labelled plan broken. SaysAnswer is_labelled plan broken lines status)
+abbrev pub IsCheckAnswer : (A : Type 0) → List ℕ → List (List ℕ) → List ℕ → Status → Type 0
+IsCheckAnswer A given confs lines status = IsChecked A given confs (λ is_labelled plan broken. SaysAnswer is_labelled plan broken lines status)
+
+-- The texts say no plan, and this is said of its first fault, and of further ones that are left where what has earlier ones is blank.
+pub record IsFaultExplained (A : Type 0) (given : List ℕ) (confs : List (List ℕ)) (lines : List ℕ) (status : Status) : Type 0 where
+  pub fault : PlanError
+  pub refused : IsRefusal A given confs fault
+  pub named_fault : fault ≢ refusal.Memory
+  pub further : List PlanError
+  pub are_left : All (IsFaultLeft A given confs) further
+  pub says : SaysFaults fault further lines status
 
 -- no answer: the plan has a fault, or no relays, or no clients
-abbrev pub IsNoAnswer : (A : Type 0) → Option (List ℕ) → (List ℕ → Option (List ℕ)) → List ℕ → Status → Type 0
-IsNoAnswer A net named lines status = IsExplainedFault A net named lines status ⊎ IsChecked A net named (λ is_labelled plan broken. SaysEmpty plan lines status)
+abbrev pub IsNoAnswer : (A : Type 0) → List ℕ → List (List ℕ) → List ℕ → Status → Type 0
+IsNoAnswer A given confs lines status = IsFaultExplained A given confs lines status ⊎ IsChecked A given confs (λ is_labelled plan broken. SaysEmpty plan lines status)
+
+-- what is said of the texts of a plan and of the configurations that it names
+abbrev pub IsTextsCheck : (A : Type 0) → List ℕ → List (List ℕ) → Check A → Type 0
+IsTextsCheck A given confs (check.Answered said) = IsCheckAnswer A given confs said.lines.items said.status
+IsTextsCheck A given confs (check.Refused said) = IsNoAnswer A given confs said.lines.items said.status
 
 -- what is said of the texts that are read
-abbrev pub IsCheck : (A : Type 0) → Option (List ℕ) → (List ℕ → Option (List ℕ)) → Check A → Type 0
-IsCheck A net named (check.Answered said) = IsCheckAnswer A net named said.lines.items said.status
-IsCheck A net named (check.Refused said) = IsNoAnswer A net named said.lines.items said.status
+pub record IsCheck (A : Type 0) (net : Option (List ℕ)) (named : List ℕ → Option (List ℕ)) (found : Check A) : Type 0 where
+  pub given : List ℕ
+  pub confs : List (List ℕ)
+  pub read : AreRead net named given confs
+  pub is : IsTextsCheck A given confs found
 
--- An answer is printed, and nothing is said of faults.
-pub record PrintsAnswer (A : Type 0) (net : Option (List ℕ)) (named : List ℕ → Option (List ℕ)) (old new old_faults new_faults : Option (List ℕ)) (status : Status) : Type 0 where
-  pub lines : List ℕ
-  pub meant : Status
-  pub answer : IsCheckAnswer A net named lines meant
-  pub printed : IsPrinted old new lines meant status
-  pub faultless : new_faults ≡ old_faults
+-- an answer is printed, and nothing is said of faults; or it is said in place of faults why there is none, and nothing is printed
+abbrev pub PrintsFound : {A : Type 0} → Check A → Option (List ℕ) → Option (List ℕ) → Option (List ℕ) → Option (List ℕ) → Status → Type 0
+PrintsFound (check.Answered said) old new old_faults new_faults status = IsPrinted old new said.lines.items said.status status × (new_faults ≡ old_faults)
+PrintsFound (check.Refused said) old new old_faults new_faults status = IsPrinted old_faults new_faults said.lines.items said.status status × (new ≡ old)
 
--- It is said in place of faults why there is no answer, and nothing is printed.
-pub record PrintsNoAnswer (A : Type 0) (net : Option (List ℕ)) (named : List ℕ → Option (List ℕ)) (old new old_faults new_faults : Option (List ℕ)) (status : Status) : Type 0 where
+-- Memory ran out, or a reader failed: that is said in place of faults, and nothing is printed.
+pub record PrintsUnread (old new old_faults new_faults : Option (List ℕ)) (status : Status) : Type 0 where
   pub lines : List ℕ
-  pub meant : Status
-  pub refused : IsNoAnswer A net named lines meant ⊎ IsStopLine lines meant
-  pub said : IsPrinted old_faults new_faults lines meant status
+  pub stop : IsStopLine lines Usage
+  pub said : IsPrinted old_faults new_faults lines Usage status
   pub silent : new ≡ old
+
+-- what is found is such, and printed; or the texts aren't read
+abbrev pub PrintsSuch : {A : Type 0} → (Check A → Type 0) → Option (List ℕ) → Option (List ℕ) → Option (List ℕ) → Option (List ℕ) → Status → Type 0
+PrintsSuch {A} IsSuch old new old_faults new_faults status =
+    ((found : Check A) × IsSuch found × PrintsFound found old new old_faults new_faults status) ⊎ PrintsUnread old new old_faults new_faults status
 
 -- all that `check` does to the writer of answers and to that of faults, and its status
 abbrev pub PrintsCheck : (A : Type 0) → Option (List ℕ) → (List ℕ → Option (List ℕ)) → Option (List ℕ) → Option (List ℕ) → Option (List ℕ) → Option (List ℕ) → Status → Type 0
-PrintsCheck A net named old new old_faults new_faults status =
-    PrintsAnswer A net named old new old_faults new_faults status ⊎ PrintsNoAnswer A net named old new old_faults new_faults status
+PrintsCheck A net named old new old_faults new_faults status = PrintsSuch (IsCheck A net named) old new old_faults new_faults status

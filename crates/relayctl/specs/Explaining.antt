@@ -1,5 +1,5 @@
 -- What is printed of a plan, its answer or its fault, with what explains it.
-use Rattle.std.specs.Prelude.{◌≡◌, ◌≢◌, Bool, true, false, ℕ, List, [], ◌++◌, codes, Option, ◌⊎◌}
+use Rattle.std.specs.Prelude.{◌≡◌, ◌≢◌, Bool, true, false, ℕ, List, [], ◌++◌, codes, flat_map, Option, ◌⊎◌}
 use Rattle.losing_steps.specs.Losses.{IsLosingText}
 use Rattle.loss_rules.specs.Breaks.{Subject}
 use Rattle.loss_rules.specs.declared.answer.Answer.{Answer}
@@ -54,6 +54,12 @@ pub record IsExplained (A : Type 0) (net : Option (List ℕ)) (named : List ℕ 
 pub record SaysFault (fault : PlanError) (lines : List ℕ) (status : Status) : Type 0 where
   pub notes : List ℕ
   pub lines_are : lines ≡ plan_fault_line fault ++ notes
+  pub is_status : status ≡ Usage
+
+-- what is said of a plan's first fault, and of further ones: a line for each, and notes
+pub record SaysFaults (first : PlanError) (further : List PlanError) (lines : List ℕ) (status : Status) : Type 0 where
+  pub notes : List ℕ
+  pub lines_are : lines ≡ (plan_fault_line first ++ flat_map plan_fault_line further) ++ notes
   pub is_status : status ≡ Usage
 
 -- No plan is read, and this is said of its fault.

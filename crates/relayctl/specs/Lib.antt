@@ -1,3 +1,5 @@
+pub mod Adapting
 pub mod Checking
 pub mod Explaining
+pub mod Faults
 pub mod Labels

@@ -1,14 +1,19 @@
 //! The word `check`: every broken rule of a plan with the labels that it lacks, each explained.
 
-ghost use Rattle.std.specs.Prelude.{◌≡◌, ◌++◌, IfOk};
-ghost use Rattle.relayctl.specs.Checking.{labels_note as labels_note_of, IsCheck, PrintsCheck, SaysCheck, SaysRules};
+ghost use Rattle.std.specs.Prelude.{◌≡◌, ◌++◌, length, map, string_bytes, IfOk, MatchResult};
+ghost use Rattle.plan_lines.specs.Forms.{confs_named};
+ghost use Rattle.plan_lines.specs.Plans.{texts as texts_of};
+ghost use Rattle.relayctl.specs.Adapting.{adapted_note as adapted_note_of, AddsAdaptedNote, IsAdaptedCheck, PrintsAdaptedCheck, SaysStopped};
+ghost use Rattle.relayctl.specs.Checking.{labels_note as labels_note_of, IsCheck, IsTextsCheck, PrintsCheck, PrintsFound, PrintsUnread, SaysCheck, SaysRules};
 
-use crate::explain::{Said, say_fault};
+use crate::explain::{Said, say_faults};
+use crate::faults::further_faults;
 use crate::listing::list_broken;
+use conf_listing::{AdaptedConfs, StoppedConfs, adapt_confs};
 use labelled_check::{LabelledCheck, check_labelled};
 use loss_checker::{BrokenRule, Plan, PlanError, conf_names};
 use plan_answers::{Stop, print_stop, read_confs};
-use plan_warnings::put_warnings;
+use plan_warnings::{put_stale_reaches, put_warnings};
 use program_text::{Open, ReadFault, Status, put_last, read_whole};
 use rule_advice::Texts;
 use std::alloc::{AllocError, Allocator};
@@ -29,7 +34,39 @@ pub fn run_check<A: Allocator + Copy, R: Read, O: Open, W: Write, F: Write>(
 ) -> Status
     ensures { PrintsCheck A (R.remaining net.old) (O.text_of files.now) (W.contents out.old) (W.contents out.new) (F.contents faults.old) (F.contents faults.new) result }
 {
-    match check_read(alloc, name, net, files) {
+    let found = check_read(alloc, name, net, files);
+    print_check(alloc, found, out, faults)
+}
+
+/// The same of the plan with its configurations adapted, as `relayctl adapt` prints them. Where something of them isn't accepted, by a
+/// name among these words, it prints what in place of an answer; and says in `faults` that one of them has a fault.
+pub fn run_adapted_check<A: Allocator + Copy, B: Allocator, R: Read, O: Open, W: Write, F: Write>(
+    alloc: A,
+    name: &str,
+    net: &mut R,
+    files: &O,
+    accepted: &[String<B>],
+    out: &mut W,
+    faults: &mut F,
+) -> Status
+    ensures { PrintsAdaptedCheck A (R.remaining net.old) (O.text_of files.now) (map string_bytes accepted.now) (W.contents out.old) (W.contents out.new) (F.contents faults.old) (F.contents faults.new) result }
+{
+    let found = check_adapted(alloc, name, net, files, accepted);
+    print_check(alloc, found, out, faults)
+}
+
+// Prints an answer, or says in place of faults why there is none.
+#[tactic(auto, using(crate::proofs::Stopping::stopped_unread))]
+fn print_check<A: Allocator, W: Write, F: Write>(
+    alloc: A,
+    found: Result<Check<A>, ReadFault>,
+    out: &mut W,
+    faults: &mut F,
+) -> Status
+    ensures { MatchResult found (λ found. PrintsFound found (W.contents out.old) (W.contents out.new) (F.contents faults.old) (F.contents faults.new) result)
+        (λ _. PrintsUnread (W.contents out.old) (W.contents out.new) (F.contents faults.old) (F.contents faults.new) result) }
+{
+    match found {
         Ok(Check::Answered(said)) => put_last(out, &said.lines, said.status),
         Ok(Check::Refused(said)) => put_last(faults, &said.lines, said.status),
         Err(fault) => print_stop(alloc, Stop::Unread(fault), faults),
@@ -57,32 +94,147 @@ fn check_read<A: Allocator + Copy, R: Read, O: Open>(
     let text = read_whole(alloc, net)?;
     let names = conf_names(alloc, &text)?;
     let confs = read_confs(alloc, &names, files)?;
-    match check_labelled(alloc, &text, &confs) {
+    let found = check_texts(alloc, name, &text, &names, &confs, &confs)?;
+    Ok(found)
+}
+
+// The same with the configurations adapted.
+fn check_adapted<A: Allocator + Copy, B: Allocator, R: Read, O: Open>(
+    alloc: A,
+    name: &str,
+    net: &mut R,
+    files: &O,
+    accepted: &[String<B>],
+) -> Result<Check<A>, ReadFault>
+    ensures { IfOk result (IsAdaptedCheck A (R.remaining net.old) (O.text_of files.now) (map string_bytes accepted.now)) }
+{
+    let text = read_whole(alloc, net)?;
+    let names = conf_names(alloc, &text)?;
+    let confs = read_confs(alloc, &names, files)?;
+    match adapt_confs(alloc, &names, &confs, accepted)? {
+        AdaptedConfs::Texts(adapted) => {
+            let shown = adapted_names(alloc, &names)?;
+            let lent = lent_names(alloc, &shown)?;
+            let found = check_texts(alloc, name, &text, &lent, &adapted.texts, &adapted.noted)?;
+            Ok(as_adapted(found)?)
+        }
+        AdaptedConfs::Stopped(stopped) => Ok(not_adapted(stopped)),
+    }
+}
+
+// What is said of a plan's text with these configurations, which are shown under these names by other texts of the same lines.
+fn check_texts<A: Allocator + Copy>(
+    alloc: A,
+    name: &str,
+    text: &[u8],
+    names: &[&str],
+    confs: &[Vec<u8, A>],
+    shown: &[Vec<u8, A>],
+) -> Result<Check<A>, AllocError>
+    requires { length confs.now ≡ length (confs_named text.now) }
+    ensures { IfOk result (IsTextsCheck A text.now (texts_of confs.now)) }
+{
+    match check_labelled(alloc, text, confs) {
         Ok(checked) => {
-            let own = lines(alloc, &text)?.len();
+            let own = lines(alloc, text)?.len();
             let added = format!(in alloc; "what `relayctl label {name}` prints")?;
             let texts = Texts {
                 plan_name: name,
                 plan: &checked.text,
                 own_lines: own,
                 added_name: added.as_str(),
-                conf_names: &names,
-                confs: &confs,
+                conf_names: names,
+                confs: shown,
             };
             Ok(say_checked(alloc, &checked, &texts)?)
         }
-        Err(PlanError::Memory) => Err(ReadFault::Memory),
+        Err(PlanError::Memory) => Err(AllocError),
         Err(fault) => {
             let texts = Texts {
                 plan_name: name,
-                plan: &text,
+                plan: text,
                 own_lines: usize::MAX,
                 added_name: name,
-                conf_names: &names,
-                confs: &confs,
+                conf_names: names,
+                confs: shown,
             };
-            Ok(Check::Refused(say_fault(alloc, &texts, fault)?))
+            let further = further_faults(alloc, text, confs, fault)?;
+            let hint = adapting_hint(fault, &further);
+            Ok(Check::Refused(say_faults(alloc, &texts, fault, &further, hint)?))
         }
+    }
+}
+
+// What is said at the end of faults, where some are of configurations.
+fn adapting_hint(first: PlanError, further: &[PlanError]) -> &'static str {
+    if is_of_conf(first) || further.iter().any(|fault| is_of_conf(*fault)) {
+        "# Configurations as they run in Fluentd are read by `relayctl check --adapt`, which asks about what changes what a relay does\n"
+    } else {
+        ""
+    }
+}
+
+// Whether it is a fault of a configuration.
+fn is_of_conf(fault: PlanError) -> bool {
+    matches!(fault, PlanError::BadText(_, _) | PlanError::BadRelay(_, _))
+}
+
+// How adapted configurations of these names are called.
+fn adapted_names<A: Allocator + Copy>(
+    alloc: A,
+    names: &[&str],
+) -> Result<Vec<String<A>, A>, AllocError> {
+    let mut shown = Vec::new(alloc);
+    for name in names {
+        shown.push(format!(in alloc; "{name} as adapted")?)?;
+    }
+    Ok(shown)
+}
+
+// The same, lent.
+fn lent_names<A: Allocator + Copy>(
+    alloc: A,
+    names: &[String<A>],
+) -> Result<Vec<&str, A>, AllocError> {
+    let mut lent = Vec::new(alloc);
+    for name in names {
+        lent.push(name.as_str())?;
+    }
+    Ok(lent)
+}
+
+// An answer, with a line behind it: it is of adapted configurations.
+fn as_adapted<A: Allocator>(found: Check<A>) -> Result<Check<A>, AllocError>
+    ensures { IfOk result (AddsAdaptedNote found) }
+{
+    match found {
+        Check::Answered(said) => {
+            let Said { mut lines, status } = said;
+            lines.extend_from_slice(adapted_note().as_bytes())?;
+            Ok(Check::Answered(Said { lines, status }))
+        }
+        Check::Refused(said) => Ok(Check::Refused(said)),
+    }
+}
+
+// The line that says of what an answer is.
+fn adapted_note() -> &'static str
+    ensures { result.now ≡ adapted_note_of }
+{
+    "# That is of the configurations as `relayctl adapt` prints them: relays have to run those\n"
+}
+
+// What is said where some aren't adapted.
+fn not_adapted<A: Allocator>(stopped: StoppedConfs<A>) -> Check<A>
+    ensures { SaysStopped stopped result }
+{
+    let lines = stopped.lines;
+    if stopped.has_fault {
+        let status = Status::Usage;
+        Check::Refused(Said { lines, status })
+    } else {
+        let status = Status::No;
+        Check::Answered(Said { lines, status })
     }
 }
 
@@ -135,7 +287,8 @@ fn labels_note(is_labelled: bool) -> &'static str
     }
 }
 
-// A yes where no rule is broken, and behind it what that doesn't promise; else what is said of each that is.
+// A yes where no rule is broken, and behind it what that doesn't promise; else what is said of each that is, and of lines of the plan by which no
+// event goes.
 fn say_rules<A: Allocator + Copy>(
     alloc: A,
     plan: &Plan<A>,
@@ -152,8 +305,10 @@ fn say_rules<A: Allocator + Copy>(
             status: Status::Done,
         });
     }
+    let mut lines = list_broken(alloc, plan, texts, broken)?;
+    put_stale_reaches(alloc, plan, texts, &mut lines)?;
     Ok(Said {
-        lines: list_broken(alloc, plan, texts, broken)?,
+        lines,
         status: Status::No,
     })
 }

@@ -1,8 +1,9 @@
 //! The word `explain`: the checker's answer to a plan, or the plan's fault, with what it means and what mends it.
 
-ghost use Rattle.std.specs.Prelude.{◌≡◌, IfOk};
+ghost use Rattle.std.specs.Prelude.{◌≡◌, ◌++◌, flat_map, IfOk};
 ghost use Rattle.loss_rules.specs.Breaks.{IsAnswer};
-ghost use Rattle.relayctl.specs.Explaining.{last_line as last_line_of, IsExplanation, PrintsExplanation, SaysAnswer, SaysFault};
+ghost use Rattle.plan_answers.specs.Networks.{plan_fault_line};
+ghost use Rattle.relayctl.specs.Explaining.{last_line as last_line_of, IsExplanation, PrintsExplanation, SaysAnswer, SaysFault, SaysFaults};
 
 use loss_checker::{Answer, Plan, PlanError, check, conf_names};
 use plan_answers::{Stop, print_stop, read_confs};
@@ -107,10 +108,55 @@ pub(crate) fn say_fault<A: Allocator + Copy>(
 ) -> Result<Said<A>, AllocError>
     ensures { IfOk result (λ said. SaysFault fault said.lines.items said.status) }
 {
-    let mut lines = format!(in alloc; "fault {fault}\n")?.into_bytes();
-    lines.extend_from_slice(&explain_fault(alloc, texts, fault)?)?;
+    say_faults(alloc, texts, fault, &[], "")
+}
+
+/// The same of a plan's first fault and of further ones: a line for each, behind these what explains each, and at the end these words.
+pub(crate) fn say_faults<A: Allocator + Copy>(
+    alloc: A,
+    texts: &Texts<'_, A>,
+    first: PlanError,
+    further: &[PlanError],
+    last: &str,
+) -> Result<Said<A>, AllocError>
+    ensures { IfOk result (λ said. SaysFaults first further.now said.lines.items said.status) }
+{
+    let mut lines = fault_lines(alloc, first, further)?;
+    let mut notes = fault_notes(alloc, texts, first, further)?;
+    notes.extend_from_slice(last.as_bytes())?;
+    lines.extend_from_slice(&notes)?;
     Ok(Said {
         lines,
         status: Status::Usage,
     })
+}
+
+// The lines of a plan's faults.
+fn fault_lines<A: Allocator + Copy>(
+    alloc: A,
+    first: PlanError,
+    further: &[PlanError],
+) -> Result<Vec<u8, A>, AllocError>
+    ensures { IfOk result (λ lines. lines.items ≡ plan_fault_line first ++ flat_map plan_fault_line further.now) }
+{
+    let mut lines = format!(in alloc; "fault {first}\n")?.into_bytes();
+    for fault in further {
+        let line = format!(in alloc; "fault {fault}\n")?.into_bytes();
+        lines.extend_from_slice(&line)?;
+    }
+    Ok(lines)
+}
+
+// What explains each of them.
+fn fault_notes<A: Allocator + Copy>(
+    alloc: A,
+    texts: &Texts<'_, A>,
+    first: PlanError,
+    further: &[PlanError],
+) -> Result<Vec<u8, A>, AllocError> {
+    let mut notes = explain_fault(alloc, texts, first)?;
+    for fault in further {
+        notes.extend_from_slice(&explain_fault(alloc, texts, *fault)?)?;
+    }
+    Ok(notes)
 }

@@ -2,12 +2,12 @@
 
 ghost use Rattle.std.specs.Prelude.{IfOk, IfErr, IfSome};
 ghost use Rattle.plan_answers.specs.Networks.{IsStopOf};
-ghost use Rattle.relayctl.specs.Labels.{IsLabelledPlan, PrintsLabels};
+ghost use Rattle.relayctl.specs.Labels.{IsLabelledPlan, IsWithoutLabels, PrintsFreshLabels, PrintsLabels};
 
-use label_plan::labelled_text;
+use label_plan::{labelled_text, without_labels};
 use loss_checker::conf_names;
 use plan_answers::{Stop, print_stop, read_confs, stop_of};
-use program_text::{Open, Status, put_last, read_whole};
+use program_text::{Open, ReadFault, Status, put_last, read_whole};
 use std::alloc::Allocator;
 use std::io::{Read, Write};
 
@@ -26,6 +26,29 @@ pub fn run_label<A: Allocator + Copy, R: Read, O: Open, W: Write>(
         Ok(None) => put_last(out, b"no labels\n", Status::No),
         Err(stop) => print_stop(alloc, stop, out),
     }
+}
+
+/// The same of the plan without its own labels and reaches.
+pub fn run_fresh_label<A: Allocator + Copy, R: Read, O: Open, W: Write>(
+    alloc: A,
+    net: &mut R,
+    files: &O,
+    out: &mut W,
+) -> Status
+    ensures { PrintsFreshLabels A (R.remaining net.old) (O.text_of files.now) (W.contents out.old) (W.contents out.new) result }
+{
+    match fresh_read(alloc, net) {
+        Ok(text) => run_label(alloc, &mut text.as_slice(), files, out),
+        Err(fault) => print_stop(alloc, Stop::Unread(fault), out),
+    }
+}
+
+// The text of the plan that is read, without its labels and reaches.
+fn fresh_read<A: Allocator + Copy, R: Read>(alloc: A, net: &mut R) -> Result<Vec<u8, A>, ReadFault>
+    ensures { IfOk result (IsWithoutLabels (R.remaining net.old)) }
+{
+    let text = read_whole(alloc, net)?;
+    Ok(without_labels(alloc, &text)?)
 }
 
 // The text of the plan that is read, with the labels and reaches that it lacks.

@@ -1,20 +1,22 @@
 //! The operator's program: words of the command line, each of which reads, answers and gives a status.
 #![tactic(auto)]
 
+mod blanks;
 mod check;
 mod draw;
 mod explain;
+mod faults;
 mod label;
 mod listing;
 mod words;
 
-use check::run_check;
+use check::{run_adapted_check, run_check};
 use conf_listing::run_adapt;
 use draw::run_draw;
 use explain::run_explain;
 use folder_listing::{DataFolder, run_show};
-use label::run_label;
-use program_text::{Folder, ReadFault, Status, put_last};
+use label::{run_fresh_label, run_label};
+use program_text::{Folder, ReadFault, Status, print_version, put_last};
 use route_listing::run_ways;
 use std::io::{ErrorKind, Write};
 use std::process::ExitCode;
@@ -22,15 +24,18 @@ use std::{env, io};
 use words::{Word, read_word};
 
 const USAGE: &str =
-    "usage: relayctl check NET | label NET | explain NET | draw NET [--dot] | ways CONF TAG.. | adapt CONF [--accept NAME].. | show DIR | --help";
+    "usage: relayctl check NET | check --adapt NET [--accept NAME].. | label [--fresh] NET | explain NET | draw NET [--dot] | ways CONF TAG.. | adapt CONF [--accept NAME].. | show DIR | --help | --version";
 
 const HELP: &str =
-    "usage: relayctl check NET | label NET | explain NET | draw NET [--dot] | ways CONF TAG.. | adapt CONF [--accept NAME].. | show DIR | --help
+    "usage: relayctl check NET | check --adapt NET [--accept NAME].. | label [--fresh] NET | explain NET | draw NET [--dot] | ways CONF TAG.. | adapt CONF [--accept NAME].. | show DIR | --help | --version
 
 check NET        labels the plan NET, and prints `yes`, with warnings of what may keep events from
                  arriving, or every rule that is broken then, each with what it means, what mends
                  it, and steps that lose an event
-label NET        prints the plan NET with the label and reach lines that it lacks
+check --adapt NET    the same of the plan NET with its configurations adapted, as adapt does it;
+                 --accept NAME accepts a change of what a relay does
+label NET        prints the plan NET with the label and reach lines that it lacks; --fresh: those
+                 that it has are taken out first
 explain NET      prints the answer of relaynet check to the plan NET, what a broken
                  rule or a fault means, what mends it, and steps that lose an event
 draw NET         draws the plan NET, with the labels that it lacks, as a tree of text; --dot: for
@@ -42,6 +47,7 @@ adapt CONF       prints the configuration CONF, as it runs in Fluentd, in the fo
 show DIR         prints which chunks the journals in a relay's data folder DIR hold,
                  and how many events its sinks hold
 --help           prints this
+--version        prints the version
 
 docs/RELAYCTL.md says more.
 ";
@@ -57,11 +63,27 @@ fn run(rt: &HostRuntime, word: Option<Word<'_>>) -> Status {
     let out = &mut io::writer(rt);
     match word {
         Some(Word::Help) => put_last(out, HELP.as_bytes(), Status::Done),
+        Some(Word::Version) => print_version(rt.alloc(), "relayctl", out),
         Some(Word::Check(net)) => {
             let faults = &mut rt.stderr();
             run_check(rt.alloc(), net, &mut folder.text(net), &folder, out, faults)
         }
+        Some(Word::CheckAdapted(net, accepted)) => {
+            let faults = &mut rt.stderr();
+            run_adapted_check(
+                rt.alloc(),
+                net,
+                &mut folder.text(net),
+                &folder,
+                accepted,
+                out,
+                faults,
+            )
+        }
         Some(Word::Label(net)) => run_label(rt.alloc(), &mut folder.text(net), &folder, out),
+        Some(Word::LabelFresh(net)) => {
+            run_fresh_label(rt.alloc(), &mut folder.text(net), &folder, out)
+        }
         Some(Word::Explain(net)) => {
             run_explain(rt.alloc(), net, &mut folder.text(net), &folder, out)
         }

@@ -14,7 +14,7 @@ returns-in-Ok g c =
     let text = c.in_ok-text.text.items in
     let confs = texts_of c.in_ok-confs.confs.items in
     let names : bytes c.deref-2.result.now ≡ confs_named text = ap bytes c.deref-2.ensures.value ∙ c.in_ok-names.ensures.names ∙ ap confs_named c.deref.ensures.value in
-    let read : AreRead net named text confs = are_read net named text c.deref-2.result.now confs c.in_ok-text.ensures names c.in_ok-confs.ensures.texts in
+    let read : AreRead net named text confs = are_read net named text c.deref-2.result.now confs c.in_ok-text.ensures.whole names c.in_ok-confs.ensures.texts in
     let is : IsPlanOf text confs c.in-Ok.plan = search rules in
     let said = c.in_ok-say_plan-in-Ok.ensures in
     inl (record {
@@ -31,7 +31,7 @@ returns g c =
     let text = c.in_ok-text.text.items in
     let confs = texts_of c.in_ok-confs.confs.items in
     let names : bytes c.deref-2.result.now ≡ confs_named text = ap bytes c.deref-2.ensures.value ∙ c.in_ok-names.ensures.names ∙ ap confs_named c.deref.ensures.value in
-    let read : AreRead net named text confs = are_read net named text c.deref-2.result.now confs c.in_ok-text.ensures names c.in_ok-confs.ensures.texts in
+    let read : AreRead net named text confs = are_read net named text c.deref-2.result.now confs c.in_ok-text.ensures.whole names c.in_ok-confs.ensures.texts in
     let said : IsRefusal g.row.A.Denot text confs c.in-Err.fault = search rules in
     let meant : c.in-Err.fault ≢ refusal.Memory = search rules in
     inr (record {

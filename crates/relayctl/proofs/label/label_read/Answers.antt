@@ -19,7 +19,7 @@ returns g c =
           (record {
             text = text;
             confs = confs;
-            read = are_read (g.R.Read.remaining c.args.net.now) (g.O.Open.text_of c.args.files.now) text c.deref-2.result.now confs c.in_ok-text.ensures names c.in_ok-confs.ensures.texts;
+            read = are_read (g.R.Read.remaining c.args.net.now) (g.O.Open.text_of c.args.files.now) text c.deref-2.result.now confs c.in_ok-text.ensures.whole names c.in_ok-confs.ensures.texts;
             refused = said;
           })
           c.stop_of.ensures;

@@ -1,0 +1,6 @@
+use Rattle.std.proofs.Common.{◌≡◌, ◌++◌, flat_map, take}
+use Rattle.plan_answers.specs.Networks.{plan_fault_line}
+use Rattle.relayctl.proofs.explain.fault_lines.Given as goal
+
+abbrev pub invariant-loop-fault : goal.invariant-loop-fault
+invariant-loop-fault g l = l.lines.items ≡ plan_fault_line l.fn.first ++ flat_map plan_fault_line (take l.fault-index l.further)
