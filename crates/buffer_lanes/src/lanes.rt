@@ -111,7 +111,12 @@ impl<D: Dir + Drop, A: Allocator + Copy> Lanes<D, A> {
 
     /// Appends the delivery's entries to each of these buffers, in their order. `false` where one refuses: then none of them has an
     /// append of the delivery that waits for a receipt.
-    pub fn append<R: Wait>(&mut self, rt: &R, buffers: &[BufferNo], delivery: &Delivery<A>) -> bool
+    pub(crate) fn append<R: Wait>(
+        &mut self,
+        rt: &R,
+        buffers: &[BufferNo],
+        delivery: &Delivery<A>,
+    ) -> bool
         requires { HasEntries delivery.now buffers.now }
         ensures kept { KeepsLanes self.old self.new }
         ensures later { self.new.later ≡ self.old.later }

@@ -1,9 +1,11 @@
 //! A delivery that waits for its receipts.
 
-ghost use Rattle.std.specs.Prelude.{◌≡◌, [], None, false, IfOk, IfErr};
+ghost use Rattle.std.specs.Prelude.{◌≡◌, [], None, false, Contains, IfOk, IfErr};
 ghost use Rattle.ack_receipt.specs.Reservations.{asked_of};
 ghost use Rattle.buffer_lanes.specs.Collecting.{IsCollected, WaitsOnFor, those_later};
-ghost use Rattle.buffer_lanes.specs.Waits.{awaited_by};
+ghost use Rattle.buffer_lanes.specs.Lanes.{EndsWith, KeepsLanes, listed_at};
+ghost use Rattle.buffer_lanes.specs.Waits.{HasEntries, awaited_by};
+ghost use Rattle.relay_conf.specs.declared.output.BufferNo.{BufferNo};
 
 use crate::lanes::Lanes;
 use ack_receipt::{Delivery, Receipt, Reserved, Stub};
@@ -39,16 +41,30 @@ pub enum Collected<A: Allocator> {
 }
 
 impl<A: Allocator + Copy> Waiting<A> {
-    /// No receipt came yet.
-    pub fn new(delivery: Delivery<A>, reserved: Reserved<A>, buffers: Vec<BufferNo, A>) -> Self
+    /// Appends the delivery's entries to each of these buffers, and waits for their receipts, with this room for its answer. No receipt came
+    /// yet. Where a buffer refuses, the delivery is abandoned: none of the buffers has an append of it that waits for a receipt.
+    pub fn begin<R: Wait, D: Dir + Drop>(
+        rt: &R,
+        lanes: &mut Lanes<D, A>,
+        delivery: Delivery<A>,
+        reserved: Reserved<A>,
+        buffers: Vec<BufferNo, A>,
+    ) -> Result<Self, Stub<A>>
         requires empty { reserved.filled ≡ None }
         requires made { reserved.asked ≡ asked_of delivery.message }
-        ensures { result ≡ record { awaited = awaited_by delivery; buffers = buffers.items } }
+        requires entries { HasEntries delivery buffers.items }
+        ensures kept { KeepsLanes lanes.old lanes.new }
+        ensures waits { IfOk result (λ waiting. waiting ≡ record { awaited = awaited_by delivery; buffers = buffers.items }) }
+        ensures appended { IfOk result (λ waiting. (buffer : BufferNo) → Contains buffers.items buffer
+            → EndsWith delivery.number (listed_at lanes.new.waiting buffer)) }
+        ensures undone { IfErr result (λ _. lanes.new.waiting ≡ lanes.old.waiting) }
+        ensures later { lanes.new.later ≡ lanes.old.later }
     {
-        Waiting {
-            gathered: Gathered { delivery, reserved },
-            buffers,
+        if lanes.append(rt, &buffers, &delivery) {
+            let gathered = Gathered { delivery, reserved };
+            return Ok(Waiting { gathered, buffers });
         }
+        Err(delivery.abandon())
     }
 
     /// Takes the receipts that are there, and acknowledges the delivery where all came; where a buffer gave none, the delivery

@@ -23,7 +23,8 @@ use Rattle.forward_core.specs.Demands.{Wanted, Delivers, asked_in, wanted}
 use Rattle.forward_core.specs.Server.{ServerPhase, Awaiting, Opened, Over, ServerReads, ReadsOn, ServerState, Outcome, after, close_by, phase_by, initial_server}
 use Rattle.relay_ports.specs.Leaves.{Entry, IsRoutedTo}
 use Rattle.buffer_lanes.specs.Waits.{Awaited, HasEntries, Waits}
-use Rattle.buffer_lanes.specs.Collecting.{IsAnswerTo, those_later}
+use Rattle.book_audit.specs.Stubs.{Left}
+use Rattle.buffer_lanes.specs.Collecting.{IsAbandoned, IsAnswerTo, those_later}
 use Rattle.loop_core.specs.Peers.{AreAmong, BecomeInOrder, Becomes, GoOnWaiting, IsOwed, IsEarned, IsFaithful, IsRead, IsTaken, OneMoreWaits, Standing, awaited_in, wants_close}
 
 -- a connection that was opened
@@ -224,12 +225,46 @@ on_err (Err _) P p = p
 pub first_becomes : (all rest : List Waits) (w : Waits) (old between new : Standing) → all ≡ w ∷ rest → Becomes w old between → BecomeInOrder rest between new → BecomeInOrder all old new
 first_becomes all rest w old between new e first others = subst (λ (l : List Waits). BecomeInOrder l old new) (sym e) (between, first, others)
 
--- the session took the answer, or had no memory for it
-pub answer_becomes : (w : Waits) (reserved : Reservation) (left : List Waits) (took : Bool) (old new : ServerState) → IsAnswerTo w.awaited reserved → left ≡ []
-    → (took ≡ true → IsTaken reserved old new) → (took ≡ false → new ≡ old) → Becomes w (record { left = left; session = old }) (record { left = left; session = new })
-answer_becomes w reserved left true old new answer none took refused =
-    inl (record { first = none; left = none; reserved = reserved; answer = answer; taken = took refl })
-answer_becomes w reserved left false old new answer none took refused = inr (inr (ap (λ (s : ServerState). record { left = left; session = s }) (refused refl)))
+-- the first of these was settled, and then the others; the connection is closing where there was no memory for the first
+pub first_settled : (all rest : List Waits) (w : Waits) (left left' : List Waits) (session session' : ServerState) (closing closing' took : Bool) (end : Standing)
+    → all ≡ w ∷ rest → (closing || not took) ≡ closing'
+    → ((was : Bool) → Becomes w (record { left = left; session = session; closing = was }) (record { left = left'; session = session'; closing = was || not took }))
+    → BecomeInOrder rest (record { left = left'; session = session'; closing = closing' }) end
+    → BecomeInOrder all (record { left = left; session = session; closing = closing }) end
+first_settled all rest w left left' session session' closing closing' took end e now becomes others =
+    first_becomes all rest w (record { left = left; session = session; closing = closing }) (record { left = left'; session = session'; closing = closing' }) end e
+    (subst (λ (b : Bool). Becomes w (record { left = left; session = session; closing = closing }) (record { left = left'; session = session'; closing = b })) now (becomes closing))
+    others
+
+-- the session took the answer, or had no memory for it: then the connection is closing
+pub answer_becomes : (w : Waits) (reserved : Reservation) (left : List Waits) (took : Bool) (old new : ServerState) (closing : Bool) → IsAnswerTo w.awaited reserved → left ≡ []
+    → (took ≡ true → IsTaken reserved old new) → (took ≡ false → new ≡ old)
+    → Becomes w (record { left = left; session = old; closing = closing }) (record { left = left; session = new; closing = closing || not took })
+answer_becomes w reserved left true old new closing answer none took refused =
+    inl (record { first = none; left = none; reserved = reserved; answer = answer; taken = took refl; closing = or_false closing })
+answer_becomes w reserved left false old new closing answer none took refused =
+    inr (inr (inr (
+    ap (λ (s : ServerState). record { left = left; session = s; closing = closing || true }) (refused refl)
+    ∙ ap (λ (b : Bool). record { left = left; session = old; closing = b }) (or_true closing))))
+
+-- one of its buffers refused it
+pub refused_becomes : (w : Waits) (stub : Left) (s : Standing) → IsAbandoned w.awaited stub
+    → Becomes w s (record { left = s.left; session = s.session; closing = s.closing || false })
+refused_becomes w stub s missing =
+    inr (inr (inl (record { stub = stub; missing = missing; same = ap (λ (b : Bool). record { left = s.left; session = s.session; closing = b }) (or_false s.closing) })))
+
+-- it waits on
+pub waits_on_becomes : (w on : Waits) (left : List Waits) (s : Standing) → on.awaited ≡ w.awaited → left ≡ s.left ++ on ∷ []
+    → Becomes w s (record { left = left; session = s.session; closing = s.closing || false })
+waits_on_becomes w on left s same pushed = inr (inl (record { on = on; same = same; left = pushed; session = refl; closing = or_false s.closing }))
+
+-- there was no memory for it to wait on
+pub shut_out_becomes : (w : Waits) (left : List Waits) (s : Standing) → left ≡ s.left
+    → Becomes w s (record { left = left; session = s.session; closing = s.closing || true })
+shut_out_becomes w left s same =
+    inr (inr (inr (
+    ap (λ (l : List Waits). record { left = l; session = s.session; closing = s.closing || true }) same
+    ∙ ap (λ (b : Bool). record { left = s.left; session = s.session; closing = b }) (or_true s.closing))))
 
 -- A session that refuses a piece by a fault met one before.
 pub met_before : {T : Type 0} (e : SessionError) (fault : SessionFault) (phase : ServerPhase) → e ≡ error.Fault fault → (e ≡ error.Fault Closed) ⊎ (e ≡ error.Memory)

@@ -5,7 +5,8 @@ use Rattle.forward_core.specs.Demands.{Wanted, Delivers, Closes}
 use Rattle.forward_core.specs.Server.{Outcome, ServerReads, ServerState, after}
 use Rattle.relay_ports.specs.Leaves.{Entry, IsRoutedTo}
 use Rattle.buffer_lanes.specs.Waits.{Awaited, Waits}
-use Rattle.buffer_lanes.specs.Collecting.{IsAnswerTo}
+use Rattle.book_audit.specs.Stubs.{Left}
+use Rattle.buffer_lanes.specs.Collecting.{IsAbandoned, IsAnswerTo}
 
 -- the connection's source, its session, the deliveries that wait, and whether nothing more is read
 pub record PeerState : Type 0 where
@@ -64,10 +65,11 @@ awaited_in waits = map (λ w. w.awaited) waits
 abbrev pub AreAmong : List Awaited → List Waits → Type 0
 AreAmong before waits = All (λ w. Contains before w.awaited) waits
 
--- where the settling of a connection's deliveries stands: those that wait on so far, and the session
+-- where the settling of a connection's deliveries stands: those that wait on so far, the session, and whether nothing more is read
 pub record Standing : Type 0 where
   pub left : List Waits
   pub session : ServerState
+  pub closing : Bool
 
 -- The session took the delivery's answer. It can, since none waits on before it.
 pub record IsAnswered (waits : Waits) (old new : Standing) : Type 0 where
@@ -76,6 +78,7 @@ pub record IsAnswered (waits : Waits) (old new : Standing) : Type 0 where
   pub reserved : Reservation
   pub answer : IsAnswerTo waits.awaited reserved
   pub taken : IsTaken reserved old.session new.session
+  pub closing : new.closing ≡ old.closing
 
 -- the delivery waits on behind the others
 pub record WaitsOn (waits : Waits) (old new : Standing) : Type 0 where
@@ -83,10 +86,21 @@ pub record WaitsOn (waits : Waits) (old new : Standing) : Type 0 where
   pub same : on.awaited ≡ waits.awaited
   pub left : new.left ≡ old.left ++ on ∷ []
   pub session : new.session ≡ old.session
+  pub closing : new.closing ≡ old.closing
+
+-- one of the delivery's buffers gave no receipt, so it ends without an answer
+pub record IsRefused (waits : Waits) (old new : Standing) : Type 0 where
+  pub stub : Left
+  pub missing : IsAbandoned waits.awaited stub
+  pub same : new ≡ old
+
+-- There was no memory for its answer, or for it to wait on: it ends without one, and nothing more is read.
+abbrev pub IsShutOut : Standing → Standing → Type 0
+IsShutOut old new = new ≡ record old { closing = true }
 
 -- what becomes of a delivery: it is answered, or waits on, or ends without an answer
 abbrev pub Becomes : Waits → Standing → Standing → Type 0
-Becomes waits old new = IsAnswered waits old new ⊎ (WaitsOn waits old new ⊎ (new ≡ old))
+Becomes waits old new = IsAnswered waits old new ⊎ (WaitsOn waits old new ⊎ (IsRefused waits old new ⊎ IsShutOut old new))
 
 -- what becomes of these, in their order
 abbrev pub BecomeInOrder : List Waits → Standing → Standing → Type 0

@@ -1,6 +1,6 @@
 //! A client's connection, without its socket.
 
-ghost use Rattle.std.specs.Prelude.{◌≡◌, ◌≤◌, ◌<◌, ◌+◌, ◌⊎◌, ◌↔◌, ◌||◌, [], List, true, false, drop, length, map, All, Contains, IfOk, OnOk, OnErr, IsTrue};
+ghost use Rattle.std.specs.Prelude.{◌≡◌, ◌≤◌, ◌<◌, ◌+◌, ◌⊎◌, ◌↔◌, ◌||◌, [], Bool, List, true, false, not, drop, length, map, All, Contains, IfOk, OnOk, OnErr, IsTrue};
 ghost use Rattle.ack_receipt.specs.Reservations.{asked_of};
 ghost use Rattle.event_modes.specs.Reading.{meaning};
 ghost use Rattle.buffer_lanes.specs.Lanes.{KeepsLanes, NoneLater};
@@ -174,35 +174,42 @@ impl<A: Allocator + Copy> Peer<A> {
             Ok(delivery) => delivery,
             Err(_) => return Err(LoopFault::Memory),
         };
-        if lanes.append(rt, &buffers, &delivery) {
-            self.waiting
-                .push_reserved(Waiting::new(delivery, reserved, buffers));
-            return Ok(());
-        }
-        lanes.settle(rt, delivery.abandon());
+        let waiting = match Waiting::begin(rt, lanes, delivery, reserved, buffers) {
+            Ok(waiting) => waiting,
+            Err(stub) => {
+                lanes.settle(rt, stub);
+                return Ok(());
+            }
+        };
+        self.waiting.push_reserved(waiting);
         Ok(())
     }
 
     /// Answers, in the order of their messages, the deliveries that have all their receipts, and ends those that a buffer
-    /// refused. Without memory for an answer nothing more is read: its client is to send again.
+    /// refused. Without memory for an answer, or to wait on, nothing more is read: the client is to send again.
     pub fn settle<R: Wait, D: Dir + Drop>(&mut self, rt: &R, alloc: A, lanes: &mut Lanes<D, A>)
         ensures entry { self.new.entry ≡ self.old.entry }
         ensures lanes { lanes.new ≡ lanes.old }
         // What waits on waited before: nothing, where no buffer's receipts come later.
         ensures waited { AreAmong (awaited_in self.old.waits) self.new.waits }
         ensures ended { NoneLater lanes.old.later → self.new.waits ≡ [] }
-        // None is answered behind one that waits on.
-        ensures order { BecomeInOrder self.old.waits (record { left = []; session = self.old.session })
-            (record { left = self.new.waits; session = self.new.session }) }
+        // None is answered behind one that waits on, and none ends without an answer but where a buffer refused it, or nothing more is read.
+        ensures order { BecomeInOrder self.old.waits (record { left = []; session = self.old.session; closing = self.old.closing })
+            (record { left = self.new.waits; session = self.new.session; closing = self.new.closing }) }
         ensures closed { self.old.closing ≡ true → self.new.closing ≡ true }
     {
         let list = mem::replace(&mut self.waiting, Vec::new(alloc));
-        let (later, answered) = settle_all(rt, alloc, &self.inlet, &mut self.session, list, lanes);
+        let later = settle_all(
+            rt,
+            alloc,
+            &self.inlet,
+            &mut self.session,
+            &mut self.is_closing,
+            list,
+            lanes,
+        );
         let none = mem::replace(&mut self.waiting, later);
         none.destroy_empty();
-        if !answered {
-            self.is_closing = true;
-        }
     }
 
     /// What is to be sent.
@@ -271,35 +278,38 @@ fn abandon_all<R: Wait, D: Dir + Drop, A: Allocator + Copy>(
     rest.destroy_empty();
 }
 
-// Settles these deliveries of a session whose messages come in here. Gives those that wait on, and whether the session
-// took each answer.
+// Settles these deliveries of a session whose messages come in here, and gives those that wait on. Where there was no memory for one of them,
+// the connection is closing.
 fn settle_all<R: Wait, D: Dir + Drop, A: Allocator + Copy>(
     rt: &R,
     alloc: A,
     inlet: &Inlet<A>,
     session: &mut ServerSession<A>,
+    is_closing: &mut bool,
     list: Vec<Waiting<A>, A>,
     lanes: &mut Lanes<D, A>,
-) -> (Vec<Waiting<A>, A>, bool)
+) -> Vec<Waiting<A>, A>
     requires { IsFaithful inlet.now session.old.asked session.old.taken list.items }
-    ensures kept { IsFaithful inlet.now session.new.asked session.new.taken result.0.items }
+    ensures kept { IsFaithful inlet.now session.new.asked session.new.taken result.items }
     ensures lanes { lanes.new ≡ lanes.old }
-    ensures waited { AreAmong (awaited_in list.items) result.0.items }
-    ensures ended { NoneLater lanes.old.later → result.0.items ≡ [] }
-    ensures order { BecomeInOrder list.items (record { left = []; session = session.old })
-        (record { left = result.0.items; session = session.new }) }
+    ensures waited { AreAmong (awaited_in list.items) result.items }
+    ensures ended { NoneLater lanes.old.later → result.items ≡ [] }
+    ensures order { BecomeInOrder list.items (record { left = []; session = session.old; closing = is_closing.old })
+        (record { left = result.items; session = session.new; closing = is_closing.new }) }
+    ensures closed { is_closing.old ≡ true → is_closing.new ≡ true }
 {
     let mut later = Vec::new(alloc);
-    let mut answered = true;
     let mut rest = list.into_iter();
     while let Some(waiting) = rest.next() {
-        answered = settle_one(rt, inlet, session, waiting, &mut later, lanes) && answered;
+        if !settle_one(rt, inlet, session, waiting, &mut later, lanes) {
+            *is_closing = true;
+        }
     }
     rest.destroy_empty();
-    (later, answered)
+    later
 }
 
-// Settles a delivery behind those that wait on, and says whether the session took the answer, if there is one.
+// Settles a delivery behind those that wait on, and says whether there was memory for its answer, or for it to wait on.
 fn settle_one<R: Wait, D: Dir + Drop, A: Allocator + Copy>(
     rt: &R,
     inlet: &Inlet<A>,
@@ -315,8 +325,8 @@ fn settle_one<R: Wait, D: Dir + Drop, A: Allocator + Copy>(
     ensures lanes { lanes.new ≡ lanes.old }
     ensures waited { (before : List Awaited) → AreAmong before later.old.items → Contains before waiting.awaited → AreAmong before later.new.items }
     ensures ended { NoneLater lanes.old.later → later.old.items ≡ [] → later.new.items ≡ [] }
-    ensures becomes { Becomes waiting (record { left = later.old.items; session = session.old })
-        (record { left = later.new.items; session = session.new }) }
+    ensures becomes { (closing : Bool) → Becomes waiting (record { left = later.old.items; session = session.old; closing = closing })
+        (record { left = later.new.items; session = session.new; closing = closing || not result }) }
 {
     let held = !later.is_empty();
     match waiting.collect(rt, lanes, held) {
@@ -328,12 +338,13 @@ fn settle_one<R: Wait, D: Dir + Drop, A: Allocator + Copy>(
             lanes.settle(rt, stub);
             true
         }
-        Collected::Later(waiting) => {
-            if let Err(failed) = later.push(waiting) {
+        Collected::Later(waiting) => match later.push(waiting) {
+            Ok(()) => true,
+            Err(failed) => {
                 lanes.settle(rt, failed.value.abandon());
+                false
             }
-            true
-        }
+        },
     }
 }
 

@@ -2,3 +2,5 @@ pub mod Listening
 pub mod Slots
 pub mod Telling
 pub mod Staying
+pub mod Ports
+pub mod Writing

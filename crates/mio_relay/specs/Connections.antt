@@ -1,6 +1,6 @@
 -- The connections of a relay's loop, and the sources that they came in at.
-use Rattle.std.specs.Prelude.{ℕ, ◌≡◌, ◌<◌, false, List, [], length, map, Option, Some, IfSome, slice_get, slice_index_or, string_bytes}
-use Rattle.std.specs.List.{All}
+use Rattle.std.specs.Prelude.{ℕ, ◌≡◌, ◌<◌, ◌⊎◌, ◌++◌, Bool, false, true, List, [], length, map, Option, Some, IfSome, slice_get, slice_index_or, string_bytes}
+use Rattle.std.specs.List.{All, AllZip}
 use Rattle.relay_conf.specs.declared.relay.Relay.{Relay}
 use Rattle.relay_conf.specs.declared.relay.Source.{Source}
 use Rattle.route_graph.specs.Table.{Table, table_of}
@@ -8,7 +8,8 @@ use Rattle.forward_core.specs.declared.security.Security.{Security}
 use Rattle.forward_core.specs.Server.{initial_server}
 use Rattle.handshake_keys.specs.Credentials.{Credentials, credentials_in, credentials_of}
 use Rattle.relay_ports.specs.Leaves.{Entry}
-use Rattle.relay_sockets.specs.Endpoints.{Endpoint, Origin, CameAt}
+use Rattle.relay_sockets.specs.Endpoints.{Endpoint, Origin, CameAt, IsPortOf}
+use Rattle.relay_sockets.specs.Traffics.{Traffic, Conveys}
 use Rattle.loop_core.specs.Peers.{PeerState}
 
 -- a source as clients meet it: where it listens, where its messages go, and what it asks its clients to prove
@@ -51,15 +52,36 @@ pub record AreListening (bound : List Endpoint) (hosted : List Hosted) : Type 0 
   pub own : bound ≡ map (λ h. h.source.endpoint) hosted
   pub numbered : (place : ℕ) → IfSome (slice_get hosted place) (λ h. h.number ≡ place)
 
--- a connection: where it came in, and its session
+-- these are the ports of these sources, one for each, in their order
+abbrev pub ArePortsOf : List Served → List ℕ → Type 0
+ArePortsOf sources ports = AllZip (λ source port. IsPortOf port source.endpoint) sources ports
+
+-- a connection: where it came in, what went over it, as far as that is known, and its session; whether its stream failed, and whether it takes no bytes for now
 pub record ConnectionState : Type 0 where
   pub origin : Origin
+  pub traffic : Traffic
   pub peer : PeerState
+  pub is_broken : Bool
+  pub is_blocked : Bool
 
 -- a connection goes on: it came in where it did, and its messages go where they went
 pub record IsSameConnection (old new : ConnectionState) : Type 0 where
   pub origin : new.origin ≡ old.origin
   pub entry : new.peer.entry ≡ old.peer.entry
+
+-- What was outgoing was written from its beginning on, and is outgoing still but for that.
+abbrev pub IsWrittenOn : ConnectionState → ConnectionState → Type 0
+IsWrittenOn old new = (sent : List ℕ) × (old.peer.session.outgoing ≡ sent ++ new.peer.session.outgoing) × Conveys old.traffic new.traffic sent []
+
+-- These bytes came over a connection, whose session doesn't know of them yet.
+pub record Brings (old new : ConnectionState) (came : List ℕ) : Type 0 where
+  pub origin : new.origin ≡ old.origin
+  pub peer : new.peer ≡ old.peer
+  pub conveys : Conveys old.traffic new.traffic [] came
+
+-- A connection may be closed: all was written, or its client takes no more.
+abbrev pub MayClose : ConnectionState → Type 0
+MayClose connection = (connection.peer.session.outgoing ≡ []) ⊎ ((connection.is_broken ≡ true) ⊎ (connection.is_blocked ≡ true))
 
 -- A connection is served as one of the source at whose listener it came in.
 pub record IsServed (sources : List Served) (connection : ConnectionState) : Type 0 where

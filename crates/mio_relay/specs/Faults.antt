@@ -1,5 +1,5 @@
 -- Why a relay's loop ends.
-use Rattle.std.specs.Prelude.{◌≡◌, Option, None, Some, Result, Ok, Err, IfSome, IsSomeAnd}
+use Rattle.std.specs.Prelude.{◌≡◌, Option, None, Some, Result, Ok, Err, IfSome}
 use Rattle.buffer_store.specs.declared.fault.BufferFault.{BufferFault}
 use Rattle.loop_core.specs.declared.fault.LoopFault.{LoopFault}
 use Rattle.loop_core.specs.declared.fault.LoopFault.TheVariants as ends
@@ -21,12 +21,16 @@ IsReason first ends.Poll = Unit {0}
 IsReason first ends.NoNumber = Unit {0}
 IsReason first ends.Memory = Unit {0}
 
--- what is told in the end: the fault of the last turn, or else that which came of a buffer
-abbrev pub told_of : {T : Type 0} → Option BufferFault → Result T LoopFault → Option LoopFault
-told_of first (Err fault) = Some fault
-told_of (Some fault) (Ok told) = Some (ends.Buffer fault)
-told_of None (Ok told) = None
+-- the fault of a turn, if it has one
+abbrev pub fault_in : {T : Type 0} → Result T LoopFault → Option LoopFault
+fault_in (Err fault) = Some fault
+fault_in (Ok told) = None
 
--- a buffer's fault that came is told, unless another ended the loop first
+-- what is told in the end: the first fault that came of a buffer, or else that of the last turn
+abbrev pub told_of : {T : Type 0} → Option BufferFault → Result T LoopFault → Option LoopFault
+told_of (Some fault) end = Some (ends.Buffer fault)
+told_of None end = fault_in end
+
+-- a buffer's fault that came is told
 abbrev pub IsTold : Option BufferFault → Option LoopFault → Type 0
-IsTold came told = IfSome came (λ first. IsSomeAnd told (IsReason (Some first)))
+IsTold came told = IfSome came (λ first. told ≡ Some (ends.Buffer first))

@@ -2,12 +2,13 @@
 use Rattle.std.specs.Prelude.{ℕ, ◌≡◌, List, Option}
 use Rattle.ack_receipt.specs.Terms.{Terms}
 use Rattle.buffer_lanes.specs.Lanes.{KeepsLanes, LanesState}
+use Rattle.loop_core.specs.declared.fault.LoopFault.{LoopFault}
 use Rattle.relay_ports.specs.declared.buffered.BufferedOutput.{BufferedOutput}
 use Rattle.relay_sockets.specs.Endpoints.{Endpoint}
 use Rattle.mio_relay.specs.Connections.{AreSettled, ConnectionState, Served}
 
 -- a loop: the addresses that were bound, its sources in the order of the configuration, its connections by their keys, its buffers by their places,
--- the same as it uses them, and its time in milliseconds
+-- the same as it uses them, its time in milliseconds, and the fault of a turn that ended it, if one did
 pub record LoopState (A : Type 0) : Type 0 where
   pub bound : List Endpoint
   pub sources : List Served
@@ -15,6 +16,7 @@ pub record LoopState (A : Type 0) : Type 0 where
   pub buffers : List (Terms A)
   pub lanes : LanesState A
   pub time : ℕ
+  pub fault : Option LoopFault
 
 -- a relay that listens at its sources: the addresses that were bound, the sources, its number, and its outputs that have buffers
 pub record BoundState (A : Type 0) : Type 0 where

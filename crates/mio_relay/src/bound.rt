@@ -1,12 +1,13 @@
 //! A relay whose sources are bound: no file of it was touched yet.
 
 ghost use Rattle.std.specs.Prelude.{◌≡◌, [], None, map, IfOk};
-ghost use Rattle.relay_buffers.specs.Buffers.{AreBuffersOf, ArePlanned};
-ghost use Rattle.mio_relay.specs.Connections.{served_as};
+ghost use Rattle.relay_buffers.specs.Buffers.{AreBuffersOf, ArePlaced, ArePlanned};
+ghost use Rattle.mio_relay.specs.Connections.{ArePortsOf, served_as};
 
 use crate::connections::Connections;
 use crate::in_loop::{InLoop, PIECE};
 use crate::listener::{Listener, listen};
+use crate::ready::ReadyPorts;
 use ack_receipt::Numbers;
 use disk_files::Dir;
 use loop_core::LoopFault;
@@ -39,10 +40,12 @@ impl<N: Network + Drop, A: Allocator> Model for BoundRelay<N, A> {
     ghost invariant = { λ b. AreListening (N.bound b.network) b.listeners.items };
 }
 
-/// A relay whose buffers are open: the loop that takes messages in, and for each of its buffered outputs what flush threads are given.
+/// A relay that is ready, since its buffers are open: the loop that takes messages in, for each of its buffered outputs what flush threads are given,
+/// and the ports of its sources.
 pub struct OpenRelay<N: Network + Drop, D: Dir + Drop, A: Allocator> {
     pub turning: InLoop<N, D, A>,
     pub jobs: Vec<DeliveryJob<D, A>, A>,
+    pub ports: ReadyPorts<A>,
 }
 
 impl<N: Network + Drop, A: Allocator + Copy> BoundRelay<N, A> {
@@ -81,15 +84,6 @@ impl<N: Network + Drop, A: Allocator + Copy> BoundRelay<N, A> {
         })
     }
 
-    /// The ports of its sources, in their order: where a port is 0, the one that the system chose. The error is want of memory.
-    pub fn ports(&self) -> Result<Vec<u16, A>, LoopFault> {
-        let mut ports = Vec::with_capacity(self.alloc, self.listeners.len())?;
-        for listener in &self.listeners {
-            ports.push(self.network.port(listener.socket()))?;
-        }
-        Ok(ports)
-    }
-
     /// Opens the buffers of its outputs, those with files in these folders.
     ///
     /// `Buffer`: a buffer, or the folders, can't be opened. `NoNumber`: a buffer has no number of 32 bits. `Memory`.
@@ -105,6 +99,8 @@ impl<N: Network + Drop, A: Allocator + Copy> BoundRelay<N, A> {
             × (map (λ job. job.terms) opened.jobs.items ≡ opened.turning.buffers)) }
         // The loop queues what is staged in these buffers when their outputs' settings say: what was when they were opened, since then.
         ensures planned { IfOk result (λ opened. ArePlanned opened.turning.time opened.jobs.items opened.turning.lanes.plans) }
+        ensures placed { IfOk result (λ opened. ArePlaced (F.place folders.now) opened.jobs.items) }
+        ensures ports { IfOk result (λ opened. ArePortsOf self.sources opened.ports) }
         ensures fault { IfOk result (λ opened. opened.turning.lanes.fault ≡ None) }
     {
         let BoundRelay {
@@ -119,6 +115,7 @@ impl<N: Network + Drop, A: Allocator + Copy> BoundRelay<N, A> {
         let opened = open_all(alloc, number, outputs, folders, time)?;
         let ready = Vec::from_elem(alloc, true, listeners.len())?;
         let piece = Vec::from_elem(alloc, 0, PIECE)?;
+        let ports = ReadyPorts::of(alloc, &network, &listeners)?;
         let parts = parts_of(alloc, opened)?;
         let RelayParts {
             lanes,
@@ -138,7 +135,12 @@ impl<N: Network + Drop, A: Allocator + Copy> BoundRelay<N, A> {
             numbers: Numbers::new(),
             nonces,
             time,
+            fault: None,
         };
-        Ok(OpenRelay { turning, jobs })
+        Ok(OpenRelay {
+            turning,
+            jobs,
+            ports,
+        })
     }
 }

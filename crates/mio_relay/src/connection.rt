@@ -1,8 +1,8 @@
 //! A client's connection: its stream, its session, and what is known of the stream.
 
-ghost use Rattle.std.specs.Prelude.{◌≡◌, IfErr};
+ghost use Rattle.std.specs.Prelude.{◌≡◌, OnErr, OnOk, false, true, take};
 ghost use Rattle.buffer_lanes.specs.Lanes.{KeepsLanes, NoneLater};
-ghost use Rattle.mio_relay.specs.Connections.{ConnectionState, IsSameConnection, IsSettled};
+ghost use Rattle.mio_relay.specs.Connections.{Brings, ConnectionState, IsSameConnection, IsSettled, IsWrittenOn, MayClose};
 
 use ack_receipt::Numbers;
 use buffer_lanes::Lanes;
@@ -32,7 +32,8 @@ impl From<NoNumber> for LoopFault {
 /// A connection with more bytes outgoing than this isn't read.
 const MOST_OUTGOING: usize = 1_048_576;
 
-/// A client's stream with its session. Contracts see where the stream came in, and the session.
+/// A client's stream with its session. Contracts see where the stream came in and what went over it, the session, and whether the stream
+/// failed or takes no bytes for now.
 ///
 /// It is no `Drop`, as its session isn't: `into_parts` ends it.
 pub struct Connection<S: Wire, A: Allocator> {
@@ -55,7 +56,13 @@ impl<S: Wire, A: Allocator> Model for Connection<S, A> {
 
     ghost Value = { ConnectionState };
 
-    ghost view = { λ c. record { origin = S.origin c.stream; peer = c.peer } };
+    ghost view = { λ c. record {
+      origin = S.origin c.stream;
+      traffic = S.traffic c.stream;
+      peer = c.peer;
+      is_broken = c.is_broken;
+      is_blocked = c.is_blocked;
+    } };
 }
 
 /// What a connection was made of.
@@ -67,7 +74,7 @@ pub struct ConnectionParts<S: Wire, A: Allocator> {
 impl<S: Wire, A: Allocator + Copy> Connection<S, A> {
     /// A stream that was just accepted, with its session.
     pub fn new(stream: S, peer: Peer<A>) -> Self
-        ensures { result ≡ record { origin = S.origin stream; peer = peer } }
+        ensures { result ≡ record { origin = S.origin stream; traffic = S.traffic stream; peer = peer; is_broken = false; is_blocked = false } }
     {
         Connection {
             stream,
@@ -82,7 +89,7 @@ impl<S: Wire, A: Allocator + Copy> Connection<S, A> {
 
     /// The network says that bytes can be read, or the end; or that bytes can be written.
     pub fn note(&mut self, is_readable: bool, is_writable: bool, is_ended: bool)
-        ensures { self.new ≡ self.old }
+        ensures { self.new ≡ record self.old { is_blocked = self.new.is_blocked } }
     {
         if is_readable {
             self.is_readable = true;
@@ -96,7 +103,9 @@ impl<S: Wire, A: Allocator + Copy> Connection<S, A> {
     }
 
     /// Whether a piece is to be read now.
-    pub fn wants_reading(&self) -> bool {
+    pub fn wants_reading(&self) -> bool
+        ensures { result ≡ true → self.now.is_broken ≡ false }
+    {
         self.is_readable
             && !self.has_ended
             && !self.is_broken
@@ -126,10 +135,18 @@ impl<S: Wire, A: Allocator + Copy> Connection<S, A> {
         if n == 0 || n > piece.len() {
             return Ok(());
         }
-        match self
+        let received = self
             .peer
-            .receive(rt, alloc, piece.split_at(n).0, lanes, numbers)
-        {
+            .receive(rt, alloc, piece.split_at(n).0, lanes, numbers);
+        self.heed(received)
+    }
+
+    // What came of a piece. Where some of it may be lost, nothing more is read.
+    fn heed(&mut self, received: Result<(), LoopFault>) -> Result<(), NoNumber>
+        ensures same { IsSameConnection self.old self.new }
+        ensures lost { OnErr received (OnOk result (self.new.is_broken ≡ true)) }
+    {
+        match received {
             Err(LoopFault::NoNumber) => Err(NoNumber),
             Err(_) => {
                 self.is_broken = true;
@@ -141,7 +158,7 @@ impl<S: Wire, A: Allocator + Copy> Connection<S, A> {
 
     // Reads a piece, and says how many bytes it has; 0 where there is none.
     fn read_piece(&mut self, piece: &mut [u8]) -> usize
-        ensures { self.new ≡ self.old }
+        ensures { Brings self.old self.new (take result piece.new) }
     {
         match self.stream.get(piece, Duration::ZERO) {
             Moved::Some(n) => {
@@ -170,6 +187,7 @@ impl<S: Wire, A: Allocator + Copy> Connection<S, A> {
     pub fn write(&mut self)
         ensures same { IsSameConnection self.old self.new }
         ensures waits { self.new.peer.waits ≡ self.old.peer.waits }
+        ensures written { IsWrittenOn self.old self.new }
     {
         for _ in 0..u64::MAX {
             if self.is_blocked || self.is_broken || self.peer.outgoing().is_empty() {
@@ -182,6 +200,7 @@ impl<S: Wire, A: Allocator + Copy> Connection<S, A> {
     fn write_some(&mut self)
         ensures same { IsSameConnection self.old self.new }
         ensures waits { self.new.peer.waits ≡ self.old.peer.waits }
+        ensures written { IsWrittenOn self.old self.new }
     {
         match self.stream.put(self.peer.outgoing(), Duration::ZERO) {
             Moved::Some(n) => self.peer.sent(n),
@@ -193,7 +212,9 @@ impl<S: Wire, A: Allocator + Copy> Connection<S, A> {
 
     /// Whether the connection is to be closed now: the stream failed; or nothing more is read, and all was written that
     /// the client takes. A client that ended its own sending is waited for, for as long as it takes.
-    pub fn is_over(&self) -> bool {
+    pub fn is_over(&self) -> bool
+        ensures { result ≡ true → MayClose self.now }
+    {
         if self.peer.is_waiting() {
             return false;
         }

@@ -8,7 +8,7 @@ ghost use Rattle.relay_ports.specs.Setups.{CanRun};
 ghost use Rattle.buffer_lanes.specs.Lanes.{NoneLater};
 ghost use Rattle.mio_relay.specs.Connections.{AreServed, AreSettled, sources_of};
 ghost use Rattle.mio_relay.specs.Loops.{Rests, Stays};
-ghost use Rattle.mio_relay.specs.Faults.{IsReason, IsTold, told_of};
+ghost use Rattle.mio_relay.specs.Faults.{IsReason, IsTold, fault_in, told_of};
 
 use crate::bound::{BoundRelay, OpenRelay};
 use crate::connection::NoNumber;
@@ -56,6 +56,8 @@ pub struct InLoop<N: Network + Drop, D: Dir + Drop, A: Allocator> {
     pub(crate) nonces: Nonces,
     // In milliseconds.
     pub(crate) time: u64,
+    // The fault of a turn that ended it.
+    pub(crate) fault: Option<LoopFault>,
 }
 
 impl<N: Network + Drop, D: Dir + Drop, A: Allocator> Model for InLoop<N, D, A> {
@@ -73,6 +75,7 @@ impl<N: Network + Drop, D: Dir + Drop, A: Allocator> Model for InLoop<N, D, A> {
       buffers = map (λ buffer. arc_value buffer) l.buffers.items;
       lanes = l.lanes;
       time = l.time;
+      fault = l.fault;
     } };
 
     // Each source is bound at its address, each connection is served as one of the source at whose listener it came in, and the loop uses the
@@ -81,13 +84,34 @@ impl<N: Network + Drop, D: Dir + Drop, A: Allocator> Model for InLoop<N, D, A> {
         × (l.lanes.terms ≡ map (λ buffer. arc_value buffer) l.buffers.items) };
 }
 
-/// What is left of a loop.
+/// What is left of a loop that ended: nothing else than `InLoop::run` makes it. Contracts see why it ended.
 #[derive(Drop)]
 pub struct Ended<A: Allocator> {
-    /// What is left of its deliveries, where it was kept.
-    pub stubs: Vec<Stub<A>, A>,
+    stubs: Vec<Stub<A>, A>,
+    fault: Option<LoopFault>,
+}
+
+impl<A: Allocator> Model for Ended<A> {
+    ghost use Rattle.std.specs.Prelude.{Option};
+    ghost use Rattle.loop_core.specs.declared.fault.LoopFault.{LoopFault};
+
+    ghost Value = { Option LoopFault };
+
+    ghost view = { λ e. e.fault };
+}
+
+impl<A: Allocator> Ended<A> {
     /// Why it ended, unless it was told to.
-    pub fault: Option<LoopFault>,
+    pub fn fault(&self) -> Option<LoopFault>
+        ensures { result ≡ self.now }
+    {
+        self.fault
+    }
+
+    /// What is left of its deliveries, where it was kept.
+    pub fn stubs(&self) -> &[Stub<A>] {
+        &self.stubs
+    }
 }
 
 impl<R, A> InLoop<SocketNetwork<R, A>, SystemDir<R, A>, A>
@@ -176,7 +200,11 @@ impl<N: Network + Drop, D: Dir + Drop, A: Allocator + Copy> InLoop<N, D, A> {
     {
         let setup = RelaySetup::new(alloc, relay, number)?;
         let bound = BoundRelay::bind(rt, alloc, network, setup)?;
-        let OpenRelay { turning, jobs: _ } = bound.open(folders)?;
+        let OpenRelay {
+            turning,
+            jobs: _,
+            ports: _,
+        } = bound.open(folders)?;
         Ok(turning)
     }
 
@@ -221,9 +249,25 @@ impl<N: Network + Drop, D: Dir + Drop, A: Allocator + Copy> InLoop<N, D, A> {
     /// answers.
     ///
     /// Each delivery that began is acknowledged or abandoned when it returns, but for those whose receipts there was no memory
-    /// for: they wait for the next turn, in which nothing is read. After an error the loop is to be ended: `Buffer` where a buffer has a fault that
+    /// for: they wait for the next turn, in which nothing is read. After an error there is no further turn: `Buffer` where a buffer has a fault that
     /// ends it, `NoNumber` where the numbers of deliveries have run out, and `Poll` and `Memory` where the system reports nothing of sockets.
     pub fn turn<R: Wait>(&mut self, rt: &R) -> Result<(), LoopFault>
+        requires { self.old.fault ≡ None }
+        ensures stays { Stays self.old self.new }
+        ensures settled { OnOk result (NoneLater self.new.lanes.later → AreSettled self.new.connections) }
+        ensures faultless { OnOk result (self.new.lanes.fault ≡ None) }
+        ensures came { IfErr result (IsReason self.new.lanes.fault) }
+        ensures ended { self.new.fault ≡ fault_in result }
+    {
+        let turned = self.turn_once(rt);
+        self.fault = match &turned {
+            Ok(()) => None,
+            Err(fault) => Some(*fault),
+        };
+        turned
+    }
+
+    fn turn_once<R: Wait>(&mut self, rt: &R) -> Result<(), LoopFault>
         ensures stays { Stays self.old self.new }
         ensures settled { OnOk result (NoneLater self.new.lanes.later → AreSettled self.new.connections) }
         ensures faultless { OnOk result (self.new.lanes.fault ≡ None) }
@@ -277,18 +321,36 @@ impl<N: Network + Drop, D: Dir + Drop, A: Allocator + Copy> InLoop<N, D, A> {
         self.lanes.renew(rt);
     }
 
+    /// The fault of a turn that ended it, if one did.
+    pub fn fault(&self) -> Option<LoopFault>
+        ensures { result ≡ self.now.fault }
+    {
+        self.fault
+    }
+
     /// Turns until the flag is set, or a fault comes; then ends what waits, without an answer. A buffer's fault that stands is told also
     /// where the flag is set.
     pub fn run<R: Wait>(self, rt: &R, stop: &AtomicBool) -> Ended<A>
-        ensures { IsTold self.lanes.fault result.fault }
+        ensures { IsTold self.lanes.fault result }
     {
         let mut turning = self;
-        let end = turning.turn_until(rt, stop);
+        let end = turning.go_on(rt, stop);
         turning.end(rt, end)
+    }
+
+    // Turns until the flag is seen set, unless a turn ended the loop before. The error is that of the last turn.
+    fn go_on<R: Wait>(&mut self, rt: &R, stop: &AtomicBool) -> Result<Told, LoopFault>
+        ensures { Stays self.old self.new }
+    {
+        match self.fault {
+            Some(fault) => Err(fault),
+            None => self.turn_until(rt, stop),
+        }
     }
 
     // Turns until the flag is seen set. The error is that of the last turn.
     fn turn_until<R: Wait>(&mut self, rt: &R, stop: &AtomicBool) -> Result<Told, LoopFault>
+        requires { self.old.fault ≡ None }
         ensures stays { Stays self.old self.new }
         ensures came { IfErr result (IsReason self.new.lanes.fault) }
     {
@@ -302,7 +364,7 @@ impl<N: Network + Drop, D: Dir + Drop, A: Allocator + Copy> InLoop<N, D, A> {
     }
 
     fn end<R: Wait>(self, rt: &R, end: Result<Told, LoopFault>) -> Ended<A>
-        ensures { result.fault ≡ told_of self.lanes.fault end }
+        ensures { result ≡ told_of self.lanes.fault end }
     {
         let InLoop {
             alloc,
@@ -317,6 +379,7 @@ impl<N: Network + Drop, D: Dir + Drop, A: Allocator + Copy> InLoop<N, D, A> {
             numbers: _,
             nonces: _,
             time: _,
+            fault: _,
         } = self;
         connections.end(rt, &mut lanes);
         let fault = told(end, lanes.fault());
@@ -328,15 +391,15 @@ impl<N: Network + Drop, D: Dir + Drop, A: Allocator + Copy> InLoop<N, D, A> {
     }
 }
 
-// What is told in the end: the fault of the last turn, or else the first that came of a buffer.
+// What is told in the end: the first fault that came of a buffer, or else that of the last turn.
 fn told(end: Result<Told, LoopFault>, first: Option<BufferFault>) -> Option<LoopFault>
     ensures { result ≡ told_of first end }
 {
-    match end {
-        Err(fault) => Some(fault),
-        Ok(_told) => match first {
-            Some(fault) => Some(LoopFault::Buffer(fault)),
-            None => None,
+    match first {
+        Some(fault) => Some(LoopFault::Buffer(fault)),
+        None => match end {
+            Err(fault) => Some(fault),
+            Ok(_told) => None,
         },
     }
 }

@@ -7,8 +7,10 @@ mod connection;
 mod connections;
 mod in_loop;
 mod listener;
+mod ready;
 mod serving;
 mod stopping;
 
 pub use bound::{BoundRelay, OpenRelay};
 pub use in_loop::{Ended, InLoop};
+pub use ready::ReadyPorts;

@@ -12,7 +12,7 @@ use handshake_keys::shown;
 use loop_core::{LoopFault, Peer};
 use relay_conf::{Security as Secret, Source};
 use relay_ports::Inlet;
-use relay_sockets::{NetFault, Network};
+use relay_sockets::{NetFault, Network, Nonce};
 use route_graph::Routes;
 use std::alloc::{AllocError, Allocator};
 use std::marker::Model;
@@ -128,13 +128,13 @@ fn listen_at<N: Network, A: Allocator + Copy>(
     }
 }
 
-/// A session that begins: it is of the source with this place, and its client has to prove that source's key. `None` where there
+/// A session that begins with this nonce: it is of the source with this place, and its client has to prove that source's key. `None` where there
 /// is no such source, or where its name is too long for a handshake. The error is want of memory.
 pub fn peer_at<N: Network, A: Allocator + Copy>(
     alloc: A,
     listeners: &[Listener<N, A>],
     place: usize,
-    nonce: [u8; 16],
+    nonce: Nonce,
 ) -> Result<Option<Peer<A>>, AllocError>
     ensures { IfOk result (λ found. IfSome found (λ peer. IsSomeAnd (slice_get listeners.now place) (λ listener. BeginsAt listener.source nonce peer))) }
 {
@@ -144,6 +144,6 @@ pub fn peer_at<N: Network, A: Allocator + Copy>(
     let Ok(security) = listener.security() else {
         return Ok(None);
     };
-    let peer = Peer::open(alloc, &listener.inlet, security, nonce)?;
+    let peer = Peer::open(alloc, &listener.inlet, security, nonce.into_bytes())?;
     Ok(Some(peer))
 }

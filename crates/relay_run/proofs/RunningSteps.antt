@@ -1,26 +1,41 @@
 -- From what a relay's parts are made of to what runs.
-use Rattle.std.proofs.Common.{ℕ, ◌≡◌, ◌∙◌, ◌<◌, ◌≤◌, ◌+◌, List, [], ◌∷◌, ◌++◌, length, take, drop, get_or, ap, sym, add-one, subst, refl, Option, None, Some}
-use Rattle.std.specs.List.{AllZip}
+use Rattle.std.proofs.Common.{ℕ, ◌≡◌, ◌∙◌, ◌<◌, ◌≤◌, ◌+◌, List, [], ◌∷◌, length, drop, get_or, ap, subst, sym, refl, Option, None, Some}
 use Rattle.std.specs.Option.{option_or}
-use Rattle.std.proofs.Math.Seq.{take-suc}
 use Rattle.std.proofs.Math.ListN.{drop_of_length-le}
 use Rattle.std.proofs.lemmas.List.{drop_more}
+use Rattle.std.specs.Prelude.{map}
+use Rattle.std.specs.List.{All}
+use Rattle.std.specs.contracts.alloc.Global as heap
 use Rattle.loop_core.specs.declared.fault.LoopFault.{LoopFault}
-use Rattle.relay_run.specs.Running.{PoolEnded, fault_of, first_fault}
+use Rattle.mio_relay.specs.Connections.{ArePortsOf}
+use Rattle.mio_relay.specs.Loops.{BoundState}
+use Rattle.relay_buffers.specs.Buffers.{AreBuffersOf, ArePlaced}
+use Rattle.relay_buffers.specs.Folders.{path_for}
+use Rattle.relay_buffers.specs.Owners.{Owned}
+use Rattle.relay_run.specs.Running.{Continues, IsPoolOf, PoolEnded, PoolState, RelayState, fault_of, first_fault}
 
--- one more on both sides
-pushed : {X Y : Type 0} (R : X → Y → Type 0) (xs : List X) (ys : List Y) (x : X) (y : Y) → AllZip R xs ys → R x y → AllZip R (xs ++ x ∷ []) (ys ++ y ∷ [])
-pushed R [] [] x y all one = (one, tt)
-pushed R [] (b ∷ ys) x y all one = absurd all
-pushed R (a ∷ xs) [] x y all one = absurd all
-pushed R (a ∷ xs) (b ∷ ys) x y all one = (all.0, pushed R xs ys x y all.1 one)
+map_map : {X Y Z : Type 0} (f : X → Y) (g : Y → Z) (xs : List X) → map g (map f xs) ≡ map (λ (x : X). g (f x)) xs
+map_map f g [] = refl
+map_map f g (x ∷ xs) = ap (λ r. g (f x) ∷ r) (map_map f g xs)
 
--- one more is made, of the next element
-pub one_more : {X Y : Type 0} (R : X → Y → Type 0) (xs : List X) (i : ℕ) (x : X) (made made' : List Y) (y : Y) → made' ≡ made ++ y ∷ [] → i < length xs
-    → x ≡ get_or xs i x → AllZip R (take i xs) made → R x y → AllZip R (take (i + 1) xs) made'
-one_more {X} {Y} R xs i x made made' y m lt at all one =
-    let more : take (i + 1) xs ≡ take i xs ++ x ∷ [] = ap (λ (k : ℕ). take k xs) (add-one i) ∙ take-suc xs i x lt ∙ ap (λ (z : X). take i xs ++ z ∷ []) (sym at) in
-    subst (λ l. AllZip R l made') (sym more) (subst (λ l. AllZip R (take i xs ++ x ∷ []) l) (sym m) (pushed R (take i xs) made x y all one))
+-- a relay that listens goes on to run, with a pool for each of the jobs that it was opened with
+pub goes_on : (folder : List ℕ) (bound : BoundState heap.the_row.Denot) (relay : RelayState) (jobs : List (Owned heap.the_row.Denot))
+    → (relay.turning.sources ≡ bound.sources) × (relay.turning.bound ≡ bound.bound) → ArePortsOf bound.sources relay.ports
+    → AreBuffersOf bound.number bound.outputs relay.turning.buffers
+    → (map (λ job. job.output) jobs ≡ bound.outputs) × (map (λ job. job.terms) jobs ≡ relay.turning.buffers)
+    → ArePlaced (path_for folder) jobs → map (λ pool. pool.job) relay.pools ≡ jobs → All (IsPoolOf folder) relay.pools → Continues folder bound relay
+goes_on folder bound relay jobs same ports buffers own placed made pools =
+    let job : PoolState → Owned heap.the_row.Denot = λ p. p.job in
+    record {
+      sources = same.0;
+      listens = same.1;
+      ports = ports;
+      buffers = buffers;
+      outputs = sym (map_map job (λ (j : Owned heap.the_row.Denot). j.output) relay.pools) ∙ ap (map (λ (j : Owned heap.the_row.Denot). j.output)) made ∙ own.0;
+      shared = sym (map_map job (λ (j : Owned heap.the_row.Denot). j.terms) relay.pools) ∙ ap (map (λ (j : Owned heap.the_row.Denot). j.terms)) made ∙ own.1;
+      placed = subst (ArePlaced (path_for folder)) (sym made) placed;
+      pools = pools;
+    }
 
 -- a fault counts before that of the next pool
 counts : (first : Option LoopFault) (end : PoolEnded) (more : List PoolEnded) → first_fault (option_or first (fault_of end.done)) more ≡ first_fault first (end ∷ more)

@@ -1,8 +1,6 @@
 -- A relay that runs, and which relay it is.
-use Rattle.std.specs.Prelude.{ℕ, ◌≡◌, List, [], ◌∷◌, map, Option, Some, None, Result, Ok, Err}
-use Rattle.std.specs.List.{AllZip}
+use Rattle.std.specs.Prelude.{ℕ, ◌≡◌, All, List, [], ◌∷◌, map, Option, Some, None, Result, Ok, Err, option_map, string_bytes}
 use Rattle.std.specs.contracts.alloc.Global as heap
-use Rattle.ack_receipt.specs.Terms.{Terms}
 use Rattle.buffer_store.specs.declared.fault.BufferFault.{BufferFault}
 use Rattle.buffer_store.specs.declared.fault.BufferFault.TheVariants as store
 use Rattle.flush_pool.specs.Acts.{at}
@@ -10,43 +8,47 @@ use Rattle.flush_pool.specs.Rounds.{HaveWorked}
 use Rattle.flush_pool.specs.declared.worked.Worked.{Worked}
 use Rattle.loop_core.specs.declared.fault.LoopFault.{LoopFault}
 use Rattle.loop_core.specs.declared.fault.LoopFault.TheVariants as ends
-use Rattle.retry_waits.specs.declared.settings.RetrySettings.{RetrySettings}
 use Rattle.relay_ports.specs.declared.buffered.BufferedOutput.{BufferedOutput}
 use Rattle.relay_ports.specs.declared.buffered.BufferedOutput.TheVariants.{Forward, File}
 use Rattle.relay_ports.specs.Outputs.{settings_of}
 use Rattle.relay_ports.specs.Setups.{Setup}
-use Rattle.relay_buffers.specs.Buffers.{AreBuffersOf}
+use Rattle.relay_buffers.specs.Buffers.{AreBuffersOf, ArePlaced}
+use Rattle.relay_buffers.specs.Folders.{path_for}
 use Rattle.relay_buffers.specs.Owners.{Owned}
 use Rattle.tcp_courier.specs.Carrying.{sender_of}
-use Rattle.mio_relay.specs.Connections.{served_as}
+use Rattle.mio_relay.specs.Connections.{ArePortsOf, served_as}
 use Rattle.mio_relay.specs.Loops.{BoundState, LoopState}
 use Rattle.relay_run.specs.declared.flush.Carrier.{Carrier}
 use Rattle.relay_run.specs.declared.flush.Carrier.TheVariants.{Servers, Sink}
 
--- what delivers an output's chunks: the buffer that has them, what carries them, by how many threads, and when they are tried again
+-- what delivers an output's chunks: the output with the buffer that has them, and what carries them
 pub record PoolState : Type 0 where
-  pub terms : Terms heap.the_row.Denot
+  pub job : Owned heap.the_row.Denot
   pub carrier : Carrier
-  pub threads : ℕ
-  pub retry : RetrySettings
 
--- the output's chunks are carried by a courier to its servers, as its settings say, or to a sink
-abbrev pub IsCarrierOf : {A : Type 0} → BufferedOutput A → Carrier → Type 0
-IsCarrierOf (Forward settings) (Servers sender) = sender ≡ sender_of settings sender.dialer
-IsCarrierOf (Forward settings) (Sink sink) = ⊥
-IsCarrierOf (File settings) (Servers sender) = ⊥
-IsCarrierOf (File settings) (Sink sink) = Unit {0}
+-- this carries to the sink that was opened by this name, in the folder of the system with this path
+abbrev pub IsSinkAs : (name : List ℕ) → (path : Option (List ℕ)) → Carrier → Type 0
+IsSinkAs name path (Servers sender) = ⊥
+IsSinkAs name path (Sink courier opened noted) = (opened.value.path ≡ name) × (option_map string_bytes noted ≡ path)
 
--- This delivers the chunks of the output from its own buffer, as the output's settings say.
-pub record IsPoolOf (job : Owned heap.the_row.Denot) (pool : PoolState) : Type 0 where
-  pub terms : pool.terms ≡ job.terms
-  pub carrier : IsCarrierOf job.output pool.carrier
-  pub threads : pool.threads ≡ (settings_of job.output).flush_thread_count
-  pub retry : pool.retry ≡ (settings_of job.output).retry
+-- the same in this folder
+abbrev pub IsSinkAt : (folder name : List ℕ) → Carrier → Type 0
+IsSinkAt folder name carrier = IsSinkAs name (Some folder) carrier
 
--- a relay that runs: its loop, and what delivers the chunks of its outputs
+-- the output's chunks are carried by a courier to its servers, as its settings say, or to the sink of its path, in this folder
+abbrev pub IsCarrierOf : {A : Type 0} → (folder : List ℕ) → BufferedOutput A → Carrier → Type 0
+IsCarrierOf folder (Forward settings) (Servers sender) = sender ≡ sender_of settings sender.dialer
+IsCarrierOf folder (Forward settings) (Sink courier opened noted) = ⊥
+IsCarrierOf folder (File settings) carrier = IsSinkAt folder (string_bytes settings.path) carrier
+
+-- This delivers the chunks of an output as the output's settings say, to files in this folder.
+abbrev pub IsPoolOf : (folder : List ℕ) → PoolState → Type 0
+IsPoolOf folder pool = IsCarrierOf folder pool.job.output pool.carrier
+
+-- a relay that runs: its loop, the ports of its sources, and what delivers the chunks of its outputs
 pub record RelayState : Type 0 where
   pub turning : LoopState heap.the_row.Denot
+  pub ports : List ℕ
   pub pools : List PoolState
 
 -- a pool that ended, and how: with what its workers did together, or with the fault of the first that has one
@@ -56,7 +58,7 @@ pub record PoolEnded : Type 0 where
 
 -- So ended as many workers as the pool has threads, at its own buffer, where each of them had done nothing.
 abbrev pub HaveEnded : PoolEnded → Type 0
-HaveEnded end = HaveWorked (at end.pool.terms.leaf end.pool.terms.takes []) end.pool.threads end.done
+HaveEnded end = HaveWorked (at end.pool.job.terms.leaf end.pool.job.terms.takes []) (settings_of end.pool.job.output).flush_thread_count end.done
 
 -- the fault of a relay whose workers at a buffer ended so
 abbrev pub fault_of : Result Worked BufferFault → Option LoopFault
@@ -70,26 +72,28 @@ first_fault (Some fault) pools = Some fault
 first_fault None [] = None
 first_fault None (pool ∷ pools) = first_fault (fault_of pool.done) pools
 
--- a relay that ran: its loop, the fault that the loop ended with, and how its pools ended
+-- a relay that ran: its loop, its ports, the fault that the loop ended with, and how its pools ended
 pub record RelayEnded : Type 0 where
   pub turning : LoopState heap.the_row.Denot
+  pub ports : List ℕ
   pub fault : Option LoopFault
   pub pools : List PoolEnded
 
 -- what ran
 abbrev pub relay_of : RelayEnded → RelayState
-relay_of ended = record { turning = ended.turning; pools = map (λ end. end.pool) ended.pools }
+relay_of ended = record { turning = ended.turning; ports = ended.ports; pools = map (λ end. end.pool) ended.pools }
 
--- A relay that listens goes on to run. It takes messages in at the same sources and addresses, it has a buffer for each of its
--- outputs, and each output has what delivers its chunks, from the very buffer that the loop has for it.
-pub record Continues (bound : BoundState heap.the_row.Denot) (relay : RelayState) : Type 0 where
+-- A relay that listens goes on to run, with its files in this folder. It takes messages in at the same sources and addresses, it has a buffer
+-- for each of its outputs, and each output has what delivers its chunks, from the very buffer that the loop has for it.
+pub record Continues (folder : List ℕ) (bound : BoundState heap.the_row.Denot) (relay : RelayState) : Type 0 where
   pub sources : relay.turning.sources ≡ bound.sources
   pub listens : relay.turning.bound ≡ bound.bound
+  pub ports : ArePortsOf bound.sources relay.ports
   pub buffers : AreBuffersOf bound.number bound.outputs relay.turning.buffers
-  pub jobs : List (Owned heap.the_row.Denot)
-  pub outputs : map (λ job. job.output) jobs ≡ bound.outputs
-  pub shared : map (λ job. job.terms) jobs ≡ relay.turning.buffers
-  pub pools : AllZip IsPoolOf jobs relay.pools
+  pub outputs : map (λ pool. pool.job.output) relay.pools ≡ bound.outputs
+  pub shared : map (λ pool. pool.job.terms) relay.pools ≡ relay.turning.buffers
+  pub placed : ArePlaced (path_for folder) (map (λ pool. pool.job) relay.pools)
+  pub pools : All (IsPoolOf folder) relay.pools
 
 -- A relay listens at the address of each source of this setup, and nowhere else, and has its number and its outputs.
 pub record IsBoundAs (setup : Setup heap.the_row.Denot) (bound : BoundState heap.the_row.Denot) : Type 0 where
@@ -98,8 +102,8 @@ pub record IsBoundAs (setup : Setup heap.the_row.Denot) (bound : BoundState heap
   pub number : bound.number ≡ setup.number
   pub outputs : bound.outputs ≡ setup.outputs
 
--- What runs is this relay, whole: it listened as its setup says, and went on so.
-pub record Runs (setup : Setup heap.the_row.Denot) (relay : RelayState) : Type 0 where
+-- What runs is this relay, whole, with its files in this folder: it listened as its setup says, and went on so.
+pub record Runs (folder : List ℕ) (setup : Setup heap.the_row.Denot) (relay : RelayState) : Type 0 where
   pub bound : BoundState heap.the_row.Denot
   pub is : IsBoundAs setup bound
-  pub continues : Continues bound relay
+  pub continues : Continues folder bound relay

@@ -1,7 +1,7 @@
 //! The threads that deliver a relay's chunks.
 
-ghost use Rattle.std.specs.Prelude.{◌≡◌, IfOk};
-ghost use Rattle.relay_run.specs.Running.{IsCarrierOf, IsPoolOf, fault_of as fault_of_done};
+ghost use Rattle.std.specs.Prelude.{◌≡◌, IfErr, IfOk, option_map, string_bytes};
+ghost use Rattle.relay_run.specs.Running.{IsCarrierOf, IsPoolOf, IsSinkAs, IsSinkAt, fault_of as fault_of_done};
 
 use ack_receipt::{Evidence, SharedBuffer};
 use buffer_store::BufferFault;
@@ -10,7 +10,7 @@ use flush_pool::{
     CarryFault, ClaimView, Courier, OpenGate, Retries, SinkCourier, Worked, run_pool,
 };
 use loop_core::LoopFault;
-use relay_buffers::{DeliveryJob, SystemDir};
+use relay_buffers::{DeliveryJob, PlacedDir, SystemDir, real_dir};
 use relay_conf::RetrySettings;
 use relay_ports::BufferedOutput;
 use relay_sockets::{Nonces, SystemDialer};
@@ -39,11 +39,18 @@ type Connects = SystemDialer<HostRuntime, Global>;
 /// A folder of the relay's buffers.
 pub type Folder = SystemDir<HostRuntime, Global>;
 
-/// Carries chunks to servers, or to the files of a sink.
+// The files of a sink.
+type Files = Series<RealDir<HostRuntime, Global>, Global>;
+
+/// Carries chunks to servers, or to the files of a sink. Contracts see the sink as it was opened, and the path of its folder.
 #[derive(Drop)]
 pub enum Carrier {
     Servers(TcpCourier<Connects, Global>),
-    Sink(SinkCourier<RealDir<HostRuntime, Global>, Global>),
+    Sink {
+        courier: SinkCourier<RealDir<HostRuntime, Global>, Global>,
+        opened: Snapshot<Files>,
+        path: Option<String>,
+    },
 }
 
 impl<R: Wait + Net + Clock, D: Dir> Courier<R, D, Global> for Carrier {
@@ -54,12 +61,17 @@ impl<R: Wait + Net + Clock, D: Dir> Courier<R, D, Global> for Carrier {
     ) -> Result<Evidence<Global>, CarryFault> {
         match self {
             Carrier::Servers(courier) => courier.carry(rt, chunk),
-            Carrier::Sink(courier) => courier.carry(rt, chunk),
+            Carrier::Sink {
+                courier,
+                opened: _,
+                path: _,
+            } => courier.carry(rt, chunk),
         }
     }
 }
 
-/// What one thread has that starts an output's flush threads: its buffer, and what carries its chunks.
+/// What one thread has that starts an output's flush threads: its buffer, and what carries its chunks. Contracts see the job that it is made
+/// of, which says whose buffer it is.
 #[derive(Drop)]
 pub struct Pool {
     buffer: Arc<SharedBuffer<Folder, Global>>,
@@ -67,20 +79,22 @@ pub struct Pool {
     threads: usize,
     retry: RetrySettings,
     stop: Arc<AtomicBool>,
+    of: Snapshot<DeliveryJob<Folder, Global>>,
 }
 
 impl Model for Pool {
+    ghost use Rattle.std.specs.Prelude.{◌≡◌};
     ghost use Rattle.std.specs.Arc.{arc_value};
+    ghost use Rattle.relay_ports.specs.Outputs.{settings_of};
     ghost use Rattle.relay_run.specs.Running.{PoolState};
 
     ghost Value = { PoolState };
 
-    ghost view = { λ p. record {
-      terms = arc_value p.buffer;
-      carrier = p.carrier;
-      threads = p.threads;
-      retry = p.retry;
-    } };
+    ghost view = { λ p. record { job = p.of.value; carrier = p.carrier } };
+
+    // It has the job's buffer, and as many threads and such retries as the job's output says.
+    ghost invariant = { λ p. (arc_value p.buffer ≡ p.of.value.terms) × (p.threads ≡ (settings_of p.of.value.output).flush_thread_count)
+        × (p.retry ≡ (settings_of p.of.value.output).retry) };
 }
 
 impl Pool {
@@ -93,7 +107,8 @@ impl Pool {
         job: &DeliveryJob<Folder, Global>,
         stop: &Arc<AtomicBool>,
     ) -> Result<Pool, LoopFault>
-        ensures { IfOk result (IsPoolOf job.now) }
+        ensures job { IfOk result (λ pool. pool.job ≡ job.now) }
+        ensures carrier { IfOk result (IsPoolOf home.entry.path.now) }
     {
         let settings = job.output().buffer();
         Ok(Pool {
@@ -102,6 +117,7 @@ impl Pool {
             threads: settings.flush_thread_count,
             retry: settings.retry,
             stop: Arc::try_clone(stop)?,
+            of: Snapshot::of(job),
         })
     }
 
@@ -170,7 +186,7 @@ fn carrier_of<R: RandomSource>(
     output: &BufferedOutput<Global>,
     stop: &Arc<AtomicBool>,
 ) -> Result<Carrier, LoopFault>
-    ensures { IfOk result (IsCarrierOf output.now) }
+    ensures { IfOk result (IsCarrierOf home.entry.path.now output.now) }
 {
     match output {
         BufferedOutput::Forward(settings) => {
@@ -183,30 +199,41 @@ fn carrier_of<R: RandomSource>(
             let courier = TcpCourier::new(alloc, settings, nonces, theirs, dialer)?;
             Ok(Carrier::Servers(courier))
         }
-        BufferedOutput::File(settings) => {
-            Ok(Carrier::Sink(sink_of(home, settings.path.as_str())?))
-        }
+        BufferedOutput::File(settings) => sink_of(home, settings.path.as_str()),
     }
 }
 
 /// A handle of one's own. The error is want of memory.
-pub fn copy_of<R: Clone>(rt: &R) -> Result<R, LoopFault> {
+pub fn copy_of<R: Clone>(rt: &R) -> Result<R, LoopFault>
+    ensures { IfErr result (λ fault. fault ≡ LoopFault.Memory) }
+{
     match rt.clone() {
         Ok(theirs) => Ok(theirs),
         Err(_) => Err(LoopFault::Memory),
     }
 }
 
-// The files of a sink.
-fn sink_of(
-    home: Home<'_>,
-    name: &str,
-) -> Result<SinkCourier<RealDir<HostRuntime, Global>, Global>, LoopFault> {
+// What carries chunks to the sink of this name, which is opened in this folder.
+fn sink_of(home: Home<'_>, name: &str) -> Result<Carrier, LoopFault>
+    ensures { IfOk result (IsSinkAt home.entry.path.now name.now) }
+{
     let alloc = home.files.alloc();
-    let dir = RealDir::new(copy_of(home.files)?, alloc, home.path)?;
+    let PlacedDir { dir, path } = real_dir(copy_of(home.files)?, alloc, home.path)?;
     match Series::open(alloc, dir, name.as_bytes()) {
-        Ok(series) => Ok(SinkCourier::new(series)),
+        Ok(series) => Ok(carrier_to(series, path)),
         Err((SeriesFault::Memory, _)) => Err(LoopFault::Memory),
         Err(_) => Err(LoopFault::Buffer(BufferFault::Fault)),
+    }
+}
+
+// What carries chunks to these files, in the folder of this path. There are no others here.
+fn carrier_to(series: Files, path: Option<String>) -> Carrier
+    ensures { IsSinkAs series.path (option_map string_bytes path) result }
+{
+    let opened = Snapshot::of(&series);
+    Carrier::Sink {
+        courier: SinkCourier::new(series),
+        opened,
+        path,
     }
 }

@@ -3,11 +3,11 @@
 ghost use Rattle.std.specs.Prelude.{◌≡◌, ◌≢◌, [], None, IfOk, IfSome, IfNone};
 ghost use Rattle.plan_lines.specs.Forms.{relay_number};
 ghost use Rattle.relay_ports.specs.Setups.{setup_of};
-ghost use Rattle.relay_run.specs.Running.{Runs, relay_of};
-ghost use Rattle.relay_run.specs.Starting.{ready_lines, fault_line as fault_line_of, PrintsReady, PrintsRelay, PrintsRun};
+ghost use Rattle.relay_run.specs.Running.{Runs};
+ghost use Rattle.relay_run.specs.Starting.{fault_line as fault_line_of, EndsBy, PrintsEnd, PrintsReady, PrintsRelay, PrintsRun};
 
 use crate::flush::{Home, copy_of};
-use crate::running::{Ran, Running};
+use crate::running::Running;
 use conf_values::whole_number;
 use loop_core::LoopFault;
 use mio_relay::BoundRelay;
@@ -16,20 +16,28 @@ use relay_conf::Relay;
 use relay_ports::RelaySetup;
 use relay_reading::{print_conf_stop, read_relay};
 use relay_sockets::{NetFault, Network, SocketNetwork};
-use std::alloc::{AllocError, Allocator, Global};
+use std::alloc::Global;
 use std::io::{Read, Write};
+use std::marker::Model;
 use std::net::{Net, TcpListener, TcpStream};
 use std::random::RandomSource;
-use std::sync::atomic::AtomicBool;
-use std::sync::{Arc, Wait};
+use std::sync::Wait;
 use std::thread::Threads;
 use std::time::Clock;
 
-/// What runs relays: a handle of the runtime, and where the relay has its files.
+/// What runs relays: a handle of the runtime, and where the relay has its files. Contracts see the path of that folder.
 #[derive(Drop)]
 pub struct Runner<'a, R> {
     rt: &'a R,
     home: Home<'a>,
+}
+
+impl<'a, R> Model for Runner<'a, R> {
+    ghost use Rattle.std.specs.Prelude.{List, ℕ};
+
+    ghost Value = { List ℕ };
+
+    ghost view = { λ r. r.home.path.now };
 }
 
 impl<'a, R> Runner<'a, R>
@@ -47,7 +55,9 @@ where
         + 'static,
 {
     /// Runs relays with files there.
-    pub fn new(rt: &'a R, home: Home<'a>) -> Self {
+    pub fn new(rt: &'a R, home: Home<'a>) -> Self
+        ensures { result ≡ home.entry.path.now }
+    {
         Runner { rt, home }
     }
 
@@ -61,7 +71,8 @@ where
     ) -> Option<Status>
         ensures number { IfSome result (λ _. relay_number number.now ≢ None) }
         ensures none { IfNone result (relay_number number.now ≡ None) }
-        ensures printed { IfSome result (λ status. PrintsRelay (I.remaining conf.old) (W.contents out.old) (W.contents out.new) status) }
+        ensures printed { IfSome result (λ status. IfSome (relay_number number.now) (λ n.
+            PrintsRelay self.now n (I.remaining conf.old) (W.contents out.old) (W.contents out.new) status)) }
         ensures nothing { IfNone result (out.new ≡ out.old) }
     {
         let number = number_of(number)?;
@@ -70,7 +81,7 @@ where
 
     // Runs the relay of this configuration, or prints why there is none.
     fn run_conf<I: Read, W: Write>(&self, conf: &mut I, number: u32, out: &mut W) -> Status
-        ensures { PrintsRelay (I.remaining conf.old) (W.contents out.old) (W.contents out.new) result }
+        ensures { PrintsRelay self.now number (I.remaining conf.old) (W.contents out.old) (W.contents out.new) result }
     {
         let alloc = self.rt.alloc();
         match read_relay(alloc, conf) {
@@ -79,41 +90,48 @@ where
         }
     }
 
-    // Runs the relay, and prints what there is to print of it.
-    #[tactic(auto, using(crate::proofs::StartingSteps::ended_well))]
+    // Opens the relay and runs it, and prints what there is to print of it.
+    #[tactic(auto, using(crate::proofs::StartingSteps::not_opened))]
     fn run_read<W: Write>(&self, relay: Relay<Global>, number: u32, out: &mut W) -> Status
-        ensures { PrintsRun (W.contents out.old) (W.contents out.new) result }
+        ensures { PrintsRun self.now (setup_of number relay) (W.contents out.old) (W.contents out.new) result }
     {
-        let fault = match self.run_until(relay, number, out) {
-            Err(fault) => Some(fault),
-            Ok(ran) => ran.fault(),
-        };
-        match fault {
+        match self.open(relay, number) {
+            Ok(running) => self.run_open(running, out),
+            Err(fault) => put_last(out, fault_line(fault).as_bytes(), Status::Usage),
+        }
+    }
+
+    // Opens the relay under this number: it listens at its sources, its buffers are open, and so is what delivers their chunks. Nothing is
+    // printed of it before.
+    fn open(&self, relay: Relay<Global>, number: u32) -> Result<Running<R>, LoopFault>
+        ensures { IfOk result (Runs self.now (setup_of number relay)) }
+    {
+        let alloc = self.rt.alloc();
+        let setup = RelaySetup::new(alloc, relay, number)?;
+        let bound = BoundRelay::bind(self.rt, alloc, self.network()?, setup)?;
+        Running::open(self.rt, self.home, bound)
+    }
+
+    // Runs a relay that is open until a fault, and prints its sources, and why it ended.
+    #[tactic(auto, using(crate::proofs::StartingSteps::ended_by))]
+    fn run_open<W: Write>(&self, running: Running<R>, out: &mut W) -> Status
+        ensures { PrintsEnd running (W.contents out.old) (W.contents out.new) result }
+    {
+        put_ready(&running, out);
+        match self.run_to_end(running) {
             Some(fault) => put_last(out, fault_line(fault).as_bytes(), Status::Usage),
             None => Status::Done,
         }
     }
 
-    // Runs the relay until a fault, and prints its sources. What ran is this relay, under this number.
-    #[tactic(auto, using(crate::proofs::StartingSteps::none_ready))]
-    fn run_until<W: Write>(
-        &self,
-        relay: Relay<Global>,
-        number: u32,
-        out: &mut W,
-    ) -> Result<Ran<R>, LoopFault>
-        ensures prints { PrintsReady (W.contents out.old) (W.contents out.new) }
-        ensures runs { IfOk result (λ ran. Runs (setup_of number relay) (relay_of ran)) }
+    // Runs a relay that is open until a fault, and says which.
+    fn run_to_end(&self, running: Running<R>) -> Option<LoopFault>
+        ensures { EndsBy running result }
     {
-        let alloc = self.rt.alloc();
-        let stop = Arc::new(alloc, AtomicBool::new(false))?;
-        let setup = RelaySetup::new(alloc, relay, number)?;
-        let bound = BoundRelay::bind(self.rt, alloc, self.network()?, setup)?;
-        let ports = bound.ports()?;
-        let ready = ready_text(alloc, &ports)?;
-        let running = Running::open(self.rt, self.home, bound, &stop)?;
-        put_ready(&ports, &ready, out);
-        running.run(self.rt, &stop)
+        match running.run(self.rt) {
+            Ok(ran) => ran.fault(),
+            Err(fault) => Some(fault),
+        }
     }
 
     // The system's sockets, none of which listens yet.
@@ -152,22 +170,10 @@ fn fault_line(fault: LoopFault) -> &'static str
     }
 }
 
-// The lines of sources that take connections at these ports.
-fn ready_text<A: Allocator + Copy>(alloc: A, ports: &[u16]) -> Result<Vec<u8, A>, AllocError>
-    ensures { IfOk result (λ text. text.items ≡ ready_lines ports.now) }
+// Prints that the sources of a relay that is open take connections. Where the writer fails, the relay runs all the same.
+#[tactic(auto, using(crate::proofs::StartingSteps::are_ready))]
+fn put_ready<R: Net + Clock + Clone + Drop, W: Write>(running: &Running<R>, out: &mut W)
+    ensures { PrintsReady running.now.ports (W.contents out.old) (W.contents out.new) }
 {
-    let mut text = Vec::new(alloc);
-    for port in ports {
-        let line = format!(in alloc; "ready {port}\n")?;
-        text.extend_from_slice(line.as_bytes())?;
-    }
-    Ok(text)
-}
-
-// Prints that sources take connections at these ports. Where the writer fails, the relay runs all the same.
-fn put_ready<W: Write>(ports: &[u16], text: &[u8], out: &mut W)
-    requires { text.now ≡ ready_lines ports.now }
-    ensures { PrintsReady (W.contents out.old) (W.contents out.new) }
-{
-    let _ = put_all(out, text);
+    let _ = put_all(out, running.ready());
 }

@@ -1,15 +1,15 @@
 //! A relay that runs: its loop, and for each output the threads that deliver its chunks.
 
-ghost use Rattle.std.specs.Prelude.{◌≡◌, ◌++◌, IfOk, OnOk, map};
-ghost use Rattle.std.specs.List.{AllZip};
+ghost use Rattle.std.specs.Prelude.{◌≡◌, ◌++◌, All, IfErr, IfOk, OnOk, map};
 ghost use Rattle.relay_run.specs.Running.{Continues, IsPoolOf, first_fault, relay_of};
+ghost use Rattle.relay_run.specs.Starting.{ready_lines};
 
 use crate::flush::{Folder, Home, Pool, PoolEnd, copy_of};
 use loop_core::LoopFault;
-use mio_relay::{BoundRelay, Ended, InLoop, OpenRelay};
+use mio_relay::{BoundRelay, Ended, InLoop, OpenRelay, ReadyPorts};
 use relay_buffers::{DeliveryJob, SystemFolders};
 use relay_sockets::SocketNetwork;
-use std::alloc::Global;
+use std::alloc::{AllocError, Allocator, Global};
 use std::marker::Model;
 use std::net::{Net, TcpListener, TcpStream};
 use std::random::RandomSource;
@@ -24,25 +24,43 @@ use std::vec::IntoIter;
 // The loop of a relay over the system's sockets.
 type Turning<R> = InLoop<SocketNetwork<R, Global>, Folder, Global>;
 
-/// A relay that is open: its loop, and what delivers the chunks of each of its outputs.
+/// A relay that is open: its loop, and what delivers the chunks of each of its outputs. Contracts see also the ports of its sources.
 pub struct Running<R: Net + Clock + Clone + Drop> {
     turning: Turning<R>,
+    ports: ReadyPorts<Global>,
     pools: Vec<Pool>,
+    // The lines that say that it is ready.
+    ready: Vec<u8>,
+    stop: Arc<AtomicBool>,
 }
 
 impl<R: Net + Clock + Clone + Drop> Model for Running<R> {
+    ghost use Rattle.std.specs.Prelude.{◌≡◌};
     ghost use Rattle.relay_run.specs.Running.{RelayState};
+    ghost use Rattle.relay_run.specs.Starting.{ready_lines};
 
     ghost Value = { RelayState };
 
-    ghost view = { λ r. record { turning = r.turning; pools = r.pools.items } };
+    ghost view = { λ r. record { turning = r.turning; ports = r.ports; pools = r.pools.items } };
+
+    ghost invariant = { λ r. r.ready.items ≡ ready_lines r.ports };
+}
+
+impl<R: Net + Clock + Clone + Drop> Running<R> {
+    /// The lines that say at which ports its sources take connections.
+    pub fn ready(&self) -> &[u8]
+        ensures { result.now ≡ ready_lines self.now.ports }
+    {
+        &self.ready
+    }
 }
 
 /// How a relay ended. Contracts see what ran, and with which faults.
 #[derive(Drop)]
 pub struct Ran<R: Net + Clock + Clone + Drop> {
-    fault: Option<LoopFault>,
+    left: Ended<Global>,
     turned: Snapshot<Turning<R>>,
+    ports: ReadyPorts<Global>,
     ends: Vec<PoolEnd>,
 }
 
@@ -51,7 +69,7 @@ impl<R: Net + Clock + Clone + Drop> Model for Ran<R> {
 
     ghost Value = { RelayEnded };
 
-    ghost view = { λ r. record { turning = r.turned.value; fault = r.fault; pools = r.ends.items } };
+    ghost view = { λ r. record { turning = r.turned.value; ports = r.ports; fault = r.left; pools = r.ends.items } };
 }
 
 impl<R: Net + Clock + Clone + Drop> Ran<R> {
@@ -59,7 +77,7 @@ impl<R: Net + Clock + Clone + Drop> Ran<R> {
     pub fn fault(&self) -> Option<LoopFault>
         ensures { result ≡ first_fault self.now.fault self.now.pools }
     {
-        first_of(self.fault, &self.ends)
+        first_of(self.left.fault(), &self.ends)
     }
 }
 
@@ -114,63 +132,111 @@ where
         rt: &R,
         home: Home<'_>,
         bound: BoundRelay<SocketNetwork<R, Global>, Global>,
-        stop: &Arc<AtomicBool>,
     ) -> Result<Self, LoopFault>
-        ensures { IfOk result (Continues bound) }
+        ensures { IfOk result (Continues home.entry.path.now bound) }
     {
+        let stop = Arc::new(rt.alloc(), AtomicBool::new(false))?;
         let folders = SystemFolders {
             rt: copy_of(home.files)?,
             alloc: rt.alloc(),
             path: home.path,
         };
-        let OpenRelay { turning, jobs } = bound.open(&folders)?;
-        match open_pools(rt, home, &jobs, stop) {
-            Ok(pools) => Ok(Running { turning, pools }),
+        let OpenRelay {
+            turning,
+            jobs,
+            ports,
+        } = bound.open(&folders)?;
+        match furnish(rt, home, jobs, ports.as_slice(), &stop) {
+            Ok((pools, ready)) => Ok(Running {
+                turning,
+                ports,
+                pools,
+                ready,
+                stop,
+            }),
             Err(fault) => {
                 stop.store(true, Ordering::SeqCst);
-                let Ended { stubs: _, fault: _ } = turning.run(rt, stop);
+                let _ = turning.run(rt, &stop);
                 Err(fault)
             }
         }
     }
 
     /// Runs the loop and the pools until one of them has a fault. `Memory`: there is none for a thread.
-    pub fn run(self, rt: &R, stop: &Arc<AtomicBool>) -> Result<Ran<R>, LoopFault>
-        ensures { IfOk result (λ ran. relay_of ran ≡ self) }
+    pub fn run(self, rt: &R) -> Result<Ran<R>, LoopFault>
+        ensures ran { IfOk result (λ ran. relay_of ran ≡ self) }
+        ensures full { IfErr result (λ fault. fault ≡ LoopFault.Memory) }
     {
-        let Running { turning, pools } = self;
+        let Running {
+            turning,
+            ports,
+            pools,
+            ready: _,
+            stop,
+        } = self;
         let mut threads = Vec::new(rt.alloc());
         let started = start_all(rt, pools, &mut threads);
         if started.is_err() {
             stop.store(true, Ordering::SeqCst);
         }
         let turned = Snapshot::of(&turning);
-        let Ended { stubs: _, fault } = turning.run(rt, stop);
+        let left = turning.run(rt, &stop);
         stop.store(true, Ordering::SeqCst);
         let ends = join_all(rt, threads);
         started?;
         Ok(Ran {
-            fault,
+            left,
             turned,
+            ports,
             ends: ends?,
         })
     }
+}
+
+// What delivers the chunks of each output, and the lines that say that the sources are ready.
+fn furnish<R: AllocGlobal + RandomSource>(
+    rt: &R,
+    home: Home<'_>,
+    jobs: Vec<DeliveryJob<Folder, Global>>,
+    ports: &[u16],
+    stop: &Arc<AtomicBool>,
+) -> Result<(Vec<Pool>, Vec<u8>), LoopFault>
+    ensures jobs { IfOk result (λ made. map (λ pool. pool.job) made.0.items ≡ jobs.items) }
+    ensures pools { IfOk result (λ made. All (IsPoolOf home.entry.path.now) made.0.items) }
+    ensures ready { IfOk result (λ made. made.1.items ≡ ready_lines ports.now) }
+{
+    let pools = open_pools(rt, home, jobs, stop)?;
+    Ok((pools, ready_text(rt.alloc(), ports)?))
 }
 
 // What delivers the chunks of each output.
 fn open_pools<R: AllocGlobal + RandomSource>(
     rt: &R,
     home: Home<'_>,
-    jobs: &[DeliveryJob<Folder, Global>],
+    jobs: Vec<DeliveryJob<Folder, Global>>,
     stop: &Arc<AtomicBool>,
 ) -> Result<Vec<Pool>, LoopFault>
-    ensures { IfOk result (λ pools. AllZip IsPoolOf jobs.now pools.items) }
+    ensures jobs { IfOk result (λ pools. map (λ pool. pool.job) pools.items ≡ jobs.items) }
+    ensures pools { IfOk result (λ pools. All (IsPoolOf home.entry.path.now) pools.items) }
 {
     let mut pools = Vec::new(rt.alloc());
-    for job in jobs {
-        pools.push(Pool::open(rt, home, job, stop)?)?;
+    let mut left = jobs.into_iter();
+    while let Some(job) = left.next() {
+        pools.push(Pool::open(rt, home, &job, stop)?)?;
     }
     Ok(pools)
+}
+
+// The lines of sources that take connections at these ports.
+fn ready_text<A: Allocator + Copy>(alloc: A, ports: &[u16]) -> Result<Vec<u8, A>, AllocError>
+    ensures { IfOk result (λ text. text.items ≡ ready_lines ports.now) }
+{
+    let mut text = Vec::new(alloc);
+    for port in ports {
+        let line = format!(in alloc; "ready {port}\n")?;
+        text.extend_from_slice(line.as_bytes())?;
+    }
+    Ok(text)
 }
 
 // Starts a thread for each pool. After a fault those before it run.
@@ -186,7 +252,8 @@ where
         + Send
         + Sync
         + 'static,
-    ensures { OnOk result (map (λ thread. thread.promise) threads.new.items ≡ map (λ thread. thread.promise) threads.old.items ++ pools.items) }
+    ensures started { OnOk result (map (λ thread. thread.promise) threads.new.items ≡ map (λ thread. thread.promise) threads.old.items ++ pools.items) }
+    ensures full { IfErr result (λ fault. fault ≡ LoopFault.Memory) }
 {
     let mut left = pools.into_iter();
     while let Some(pool) = left.next() {
@@ -206,7 +273,8 @@ fn join_all<R: Threads + AllocGlobal>(
     rt: &R,
     threads: Vec<Delivery>,
 ) -> Result<Vec<PoolEnd>, LoopFault>
-    ensures { IfOk result (λ ends. map (λ end. end.pool) ends.items ≡ map (λ thread. thread.promise) threads.items) }
+    ensures ended { IfOk result (λ ends. map (λ end. end.pool) ends.items ≡ map (λ thread. thread.promise) threads.items) }
+    ensures full { IfErr result (λ fault. fault ≡ LoopFault.Memory) }
 {
     let mut ends = Vec::new(rt.alloc());
     let mut left = threads.into_iter();

@@ -19,7 +19,7 @@ mod system_dialer;
 mod wire;
 
 pub use address::resolve;
-pub use chance::Nonces;
+pub use chance::{Nonce, Nonces};
 pub use clock::{Time, now_after};
 pub use dialer::Dialer;
 pub use endpoint::Endpoint;

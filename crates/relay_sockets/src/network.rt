@@ -75,7 +75,7 @@ pub struct Note {
 /// Listeners, and the connections that come in at them, for one thread that waits for all of them at once.
 pub trait Network: Time {
     ghost use Rattle.std.specs.Prelude.{◌≡◌, ℕ, Bool, List, [], ◌∷◌, ◌++◌, length, IfOk, IfSome, OnOk, OnErr, slice_get};
-    ghost use Rattle.relay_sockets.specs.Endpoints.{Endpoint, CameAt};
+    ghost use Rattle.relay_sockets.specs.Endpoints.{Endpoint, CameAt, IsPortOf};
     ghost use Rattle.relay_sockets.specs.Traffics.{IsFresh};
     ghost use Rattle.relay_sockets.specs.Accepting.{IfStream, IsAnswered};
 
@@ -105,7 +105,8 @@ pub trait Network: Time {
 
     /// The port that the listener has: the one that was bound, or the one that the system chose where that is 0.
     fn port(&self, listener: &Self::Listener) -> u16
-        ensures { is_known self.now → IfSome (slice_get (bound self.now) (number listener.now)) (λ endpoint. result ≡ endpoint.port) };
+        ensures known { is_known self.now → IfSome (slice_get (bound self.now) (number listener.now)) (λ endpoint. result ≡ endpoint.port) }
+        ensures bound { IfSome (slice_get (bound self.now) (number listener.now)) (IsPortOf result) };
 
     /// Takes the next connection that waits at this listener. No call on it waits.
     fn accept(&mut self, listener: &Self::Listener) -> Accepted<Self::Stream>

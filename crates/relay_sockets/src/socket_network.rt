@@ -104,6 +104,14 @@ fn take_from(socket: &TcpListener) -> Accepted<TcpStream> {
     }
 }
 
+// The port that the system chose for a socket; 0 where it doesn't say which.
+fn chosen_port(socket: &TcpListener) -> u16 {
+    match socket.local_addr() {
+        Ok(address) => address.port(),
+        Err(_) => 0,
+    }
+}
+
 // What the system says of a socket.
 fn note_of(event: &Event) -> Note {
     let Token(token) = event.token();
@@ -151,12 +159,9 @@ impl<R: Net + Clock, A: Allocator + Copy> Network for SocketNetwork<R, A> {
     }
 
     fn port(&self, listener: &SocketListener) -> u16 {
-        if let Ok(address) = listener.socket.local_addr() {
-            return address.port();
-        }
         match self.bound.get(listener.number) {
-            Some(endpoint) => endpoint.port(),
-            None => 0,
+            Some(endpoint) if endpoint.port() != 0 => endpoint.port(),
+            _ => chosen_port(&listener.socket),
         }
     }
 

@@ -1,10 +1,10 @@
 //! A loop with clients on sockets, turned by hand.
 
 use crate::relays::{LOOPING, SHARED, SINK, SMALL, relay_of};
-use crate::turned::ended;
+use crate::turned::{ended, goes_on};
 use disk_files::Dir;
 use loop_core::LoopFault;
-use mio_relay::{Ended, InLoop};
+use mio_relay::InLoop;
 use relay_buffers::{Folders, MemoryFolders};
 use relay_conf::Relay;
 use relay_sockets::{Network, SocketNetwork};
@@ -71,7 +71,7 @@ pub fn turn<R: Wait, N: Network + Drop, D: Dir + Drop>(
     turning: &mut InLoop<N, D, Global>,
 ) -> Result<(), Fail> {
     for _ in 0..20u32 {
-        if turning.turn(rt).is_err() {
+        if !goes_on(rt, turning) {
             return Err(Fail::from("a turn has a fault"));
         }
     }
@@ -100,9 +100,9 @@ fn left_of<R: Wait, N: Network + Drop, D: Dir + Drop>(
     turning: InLoop<N, D, Global>,
     parts: usize,
 ) -> (usize, bool) {
-    let Ended { stubs, fault } = ended(rt, turning);
-    let all = stubs.iter().all(|stub| stub.parts.len() == parts);
-    (stubs.len(), all && fault.is_none())
+    let left = ended(rt, turning);
+    let all = left.stubs().iter().all(|stub| stub.parts.len() == parts);
+    (left.stubs().len(), all && left.fault().is_none())
 }
 
 // Three messages in one write.
@@ -181,10 +181,10 @@ where
 {
     let mut turning = open(rt, SMALL, folders)?;
     let heard = talk_in_turn(rt, &mut turning);
-    let Ended { stubs, fault } = ended(rt, turning);
+    let left = ended(rt, turning);
     let heard = heard?;
-    match stubs.as_slice() {
-        [one, two] if fault.is_none() => Ok((heard, (one.parts.len(), two.parts.len()))),
+    match left.stubs() {
+        [one, two] if left.fault().is_none() => Ok((heard, (one.parts.len(), two.parts.len()))),
         _ => Err(Fail::from("two deliveries and no fault")),
     }
 }

@@ -149,7 +149,11 @@ where
     H: Hub,
 {
     let relay = relay_to(rt.alloc(), FORWARD, port)?;
-    let OpenRelay { turning, jobs } = open_relay(rt, relay, folders)?;
+    let OpenRelay {
+        turning,
+        jobs,
+        ports: _,
+    } = open_relay(rt, relay, folders)?;
     let mut edge = turning;
     let passed = hand_on(rt, &mut edge, &jobs, hub);
     let left = ended(rt, edge);
@@ -214,7 +218,11 @@ where
     S: Dir + Drop,
 {
     let relay = relay_of(rt.alloc(), SINK)?;
-    let OpenRelay { turning, jobs } = open_relay(rt, relay, folders)?;
+    let OpenRelay {
+        turning,
+        jobs,
+        ports: _,
+    } = open_relay(rt, relay, folders)?;
     let port = turning.port(0).unwrap_or(1);
     let hub = LoopHub::new(rt, turning);
     let passed = go_through(rt, folders, port, &hub, &jobs, dir);

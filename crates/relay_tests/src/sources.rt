@@ -65,7 +65,7 @@ where
 
 // Whether these are as many deliveries, each stored in two buffers.
 fn are_in_two(left: &Ended<Global>, deliveries: usize) -> bool {
-    left.stubs.len() == deliveries && left.stubs.iter().all(|stub| stub.parts.len() == 2)
+    left.stubs().len() == deliveries && left.stubs().iter().all(|stub| stub.parts.len() == 2)
 }
 
 // Whether these are two outputs with buffers, in their order.
@@ -85,7 +85,11 @@ where
     F: Folders<D, Global>,
 {
     let relay = relay_of(rt.alloc(), TWO_KEYS)?;
-    let OpenRelay { turning, jobs } = open_relay(rt, relay, folders)?;
+    let OpenRelay {
+        turning,
+        jobs,
+        ports: _,
+    } = open_relay(rt, relay, folders)?;
     let ports = [turning.port(0).unwrap_or(1), turning.port(1).unwrap_or(1)];
     let hub = LoopHub::new(rt, turning);
     let sent = sent_to_both(rt, folders, &hub, ports);

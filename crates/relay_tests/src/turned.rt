@@ -57,6 +57,14 @@ pub trait Hub {
     fn go_on(&self) -> bool;
 }
 
+// Takes a turn of a loop; `false` where it has a fault, or had one before.
+pub fn goes_on<R: Wait, N: Network + Drop, D: Dir + Drop>(
+    rt: &R,
+    turning: &mut InLoop<N, D, Global>,
+) -> bool {
+    turning.fault().is_none() && turning.turn(rt).is_ok()
+}
+
 // The loop of a relay, as a hub.
 pub struct LoopHub<'a, R, N: Network + Drop, D: Dir + Drop> {
     rt: &'a R,
@@ -81,7 +89,7 @@ impl<'a, R: Wait, N: Network + Drop, D: Dir + Drop> LoopHub<'a, R, N, D> {
 impl<'a, R: Wait, N: Network + Drop, D: Dir + Drop> Hub for LoopHub<'a, R, N, D> {
     fn go_on(&self) -> bool {
         for _ in 0..4u32 {
-            if self.turning.lock(self.rt).turn(self.rt).is_err() {
+            if !goes_on(self.rt, &mut self.turning.lock(self.rt)) {
                 return false;
             }
         }
@@ -104,9 +112,9 @@ pub fn are_accounted<D: Dir + Drop>(
     jobs: Vec<DeliveryJob<D, Global>>,
     left: &Ended<Global>,
 ) -> bool {
-    let mut all = left.fault.is_none();
+    let mut all = left.fault().is_none();
     for job in jobs {
-        all = is_accounted(alloc, job, &left.stubs) && all;
+        all = is_accounted(alloc, job, left.stubs()) && all;
     }
     all
 }

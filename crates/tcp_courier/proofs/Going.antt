@@ -14,7 +14,8 @@ use Rattle.forward_core.specs.declared.security.Security.{Security}
 use Rattle.handshake_keys.specs.Credentials.{Credentials, credentials_in}
 use Rattle.relay_sockets.specs.Traffics.{Traffic, Conveys, IsFresh}
 use Rattle.relay_sockets.specs.Endpoints.{Endpoint, Origin, WentTo}
-use Rattle.tcp_courier.specs.Carrying.{Sender, Delivers, IsDrawn, IsToOne}
+use Rattle.relay_sockets.specs.Drawing.{IsDrawn}
+use Rattle.tcp_courier.specs.Carrying.{Sender, Delivers, IsToOne}
 use Rattle.tcp_courier.specs.Talks.{Hears, IsGreeting, AreItems, IsBare, begun, TalksOn, Acknowledges, ConveysChunk}
 use Rattle.tcp_courier.proofs.Hearing.{items_append, hears_heed, sent_waits, sent_sees}
 

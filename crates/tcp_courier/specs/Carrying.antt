@@ -1,12 +1,11 @@
 -- What a courier is, and what it did where a chunk was carried.
 use Rattle.std.specs.Prelude.{ℕ, ◌≡◌, ◌*◌, ◌-◌, ◌^◌, min, map, find, option_map, Contains, List, length, Bool, true, false, Option, Some, string_bytes}
-use Rattle.rand_chacha.specs.ChaCha.{ChaCha}
 use Rattle.buffer_book.specs.Claims.{Claimed, id_of}
 use Rattle.buffer_book.specs.Evidences.{Shows, Acknowledged, Written}
 use Rattle.relay_conf.specs.declared.output.Server.{Server}
 use Rattle.relay_conf.specs.declared.output.ForwardSettings.{ForwardSettings}
 use Rattle.handshake_keys.specs.Credentials.{Credentials, credentials_of}
-use Rattle.relay_sockets.specs.Drawing.{next_nonce}
+use Rattle.relay_sockets.specs.Drawing.{IsDrawn}
 use Rattle.relay_sockets.specs.Endpoints.{Endpoint, Origin, WentTo}
 use Rattle.relay_sockets.specs.Traffics.{Traffic, IsFresh}
 use Rattle.tcp_courier.specs.Talks.{ConveysChunk, begun}
@@ -44,10 +43,6 @@ IsToOne servers origin = Contains (map WentTo servers) origin
 -- the connection went to the first of these servers that takes one
 abbrev pub IsToFirst : (takes : Endpoint → Bool) → List Endpoint → Origin → Type 0
 IsToFirst takes servers origin = Some origin ≡ option_map WentTo (find takes servers)
-
--- random bytes that a generator gave
-abbrev pub IsDrawn : (salt : List ℕ) → Type 0
-IsDrawn salt = (rng : ChaCha) × (salt ≡ next_nonce rng)
 
 -- The evidence names this chunk: where the output asks for acknowledgements it is that one came, and else that the chunk was written to the connection.
 abbrev pub NamesChunk : Bool → Claimed → Shows → Type 0

@@ -2,8 +2,9 @@
 
 ghost use Rattle.std.specs.Prelude.{◌≡◌, ◌⊎◌, List, ℕ, IfErr, IfOk, None, find, length, map};
 ghost use Rattle.std.specs.Arc.{arc_value};
-ghost use Rattle.tcp_courier.specs.Carrying.{Delivers, IsDrawn, IsToFirst, IsToOne, NamesChunk, endpoint_of, sender_of};
+ghost use Rattle.tcp_courier.specs.Carrying.{Delivers, IsToFirst, IsToOne, NamesChunk, endpoint_of, sender_of};
 ghost use Rattle.tcp_courier.specs.Talks.{begun};
+ghost use Rattle.relay_sockets.specs.Drawing.{IsDrawn};
 ghost use Rattle.relay_sockets.specs.Traffics.{IsFresh};
 
 use crate::exchange::deliver;
@@ -93,7 +94,7 @@ impl<N: Dialer + Drop, A: Allocator + Copy> TcpCourier<N, A> {
             return Err(CarryFault::NoServer);
         };
         let salt = self.nonces.lock(rt).draw();
-        Ok(ClientSession::open(self.alloc, security, salt)?)
+        Ok(ClientSession::open(self.alloc, security, salt.into_bytes())?)
     }
 
     // A connection to the first server that takes one.

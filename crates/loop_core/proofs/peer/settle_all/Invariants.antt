@@ -1,4 +1,4 @@
-use Rattle.std.proofs.Common.{◌≡◌, []}
+use Rattle.std.proofs.Common.{◌≡◌, true, []}
 use Rattle.std.specs.List.{All}
 use Rattle.std.specs.Vec.Iter.{into_iter_items, into_iter_len}
 use Rattle.buffer_lanes.specs.Lanes.{NoneLater}
@@ -13,8 +13,9 @@ invariant-loop-waiting g l = record {
   rest : AreAmong (awaited_in l.fn.list.items) (into_iter_items l.rest);
   waited : AreAmong (awaited_in l.fn.list.items) l.later.items;
   ended : NoneLater l.initial.lanes.later → l.later.items ≡ [];
-  order : (end : Standing) → BecomeInOrder (into_iter_items l.rest) (record { left = l.later.items; session = l.session }) end
-      → BecomeInOrder l.fn.list.items (record { left = []; session = l.initial.session }) end;
+  order : (end : Standing) → BecomeInOrder (into_iter_items l.rest) (record { left = l.later.items; session = l.session; closing = l.is_closing }) end
+      → BecomeInOrder l.fn.list.items (record { left = []; session = l.initial.session; closing = l.initial.is_closing }) end;
+  closed : l.initial.is_closing ≡ true → l.is_closing ≡ true;
 }
 
 abbrev pub decreases-loop-waiting : goal.decreases-loop-waiting

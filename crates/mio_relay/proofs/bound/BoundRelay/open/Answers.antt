@@ -1,8 +1,9 @@
 use Rattle.std.proofs.Common.{◌∙◌, List, ap, map, subst, sym}
 use Rattle.ack_receipt.specs.Terms.{Terms}
 use Rattle.buffer_lanes.specs.Schedules.{Plan}
-use Rattle.relay_buffers.specs.Buffers.{AreBuffersOf, ArePlanned, OpenState}
+use Rattle.relay_buffers.specs.Buffers.{AreBuffersOf, ArePlaced, ArePlanned, OpenState}
 use Rattle.relay_buffers.specs.Owners.{Owned}
+use Rattle.mio_relay.specs.Connections.{ArePortsOf, Hosted, Served, sources_in}
 use Rattle.mio_relay.specs.Loops.{BoundState}
 use Rattle.mio_relay.proofs.Listening.{map_again}
 use Rattle.mio_relay.proofs.Slots.{none_served}
@@ -34,3 +35,11 @@ returns-clause-planned g c =
 
 pub invariant_of-turning : goal.invariant_of-turning
 invariant_of-turning g c = (c.self.invariant, none_served _ _ c.new-2.ensures, c.in_ok-parts.ensures.terms ∙ sym c.in_ok-parts.ensures.buffers)
+
+pub returns-clause-placed : goal.returns-clause-placed
+returns-clause-placed g c = subst (λ (l : List (Owned _)). ArePlaced (g.F.Folders.place c.args.folders.now) l) (sym c.in_ok-parts.ensures.jobs) c.in_ok-opened.ensures.placed
+
+pub returns-clause-ports : goal.returns-clause-ports
+returns-clause-ports g c =
+    subst (λ (l : List Served). ArePortsOf l c.in_ok-ports.ports) (ap (λ (b : BoundState _). b.sources) c.self.view_is)
+    (subst (λ (h : List Hosted). ArePortsOf (sources_in h) c.in_ok-ports.ports) c.deref.ensures.value c.in_ok-ports.ensures)

@@ -1,10 +1,10 @@
-use Rattle.std.proofs.Common.{◌∙◌, ap, subst}
-use Rattle.buffer_lanes.specs.Lanes.{LanesState, NoneLater}
-use Rattle.mio_relay.proofs.Slots.{on_ok}
+use Rattle.std.proofs.Common.{subst, sym}
+use Rattle.std.specs.Prelude.{OnOk}
+use Rattle.buffer_lanes.specs.Lanes.{NoneLater}
+use Rattle.mio_relay.specs.Connections.{AreSettled}
+use Rattle.mio_relay.specs.Loops.{LoopState}
 use Rattle.mio_relay.proofs.in_loop.InLoop.turn.Goals as goal
 
 pub returns-clause-settled : goal.returns-clause-settled
 returns-clause-settled g c =
-    let same = c.close_all.ensures.rests.later ∙ c.write_all.ensures.rests.later ∙ c.renew.ensures.rests.later ∙ ap (λ (l : LanesState _). l.later) c.settle_all.ensures.lanes in
-    on_ok c.match-fault.result _
-    (λ none. c.close_all.ensures.rests.settled (c.write_all.ensures.rests.settled (c.renew.ensures.rests.settled (c.settle_all.ensures.settled (subst NoneLater same none)))))
+    subst (λ (l : LoopState _). OnOk c.turn_once-turned.result (NoneLater l.lanes.later → AreSettled l.connections)) (sym c.self.view_is) c.turn_once-turned.ensures.settled
