@@ -10,6 +10,7 @@ mod links;
 mod notes;
 mod peeling;
 mod search;
+mod shared;
 mod stale;
 mod subject;
 mod waits;

@@ -9,6 +9,7 @@ use crate::keys::put_keys;
 use crate::limits::put_limits;
 use crate::links::{forwards, links};
 use crate::notes::Notes;
+use crate::shared::put_shared;
 use crate::stale::put_stale;
 use crate::subject::Subject;
 use crate::waits::put_waits;
@@ -18,9 +19,9 @@ use std::alloc::{AllocError, Allocator};
 
 /// Adds to the lines what may keep events of this plan from arriving, or let them arrive for ever, though none is lost:
 /// circles of forwards, keys that differ, sources that their own machine alone reaches, buffers that are too small for
-/// what is sent to them, long waits for a silent server, and reaches that have nothing in common with their matches. Each
-/// line begins with `#`; where there is nothing to warn of, none is added. The only error is want of memory, which leaves
-/// the lines as they were.
+/// what is sent to them, long waits for a silent server, configurations that several relays have, and reaches that have
+/// nothing in common with their matches. Each line begins with `#`; where there is nothing to warn of, none is added. The
+/// only error is want of memory, which leaves the lines as they were.
 pub fn put_warnings<A: Allocator + Copy>(
     alloc: A,
     plan: &Plan<A>,
@@ -63,6 +64,7 @@ fn warnings<A: Allocator + Copy>(about: &Subject<'_, A>) -> Result<Notes<A>, All
     put_hosts(about, &links, &mut notes)?;
     put_limits(about, &forwards, &mut notes)?;
     put_waits(about, &forwards, &mut notes)?;
+    put_shared(about, &links, &mut notes)?;
     put_stale(about, &mut notes)?;
     Ok(notes)
 }
