@@ -1,6 +1,7 @@
 //! Listeners in memory, of which all is known.
 
-ghost use Rattle.std.specs.Prelude.{◌≡◌, [], ◌<◌, IfSome, find, is_some, length, nat_eq, slice_get};
+ghost use Rattle.std.specs.Prelude.{◌≡◌, [], ◌<◌, IfSome, Some, find, is_some, length, nat_eq, slice_get};
+ghost use Rattle.relay_sockets.specs.declared.network.NetFault.TheVariants.{Poll};
 
 use crate::clock::Time;
 use crate::endpoint::Endpoint;
@@ -26,6 +27,8 @@ pub struct MemoryNetwork<A: Allocator> {
     callers: Vec<Caller<A>, A>,
     notes: Vec<Note, A>,
     closed: Vec<MemoryWire<A>, A>,
+    // It reports nothing any more.
+    is_mute: bool,
 }
 
 /// A listener in memory.
@@ -46,6 +49,7 @@ impl<A: Allocator + Copy> MemoryNetwork<A> {
             callers: Vec::new(alloc),
             notes: Vec::new(alloc),
             closed: Vec::new(alloc),
+            is_mute: false,
         }
     }
 
@@ -71,6 +75,14 @@ impl<A: Allocator + Copy> MemoryNetwork<A> {
     {
         self.notes.push(note)?;
         Ok(())
+    }
+
+    /// It reports nothing of sockets from now on: each wait is refused.
+    pub fn mute(&mut self)
+        ensures bound { ⟦<MemoryNetwork<A> as Network>⟧.bound self.new ≡ ⟦<MemoryNetwork<A> as Network>⟧.bound self.old }
+        ensures refuses { ⟦<MemoryNetwork<A> as Network>⟧.refusal self.new ≡ Some Poll }
+    {
+        self.is_mute = true;
     }
 
     /// The connections that were closed, in that order.
@@ -104,7 +116,8 @@ impl<A: Allocator> Time for MemoryNetwork<A> {
 }
 
 impl<A: Allocator + Copy> Network for MemoryNetwork<A> {
-    ghost use Rattle.std.specs.Prelude.{is_some, find, nat_eq};
+    ghost use Rattle.std.specs.Prelude.{None, Some, is_some, find, if◌then◌else◌, nat_eq};
+    ghost use Rattle.relay_sockets.specs.declared.network.NetFault.TheVariants.{Poll};
 
     type Listener = MemoryListener;
 
@@ -113,6 +126,8 @@ impl<A: Allocator + Copy> Network for MemoryNetwork<A> {
     ghost is_known = { λ _. Unit {0} };
 
     ghost waits = { λ n number. is_some (find (λ caller. nat_eq caller.listener number) n.callers.items) };
+
+    ghost refusal = { λ n. if n.is_mute then Some Poll else None };
 
     ghost bound = { λ n. n.bound.items };
 
@@ -160,6 +175,9 @@ impl<A: Allocator + Copy> Network for MemoryNetwork<A> {
         notes: &mut Vec<Note, B>,
     ) -> Result<(), NetFault> {
         notes.clear();
+        if self.is_mute {
+            return Err(NetFault::Poll);
+        }
         for caller in &self.callers {
             notes.push(Note {
                 spot: Spot::Listener(caller.listener),

@@ -74,10 +74,11 @@ pub struct Note {
 
 /// Listeners, and the connections that come in at them, for one thread that waits for all of them at once.
 pub trait Network: Time {
-    ghost use Rattle.std.specs.Prelude.{◌≡◌, ℕ, Bool, List, [], ◌∷◌, ◌++◌, length, IfOk, IfSome, OnOk, OnErr, slice_get};
+    ghost use Rattle.std.specs.Prelude.{◌≡◌, ℕ, Bool, List, [], ◌∷◌, ◌++◌, length, Option, None, Err, IfOk, IfSome, OnOk, OnErr, slice_get};
     ghost use Rattle.relay_sockets.specs.Endpoints.{Endpoint, CameAt, IsPortOf};
     ghost use Rattle.relay_sockets.specs.Traffics.{IsFresh};
     ghost use Rattle.relay_sockets.specs.Accepting.{IfStream, IsAnswered};
+    ghost use Rattle.relay_sockets.specs.declared.network.NetFault as declared;
 
     type Listener: Drop;
 
@@ -88,6 +89,9 @@ pub trait Network: Time {
 
     // whether a connection waits at the listener with a number
     ghost waits: { Self → ℕ → Bool };
+
+    // why it refuses to wait, where it is known to; of the system's sockets it isn't
+    ghost refusal: { Self → Option declared.NetFault } = { λ _. None };
 
     // the endpoints that were bound, by the numbers of their listeners
     ghost bound: { Self → List Endpoint };
@@ -133,5 +137,6 @@ pub trait Network: Time {
         most: Duration,
         notes: &mut Vec<Note, B>,
     ) -> Result<(), NetFault>
-        ensures { bound self.new ≡ bound self.old };
+        ensures bound { bound self.new ≡ bound self.old }
+        ensures refused { IfSome (refusal self.old) (λ fault. result ≡ Err fault) };
 }
