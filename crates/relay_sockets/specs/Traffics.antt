@@ -1,5 +1,5 @@
 -- What goes over a connection, both ways.
-use Rattle.std.specs.Prelude.{ℕ, ◌≡◌, ◌≤◌, List, [], length, take, Option, None, IfSome}
+use Rattle.std.specs.Prelude.{ℕ, zero, suc, ◌≡◌, ◌≤◌, List, [], length, take, Option, None, IfSome, Result, Ok, Err}
 use Rattle.std.specs.Io.KnownBytes.{Appends, Consumes}
 use Rattle.relay_sockets.specs.declared.wire.Moved.{Moved}
 use Rattle.relay_sockets.specs.declared.wire.Moved.TheVariants as moved
@@ -41,7 +41,20 @@ abbrev pub IsWrittenTo : Traffic → Traffic → (bytes : List ℕ) → Moved �
 IsWrittenTo old new bytes (moved.Some n) = (n ≤ length bytes) × Conveys old new (take n bytes) []
 IsWrittenTo old new bytes _ = Conveys old new [] []
 
--- no byte was moved
-abbrev pub IsNothing : Moved → Type 0
-IsNothing (moved.Some n) = ⊥
-IsNothing _ = Unit {0}
+-- no byte was moved: none for now, or none any more since the connection failed
+abbrev pub IsRefused : Moved → Type 0
+IsRefused (moved.Some n) = ⊥
+IsRefused moved.Ended = ⊥
+IsRefused _ = Unit {0}
+
+-- what the system's answer to a read comes to: so many bytes; the end where it gave none; or why it refused
+abbrev pub IsGot : {E : Type 0} → Result ℕ E → Moved → Type 0
+IsGot (Ok zero) got = got ≡ moved.Ended
+IsGot (Ok (suc n)) got = got ≡ moved.Some (suc n)
+IsGot (Err why) got = IsRefused got
+
+-- what its answer to a write comes to: so many bytes; that the connection failed where it took none; or why it refused
+abbrev pub IsPut : {E : Type 0} → Result ℕ E → Moved → Type 0
+IsPut (Ok zero) put = put ≡ moved.Broken
+IsPut (Ok (suc n)) put = put ≡ moved.Some (suc n)
+IsPut (Err why) put = IsRefused put

@@ -7,7 +7,7 @@ use crate::address::resolve;
 use crate::clock::{Time, now_after};
 use crate::endpoint::Endpoint;
 use crate::network::{Accepted, NetFault, Network, Note, Spot};
-use crate::wire::{Moved, Wire, nothing};
+use crate::wire::{self, Moved, Wire};
 use mio::event::Event;
 use mio::net::{TcpListener, TcpStream};
 use mio::{Events, Interest, Poll, Registry, Token};
@@ -222,19 +222,11 @@ impl Wire for SocketWire {
 
     fn get(&mut self, piece: &mut [u8], _most: Duration) -> Moved {
         let mut stream = &self.stream;
-        match stream.read(piece) {
-            Ok(0) => Moved::Ended,
-            Ok(n) => Moved::Some(n),
-            Err(e) => nothing(e.kind()),
-        }
+        wire::got(stream.read(piece))
     }
 
     fn put(&mut self, bytes: &[u8], _most: Duration) -> Moved {
         let mut stream = &self.stream;
-        match stream.write(bytes) {
-            Ok(0) => Moved::Broken,
-            Ok(n) => Moved::Some(n),
-            Err(e) => nothing(e.kind()),
-        }
+        wire::put(stream.write(bytes))
     }
 }

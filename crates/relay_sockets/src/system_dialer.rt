@@ -7,7 +7,7 @@ ghost use Rattle.std.specs.Prelude.{◌≡◌};
 use crate::clock::{Time, now_after};
 use crate::dialer::Dialer;
 use crate::endpoint::Endpoint;
-use crate::wire::{Moved, Wire, nothing};
+use crate::wire::{self, Moved, Wire};
 use std::alloc::{AllocError, Allocator};
 use std::io::{Read, Write};
 use std::net::{IpAddr, Net, OpenStream, SocketAddr, TcpStream, ToSocketAddrs};
@@ -107,11 +107,7 @@ impl<S: Read + Write + OpenStream, A: Allocator> Wire for SystemWire<S, A> {
         if self.stream.set_read_timeout(wait_of(most)).is_err() {
             return Moved::Broken;
         }
-        match self.stream.read(piece) {
-            Ok(0) => Moved::Ended,
-            Ok(given) => Moved::Some(given),
-            Err(e) => nothing(e.kind()),
-        }
+        wire::got(self.stream.read(piece))
     }
 
     fn put(&mut self, bytes: &[u8], most: Duration) -> Moved
@@ -122,10 +118,6 @@ impl<S: Read + Write + OpenStream, A: Allocator> Wire for SystemWire<S, A> {
         if self.stream.set_write_timeout(wait_of(most)).is_err() {
             return Moved::Broken;
         }
-        match self.stream.write(bytes) {
-            Ok(0) => Moved::Broken,
-            Ok(taken) => Moved::Some(taken),
-            Err(e) => nothing(e.kind()),
-        }
+        wire::put(self.stream.write(bytes))
     }
 }

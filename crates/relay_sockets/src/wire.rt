@@ -1,8 +1,8 @@
 //! A connection, as a session sees it.
 
-ghost use Rattle.relay_sockets.specs.Traffics.{IsNothing};
+ghost use Rattle.relay_sockets.specs.Traffics.{IsGot, IsPut, IsRefused};
 
-use std::io::ErrorKind;
+use std::io::{self, ErrorKind};
 use std::time::Duration;
 
 /// What came of a read or a write.
@@ -45,9 +45,31 @@ pub trait Wire {
         ensures bytes { IsWrittenTo (traffic self.old) (traffic self.new) bytes.now result };
 }
 
-/// What an error of the system says, by which no byte was moved.
-pub(crate) fn nothing(kind: ErrorKind) -> Moved
-    ensures { IsNothing result }
+/// What the system's answer to a read comes to, which had room for bytes.
+pub(crate) fn got(answer: io::Result<usize>) -> Moved
+    ensures { IsGot answer result }
+{
+    match answer {
+        Ok(0) => Moved::Ended,
+        Ok(n) => Moved::Some(n),
+        Err(e) => refused(e.kind()),
+    }
+}
+
+/// What the system's answer to a write comes to, which had bytes to be written.
+pub(crate) fn put(answer: io::Result<usize>) -> Moved
+    ensures { IsPut answer result }
+{
+    match answer {
+        Ok(0) => Moved::Broken,
+        Ok(n) => Moved::Some(n),
+        Err(e) => refused(e.kind()),
+    }
+}
+
+// What an error of the system says, by which no byte was moved.
+fn refused(kind: ErrorKind) -> Moved
+    ensures { IsRefused result }
 {
     match kind {
         ErrorKind::WouldBlock | ErrorKind::TimedOut => Moved::None,
