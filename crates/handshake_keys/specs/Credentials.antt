@@ -1,5 +1,6 @@
 -- A host name and a key, as a configuration has them, and as a handshake shows them.
-use Rattle.std.specs.Prelude.{ℕ, List, Option, Some, None, string_bytes}
+use Rattle.std.specs.Prelude.{ℕ, ◌<◌, List, length, Option, Some, None, IsSomeAnd, string_bytes}
+use Rattle.auth_handshake.specs.Ends.{longest_host}
 use Rattle.relay_conf.specs.declared.relay.Security.{Security as Secret}
 use Rattle.forward_core.specs.declared.security.Security.{Security}
 
@@ -17,3 +18,7 @@ credentials_of (Some secret) = Some (record { host = string_bytes secret.self_ho
 abbrev pub credentials_in : Option Security → Option Credentials
 credentials_in None = None
 credentials_in (Some security) = Some (record { host = security.self_hostname.now; key = security.shared_key.now })
+
+-- there is a host name, which is longer than a handshake may show
+abbrev pub HasLongName : Option Credentials → Type 0
+HasLongName credentials = IsSomeAnd credentials (λ one. longest_host < length one.host)

@@ -1,8 +1,8 @@
 //! The name and key of a configuration, as handshakes show them.
 
-ghost use Rattle.std.specs.Prelude.{◌≡◌, IfOk};
+ghost use Rattle.std.specs.Prelude.{◌≡◌, IfOk, OnErr};
 ghost use Rattle.forward_core.specs.Handshakes.{IsHosted};
-ghost use Rattle.handshake_keys.specs.Credentials.{credentials_in, credentials_of};
+ghost use Rattle.handshake_keys.specs.Credentials.{HasLongName, credentials_in, credentials_of};
 
 use auth_handshake::LONGEST_HOST;
 use forward_core::Security;
@@ -13,6 +13,7 @@ use std::alloc::{AllocError, Allocator};
 pub fn shown<A: Allocator>(secret: &Option<Secret<A>>) -> Result<Option<Security<'_>>, ()>
     ensures hosted { IfOk result IsHosted }
     ensures same { IfOk result (λ security. credentials_in security ≡ credentials_of secret.now) }
+    ensures long { OnErr result (HasLongName (credentials_of secret.now)) }
 {
     let Some(secret) = secret else {
         return Ok(None);
