@@ -4,3 +4,5 @@ pub mod Telling
 pub mod Staying
 pub mod Ports
 pub mod Writing
+pub mod Reading
+pub mod Refusing

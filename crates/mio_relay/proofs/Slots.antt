@@ -1,12 +1,13 @@
 -- What is at the keys of a loop's connections, after one changed.
-use Rattle.std.proofs.Common.{ℕ, ◌≡◌, ◌∙◌, ◌+◌, ◌<◌, ◌≤◌, ◌⊎◌, inl, inr, arith, Bool, true, false, List, [], length, ap, sym, subst, Option, None, Some, Result, Ok, Err}
+use Rattle.std.proofs.Common.{ℕ, ◌≡◌, ◌∙◌, ◌+◌, ◌<◌, ◌≤◌, ◌⊎◌, inl, inr, arith, All, Bool, true, false, List, [], ◌∷◌, length, ap, refl, sym, subst, Option, None, Some, Result, Ok, Err}
 use Rattle.std.specs.Prelude.{IfSome, IsSomeAnd, OnOk, option_map, slice_get, slice_index_or, slice_set}
 use Rattle.std.proofs.Math.Nat.{eq-or-lt_of_le}
 use Rattle.std.proofs.lemmas.List.{get_or-set_same, get_or-set_other, length-set}
 use Rattle.std.proofs.lemmas.List.Elements.{All-nil, All-set}
 use Rattle.std.proofs.lemmas.Option.{slice_get-map}
+use Rattle.buffer_lanes.specs.Waits.{Waits}
 use Rattle.relay_sockets.specs.Endpoints.{CameAt, Origin}
-use Rattle.mio_relay.specs.Connections.{AreListening, AreServed, AreSettled, AreSettledBelow, BeginsAt, ConnectionState, HoldsNone, GoesOn, GoOn, Hosted, IsSameConnection, IsServed, Served, sources_in}
+use Rattle.mio_relay.specs.Connections.{AllBelow, AreFlushed, AreFlushedBelow, AreListening, AreServed, AreSettled, AreSettledBelow, BeginsAt, ConnectionState, HoldsFlushed, HoldsNone, GoesOn, GoOn, Hosted, IsSameConnection, IsServed, Served, sources_in}
 use Rattle.relay_sockets.specs.Endpoints.{Endpoint}
 use Rattle.relay_sockets.specs.declared.network.Accepted.{Accepted}
 use Rattle.relay_sockets.specs.declared.network.Accepted.TheVariants.{Stream, Again, Empty, Refused}
@@ -29,12 +30,6 @@ pub put_at : (slots : List (Option ConnectionState)) (key : ℕ) (new : Option C
 put_at slots key new connection e sources all one =
     let P : Option ConnectionState → Type 0 = λ slot. IfSome slot (IsServed sources) in
     All-set P slots key new (subst P (sym e) one) all
-
--- the connection at this key is taken away
-pub taken_at : (slots : List (Option ConnectionState)) (key : ℕ) (new : Option ConnectionState) → new ≡ None → GoOn slots (slice_set slots key new)
-taken_at slots key new e sources all =
-    let P : Option ConnectionState → Type 0 = λ slot. IfSome slot (IsServed sources) in
-    All-set P slots key new (subst P (sym e) tt) all
 
 -- what came in at the listener of this place, and begins there, is served as one of its source
 pub begins_served : (hosted : List Hosted) (place : ℕ) (nonce : List ℕ) (connection : ConnectionState) → connection.origin ≡ CameAt place
@@ -81,36 +76,43 @@ came_there {S} origin bound hosted shown place r same listening came =
     of s None e p = absurd p
     of s (Some h) e p = came_at bound hosted place h (origin s) listening e p
 
--- none waits at the keys below this one and at this one
-pub settled_at : (slots : List (Option ConnectionState)) (key : ℕ) (new : Option ConnectionState) → HoldsNone new → AreSettledBelow key slots
-    → AreSettledBelow (key + 1) (slice_set slots key new)
-settled_at slots key new none below k d lt within = by (eq-or-lt_of_le {n = k} {m = key} (omega arith))
+-- it holds of the keys below this one and of this one
+pub holds_at : (P : Option ConnectionState → Type 0) (slots : List (Option ConnectionState)) (key : ℕ) (new : Option ConnectionState) → P new → AllBelow P key slots
+    → AllBelow P (key + 1) (slice_set slots key new)
+holds_at P slots key new one below k d lt within = by (eq-or-lt_of_le {n = k} {m = key} (omega arith))
   where
     there : k < length slots
     there = subst (λ (n : ℕ). k < n) (length-set slots key new) within
 
-    by : (k ≡ key) ⊎ (k < key) → HoldsNone (slice_index_or (slice_set slots key new) k d)
+    by : (k ≡ key) ⊎ (k < key) → P (slice_index_or (slice_set slots key new) k d)
     by (inl e) =
-        subst (λ (j : ℕ). HoldsNone (slice_index_or (slice_set slots key new) j d)) (sym e)
-        (subst HoldsNone (sym (get_or-set_same slots key new d (subst (λ (j : ℕ). j < length slots) e there))) none)
-    by (inr l) = subst HoldsNone (sym (get_or-set_other slots key k new d (λ e. absurd (omega arith)))) (below k d l there)
+        subst (λ (j : ℕ). P (slice_index_or (slice_set slots key new) j d)) (sym e)
+        (subst P (sym (get_or-set_same slots key new d (subst (λ (j : ℕ). j < length slots) e there))) one)
+    by (inr l) = subst P (sym (get_or-set_other slots key k new d (λ e. absurd (omega arith)))) (below k d l there)
+
+-- there is nothing at this key, so that it holds there too
+pub holds_past : (P : Option ConnectionState → Type 0) (slots : List (Option ConnectionState)) (key len : ℕ) → len ≡ length slots → (key < len → ⊥) → AllBelow P key slots
+    → AllBelow P (key + 1) slots
+holds_past P slots key len is past below k d lt within = by (eq-or-lt_of_le {n = k} {m = key} (omega arith))
+  where
+    by : (k ≡ key) ⊎ (k < key) → P (slice_index_or slots k d)
+    by (inl e) = absurd (past (subst (λ (n : ℕ). key < n) (sym is) (subst (λ (j : ℕ). j < length slots) e within)))
+    by (inr l) = below k d l within
+
+-- what changes at a key leaves it so there
+holds_still : (P : Option ConnectionState → Type 0) (slots : List (Option ConnectionState)) (key : ℕ) (old new : Option ConnectionState) → key < length slots
+    → old ≡ slice_index_or slots key old → (P old → P new) → All P slots → All P (slice_set slots key new)
+holds_still P slots key old new within at still all = All-set P slots key new (still (subst P (sym at) (all key old within))) all
 
 -- what changes at a key leaves none waiting there
 pub rests_at : (slots : List (Option ConnectionState)) (key : ℕ) (old new : Option ConnectionState) → key < length slots → old ≡ slice_index_or slots key old
     → (HoldsNone old → HoldsNone new) → AreSettled slots → AreSettled (slice_set slots key new)
-rests_at slots key old new within at rests all = All-set HoldsNone slots key new (rests (subst HoldsNone (sym at) (all key old within))) all
+rests_at = holds_still HoldsNone
 
--- there is nothing at this key, so that none waits there
-pub settled_past : (slots : List (Option ConnectionState)) (key len : ℕ) → len ≡ length slots → (key < len → ⊥) → AreSettledBelow key slots → AreSettledBelow (key + 1) slots
-settled_past slots key len is past below k d lt within = by (eq-or-lt_of_le {n = k} {m = key} (omega arith))
-  where
-    by : (k ≡ key) ⊎ (k < key) → HoldsNone (slice_index_or slots k d)
-    by (inl e) = absurd (past (subst (λ (n : ℕ). key < n) (sym is) (subst (λ (j : ℕ). j < length slots) e within)))
-    by (inr l) = below k d l within
-
--- what is taken away leaves none waiting there
-pub rests_taken : (slots : List (Option ConnectionState)) (key : ℕ) (new : Option ConnectionState) → new ≡ None → AreSettled slots → AreSettled (slice_set slots key new)
-rests_taken slots key new e all = All-set HoldsNone slots key new (subst HoldsNone (sym e) tt) all
+-- nor anything outgoing that its stream would take
+pub flushed_at : (slots : List (Option ConnectionState)) (key : ℕ) (old new : Option ConnectionState) → key < length slots → old ≡ slice_index_or slots key old
+    → (HoldsFlushed old → HoldsFlushed new) → AreFlushed slots → AreFlushed (slice_set slots key new)
+flushed_at = holds_still HoldsFlushed
 
 -- no is not yes
 pub no_not_yes : false ≡ true → ⊥
@@ -123,6 +125,20 @@ no_not_yes e = subst at e tt
 -- none waits at the keys below the last
 pub all_settled : (slots : List (Option ConnectionState)) (end : ℕ) → length slots ≤ end → AreSettledBelow end slots → AreSettled slots
 all_settled slots end past below k d within = below k d (omega arith) within
+
+-- nor is anything outgoing there that its stream would take
+pub all_flushed : (slots : List (Option ConnectionState)) (end : ℕ) → length slots ≤ end → AreFlushedBelow end slots → AreFlushed slots
+all_flushed slots end past below k d within = below k d (omega arith) within
+
+-- where not one delivery waits, none does
+pub none_waits : (waits : List Waits) → (0 < length waits → ⊥) → waits ≡ []
+none_waits [] none = refl
+none_waits (one ∷ waits) none = absurd (none (omega arith))
+
+-- what there is of this kind is so, where there is something
+pub some_is : {T : Type 0} (o : Option T) (P : T → Type 0) → IsSomeAnd o P → IfSome o P
+some_is None P is = tt
+some_is (Some x) P is = is
 
 -- what holds anyway holds where it is answered well
 pub on_ok : {T E : Type 0} (r : Result T E) (P : Type 0) → P → OnOk r P

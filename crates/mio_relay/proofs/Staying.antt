@@ -1,9 +1,11 @@
 -- What stays of a loop, where its connections or its network alone change.
-use Rattle.std.proofs.Common.{◌≡◌, ◌∙◌, ap, map, subst}
-use Rattle.buffer_lanes.specs.Lanes.{LanesState}
+use Rattle.std.proofs.Common.{◌≡◌, ◌∙◌, Bool, List, [], ap, map, subst, sym}
+use Rattle.ack_receipt.specs.Deliveries.{Pended}
+use Rattle.relay_conf.specs.declared.output.BufferNo.{BufferNo}
+use Rattle.buffer_lanes.specs.Lanes.{AreRedeemed, AreRedeemedAt, LanesState, later_at, listed_at}
 use Rattle.buffer_lanes.specs.Schedules.{timing_of}
-use Rattle.mio_relay.specs.Connections.{AreSettled}
-use Rattle.mio_relay.specs.Loops.{LoopState, Rests, Stays}
+use Rattle.mio_relay.specs.Connections.{AreFlushed, AreSettled}
+use Rattle.mio_relay.specs.Loops.{LoopState, OnlyLaterWait, Rests, Stays}
 
 -- its lanes are as they were, and so is all else that stays
 pub stays_on : {A : Type 0} (inside now new : LoopState A) → inside ≡ now → new.bound ≡ inside.bound → new.sources ≡ inside.sources → new.buffers ≡ inside.buffers
@@ -21,7 +23,40 @@ stays_on {A} inside now new is bound sources buffers lanes =
       };
     })
 
--- no delivery waits that didn't
-pub rests_on : {A : Type 0} (inside now new : LoopState A) → inside ≡ now → new.lanes.later ≡ inside.lanes.later → (AreSettled inside.connections → AreSettled new.connections)
-    → Rests now new
-rests_on {A} inside now new is later settled = subst (λ (l : LoopState A). Rests l new) is (record { later = later; settled = settled })
+-- no delivery waits that didn't, and nothing is outgoing that a stream would take
+pub rests_on : {A : Type 0} (inside now new : LoopState A) → inside ≡ now → new.lanes.waiting ≡ inside.lanes.waiting → new.lanes.later ≡ inside.lanes.later
+    → (AreSettled inside.connections → AreSettled new.connections) → (AreFlushed inside.connections → AreFlushed new.connections) → Rests now new
+rests_on {A} inside now new is waiting later settled flushed =
+    subst (λ (l : LoopState A). Rests l new) is (record { waiting = waiting; later = later; settled = settled; flushed = flushed })
+
+-- appends wait where receipts come later alone, after a redeeming
+pub only_later : {A : Type 0} (old new : LanesState A) → ((buffer : BufferNo) → AreRedeemedAt buffer old new) → OnlyLaterWait new
+only_later old new redeemed buffer none =
+    subst (λ (later : Bool). AreRedeemed (listed_at old.waiting buffer) later (listed_at new.waiting buffer)) none (redeemed buffer)
+
+-- and as long as neither changes
+pub only_later_still : {A : Type 0} (old new : LanesState A) → new.waiting ≡ old.waiting → new.later ≡ old.later → OnlyLaterWait old → OnlyLaterWait new
+only_later_still old new waiting later only buffer none =
+    subst (λ (w : List (List Pended)). listed_at w buffer ≡ []) (sym waiting) (only buffer (ap (λ (l : List Bool). later_at l buffer) (sym later) ∙ none))
+
+-- what stays over two calls
+pub stays_more : {A : Type 0} (old between new : LoopState A) → Stays old between → Stays between new → Stays old new
+stays_more old between new first next = record {
+  bound = next.bound ∙ first.bound;
+  sources = next.sources ∙ first.sources;
+  buffers = next.buffers ∙ first.buffers;
+  lanes = record {
+    terms = next.lanes.terms ∙ first.lanes.terms;
+    timings = next.lanes.timings ∙ first.lanes.timings;
+    fault = λ fault was. next.lanes.fault fault (first.lanes.fault fault was);
+  };
+}
+
+-- and what rests
+pub rests_more : {A : Type 0} (old between new : LoopState A) → Rests old between → Rests between new → Rests old new
+rests_more old between new first next = record {
+  waiting = next.waiting ∙ first.waiting;
+  later = next.later ∙ first.later;
+  settled = λ all. next.settled (first.settled all);
+  flushed = λ all. next.flushed (first.flushed all);
+}

@@ -1,16 +1,16 @@
 -- The connections of a relay's loop, and the sources that they came in at.
-use Rattle.std.specs.Prelude.{ℕ, ◌≡◌, ◌<◌, ◌⊎◌, ◌++◌, Bool, false, true, List, [], length, map, Option, Some, IfSome, slice_get, slice_index_or, string_bytes}
+use Rattle.std.specs.Prelude.{ℕ, ◌≡◌, ◌<◌, ◌≤◌, ◌⊎◌, ◌++◌, Bool, false, true, List, [], length, map, Option, Some, IfSome, slice_get, slice_index_or, string_bytes}
 use Rattle.std.specs.List.{All, AllZip}
 use Rattle.relay_conf.specs.declared.relay.Relay.{Relay}
 use Rattle.relay_conf.specs.declared.relay.Source.{Source}
 use Rattle.route_graph.specs.Table.{Table, table_of}
 use Rattle.forward_core.specs.declared.security.Security.{Security}
-use Rattle.forward_core.specs.Server.{initial_server}
+use Rattle.forward_core.specs.Server.{Over, ServerState, initial_server}
 use Rattle.handshake_keys.specs.Credentials.{Credentials, credentials_in, credentials_of}
 use Rattle.relay_ports.specs.Leaves.{Entry}
 use Rattle.relay_sockets.specs.Endpoints.{Endpoint, Origin, CameAt, IsPortOf}
 use Rattle.relay_sockets.specs.Traffics.{Traffic, Conveys}
-use Rattle.loop_core.specs.Peers.{PeerState}
+use Rattle.loop_core.specs.Peers.{IsRead, PeerState}
 
 -- a source as clients meet it: where it listens, where its messages go, and what it asks its clients to prove
 pub record Served : Type 0 where
@@ -56,13 +56,15 @@ pub record AreListening (bound : List Endpoint) (hosted : List Hosted) : Type 0 
 abbrev pub ArePortsOf : List Served → List ℕ → Type 0
 ArePortsOf sources ports = AllZip (λ source port. IsPortOf port source.endpoint) sources ports
 
--- a connection: where it came in, what went over it, as far as that is known, and its session; whether its stream failed, and whether it takes no bytes for now
+-- a connection: where it came in, what went over it, as far as that is known, and its session; whether its stream failed, whether it takes no bytes for now,
+-- and whether its client has ended its sending, and all of that was read
 pub record ConnectionState : Type 0 where
   pub origin : Origin
   pub traffic : Traffic
   pub peer : PeerState
   pub is_broken : Bool
   pub is_blocked : Bool
+  pub has_ended : Bool
 
 -- a connection goes on: it came in where it did, and its messages go where they went
 pub record IsSameConnection (old new : ConnectionState) : Type 0 where
@@ -79,9 +81,40 @@ pub record Brings (old new : ConnectionState) (came : List ℕ) : Type 0 where
   pub peer : new.peer ≡ old.peer
   pub conveys : Conveys old.traffic new.traffic [] came
 
--- A connection may be closed: all was written, or its client takes no more.
-abbrev pub MayClose : ConnectionState → Type 0
-MayClose connection = (connection.peer.session.outgoing ≡ []) ⊎ ((connection.is_broken ≡ true) ⊎ (connection.is_blocked ≡ true))
+-- The session read what came behind what it held unread, unless it had met a fault before.
+abbrev pub Hears : (came : List ℕ) → ServerState → ServerState → Type 0
+Hears came old new = IsRead came old new ⊎ ((old.phase ≡ Over) × (new ≡ old))
+
+-- Bytes came over a connection, or none, and its session was told all of them and nothing else; where some of them may be lost, the connection is broken.
+pub record IsReceived (old new : ConnectionState) : Type 0 where
+  pub came : List ℕ
+  pub conveys : Conveys old.traffic new.traffic [] came
+  pub told : ((came ≡ []) × (new.peer ≡ old.peer)) ⊎ (Hears came old.peer.session new.peer.session ⊎ (new.is_broken ≡ true))
+
+-- how many bytes may be outgoing at most, where a connection is read
+abbrev pub most_outgoing : ℕ
+most_outgoing = 1048576
+
+-- A connection may be read: its stream didn't fail, its session wants more, and its client takes what is outgoing.
+pub record MayRead (connection : ConnectionState) : Type 0 where
+  pub whole : connection.is_broken ≡ false
+  pub wants : connection.peer.closing ≡ false
+  pub taken : length connection.peer.session.outgoing ≤ most_outgoing
+
+-- what is outgoing was written, as far as the stream takes it for now
+abbrev pub IsFlushed : ConnectionState → Type 0
+IsFlushed connection = (connection.peer.session.outgoing ≡ []) ⊎ ((connection.is_broken ≡ true) ⊎ (connection.is_blocked ≡ true))
+
+-- no delivery of a connection waits
+abbrev pub IsSettled : ConnectionState → Type 0
+IsSettled connection = connection.peer.waits ≡ []
+
+-- A connection may be closed: no delivery of it waits; nothing more is read, since its stream failed, its session wants no more or its client has ended its
+-- sending; and what is outgoing was written, or is of a session that wants no more and whose client takes none for now.
+pub record MayClose (connection : ConnectionState) : Type 0 where
+  pub settled : IsSettled connection
+  pub over : (connection.is_broken ≡ true) ⊎ ((connection.peer.closing ≡ true) ⊎ (connection.has_ended ≡ true))
+  pub written : (connection.peer.session.outgoing ≡ []) ⊎ ((connection.is_broken ≡ true) ⊎ ((connection.peer.closing ≡ true) × (connection.is_blocked ≡ true)))
 
 -- A connection is served as one of the source at whose listener it came in.
 pub record IsServed (sources : List Served) (connection : ConnectionState) : Type 0 where
@@ -103,11 +136,11 @@ GoesOn old new = (sources : List Served) → IfSome old (IsServed sources) → I
 abbrev pub GoOn : List (Option ConnectionState) → List (Option ConnectionState) → Type 0
 GoOn old new = (sources : List Served) → AreServed sources old → AreServed sources new
 
--- no delivery of a connection waits
-abbrev pub IsSettled : ConnectionState → Type 0
-IsSettled connection = connection.peer.waits ≡ []
+-- this holds of what is at each key that is below this one
+abbrev pub AllBelow : (Option ConnectionState → Type 0) → ℕ → List (Option ConnectionState) → Type 0
+AllBelow P end slots = (key : ℕ) (none : Option ConnectionState) → key < end → key < length slots → P (slice_index_or slots key none)
 
--- none waits at a key, whatever is there
+-- no delivery waits at a key, whatever is there
 abbrev pub HoldsNone : Option ConnectionState → Type 0
 HoldsNone slot = IfSome slot IsSettled
 
@@ -117,7 +150,19 @@ AreSettled slots = All HoldsNone slots
 
 -- nor at each that is below this
 abbrev pub AreSettledBelow : ℕ → List (Option ConnectionState) → Type 0
-AreSettledBelow end slots = (key : ℕ) (none : Option ConnectionState) → key < end → key < length slots → HoldsNone (slice_index_or slots key none)
+AreSettledBelow end slots = AllBelow HoldsNone end slots
+
+-- what is outgoing at a key was written, as far as its stream takes it
+abbrev pub HoldsFlushed : Option ConnectionState → Type 0
+HoldsFlushed slot = IfSome slot IsFlushed
+
+-- so it was at each of these keys
+abbrev pub AreFlushed : List (Option ConnectionState) → Type 0
+AreFlushed slots = All HoldsFlushed slots
+
+-- and at each that is below this
+abbrev pub AreFlushedBelow : ℕ → List (Option ConnectionState) → Type 0
+AreFlushedBelow end slots = AllBelow HoldsFlushed end slots
 
 -- A session that begins: its messages go where the source's do, and its client has to prove the source's key, if it has one.
 pub record BeginsAt (source : Served) (nonce : List ℕ) (peer : PeerState) : Type 0 where

@@ -1,14 +1,17 @@
 -- What a relay's loop keeps.
-use Rattle.std.specs.Prelude.{ℕ, ◌≡◌, List, Option}
+use Rattle.std.specs.Prelude.{ℕ, ◌≡◌, [], false, List, Option}
 use Rattle.ack_receipt.specs.Terms.{Terms}
-use Rattle.buffer_lanes.specs.Lanes.{KeepsLanes, LanesState}
+use Rattle.buffer_lanes.specs.Lanes.{KeepsLanes, LanesState, later_at, listed_at}
 use Rattle.loop_core.specs.declared.fault.LoopFault.{LoopFault}
+use Rattle.relay_conf.specs.declared.output.BufferNo.{BufferNo}
 use Rattle.relay_ports.specs.declared.buffered.BufferedOutput.{BufferedOutput}
+use Rattle.relay_sockets.specs.declared.network.NetFault.{NetFault}
 use Rattle.relay_sockets.specs.Endpoints.{Endpoint}
-use Rattle.mio_relay.specs.Connections.{AreSettled, ConnectionState, Served}
+use Rattle.mio_relay.specs.Connections.{AreFlushed, AreSettled, ConnectionState, Served}
 
 -- a loop: the addresses that were bound, its sources in the order of the configuration, its connections by their keys, its buffers by their places,
--- the same as it uses them, its time in milliseconds, and the fault of a turn that ended it, if one did
+-- the same as it uses them, its time in milliseconds, the fault of a turn that ended it, if one did, and why its network refuses to wait for sockets, where
+-- it is known to
 pub record LoopState (A : Type 0) : Type 0 where
   pub bound : List Endpoint
   pub sources : List Served
@@ -17,6 +20,7 @@ pub record LoopState (A : Type 0) : Type 0 where
   pub lanes : LanesState A
   pub time : ℕ
   pub fault : Option LoopFault
+  pub refusal : Option NetFault
 
 -- a relay that listens at its sources: the addresses that were bound, the sources, its number, and its outputs that have buffers
 pub record BoundState (A : Type 0) : Type 0 where
@@ -32,7 +36,14 @@ pub record Stays {A : Type 0} (old new : LoopState A) : Type 0 where
   pub buffers : new.buffers ≡ old.buffers
   pub lanes : KeepsLanes old.lanes new.lanes
 
--- no delivery waits that didn't: the same buffers' receipts come later, and where none waited none does
+-- no delivery waits that didn't: the same appends wait, and the same buffers' receipts come later, and where none waited none does; nor is anything outgoing
+-- that a stream would take, where nothing was
 pub record Rests {A : Type 0} (old new : LoopState A) : Type 0 where
+  pub waiting : new.lanes.waiting ≡ old.lanes.waiting
   pub later : new.lanes.later ≡ old.lanes.later
   pub settled : AreSettled old.connections → AreSettled new.connections
+  pub flushed : AreFlushed old.connections → AreFlushed new.connections
+
+-- appends wait for their receipts only at buffers whose receipts come later
+abbrev pub OnlyLaterWait : {A : Type 0} → LanesState A → Type 0
+OnlyLaterWait lanes = (buffer : BufferNo) → later_at lanes.later buffer ≡ false → listed_at lanes.waiting buffer ≡ []

@@ -1,8 +1,9 @@
 //! A client's connection: its stream, its session, and what is known of the stream.
 
-ghost use Rattle.std.specs.Prelude.{◌≡◌, OnErr, OnOk, false, true, take};
+ghost use Rattle.std.specs.Prelude.{◌≡◌, ◌≤◌, ◌+◌, ◌⊎◌, Err, IsErr, Ok, OnErr, OnOk, false, true, length, take};
 ghost use Rattle.buffer_lanes.specs.Lanes.{KeepsLanes, NoneLater};
-ghost use Rattle.mio_relay.specs.Connections.{Brings, ConnectionState, IsSameConnection, IsSettled, IsWrittenOn, MayClose};
+ghost use Rattle.loop_core.specs.declared.fault.LoopFault.TheVariants as ends;
+ghost use Rattle.mio_relay.specs.Connections.{Brings, ConnectionState, IsFlushed, IsReceived, IsSameConnection, IsSettled, IsWrittenOn, MayClose, MayRead};
 
 use ack_receipt::Numbers;
 use buffer_lanes::Lanes;
@@ -15,16 +16,17 @@ use std::sync::Wait;
 use std::time::Duration;
 
 /// The numbers of deliveries have run out.
-#[derive(Clone, Copy, Debug, PartialEq, Eq)]
-pub struct NoNumber;
+///
+/// It can be neither copied nor dropped: nothing else ends it than becoming the fault of a loop.
+pub struct NoNumber(());
 
 impl From<NoNumber> for LoopFault {
     ghost use Rattle.std.specs.Prelude.{◌≡◌};
-    ghost use Rattle.loop_core.specs.declared.fault.LoopFault.TheVariants as fault;
 
-    ghost from_gives = { λ _ e. e ≡ fault.NoNumber };
+    ghost from_gives = { λ _ e. e ≡ ends.NoNumber };
 
-    fn from(_none: NoNumber) -> LoopFault {
+    fn from(none: NoNumber) -> LoopFault {
+        let NoNumber(()) = none;
         LoopFault::NoNumber
     }
 }
@@ -62,6 +64,7 @@ impl<S: Wire, A: Allocator> Model for Connection<S, A> {
       peer = c.peer;
       is_broken = c.is_broken;
       is_blocked = c.is_blocked;
+      has_ended = c.has_ended;
     } };
 }
 
@@ -74,7 +77,7 @@ pub struct ConnectionParts<S: Wire, A: Allocator> {
 impl<S: Wire, A: Allocator + Copy> Connection<S, A> {
     /// A stream that was just accepted, with its session.
     pub fn new(stream: S, peer: Peer<A>) -> Self
-        ensures { result ≡ record { origin = S.origin stream; traffic = S.traffic stream; peer = peer; is_broken = false; is_blocked = false } }
+        ensures { result ≡ record { origin = S.origin stream; traffic = S.traffic stream; peer = peer; is_broken = false; is_blocked = false; has_ended = false } }
     {
         Connection {
             stream,
@@ -104,7 +107,7 @@ impl<S: Wire, A: Allocator + Copy> Connection<S, A> {
 
     /// Whether a piece is to be read now.
     pub fn wants_reading(&self) -> bool
-        ensures { result ≡ true → self.now.is_broken ≡ false }
+        ensures { result ≡ true → MayRead self.now }
     {
         self.is_readable
             && !self.has_ended
@@ -127,12 +130,18 @@ impl<S: Wire, A: Allocator + Copy> Connection<S, A> {
     ) -> Result<(), NoNumber>
         ensures same { IsSameConnection self.old self.new }
         ensures lanes { KeepsLanes lanes.old lanes.new }
+        // Nothing is read of a connection that wants no reading.
+        ensures only { MayRead self.old ⊎ ((result ≡ Ok tt) × (self.new ≡ self.old)) }
+        ensures received { OnOk result (IsReceived self.old self.new) }
+        // Each message that was demanded got its number, unless the connection is to be closed.
+        ensures numbered { OnOk result ((numbers.new + length self.old.peer.session.asked ≡ numbers.old + length self.new.peer.session.asked)
+            ⊎ (self.new.is_broken ≡ true)) }
     {
         if !self.wants_reading() {
             return Ok(());
         }
         let n = self.read_piece(piece);
-        if n == 0 || n > piece.len() {
+        if n == 0 {
             return Ok(());
         }
         let received = self
@@ -143,11 +152,12 @@ impl<S: Wire, A: Allocator + Copy> Connection<S, A> {
 
     // What came of a piece. Where some of it may be lost, nothing more is read.
     fn heed(&mut self, received: Result<(), LoopFault>) -> Result<(), NoNumber>
-        ensures same { IsSameConnection self.old self.new }
+        ensures rest { self.new ≡ record self.old { is_broken = self.new.is_broken } }
+        ensures ended { received ≡ Err ends.NoNumber → IsErr result }
         ensures lost { OnErr received (OnOk result (self.new.is_broken ≡ true)) }
     {
         match received {
-            Err(LoopFault::NoNumber) => Err(NoNumber),
+            Err(LoopFault::NoNumber) => Err(NoNumber(())),
             Err(_) => {
                 self.is_broken = true;
                 Ok(())
@@ -158,7 +168,8 @@ impl<S: Wire, A: Allocator + Copy> Connection<S, A> {
 
     // Reads a piece, and says how many bytes it has; 0 where there is none.
     fn read_piece(&mut self, piece: &mut [u8]) -> usize
-        ensures { Brings self.old self.new (take result piece.new) }
+        ensures came { Brings self.old self.new (take result piece.new) }
+        ensures within { result ≤ length piece.new }
     {
         match self.stream.get(piece, Duration::ZERO) {
             Moved::Some(n) => {
@@ -184,17 +195,19 @@ impl<S: Wire, A: Allocator + Copy> Connection<S, A> {
     }
 
     /// Writes what is outgoing, until the stream takes no more.
-    pub fn write(&mut self)
+    pub fn write<R: Wait>(&mut self, rt: &R)
         ensures same { IsSameConnection self.old self.new }
         ensures waits { self.new.peer.waits ≡ self.old.peer.waits }
         ensures written { IsWrittenOn self.old self.new }
+        ensures done { IsFlushed self.new }
     {
-        for _ in 0..u64::MAX {
+        for _ in rt.forever() {
             if self.is_blocked || self.is_broken || self.peer.outgoing().is_empty() {
                 return;
             }
             self.write_some();
         }
+        unreachable!()
     }
 
     fn write_some(&mut self)

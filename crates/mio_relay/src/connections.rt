@@ -1,8 +1,8 @@
 //! The connections of a loop, by their keys.
 
-ghost use Rattle.std.specs.Prelude.{◌≡◌, ◌+◌, [], List, length};
+ghost use Rattle.std.specs.Prelude.{◌≡◌, ◌+◌, [], List, true, length, IfSome, IsSomeAnd};
 ghost use Rattle.buffer_lanes.specs.Lanes.{KeepsLanes, NoneLater};
-ghost use Rattle.mio_relay.specs.Connections.{AreServed, AreSettled, AreSettledBelow, GoOn, GoesOn, HoldsNone, IsServed, Served};
+ghost use Rattle.mio_relay.specs.Connections.{AreFlushed, AreFlushedBelow, AreServed, AreSettled, AreSettledBelow, GoOn, GoesOn, HoldsFlushed, HoldsNone, IsServed, MayClose, Served};
 
 use crate::connection::{Connection, ConnectionParts, NoNumber};
 use ack_receipt::Numbers;
@@ -88,15 +88,15 @@ impl<S: Wire + Drop, A: Allocator + Copy> Connections<S, A> {
     pub fn take(&mut self, key: usize) -> Option<Connection<S, A>>
         ensures goes { GoOn self.old self.new }
         ensures settled { AreSettled self.old → AreSettled self.new }
+        ensures flushed { AreFlushed self.old → AreFlushed self.new }
+        ensures over { IfSome result MayClose }
     {
-        if !self.is_over(key) {
-            return None;
-        }
-        let _ = self.keys.try_remove(key);
         let Some(slot) = self.slots.get_mut(key) else {
             return None;
         };
-        slot.take()
+        let taken = take_slot(slot)?;
+        let _ = self.keys.try_remove(key);
+        Some(taken)
     }
 
     /// The network says this of the connection at this key.
@@ -113,14 +113,6 @@ impl<S: Wire + Drop, A: Allocator + Copy> Connections<S, A> {
     pub fn wants_reading(&self, key: usize) -> bool {
         match self.slots.get(key) {
             Some(Some(connection)) => connection.wants_reading(),
-            _ => false,
-        }
-    }
-
-    // Whether the connection at this key is to be closed now.
-    fn is_over(&self, key: usize) -> bool {
-        match self.slots.get(key) {
-            Some(Some(connection)) => connection.is_over(),
             _ => false,
         }
     }
@@ -164,14 +156,16 @@ impl<S: Wire + Drop, A: Allocator + Copy> Connections<S, A> {
     }
 
     /// Writes what is outgoing to the connection at this key.
-    pub fn write(&mut self, key: usize)
+    pub fn write<R: Wait>(&mut self, key: usize, rt: &R)
         ensures goes { GoOn self.old self.new }
         ensures settled { AreSettled self.old → AreSettled self.new }
+        ensures keys { length self.new ≡ length self.old }
+        ensures flushed { AreFlushedBelow key self.old → AreFlushedBelow (key + 1) self.new }
     {
         let Some(slot) = self.slots.get_mut(key) else {
             return;
         };
-        write_slot(slot);
+        write_slot(slot, rt);
     }
 
     /// Ends all of them; what waits is abandoned.
@@ -187,6 +181,28 @@ impl<S: Wire + Drop, A: Allocator + Copy> Connections<S, A> {
             }
         }
         rest.destroy_empty();
+    }
+}
+
+// Takes the connection, if there is one that is to be closed now.
+fn take_slot<S: Wire, A: Allocator + Copy>(
+    slot: &mut Option<Connection<S, A>>,
+) -> Option<Connection<S, A>>
+    ensures goes { GoesOn slot.old slot.new }
+    ensures settled { HoldsNone slot.old → HoldsNone slot.new }
+    ensures flushed { HoldsFlushed slot.old → HoldsFlushed slot.new }
+    ensures over { IfSome result MayClose }
+{
+    if is_over_at(slot) { slot.take() } else { None }
+}
+
+// Whether there is a connection that is to be closed now.
+fn is_over_at<S: Wire, A: Allocator + Copy>(slot: &Option<Connection<S, A>>) -> bool
+    ensures { result ≡ true → IsSomeAnd slot.now MayClose }
+{
+    match slot {
+        Some(connection) => connection.is_over(),
+        None => false,
     }
 }
 
@@ -235,11 +251,12 @@ fn settle_slot<S: Wire, R: Wait, D: Dir + Drop, A: Allocator + Copy>(
     }
 }
 
-fn write_slot<S: Wire, A: Allocator + Copy>(slot: &mut Option<Connection<S, A>>)
+fn write_slot<S: Wire, R: Wait, A: Allocator + Copy>(slot: &mut Option<Connection<S, A>>, rt: &R)
     ensures goes { GoesOn slot.old slot.new }
     ensures settled { HoldsNone slot.old → HoldsNone slot.new }
+    ensures flushed { HoldsFlushed slot.new }
 {
     if let Some(connection) = slot {
-        connection.write();
+        connection.write(rt);
     }
 }

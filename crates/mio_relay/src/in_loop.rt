@@ -1,14 +1,14 @@
 //! The loop that takes messages in.
 
-ghost use Rattle.std.specs.Prelude.{◌≡◌, [], None, map, IfErr, IfOk, OnOk};
+ghost use Rattle.std.specs.Prelude.{◌≡◌, [], Err, None, map, IfErr, IfOk, IfSome, OnOk};
 ghost use Rattle.std.specs.Arc.{arc_value};
 ghost use Rattle.relay_buffers.specs.Buffers.{AreBuffersOf};
 ghost use Rattle.relay_ports.specs.Outputs.{outputs_in};
 ghost use Rattle.relay_ports.specs.Setups.{CanRun};
 ghost use Rattle.buffer_lanes.specs.Lanes.{NoneLater};
-ghost use Rattle.mio_relay.specs.Connections.{AreServed, AreSettled, sources_of};
-ghost use Rattle.mio_relay.specs.Loops.{Rests, Stays};
-ghost use Rattle.mio_relay.specs.Faults.{IsReason, IsTold, fault_in, told_of};
+ghost use Rattle.mio_relay.specs.Connections.{AreFlushed, AreServed, AreSettled, sources_of};
+ghost use Rattle.mio_relay.specs.Loops.{OnlyLaterWait, Rests, Stays};
+ghost use Rattle.mio_relay.specs.Faults.{IsReason, IsTold, fault_in, of_network, told_of};
 
 use crate::bound::{BoundRelay, OpenRelay};
 use crate::connection::NoNumber;
@@ -76,6 +76,7 @@ impl<N: Network + Drop, D: Dir + Drop, A: Allocator> Model for InLoop<N, D, A> {
       lanes = l.lanes;
       time = l.time;
       fault = l.fault;
+      refusal = N.refusal l.network;
     } };
 
     // Each source is bound at its address, each connection is served as one of the source at whose listener it came in, and the loop uses the
@@ -258,6 +259,12 @@ impl<N: Network + Drop, D: Dir + Drop, A: Allocator + Copy> InLoop<N, D, A> {
         ensures faultless { OnOk result (self.new.lanes.fault ≡ None) }
         ensures came { IfErr result (IsReason self.new.lanes.fault) }
         ensures ended { self.new.fault ≡ fault_in result }
+        // Each append has its receipt, but for those of buffers whose receipts come later.
+        ensures redeemed { OnOk result (OnlyLaterWait self.new.lanes) }
+        // What is outgoing was written, as far as the clients take it.
+        ensures flushed { OnOk result (AreFlushed self.new.connections) }
+        // Where the network refuses to wait, that is the error.
+        ensures refused { IfSome self.old.refusal (λ fault. result ≡ Err (of_network fault)) }
     {
         let turned = self.turn_once(rt);
         self.fault = match &turned {
@@ -272,6 +279,9 @@ impl<N: Network + Drop, D: Dir + Drop, A: Allocator + Copy> InLoop<N, D, A> {
         ensures settled { OnOk result (NoneLater self.new.lanes.later → AreSettled self.new.connections) }
         ensures faultless { OnOk result (self.new.lanes.fault ≡ None) }
         ensures came { IfErr result (IsReason self.new.lanes.fault) }
+        ensures redeemed { OnOk result (OnlyLaterWait self.new.lanes) }
+        ensures flushed { OnOk result (AreFlushed self.new.connections) }
+        ensures refused { IfSome self.old.refusal (λ fault. result ≡ Err (of_network fault)) }
     {
         self.wait()?;
         self.set_time();
@@ -280,7 +290,7 @@ impl<N: Network + Drop, D: Dir + Drop, A: Allocator + Copy> InLoop<N, D, A> {
         self.store(rt);
         self.settle_all(rt);
         self.renew(rt);
-        self.write_all();
+        self.write_all(rt);
         self.close_all(rt);
         read?;
         match self.lanes.fault() {
@@ -298,7 +308,7 @@ impl<N: Network + Drop, D: Dir + Drop, A: Allocator + Copy> InLoop<N, D, A> {
 
     // Reads what came, unless appends wait for their receipts.
     fn take_in<R: Wait>(&mut self, rt: &R) -> Result<(), NoNumber>
-        ensures { Stays self.old self.new }
+        ensures stays { Stays self.old self.new }
     {
         if self.lanes.have_pendings() {
             return Ok(());
@@ -307,8 +317,10 @@ impl<N: Network + Drop, D: Dir + Drop, A: Allocator + Copy> InLoop<N, D, A> {
     }
 
     // Queues what is to be queued, and makes receipts of what was appended.
+    #[tactic(auto, using(crate::proofs::Staying::only_later))]
     fn store<R: Wait>(&mut self, rt: &R)
-        ensures { Stays self.old self.new }
+        ensures stays { Stays self.old self.new }
+        ensures redeemed { OnlyLaterWait self.new.lanes }
     {
         self.lanes.queue_due(rt);
         self.lanes.redeem(rt);
@@ -340,7 +352,8 @@ impl<N: Network + Drop, D: Dir + Drop, A: Allocator + Copy> InLoop<N, D, A> {
 
     // Turns until the flag is seen set, unless a turn ended the loop before. The error is that of the last turn.
     fn go_on<R: Wait>(&mut self, rt: &R, stop: &AtomicBool) -> Result<Told, LoopFault>
-        ensures { Stays self.old self.new }
+        ensures stays { Stays self.old self.new }
+        ensures ended { IfSome self.old.fault (λ fault. (result ≡ Err fault) × (self.new ≡ self.old)) }
     {
         match self.fault {
             Some(fault) => Err(fault),

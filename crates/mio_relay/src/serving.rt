@@ -1,10 +1,10 @@
 //! The connections of a loop: what is ready, read, answered, written and closed.
 
-ghost use Rattle.std.specs.Prelude.{◌≡◌, ◌+◌, length, IfErr};
+ghost use Rattle.std.specs.Prelude.{◌≡◌, ◌+◌, Err, length, IfErr, IfSome};
 ghost use Rattle.buffer_lanes.specs.Lanes.{NoneLater};
-ghost use Rattle.mio_relay.specs.Faults.{IsReason};
+ghost use Rattle.mio_relay.specs.Faults.{IsReason, of_network};
 ghost use Rattle.mio_relay.specs.Loops.{Rests, Stays};
-ghost use Rattle.mio_relay.specs.Connections.{AreSettled, AreSettledBelow, GoOn};
+ghost use Rattle.mio_relay.specs.Connections.{AreFlushed, AreFlushedBelow, AreSettled, AreSettledBelow, GoOn};
 
 use crate::connection::{ConnectionParts, NoNumber};
 use crate::connections::Connections;
@@ -25,6 +25,7 @@ impl<N: Network + Drop, D: Dir + Drop, A: Allocator + Copy> InLoop<N, D, A> {
     pub(crate) fn wait(&mut self) -> Result<(), LoopFault>
         ensures stays { Stays self.old self.new }
         ensures came { IfErr result (IsReason self.new.lanes.fault) }
+        ensures refused { IfSome self.old.refusal (λ fault. result ≡ Err (of_network fault)) }
     {
         let most = if self.is_busy() { 0 } else { LONGEST_WAIT };
         match self
@@ -104,20 +105,25 @@ impl<N: Network + Drop, D: Dir + Drop, A: Allocator + Copy> InLoop<N, D, A> {
     }
 
     // Writes what is outgoing.
-    pub(crate) fn write_all(&mut self)
+    pub(crate) fn write_all<R: Wait>(&mut self, rt: &R)
         ensures stays { Stays self.old self.new }
-        ensures rests { Rests self.old self.new }
+        ensures lanes { self.new.lanes ≡ self.old.lanes }
+        ensures settled { AreSettled self.old.connections → AreSettled self.new.connections }
+        ensures flushed { AreFlushed self.new.connections }
     {
         for key in 0..self.connections.key_end() {
-            self.write_to(key);
+            self.write_to(rt, key);
         }
     }
 
-    fn write_to(&mut self, key: usize)
+    fn write_to<R: Wait>(&mut self, rt: &R, key: usize)
         ensures stays { Stays self.old self.new }
-        ensures rests { Rests self.old self.new }
+        ensures lanes { self.new.lanes ≡ self.old.lanes }
+        ensures settled { AreSettled self.old.connections → AreSettled self.new.connections }
+        ensures keys { length self.new.connections ≡ length self.old.connections }
+        ensures flushed { AreFlushedBelow key self.old.connections → AreFlushedBelow (key + 1) self.new.connections }
     {
-        self.connections.write(key);
+        self.connections.write(key, rt);
     }
 
     // Closes the connections that are over.

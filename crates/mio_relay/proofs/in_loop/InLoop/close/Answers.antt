@@ -19,7 +19,8 @@ pub returns-in-Some-clause-stays : goal.returns-in-Some-clause-stays
 returns-in-Some-clause-stays g c = stays_on _ _ _ c.self.view_is c.close.ensures refl refl c.end.ensures
 
 pub returns-in-Some-clause-rests : goal.returns-in-Some-clause-rests
-returns-in-Some-clause-rests g c = rests_on _ _ _ c.self.view_is (ap (λ (l : LanesState _). l.later) c.end.ensures) c.take.ensures.settled
+returns-in-Some-clause-rests g c =
+    rests_on _ _ _ c.self.view_is (ap (λ (l : LanesState _). l.waiting) c.end.ensures) (ap (λ (l : LanesState _). l.later) c.end.ensures) c.take.ensures.settled c.take.ensures.flushed
 
 pub returns-in_default-clause-rests : goal.returns-in_default-clause-rests
-returns-in_default-clause-rests g c = rests_on _ _ _ c.self.view_is refl c.take.ensures.settled
+returns-in_default-clause-rests g c = rests_on _ _ _ c.self.view_is refl refl c.take.ensures.settled c.take.ensures.flushed

@@ -3,4 +3,4 @@ use Rattle.mio_relay.proofs.in_loop.InLoop.run.Goals as goal
 
 pub returns : goal.returns
 returns g c =
-    told c.args.self.lanes.fault c.go_on-end.new.self.lanes.fault c.go_on-end.result c.end.result c.go_on-end.ensures.lanes.fault c.end.ensures
+    told c.args.self.lanes.fault c.go_on-end.new.self.lanes.fault c.go_on-end.result c.end.result c.go_on-end.ensures.stays.lanes.fault c.end.ensures

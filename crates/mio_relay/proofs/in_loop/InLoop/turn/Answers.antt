@@ -1,10 +1,18 @@
 use Rattle.std.proofs.Common.{subst, sym}
 use Rattle.std.specs.Prelude.{OnOk}
 use Rattle.buffer_lanes.specs.Lanes.{NoneLater}
-use Rattle.mio_relay.specs.Connections.{AreSettled}
-use Rattle.mio_relay.specs.Loops.{LoopState}
+use Rattle.mio_relay.specs.Connections.{AreFlushed, AreSettled}
+use Rattle.mio_relay.specs.Loops.{LoopState, OnlyLaterWait}
 use Rattle.mio_relay.proofs.in_loop.InLoop.turn.Goals as goal
 
 pub returns-clause-settled : goal.returns-clause-settled
 returns-clause-settled g c =
     subst (λ (l : LoopState _). OnOk c.turn_once-turned.result (NoneLater l.lanes.later → AreSettled l.connections)) (sym c.self.view_is) c.turn_once-turned.ensures.settled
+
+pub returns-clause-redeemed : goal.returns-clause-redeemed
+returns-clause-redeemed g c =
+    subst (λ (l : LoopState _). OnOk c.turn_once-turned.result (OnlyLaterWait l.lanes)) (sym c.self.view_is) c.turn_once-turned.ensures.redeemed
+
+pub returns-clause-flushed : goal.returns-clause-flushed
+returns-clause-flushed g c =
+    subst (λ (l : LoopState _). OnOk c.turn_once-turned.result (AreFlushed l.connections)) (sym c.self.view_is) c.turn_once-turned.ensures.flushed

@@ -1,10 +1,26 @@
 use Rattle.std.proofs.Common.{◌∙◌, ap, subst}
 use Rattle.buffer_lanes.specs.Lanes.{LanesState, NoneLater}
 use Rattle.mio_relay.proofs.Slots.{on_ok}
+use Rattle.mio_relay.proofs.Staying.{only_later_still}
 use Rattle.mio_relay.proofs.in_loop.InLoop.turn_once.Goals as goal
 
 pub returns-clause-settled : goal.returns-clause-settled
 returns-clause-settled g c =
-    let same = c.close_all.ensures.rests.later ∙ c.write_all.ensures.rests.later ∙ c.renew.ensures.rests.later ∙ ap (λ (l : LanesState _). l.later) c.settle_all.ensures.lanes in
+    let same =
+    c.close_all.ensures.rests.later ∙ ap (λ (l : LanesState _). l.later) c.write_all.ensures.lanes ∙ c.renew.ensures.rests.later
+        ∙ ap (λ (l : LanesState _). l.later) c.settle_all.ensures.lanes in
     on_ok c.match-fault.result _
-    (λ none. c.close_all.ensures.rests.settled (c.write_all.ensures.rests.settled (c.renew.ensures.rests.settled (c.settle_all.ensures.settled (subst NoneLater same none)))))
+    (λ none. c.close_all.ensures.rests.settled (c.write_all.ensures.settled (c.renew.ensures.rests.settled (c.settle_all.ensures.settled (subst NoneLater same none)))))
+
+pub returns-clause-redeemed : goal.returns-clause-redeemed
+returns-clause-redeemed g c =
+    let waiting =
+    c.close_all.ensures.rests.waiting ∙ ap (λ (l : LanesState _). l.waiting) c.write_all.ensures.lanes ∙ c.renew.ensures.rests.waiting
+        ∙ ap (λ (l : LanesState _). l.waiting) c.settle_all.ensures.lanes in
+    let later =
+    c.close_all.ensures.rests.later ∙ ap (λ (l : LanesState _). l.later) c.write_all.ensures.lanes ∙ c.renew.ensures.rests.later
+        ∙ ap (λ (l : LanesState _). l.later) c.settle_all.ensures.lanes in
+    on_ok c.match-fault.result _ (only_later_still c.store.new.self.lanes c.close_all.new.self.lanes waiting later c.store.ensures.redeemed)
+
+pub returns-clause-flushed : goal.returns-clause-flushed
+returns-clause-flushed g c = on_ok c.match-fault.result _ (c.close_all.ensures.rests.flushed c.write_all.ensures.flushed)
