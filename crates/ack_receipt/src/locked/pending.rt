@@ -8,7 +8,7 @@ use std::marker::Model;
 
 /// An append of a delivery to a buffer that needn't be synced yet. It has no receipt before `SharedBuffer::redeem` makes one.
 ///
-/// It can be neither copied nor dropped: it is redeemed, or given up. Contracts see a `Pended`.
+/// It can be neither copied nor dropped: a shared buffer redeems it, or gives it up. Contracts see a `Pended`.
 pub struct Pending<A: Allocator> {
     pub(super) delivery: u64,
     pub(super) leaf: Leaf,
@@ -38,9 +38,8 @@ impl<A: Allocator> Pending<A> {
         self.serial
     }
 
-    /// Ends an append's wait for a receipt. Its entries stay in the buffer, and so does its note in the book until the buffer is closed,
-    /// some 40 bytes: `SharedBuffer::give_up` takes the note out too. It takes no memory.
-    pub fn give_up(self) {
+    // Ends it, for `SharedBuffer::give_up` alone, which takes its note out of the book: a note that stays takes memory until the buffer is closed.
+    pub(super) fn give_up(self) {
         let Pending {
             delivery: _,
             leaf: _,
