@@ -2,3 +2,4 @@ pub mod Keeping
 pub mod Appending
 pub mod Redeeming
 pub mod Leaving
+pub mod Pendings

@@ -126,3 +126,7 @@ AreRedeemedAt buffer old new = AreRedeemed (listed_at old.waiting buffer) (later
 pub record IsUntouched {A : Type 0} (buffer : BufferNo) (old new : LanesState A) : Type 0 where
   pub waiting : listed_at new.waiting buffer ≡ listed_at old.waiting buffer
   pub later : later_at new.later buffer ≡ later_at old.later buffer
+
+-- an append to one of the buffers waits for its receipt
+abbrev pub AppendsWait : List (List Pended) → Type 0
+AppendsWait waiting = (buffer : BufferNo) × (0 < length (listed_at waiting buffer))

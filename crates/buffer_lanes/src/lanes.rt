@@ -1,8 +1,8 @@
 //! The buffers of a relay, as its loop uses them.
 
-ghost use Rattle.std.specs.Prelude.{◌≡◌, ◌≢◌, ◌<◌, ◌≤◌, ◌+◌, ◌++◌, ◌∷◌, [], None, length, slice_set, Contains, IfOk, IfSome, IsFalse, IsTrue, OnErr};
+ghost use Rattle.std.specs.Prelude.{◌≡◌, ◌≢◌, ◌<◌, ◌≤◌, ◌+◌, ◌++◌, ◌∷◌, ◌↔◌, [], None, length, slice_set, Any, Contains, IfOk, IfSome, IsFalse, IsTrue, OnErr};
 ghost use Rattle.relay_conf.specs.declared.output.BufferNo.{BufferNo};
-ghost use Rattle.buffer_lanes.specs.Lanes.{AreRedeemedAt, EndsWith, IsAppendedAt, IsUntouched, KeepsLanes, fault_after, is_lost as is_lost_fault, later_at, listed_at, undone};
+ghost use Rattle.buffer_lanes.specs.Lanes.{AppendsWait, AreRedeemedAt, EndsWith, IsAppendedAt, IsUntouched, KeepsLanes, fault_after, is_lost as is_lost_fault, later_at, listed_at, undone};
 ghost use Rattle.buffer_lanes.specs.Waits.{HasEntries};
 
 use crate::lane::Lane;
@@ -84,8 +84,10 @@ impl<D: Dir + Drop, A: Allocator + Copy> Lanes<D, A> {
     }
 
     /// Whether appends wait for their receipts.
-    pub fn have_pendings(&self) -> bool {
-        self.lanes.iter().any(|lane| lane.has_pendings())
+    pub fn have_pendings(&self) -> bool
+        ensures { IsTrue result ↔ AppendsWait self.now.waiting }
+    {
+        have_waiting(&self.lanes)
     }
 
     /// The first fault of a device, or of a journal that lost bytes, if there was one.
@@ -312,6 +314,13 @@ impl<D: Dir + Drop, A: Allocator + Copy> Lanes<D, A> {
         rest.destroy_empty();
         stubs
     }
+}
+
+// Whether appends to one of these wait for their receipts.
+fn have_waiting<D: Dir + Drop, A: Allocator + Copy>(lanes: &[Lane<D, A>]) -> bool
+    ensures { IsTrue result ↔ Any (λ lane. 0 < length lane.waiting) lanes.now }
+{
+    lanes.iter().any(|lane| lane.has_pendings())
 }
 
 // Whether a fault is the device's, or says that bytes which it was told are gone.
