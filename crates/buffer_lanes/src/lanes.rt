@@ -6,6 +6,7 @@ ghost use Rattle.buffer_lanes.specs.Lanes.{AppendsWait, AreRedeemedAt, EndsWith,
 ghost use Rattle.buffer_lanes.specs.Waits.{HasEntries};
 
 use crate::lane::Lane;
+use crate::unsettled::Unsettled;
 use ack_receipt::{Delivery, Receipt, Stub};
 use buffer_store::BufferFault;
 use disk_files::Dir;
@@ -272,10 +273,10 @@ impl<D: Dir + Drop, A: Allocator + Copy> Lanes<D, A> {
 
     /// What is left of a delivery: it is kept, or accounted for in the books of its buffers, also where there is no memory to
     /// keep it.
-    pub fn settle<R: Wait>(&mut self, rt: &R, stub: Stub<A>)
+    pub fn settle<R: Wait>(&mut self, rt: &R, left: Unsettled<A>)
         ensures { self.new ≡ self.old }
     {
-        let Some(stub) = self.kept(stub) else {
+        let Some(stub) = self.kept(left.into_stub()) else {
             return;
         };
         for part in &stub.parts {

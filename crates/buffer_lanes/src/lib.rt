@@ -4,9 +4,11 @@
 mod lane;
 mod lanes;
 mod schedule;
+mod unsettled;
 mod waiting;
 
 pub use lane::Lane;
 pub use lanes::Lanes;
 pub use schedule::{Schedule, Staged};
+pub use unsettled::Unsettled;
 pub use waiting::{Collected, Waiting};

@@ -1,14 +1,15 @@
 //! A delivery that waits for its receipts.
 
-ghost use Rattle.std.specs.Prelude.{◌≡◌, [], None, false, Contains, IfOk, IfErr};
+ghost use Rattle.std.specs.Prelude.{◌≡◌, ◌++◌, ◌∷◌, [], None, false, Contains, IfOk, IfErr};
 ghost use Rattle.ack_receipt.specs.Reservations.{asked_of};
-ghost use Rattle.buffer_lanes.specs.Collecting.{IsCollected, WaitsOnFor, those_later};
+ghost use Rattle.buffer_lanes.specs.Collecting.{IsCollected, IsLeftOf, WaitsOnFor, those_later};
 ghost use Rattle.buffer_lanes.specs.Lanes.{EndsWith, KeepsLanes, listed_at};
-ghost use Rattle.buffer_lanes.specs.Waits.{HasEntries, awaited_by};
+ghost use Rattle.buffer_lanes.specs.Waits.{HasEntries, awaited_by, left_of};
 ghost use Rattle.relay_conf.specs.declared.output.BufferNo.{BufferNo};
 
 use crate::lanes::Lanes;
-use ack_receipt::{Delivery, Receipt, Reserved, Stub};
+use crate::unsettled::Unsettled;
+use ack_receipt::{Delivery, Receipt, Reserved};
 use disk_files::Dir;
 use relay_conf::BufferNo;
 use std::alloc::Allocator;
@@ -27,15 +28,15 @@ impl<A: Allocator> Model for Waiting<A> {
 
     ghost Value = { Waits };
 
-    ghost view = { λ w. record { awaited = w.gathered; buffers = w.buffers.items } };
+    ghost view = { λ w. record { awaited = w.gathered.awaited; receipts = w.gathered.receipts; buffers = w.buffers.items } };
 }
 
 /// What became of a delivery.
 pub enum Collected<A: Allocator> {
     /// It is acknowledged: this is the answer, and what is left.
-    Answered(Reserved<A>, Stub<A>),
+    Answered(Reserved<A>, Unsettled<A>),
     /// It was abandoned: one of its buffers gave no receipt.
-    Abandoned(Stub<A>),
+    Abandoned(Unsettled<A>),
     /// It waits for the next turn.
     Later(Waiting<A>),
 }
@@ -49,22 +50,23 @@ impl<A: Allocator + Copy> Waiting<A> {
         delivery: Delivery<A>,
         reserved: Reserved<A>,
         buffers: Vec<BufferNo, A>,
-    ) -> Result<Self, Stub<A>>
+    ) -> Result<Self, Unsettled<A>>
         requires empty { reserved.filled ≡ None }
         requires made { reserved.asked ≡ asked_of delivery.message }
         requires entries { HasEntries delivery buffers.items }
         ensures kept { KeepsLanes lanes.old lanes.new }
-        ensures waits { IfOk result (λ waiting. waiting ≡ record { awaited = awaited_by delivery; buffers = buffers.items }) }
+        ensures waits { IfOk result (λ waiting. waiting ≡ record { awaited = awaited_by delivery; receipts = delivery.receipts; buffers = buffers.items }) }
         ensures appended { IfOk result (λ waiting. (buffer : BufferNo) → Contains buffers.items buffer
             → EndsWith delivery.number (listed_at lanes.new.waiting buffer)) }
         ensures undone { IfErr result (λ _. lanes.new.waiting ≡ lanes.old.waiting) }
+        ensures left { IfErr result (λ left. left ≡ left_of delivery.number delivery.receipts) }
         ensures later { lanes.new.later ≡ lanes.old.later }
     {
         if lanes.append(rt, &buffers, &delivery) {
             let gathered = Gathered { delivery, reserved };
             return Ok(Waiting { gathered, buffers });
         }
-        Err(delivery.abandon())
+        Err(Unsettled::abandoned(delivery))
     }
 
     /// Takes the receipts that are there, and acknowledges the delivery where all came; where a buffer gave none, the delivery
@@ -96,16 +98,14 @@ impl<A: Allocator + Copy> Waiting<A> {
     }
 
     /// Ends it without an answer.
-    pub fn abandon(self) -> Stub<A> {
+    pub fn abandon(self) -> Unsettled<A>
+        ensures { result ≡ left_of self.awaited.number self.receipts }
+    {
         let Waiting {
             gathered,
             buffers: _,
         } = self;
-        let Gathered {
-            delivery,
-            reserved: _,
-        } = gathered;
-        delivery.abandon()
+        gathered.abandon()
     }
 }
 
@@ -128,11 +128,11 @@ struct Gathered<A: Allocator> {
 impl<A: Allocator> Model for Gathered<A> {
     ghost use Rattle.std.specs.Prelude.{◌≡◌, None};
     ghost use Rattle.ack_receipt.specs.Reservations.{asked_of};
-    ghost use Rattle.buffer_lanes.specs.Waits.{Awaited, awaited_by};
+    ghost use Rattle.buffer_lanes.specs.Waits.{Gathers, awaited_by};
 
-    ghost Value = { Awaited };
+    ghost Value = { Gathers };
 
-    ghost view = { λ g. awaited_by g.delivery };
+    ghost view = { λ g. record { awaited = awaited_by g.delivery; receipts = g.delivery.receipts } };
 
     // The room is empty, and for the answer to the delivery's message.
     ghost invariant = { λ g. (g.reserved.filled ≡ None) × (g.reserved.asked ≡ asked_of g.delivery.message) };
@@ -142,7 +142,7 @@ impl<A: Allocator + Copy> Gathered<A> {
     // Takes the receipt that this buffer has for the delivery, if it has one. Receipts that stand before it are of deliveries that
     // ended without them: they are spent.
     fn ask<R: Wait, D: Dir + Drop>(self, rt: &R, buffer: BufferNo, lanes: &mut Lanes<D, A>) -> Self
-        ensures same { result ≡ self }
+        ensures same { result.awaited ≡ self.awaited }
         ensures lanes { lanes.new ≡ lanes.old }
     {
         let mut gathered = self;
@@ -153,7 +153,7 @@ impl<A: Allocator + Copy> Gathered<A> {
             match gathered.with(receipt) {
                 Ok(with) => return with,
                 Err((without, receipt)) => {
-                    lanes.settle(rt, receipt.spend());
+                    lanes.settle(rt, Unsettled::spent(receipt));
                     gathered = without;
                 }
             }
@@ -163,7 +163,8 @@ impl<A: Allocator + Copy> Gathered<A> {
 
     // With one receipt more; one that isn't the delivery's is handed back.
     fn with(self, receipt: Receipt<A>) -> Result<Self, (Self, Receipt<A>)>
-        ensures ok { IfOk result (λ gathered. gathered ≡ self) }
+        ensures ok { IfOk result (λ gathered. gathered.awaited ≡ self.awaited) }
+        ensures receipts { IfOk result (λ gathered. gathered.receipts ≡ self.receipts ++ receipt ∷ []) }
         ensures err { IfErr result (λ refused. (refused.0 ≡ self) × (refused.1 ≡ receipt)) }
     {
         let Gathered { delivery, reserved } = self;
@@ -173,9 +174,21 @@ impl<A: Allocator + Copy> Gathered<A> {
         }
     }
 
+    // Ends it without an answer.
+    fn abandon(self) -> Unsettled<A>
+        ensures { result ≡ left_of self.awaited.number self.receipts }
+    {
+        let Gathered {
+            delivery,
+            reserved: _,
+        } = self;
+        Unsettled::abandoned(delivery)
+    }
+
     // Every buffer was asked.
     fn finish(self) -> Collected<A>
-        ensures is { IsCollected self result }
+        ensures is { IsCollected self.awaited result }
+        ensures left { IsLeftOf self result }
         ensures ended { WaitsOnFor false [] result }
     {
         let Gathered {
@@ -183,8 +196,8 @@ impl<A: Allocator + Copy> Gathered<A> {
             mut reserved,
         } = self;
         match delivery.acknowledge(&mut reserved) {
-            Ok(stub) => Collected::Answered(reserved, stub),
-            Err((_, delivery)) => Collected::Abandoned(delivery.abandon()),
+            Ok(stub) => Collected::Answered(reserved, Unsettled::answered(stub)),
+            Err((_, delivery)) => Collected::Abandoned(Unsettled::abandoned(delivery)),
         }
     }
 }

@@ -2,4 +2,4 @@ use Rattle.std.proofs.Common.{◌≡◌}
 use Rattle.buffer_lanes.proofs.waiting.Gathered.ask.Given as goal
 
 abbrev pub invariant-receipts : goal.invariant-receipts
-invariant-receipts g l = (l.gathered ≡ l.fn.self) × (l.lanes ≡ l.initial.lanes)
+invariant-receipts g l = (l.gathered.awaited ≡ l.fn.self.awaited) × (l.lanes ≡ l.initial.lanes)

@@ -27,9 +27,9 @@ invariant_of-self-2 g c =
     let found = subst (λ (o : Option (Branches _)). IfSome o (λ branches. IsRoutedTo c.deref.result.now wanted branches.tag branches.leaves.items)) c.in-Some-2.is c.in_ok-branches.ensures.leaves in
     let goes = subst (λ (e : Entry). IsRoutedTo e wanted tag leaves) c.deref.ensures found in
     let opened = c.in-Ok.ensures.opens ∙ ap (λ (t : List ℕ). record { number = c.in-Some.number; message = meaning c.args.message; tag = t; leaves = leaves; receipts = [] }) c.as_bytes.ensures.bytes in
-    let is : c.in-Ok-begin.waiting ≡ record { awaited = record { number = c.in-Some.number; asked = wanted; tag = tag; leaves = leaves }; buffers = c.in-Some-2.branches.buffers.items } =
-    c.in-Ok-begin.ensures.waits ∙ ap (λ (d : OpenDelivery). record { awaited = awaited_by d; buffers = c.in-Some-2.branches.buffers.items }) opened in
-    let owed : IsOwed entry asked (record { awaited = record { number = c.in-Some.number; asked = wanted; tag = tag; leaves = leaves }; buffers = c.in-Some-2.branches.buffers.items }) = record {
+    let is : c.in-Ok-begin.waiting ≡ record { awaited = record { number = c.in-Some.number; asked = wanted; tag = tag; leaves = leaves }; receipts = []; buffers = c.in-Some-2.branches.buffers.items } =
+    c.in-Ok-begin.ensures.waits ∙ ap (λ (d : OpenDelivery). record { awaited = awaited_by d; receipts = d.receipts; buffers = c.in-Some-2.branches.buffers.items }) opened in
+    let owed : IsOwed entry asked (record { awaited = record { number = c.in-Some.number; asked = wanted; tag = tag; leaves = leaves }; receipts = []; buffers = c.in-Some-2.branches.buffers.items }) = record {
       demanded = subst (λ (p : PeerState). Contains p.session.asked wanted) (sym c.self.view_is) c.requires;
       goes = goes;
     } in
