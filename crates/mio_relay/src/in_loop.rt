@@ -1,11 +1,11 @@
 //! The loop that takes messages in.
 
-ghost use Rattle.std.specs.Prelude.{◌≡◌, [], Err, None, map, IfErr, IfOk, IfSome, OnOk};
+ghost use Rattle.std.specs.Prelude.{◌≡◌, [], Err, None, Ok, map, IfErr, IfOk, IfSome, OnOk};
 ghost use Rattle.std.specs.Arc.{arc_value};
 ghost use Rattle.relay_buffers.specs.Buffers.{AreBuffersOf};
 ghost use Rattle.relay_ports.specs.Outputs.{outputs_in};
 ghost use Rattle.relay_ports.specs.Setups.{CanRun};
-ghost use Rattle.buffer_lanes.specs.Lanes.{NoneLater};
+ghost use Rattle.buffer_lanes.specs.Lanes.{AppendsWait, NoneLater};
 ghost use Rattle.mio_relay.specs.Connections.{AreFlushed, AreServed, AreSettled, sources_of};
 ghost use Rattle.mio_relay.specs.Loops.{OnlyLaterWait, Rests, Stays};
 ghost use Rattle.mio_relay.specs.Faults.{IsReason, IsTold, fault_in, of_network, told_of};
@@ -309,6 +309,7 @@ impl<N: Network + Drop, D: Dir + Drop, A: Allocator + Copy> InLoop<N, D, A> {
     // Reads what came, unless appends wait for their receipts.
     fn take_in<R: Wait>(&mut self, rt: &R) -> Result<(), NoNumber>
         ensures stays { Stays self.old self.new }
+        ensures held { AppendsWait self.old.lanes.waiting → (result ≡ Ok tt) × (self.new ≡ self.old) }
     {
         if self.lanes.have_pendings() {
             return Ok(());

@@ -1,14 +1,26 @@
 use Rattle.std.proofs.Common.{◌∙◌, ap, subst}
 use Rattle.buffer_lanes.specs.Lanes.{LanesState, NoneLater}
 use Rattle.mio_relay.proofs.Slots.{on_ok}
-use Rattle.mio_relay.proofs.Staying.{only_later_still}
+use Rattle.mio_relay.proofs.Staying.{only_later_still, stays_more}
 use Rattle.mio_relay.proofs.in_loop.InLoop.turn_once.Goals as goal
+
+pub returns-clause-stays : goal.returns-clause-stays
+returns-clause-stays g c =
+    let old = c.args.self.now in
+    let timed = stays_more old c.wait.new.self c.set_time.new.self c.wait.ensures.stays c.set_time.ensures in
+    let accepted = stays_more old c.set_time.new.self c.accept_all.new.self timed c.accept_all.ensures in
+    let taken = stays_more old c.accept_all.new.self c.take_in-read.new.self accepted c.take_in-read.ensures.stays in
+    let stored = stays_more old c.take_in-read.new.self c.store.new.self taken c.store.ensures.stays in
+    let ended = stays_more old c.store.new.self c.settle_all.new.self stored c.settle_all.ensures.stays in
+    let renewed = stays_more old c.settle_all.new.self c.renew.new.self ended c.renew.ensures.stays in
+    let written = stays_more old c.renew.new.self c.write_all.new.self renewed c.write_all.ensures.stays in
+    stays_more old c.write_all.new.self c.close_all.new.self written c.close_all.ensures.stays
 
 pub returns-clause-settled : goal.returns-clause-settled
 returns-clause-settled g c =
     let same =
     c.close_all.ensures.rests.later ∙ ap (λ (l : LanesState _). l.later) c.write_all.ensures.lanes ∙ c.renew.ensures.rests.later
-        ∙ ap (λ (l : LanesState _). l.later) c.settle_all.ensures.lanes in
+    ∙ ap (λ (l : LanesState _). l.later) c.settle_all.ensures.lanes in
     on_ok c.match-fault.result _
     (λ none. c.close_all.ensures.rests.settled (c.write_all.ensures.settled (c.renew.ensures.rests.settled (c.settle_all.ensures.settled (subst NoneLater same none)))))
 
@@ -16,10 +28,10 @@ pub returns-clause-redeemed : goal.returns-clause-redeemed
 returns-clause-redeemed g c =
     let waiting =
     c.close_all.ensures.rests.waiting ∙ ap (λ (l : LanesState _). l.waiting) c.write_all.ensures.lanes ∙ c.renew.ensures.rests.waiting
-        ∙ ap (λ (l : LanesState _). l.waiting) c.settle_all.ensures.lanes in
+    ∙ ap (λ (l : LanesState _). l.waiting) c.settle_all.ensures.lanes in
     let later =
     c.close_all.ensures.rests.later ∙ ap (λ (l : LanesState _). l.later) c.write_all.ensures.lanes ∙ c.renew.ensures.rests.later
-        ∙ ap (λ (l : LanesState _). l.later) c.settle_all.ensures.lanes in
+    ∙ ap (λ (l : LanesState _). l.later) c.settle_all.ensures.lanes in
     on_ok c.match-fault.result _ (only_later_still c.store.new.self.lanes c.close_all.new.self.lanes waiting later c.store.ensures.redeemed)
 
 pub returns-clause-flushed : goal.returns-clause-flushed
