@@ -6,8 +6,8 @@ ghost use Rattle.buffer_lanes.specs.Lanes.{AppendsWait, AreRedeemedAt, EndsWith,
 ghost use Rattle.buffer_lanes.specs.Waits.{HasEntries};
 
 use crate::lane::Lane;
-use crate::unsettled::Unsettled;
-use ack_receipt::{Delivery, Receipt, Stub};
+use crate::unsettled::{Handed, Unsettled};
+use ack_receipt::{Delivery, Stub};
 use buffer_store::BufferFault;
 use disk_files::Dir;
 use relay_conf::BufferNo;
@@ -262,13 +262,13 @@ impl<D: Dir + Drop, A: Allocator + Copy> Lanes<D, A> {
     }
 
     /// The receipt of this buffer's first append of those that nobody took it of yet; `None` where there is none.
-    pub fn give(&mut self, buffer: BufferNo) -> Option<Receipt<A>>
+    pub fn give(&mut self, buffer: BufferNo) -> Option<Handed<A>>
         ensures { self.new ≡ self.old }
     {
         let Some(lane) = self.lanes.get_mut(buffer.0) else {
             return None;
         };
-        lane.give()
+        Some(Handed::out(lane.give()?))
     }
 
     /// What is left of a delivery: it is kept, or accounted for in the books of its buffers, also where there is no memory to

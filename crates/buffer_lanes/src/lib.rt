@@ -10,5 +10,5 @@ mod waiting;
 pub use lane::Lane;
 pub use lanes::Lanes;
 pub use schedule::{Schedule, Staged};
-pub use unsettled::Unsettled;
+pub use unsettled::{Handed, Unsettled};
 pub use waiting::{Collected, Waiting};

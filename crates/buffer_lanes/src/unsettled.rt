@@ -1,6 +1,6 @@
-//! What is left of a delivery, before it is accounted for.
+//! Receipts that are handed out, and what is left of deliveries, before it is accounted for.
 
-ghost use Rattle.std.specs.Prelude.{◌≡◌, ◌∷◌, []};
+ghost use Rattle.std.specs.Prelude.{◌≡◌, ◌++◌, ◌∷◌, [], IfErr, IfOk};
 ghost use Rattle.buffer_lanes.specs.Waits.{left_of};
 
 use ack_receipt::{Delivery, Receipt, Stub};
@@ -35,18 +35,52 @@ impl<A: Allocator> Unsettled<A> {
         Unsettled(stub)
     }
 
-    // Of a receipt that no delivery takes.
-    pub(crate) fn spent(receipt: Receipt<A>) -> Self
-        ensures { result ≡ left_of receipt.delivery (receipt ∷ []) }
-    {
-        Unsettled(receipt.spend())
-    }
-
     // For `Lanes::settle` alone.
     pub(crate) fn into_stub(self) -> Stub<A>
         ensures { result ≡ self }
     {
         let Unsettled(stub) = self;
         stub
+    }
+}
+
+/// A receipt that its buffer handed out. Contracts see an `Appended`.
+///
+/// It can be neither copied nor dropped: a delivery takes it, or it is settled.
+pub struct Handed<A: Allocator>(Receipt<A>);
+
+impl<A: Allocator> Model for Handed<A> {
+    ghost use Rattle.ack_receipt.specs.Deliveries.{Appended};
+
+    ghost Value = { Appended };
+
+    ghost view = { λ h. h.0 };
+}
+
+impl<A: Allocator> Handed<A> {
+    pub(crate) fn out(receipt: Receipt<A>) -> Self
+        ensures { result ≡ receipt }
+    {
+        Handed(receipt)
+    }
+
+    // The delivery with this receipt behind its others; where it takes none of it, both come back.
+    pub(crate) fn added_to(self, delivery: Delivery<A>) -> Result<Delivery<A>, (Delivery<A>, Self)>
+        ensures added { IfOk result (λ with. with ≡ record delivery { receipts = delivery.receipts ++ self ∷ [] }) }
+        ensures back { IfErr result (λ refused. (refused.0 ≡ delivery) × (refused.1 ≡ self)) }
+    {
+        let Handed(receipt) = self;
+        match delivery.add(receipt) {
+            Ok(with) => Ok(with),
+            Err((_, delivery, receipt)) => Err((delivery, Handed(receipt))),
+        }
+    }
+
+    // What is left of it, where no delivery takes it.
+    pub(crate) fn spent(self) -> Unsettled<A>
+        ensures { result ≡ left_of self.delivery (self ∷ []) }
+    {
+        let Handed(receipt) = self;
+        Unsettled(receipt.spend())
     }
 }

@@ -8,8 +8,8 @@ ghost use Rattle.buffer_lanes.specs.Waits.{HasEntries, awaited_by, left_of};
 ghost use Rattle.relay_conf.specs.declared.output.BufferNo.{BufferNo};
 
 use crate::lanes::Lanes;
-use crate::unsettled::Unsettled;
-use ack_receipt::{Delivery, Receipt, Reserved};
+use crate::unsettled::{Handed, Unsettled};
+use ack_receipt::{Delivery, Reserved};
 use disk_files::Dir;
 use relay_conf::BufferNo;
 use std::alloc::Allocator;
@@ -153,7 +153,7 @@ impl<A: Allocator + Copy> Gathered<A> {
             match gathered.with(receipt) {
                 Ok(with) => return with,
                 Err((without, receipt)) => {
-                    lanes.settle(rt, Unsettled::spent(receipt));
+                    lanes.settle(rt, receipt.spent());
                     gathered = without;
                 }
             }
@@ -162,15 +162,15 @@ impl<A: Allocator + Copy> Gathered<A> {
     }
 
     // With one receipt more; one that isn't the delivery's is handed back.
-    fn with(self, receipt: Receipt<A>) -> Result<Self, (Self, Receipt<A>)>
+    fn with(self, receipt: Handed<A>) -> Result<Self, (Self, Handed<A>)>
         ensures ok { IfOk result (λ gathered. gathered.awaited ≡ self.awaited) }
         ensures receipts { IfOk result (λ gathered. gathered.receipts ≡ self.receipts ++ receipt ∷ []) }
         ensures err { IfErr result (λ refused. (refused.0 ≡ self) × (refused.1 ≡ receipt)) }
     {
         let Gathered { delivery, reserved } = self;
-        match delivery.add(receipt) {
+        match receipt.added_to(delivery) {
             Ok(delivery) => Ok(Gathered { delivery, reserved }),
-            Err((_, delivery, receipt)) => Err((Gathered { delivery, reserved }, receipt)),
+            Err((delivery, receipt)) => Err((Gathered { delivery, reserved }, receipt)),
         }
     }
 
