@@ -2,6 +2,7 @@ pub mod Names
 pub mod Outlines
 pub mod Sinks
 pub mod Drops
+pub mod Plans
 pub mod Laws
 pub mod Printed
 pub mod Changes

@@ -2,6 +2,9 @@
 use Rattle.std.specs.Prelude.{ℕ, List, codes}
 use Rattle.deliberate_drops.specs.declared.error.DropError.{DropError}
 use Rattle.deliberate_drops.specs.declared.error.DropError.TheVariants as error
+use Rattle.deliberate_drops.specs.declared.error.DroppedPlanError.{DroppedPlanError}
+use Rattle.deliberate_drops.specs.declared.error.DroppedPlanError.TheVariants as dropped
+use Rattle.plan_lines.specs.Printed.{error_text as plan_text}
 
 -- a text that names no match
 abbrev pub name_error_text : List ℕ
@@ -13,3 +16,8 @@ error_text (error.NoRelay at) = codes "no relay of the plan has this number"
 error_text (error.NoScope at) = codes "the relay has no such scope"
 error_text (error.NoMatch at) = codes "the scope has no match with this index"
 error_text error.Memory = codes "memory"
+
+-- the plan's own error, or that of a name
+abbrev pub plan_error_text : DroppedPlanError → List ℕ
+plan_error_text (dropped.Plan fault) = plan_text fault
+plan_error_text (dropped.Drop why) = error_text why

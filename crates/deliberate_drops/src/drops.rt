@@ -1,6 +1,6 @@
 //! The plan at whose named matches events may be let go.
 
-ghost use Rattle.std.specs.Prelude.{◌≡◌, IfOk, IfErr, OnOk};
+ghost use Rattle.std.specs.Prelude.{◌≡◌, [], IfOk, IfErr, OnOk};
 ghost use Rattle.loss_rules.specs.Rules.{PathsAreDistinct};
 ghost use Rattle.plan_lines.specs.Parts.{plan_of, IsWhole};
 ghost use Rattle.deliberate_drops.specs.Drops.{LetsGo, IsRefused};
@@ -8,7 +8,7 @@ ghost use Rattle.deliberate_drops.specs.OneByOne.{LetsOneGo, IsRefusedAt};
 
 use crate::error::DropError;
 use crate::name::DropName;
-use crate::place::place_of;
+use crate::place::place_in;
 use crate::put::put_outputs;
 use crate::sink::own_sink;
 use plan_lines::PlanParts;
@@ -28,6 +28,7 @@ pub fn with_drops<A: Allocator + Copy>(
 ) -> Result<PlanParts<A>, DropError>
     requires { IsWhole (plan_of parts) }
     ensures dropped { IfOk result (λ after. LetsGo (plan_of parts) drops.now (plan_of after)) }
+    ensures unchanged { IfOk result (λ after. drops.now ≡ [] → plan_of after ≡ plan_of parts) }
     ensures whole { IfOk result (λ after. IsWhole (plan_of after)) }
     // Where paths were distinct in each relay, they are.
     ensures paths { IfOk result (λ after. PathsAreDistinct (plan_of parts).net → PathsAreDistinct (plan_of after).net) }
@@ -53,7 +54,7 @@ fn let_go<A: Allocator + Copy>(
     ensures lets { OnOk result (LetsOneGo (plan_of parts.old) name.now (plan_of parts.new)) }
     ensures refused { IfErr result (IsRefusedAt (plan_of parts.old).net name.now at) }
 {
-    let place = match place_of(parts, name, at) {
+    let place = match place_in(parts, name, at) {
         Ok(place) => place,
         Err(error) => return Err(error),
     };

@@ -1,5 +1,6 @@
 //! Why a name isn't read, and why a plan isn't changed.
 
+use plan_lines::PlanError;
 use std::alloc::{AllocError, AllocFailed};
 use std::error::Error;
 use std::fmt;
@@ -71,5 +72,64 @@ impl<T: Drop> From<AllocFailed<T>> for DropError {
 
     fn from(_refused: AllocFailed<T>) -> DropError {
         DropError::Memory
+    }
+}
+
+/// Why texts and names give no plan.
+#[derive(Clone, Copy, Debug, PartialEq, Eq)]
+pub enum DroppedPlanError {
+    /// The texts say no plan, or memory ran out.
+    Plan(PlanError),
+    /// A name means no match of the plan, or memory ran out.
+    Drop(DropError),
+}
+
+impl fmt::Display for DroppedPlanError {
+    ghost use Rattle.std.specs.Prelude.{Some};
+    ghost use Rattle.deliberate_drops.specs.Printed.{plan_error_text};
+
+    ghost output = { λ error. Some (plan_error_text error) };
+
+    fn fmt<W: fmt::Write>(&self, f: &mut fmt::Formatter<W>) -> fmt::Result {
+        match self {
+            DroppedPlanError::Plan(error) => write!(f, "{error}"),
+            DroppedPlanError::Drop(error) => write!(f, "{error}"),
+        }
+    }
+}
+
+impl Error for DroppedPlanError {}
+
+impl From<PlanError> for DroppedPlanError {
+    ghost use Rattle.std.specs.Prelude.{◌≡◌};
+    ghost use Rattle.deliberate_drops.specs.declared.error.DroppedPlanError.TheVariants.{Plan};
+
+    ghost from_gives = { λ error e. e ≡ Plan error };
+
+    fn from(error: PlanError) -> DroppedPlanError {
+        DroppedPlanError::Plan(error)
+    }
+}
+
+impl From<DropError> for DroppedPlanError {
+    ghost use Rattle.std.specs.Prelude.{◌≡◌};
+    ghost use Rattle.deliberate_drops.specs.declared.error.DroppedPlanError.TheVariants.{Drop};
+
+    ghost from_gives = { λ error e. e ≡ Drop error };
+
+    fn from(error: DropError) -> DroppedPlanError {
+        DroppedPlanError::Drop(error)
+    }
+}
+
+impl From<AllocError> for DroppedPlanError {
+    ghost use Rattle.std.specs.Prelude.{◌≡◌};
+    ghost use Rattle.plan_lines.specs.declared.error.PlanError.TheVariants.{Memory};
+    ghost use Rattle.deliberate_drops.specs.declared.error.DroppedPlanError.TheVariants.{Plan};
+
+    ghost from_gives = { λ _ e. e ≡ Plan Memory };
+
+    fn from(_refused: AllocError) -> DroppedPlanError {
+        DroppedPlanError::Plan(PlanError::Memory)
     }
 }

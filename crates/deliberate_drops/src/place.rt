@@ -1,9 +1,10 @@
 //! Where the match stands that a name means.
 
-ghost use Rattle.std.specs.Prelude.{◌≡◌, IfOk, IfErr, option_map};
+ghost use Rattle.std.specs.Prelude.{◌≡◌, IfOk, IfErr, List, option_map};
 ghost use Rattle.relay_net.specs.Network.{place_among};
+ghost use Rattle.relay_net.specs.declared.node.Client.{Client};
 ghost use Rattle.plan_lines.specs.Parts.{plan_of};
-ghost use Rattle.plan_lines.specs.Plans.{scope_at};
+ghost use Rattle.plan_lines.specs.Plans.{network, scope_at};
 ghost use Rattle.deliberate_drops.specs.Changes.{match_in};
 ghost use Rattle.deliberate_drops.specs.OneByOne.{IsMeant, IsRefusedAt};
 
@@ -15,7 +16,7 @@ use std::alloc::Allocator;
 
 /// Where a match stands, and its line.
 #[derive(Clone, Copy, Debug, PartialEq, Eq)]
-pub(crate) struct MatchPlace {
+pub struct MatchPlace {
     /// The place of the relay in the plan, counted from 0.
     pub place: usize,
     /// The place of the scope in the relay, counted from 0; the main scope is 0.
@@ -26,8 +27,8 @@ pub(crate) struct MatchPlace {
     pub line: usize,
 }
 
-/// Where the match stands that the name means, which has this place among the names.
-pub(crate) fn place_of<A: Allocator>(
+/// Where the match of these parts stands that the name means, which has this place among names.
+pub(crate) fn place_in<A: Allocator>(
     parts: &PlanParts<A>,
     name: &DropName<'_>,
     at: usize,
@@ -35,13 +36,25 @@ pub(crate) fn place_of<A: Allocator>(
     ensures meant { IfOk result (IsMeant (plan_of parts.now).net name.now) }
     ensures refused { IfErr result (IsRefusedAt (plan_of parts.now).net name.now at) }
 {
-    let Some(place) = relay_place(&parts.relays, name.relay) else {
+    place_of(&parts.relays, name, at)
+}
+
+/// Where the match of these relays stands that the name means, which has this place among names. An error says what isn't there.
+pub fn place_of<A: Allocator>(
+    relays: &[Node<A>],
+    name: &DropName<'_>,
+    at: usize,
+) -> Result<MatchPlace, DropError>
+    ensures meant { (clients : List (Client A)) → IfOk result (IsMeant (network relays.now clients) name.now) }
+    ensures refused { (clients : List (Client A)) → IfErr result (IsRefusedAt (network relays.now clients) name.now at) }
+{
+    let Some(place) = relay_place(relays, name.relay) else {
         return Err(DropError::NoRelay(at));
     };
-    let Some(scope) = scope_place(&parts.relays, place, name.scope) else {
+    let Some(scope) = scope_place(relays, place, name.scope) else {
         return Err(DropError::NoScope(at));
     };
-    let Some(line) = match_line(&parts.relays, place, scope, name.index) else {
+    let Some(line) = match_line(relays, place, scope, name.index) else {
         return Err(DropError::NoMatch(at));
     };
     Ok(MatchPlace {

@@ -1,4 +1,4 @@
-use Rattle.std.proofs.Common.{[], get_or, arith}
+use Rattle.std.proofs.Common.{◌≡◌, ℕ, [], ap, get_or, length, arith, refl}
 use Rattle.std.proofs.lemmas.Option.{slice_get-get_or}
 use Rattle.plan_lines.specs.Parts.{plan_of}
 use Rattle.deliberate_drops.specs.declared.name.DropName.{DropName}
@@ -11,7 +11,7 @@ no_name : DropName
 no_name = record { relay = 0; scope = record { ref_ptr = (0, 0); now = [] }; index = 0 }
 
 pub loop-at-init : goal.loop-at-init
-loop-at-init g c = record { so_far = none_gone (plan_of c.args.parts) c.args.drops.now; whole = c.requires; paths = λ are. are }
+loop-at-init g c = record { so_far = none_gone (plan_of c.args.parts) c.args.drops.now; unchanged = λ none. refl; whole = c.requires; paths = λ are. are }
 
 pub loop-at-preserved : goal.loop-at-preserved
 unfolding no_name
@@ -23,6 +23,7 @@ loop-at-preserved g c =
     let name = get_or names at no_name in
     record {
       so_far = more_gone (plan_of c.args.parts) mid after names at name (slice_get-get_or names at no_name c.loop-at-test.true) c.loop-at.invariant.so_far c.in-Ok.ensures.lets;
+      unchanged = λ none. absurd (omega (arith, none));
       whole = whole_still mid after name c.in-Ok.ensures.lets c.loop-at.invariant.whole;
       paths = λ are. paths_still mid after name c.in-Ok.ensures.lets (c.loop-at.invariant.paths are);
     }
@@ -37,3 +38,6 @@ returns-in-Err-clause-refused g c =
 
 pub returns-clause-dropped : goal.returns-clause-dropped
 returns-clause-dropped g c = all_gone (plan_of c.args.parts) (plan_of c.loop-at.changed) c.args.drops.now c.loop-at.at (omega arith) c.loop-at.invariant.so_far
+
+pub returns-clause-unchanged : goal.returns-clause-unchanged
+returns-clause-unchanged g c = λ none. let empty : length c.args.drops.now ≡ 0 = ap length none in c.loop-at.invariant.unchanged (omega (arith, empty))
