@@ -1,7 +1,7 @@
 //! What is said of a broken rule in front of the steps.
 
 use crate::keeping::{lacks, words_of};
-use crate::site::{Texts, match_at};
+use crate::site::{MatchSite, Texts, match_at};
 use crate::story::{put_headed, put_note};
 use crate::ways::Ways;
 use crate::words::{advice, asks_for_lines, meaning};
@@ -116,7 +116,31 @@ impl<A: Allocator + Copy> Subject<'_, A> {
         for output in &found.rule.outputs {
             self.put_lacks_of(out, output)?;
         }
-        Ok(())
+        self.put_dropping(out, &found)
+    }
+
+    // Adds how to say that events may go at the match, where all of them do.
+    fn put_dropping(
+        &self,
+        out: &mut Vec<u8, A>,
+        found: &MatchSite<'_, A>,
+    ) -> Result<(), AllocError> {
+        let [Output::Null { line: _ }] = found.rule.outputs.as_slice() else {
+            return Ok(());
+        };
+        let Some(node) = self.plan.net().relays().get(found.at.relay) else {
+            return Ok(());
+        };
+        let relay = node.number;
+        let scope = match node.relay.scopes.get(found.at.scope) {
+            Some(scope) if found.at.scope > 0 => scope.name.as_str(),
+            _ => ".",
+        };
+        let index = found.index;
+        let note = format!(in self.alloc;
+            "  If what comes there may go on purpose, say so: `relayctl check` with `--drop {relay}:{scope}:{index}`."
+        )?;
+        put_note(out, note.as_bytes())
     }
 
     // Adds what the output lacks.

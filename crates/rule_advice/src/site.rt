@@ -1,5 +1,8 @@
 //! Where a rule is broken: a line of the plan, or of a relay's configuration.
 
+ghost use Rattle.std.specs.Prelude.{◌≡◌, ◌++◌, ℕ, List, OnOk};
+ghost use Rattle.rule_advice.specs.Sites.{site_line};
+
 use loss_rules::Place;
 use plan_lines::Plan;
 use relay_conf::{MatchRule, Scope};
@@ -69,7 +72,9 @@ impl<'t, A: Allocator> Texts<'t, A> {
     }
 
     /// This line of the configuration of the relay at this place; no text where it has none.
-    pub fn conf_site(&self, place: usize, line: usize) -> Site<'t> {
+    pub fn conf_site(&self, place: usize, line: usize) -> Site<'t>
+        ensures { result.line ≡ line }
+    {
         Site {
             name: self.conf_name(place),
             text: match self.confs.get(place) {
@@ -88,7 +93,9 @@ impl<'t> Site<'t> {
         alloc: A,
         out: &mut Vec<u8, A>,
         words: &str,
-    ) -> Result<(), AllocError> {
+    ) -> Result<(), AllocError>
+        ensures { OnOk result ((shown : List ℕ) × (out.new.items ≡ out.old.items ++ site_line words.now self.now.name.now self.now.line shown)) }
+    {
         let name = self.name;
         let line = self.line;
         let front = format!(in alloc; "# {words} {name}, line {line}: ")?;
