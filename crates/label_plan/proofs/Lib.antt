@@ -1,3 +1,4 @@
+pub mod Dropless
 pub mod Keeping
 pub mod Nones
 pub mod Peeling

@@ -1,5 +1,7 @@
 -- What a plan's text is with the labels and reaches that it lacks.
 use Rattle.std.specs.Prelude.{◌≡◌, ℕ, List, ◌++◌}
+use Rattle.deliberate_drops.specs.Plans.{IsDropped}
+use Rattle.deliberate_drops.specs.declared.name.DropName.{DropName}
 use Rattle.loss_rules.specs.Breaks.{Subject}
 use Rattle.loss_rules.specs.Rules.{ClientsAreLabelled, ReachesCover, RelabelsAreLabelled, ForwardsAreLabelled}
 use Rattle.loss_rules.specs.declared.label.Label.{Label}
@@ -38,3 +40,16 @@ pub record IsLabelled (A : Type 0) (confs : List (List ℕ)) (given text : List 
   pub is : IsPlanOf text confs after
   pub extends : Extends before after
   pub closed : IsClosed after.net after.labels after.reaches
+
+-- The same of the plan at whose named matches events are let go: the labels and reaches close that one.
+pub record IsLabelledDropping (A : Type 0) (confs : List (List ℕ)) (names : List DropName) (given text : List ℕ) : Type 0 where
+  pub lines : List (List ℕ)
+  pub lines_are : text_lines text ≡ text_lines given ++ lines
+  pub before : Subject A
+  pub was : IsPlanOf given confs before
+  pub after : Subject A
+  pub is : IsPlanOf text confs after
+  pub extends : Extends before after
+  pub changed : Subject A
+  pub dropped : IsDropped after names changed
+  pub closed : IsClosed changed.net changed.labels changed.reaches

@@ -4,7 +4,7 @@
 use crate::lines::{put_label, put_reach};
 use crate::manner::{Manner, Preference};
 use crate::pattern::{any_tag, copied, fits_any, prefixed, widened};
-use crate::stock::{Stock, is_known, matches_at};
+use crate::stock::{Stock, matches_at};
 use crate::task::{FIRST, Gate, Origin, Task, has_passed};
 use plan_lines::Plan;
 use relay_conf::{MatchRule, Output, Server};
@@ -25,7 +25,7 @@ pub(crate) fn derived<A: Allocator + Copy>(
         alloc,
         net: plan.net(),
         manner,
-        stock: Stock::new(alloc, plan.net())?,
+        stock: Stock::new(alloc),
         tasks: Vec::new(alloc),
         lines: Vec::new(alloc),
     };
@@ -75,7 +75,7 @@ impl<'a, A: Allocator + Copy> Deriver<'a, A> {
                 scope: reach.scope,
             };
             for pattern in &reach.patterns {
-                self.keep_reach(at, reach.rule, pattern)?;
+                self.stock.keep_reach(at, reach.rule, pattern)?;
             }
         }
         Ok(())
@@ -155,9 +155,9 @@ impl<'a, A: Allocator + Copy> Deriver<'a, A> {
         origin: Origin,
     ) -> Result<(), AllocError> {
         for other in &found.patterns {
-            if !apart(other, label) && !is_known(self.stock.reaches(at, rule), label) {
+            if !apart(other, label) && !self.stock.knows_reach(at, rule, label) {
                 let narrower = self.narrower(at, &found.outputs, label, other);
-                if !is_known(self.stock.reaches(at, rule), other) {
+                if !self.stock.knows_reach(at, rule, other) {
                     self.reach(at, rule, found, narrower, origin)?;
                 }
             }
@@ -198,10 +198,10 @@ impl<'a, A: Allocator + Copy> Deriver<'a, A> {
         pattern: &Plain<A>,
         origin: Origin,
     ) -> Result<(), AllocError> {
-        if is_known(self.stock.reaches(at, rule), pattern) {
+        if self.stock.knows_reach(at, rule, pattern) {
             return Ok(());
         }
-        self.keep_reach(at, rule, pattern)?;
+        self.stock.keep_reach(at, rule, pattern)?;
         put_reach(self.alloc, &mut self.lines, self.net, at, rule, pattern)?;
         self.spread(at, &found.outputs, pattern, origin)
     }
@@ -269,7 +269,7 @@ impl<'a, A: Allocator + Copy> Deriver<'a, A> {
         origin: Origin,
     ) -> Result<(), AllocError> {
         let longer = prefixed(self.alloc, prefix, pattern)?;
-        if is_known(self.stock.labels(at), &longer) {
+        if self.stock.knows_label(at, &longer) {
             return Ok(());
         }
         let comes_back = has_passed(&self.tasks, origin.from, gate);
@@ -295,7 +295,7 @@ impl<'a, A: Allocator + Copy> Deriver<'a, A> {
         pattern: &Plain<A>,
         origin: Origin,
     ) -> Result<(), AllocError> {
-        if is_known(self.stock.labels(at), pattern) {
+        if self.stock.knows_label(at, pattern) {
             return Ok(());
         }
         self.keep_label(at, pattern, false, origin)
@@ -309,28 +309,13 @@ impl<'a, A: Allocator + Copy> Deriver<'a, A> {
         is_given: bool,
         origin: Origin,
     ) -> Result<(), AllocError> {
-        if let Some(labels) = self.stock.labels(at) {
-            labels.push(copied(self.alloc, pattern)?)?;
-        }
+        self.stock.keep_label(at, pattern)?;
         self.tasks.push(Task {
             at,
             pattern: copied(self.alloc, pattern)?,
             is_given,
             origin,
         })?;
-        Ok(())
-    }
-
-    // Keeps a reach.
-    fn keep_reach(
-        &mut self,
-        at: Entrance,
-        rule: usize,
-        pattern: &Plain<A>,
-    ) -> Result<(), AllocError> {
-        if let Some(reaches) = self.stock.reaches(at, rule) {
-            reaches.push(copied(self.alloc, pattern)?)?;
-        }
         Ok(())
     }
 }

@@ -4,12 +4,13 @@ ghost use Rattle.std.specs.Prelude.{◌≡◌, ◌↔◌, IfOk, IfErr, IfSome, I
 ghost use Rattle.plan_lines.specs.Faults.{IsRefusal};
 ghost use Rattle.plan_lines.specs.Forms.{confs_named};
 ghost use Rattle.plan_lines.specs.Plans.{texts};
-ghost use Rattle.label_plan.specs.Labelling.{IsLabelled};
+ghost use Rattle.label_plan.specs.Labelling.{IsLabelled, IsLabelledDropping};
 ghost use Rattle.label_plan.specs.Lines.{OnlyAdds};
 
 use crate::certificate::{is_closed, is_kept, only_adds};
 use crate::derive::derived;
 use crate::manner::{Manner, Preference};
+use deliberate_drops::{DropError, DropName, DroppedPlanError, plan_with_drops};
 use plan_lines::{Plan, PlanError, conf_names};
 use std::alloc::{AllocError, Allocator};
 
@@ -38,11 +39,27 @@ pub fn labelled_text<A: Allocator + Copy>(
     ensures refused { IfErr result (IsRefusal A net.now (texts confs.now)) }
 {
     let plan = Plan::read(alloc, net, confs)?;
-    let narrow = preferred(alloc, net, confs, &plan, false)?;
+    Ok(labelled_dropping(alloc, net, confs, &[], &plan)?)
+}
+
+/// The same of the plan at whose named matches events may be let go: its labels and reaches are found from `plan`, which is that one, and
+/// they close the plan that the text says with these matches let go. Behind a relabel or a server of such a match none is found.
+///
+/// It answers no text also where a name means no match. The only error is want of memory.
+pub fn labelled_dropping<A: Allocator + Copy>(
+    alloc: A,
+    net: &[u8],
+    confs: &[Vec<u8, A>],
+    drops: &[DropName<'_>],
+    plan: &Plan<A>,
+) -> Result<Option<Vec<u8, A>>, AllocError>
+    ensures { IfOk result (λ found. IfSome found (λ text. IsLabelledDropping A (texts confs.now) drops.now net.now text.items)) }
+{
+    let narrow = preferred(alloc, net, confs, drops, plan, false)?;
     if narrow.is_some() {
         return Ok(text_of(narrow));
     }
-    let wide = preferred(alloc, net, confs, &plan, true)?;
+    let wide = preferred(alloc, net, confs, drops, plan, true)?;
     Ok(text_of(wide))
 }
 
@@ -69,20 +86,21 @@ fn preferred<A: Allocator + Copy>(
     alloc: A,
     net: &[u8],
     confs: &[Vec<u8, A>],
+    drops: &[DropName<'_>],
     plan: &Plan<A>,
     widest: bool,
 ) -> Result<Option<Candidate<A>>, AllocError>
-    ensures { IfOk result (λ found. IfSome found (λ found. IsLabelled A (texts confs.now) net.now found.text.items)) }
+    ensures { IfOk result (λ found. IfSome found (λ found. IsLabelledDropping A (texts confs.now) drops.now net.now found.text.items)) }
 {
     let prefer = Preference::Label;
-    let one = attempt(alloc, net, confs, plan, Manner { prefer, widest })?;
+    let one = attempt(alloc, net, confs, drops, plan, Manner { prefer, widest })?;
     if let Some(found) = &one {
         if found.is_kept {
             return Ok(one);
         }
     }
     let prefer = Preference::Match;
-    let two = attempt(alloc, net, confs, plan, Manner { prefer, widest })?;
+    let two = attempt(alloc, net, confs, drops, plan, Manner { prefer, widest })?;
     Ok(better(one, two))
 }
 
@@ -111,10 +129,11 @@ fn attempt<A: Allocator + Copy>(
     alloc: A,
     net: &[u8],
     confs: &[Vec<u8, A>],
+    drops: &[DropName<'_>],
     plan: &Plan<A>,
     manner: Manner,
 ) -> Result<Option<Candidate<A>>, AllocError>
-    ensures { IfOk result (λ found. IfSome found (λ found. IsLabelled A (texts confs.now) net.now found.text.items)) }
+    ensures { IfOk result (λ found. IfSome found (λ found. IsLabelledDropping A (texts confs.now) drops.now net.now found.text.items)) }
 {
     let Some(lines) = derived(alloc, plan, manner)? else {
         return Ok(None);
@@ -123,7 +142,7 @@ fn attempt<A: Allocator + Copy>(
     if !only_adds(alloc, net, &text)? {
         return Ok(None);
     }
-    certified(alloc, net, text, confs)
+    certified(alloc, net, text, confs, drops)
 }
 
 // The text with the lines behind its own.
@@ -136,21 +155,22 @@ fn joined<A: Allocator>(alloc: A, net: &[u8], lines: &[u8]) -> Result<Vec<u8, A>
     Ok(text)
 }
 
-// The text, if it is that of a plan that is closed.
+// The text, if it is that of a plan that is closed, once events are let go at the named matches.
 fn certified<A: Allocator + Copy>(
     alloc: A,
     net: &[u8],
     text: Vec<u8, A>,
     confs: &[Vec<u8, A>],
+    drops: &[DropName<'_>],
 ) -> Result<Option<Candidate<A>>, AllocError>
     requires { OnlyAdds net.now text.items }
-    ensures { IfOk result (λ found. IfSome found (λ found. IsLabelled A (texts confs.now) net.now found.text.items)) }
+    ensures { IfOk result (λ found. IfSome found (λ found. IsLabelledDropping A (texts confs.now) drops.now net.now found.text.items)) }
 {
     let _ = net;
     if !names_as_many(alloc, &text, confs.len())? {
         return Ok(None);
     }
-    match Plan::read(alloc, &text, confs) {
+    match plan_with_drops(alloc, &text, confs, drops) {
         Ok(plan) => {
             if !is_closed(alloc, &plan)? {
                 return Ok(None);
@@ -158,8 +178,9 @@ fn certified<A: Allocator + Copy>(
             let is_kept = is_kept(alloc, &plan)?;
             Ok(Some(Candidate { text, is_kept }))
         }
-        Err(PlanError::Memory) => Err(AllocError),
-        _ => Ok(None),
+        Err(DroppedPlanError::Plan(PlanError::Memory)) => Err(AllocError),
+        Err(DroppedPlanError::Drop(DropError::Memory)) => Err(AllocError),
+        Err(_) => Ok(None),
     }
 }
 

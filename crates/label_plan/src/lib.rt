@@ -12,4 +12,4 @@ mod stock;
 mod task;
 
 pub use fresh::without_labels;
-pub use labelled::labelled_text;
+pub use labelled::{labelled_dropping, labelled_text};

@@ -1,66 +1,133 @@
 //! What is known so far: the labels of each scope, and the reaches of each match.
 
-use crate::pattern::fits_any;
-use relay_conf::{MatchRule, Scope};
-use relay_net::{Entrance, Net, Node};
+use crate::pattern::{copied, fits_any};
+use relay_conf::MatchRule;
+use relay_net::{Entrance, Net};
 use std::alloc::{AllocError, Allocator};
-use tag_pattern::Plain;
+use std::collections::BTreeMap;
+use std::hash::{FoldHasher, Hasher};
+use tag_pattern::{PatternItem, Plain};
 
-/// Patterns that were found for one scope or match.
-pub(crate) type Patterns<A> = Vec<Plain<A>, A>;
+// Where patterns stand, and the number of the literal parts that they begin with.
+type Key = (((usize, usize), usize), u64);
 
-// What is known of a scope.
-#[derive(Drop)]
-struct ScopeTags<A: Allocator> {
-    labels: Patterns<A>,
-    // For each match.
-    reaches: Vec<Patterns<A>, A>,
-}
-
-// What is known of a relay's scopes.
-#[derive(Drop)]
-struct RelayTags<A: Allocator> {
-    scopes: Vec<ScopeTags<A>, A>,
-}
-
-/// The labels of each scope of a network, and the reaches of each of its matches, as far as they are known.
+/// The labels of each scope of a network, and the reaches of each of its matches, as far as they are known. Patterns are looked up by the literal parts
+/// that they begin with, so that those aren't compared which begin otherwise: a pattern fits one alone whose parts it begins with.
 #[derive(Drop)]
 pub(crate) struct Stock<A: Allocator> {
-    relays: Vec<RelayTags<A>, A>,
+    alloc: A,
+    labels: BTreeMap<Key, Vec<Plain<A>, A>, A>,
+    reaches: BTreeMap<Key, Vec<Plain<A>, A>, A>,
 }
 
 impl<A: Allocator + Copy> Stock<A> {
-    /// Nothing is known of the scopes and matches of this network.
-    pub fn new(alloc: A, net: &Net<A>) -> Result<Stock<A>, AllocError> {
-        let mut relays = Vec::new(alloc);
-        for node in net.relays() {
-            relays.push(relay_tags(alloc, node)?)?;
+    /// Nothing is known.
+    pub fn new(alloc: A) -> Stock<A> {
+        Stock {
+            alloc,
+            labels: BTreeMap::new(alloc),
+            reaches: BTreeMap::new(alloc),
         }
-        Ok(Stock { relays })
     }
 
-    /// The labels of this scope, if it is there.
-    pub fn labels(&mut self, at: Entrance) -> Option<&mut Patterns<A>> {
-        Some(&mut self.scope(at)?.labels)
+    /// Whether the pattern fits a label of this scope.
+    pub fn knows_label(&self, at: Entrance, pattern: &Plain<A>) -> bool {
+        is_known(&self.labels, site_of(at, 0), pattern)
     }
 
-    /// The reaches of the match at this place in the scope, if it is there.
-    pub fn reaches(&mut self, at: Entrance, rule: usize) -> Option<&mut Patterns<A>> {
-        self.scope(at)?.reaches.get_mut(rule)
+    /// Whether the pattern fits a reach of the match at this place in the scope.
+    pub fn knows_reach(&self, at: Entrance, rule: usize, pattern: &Plain<A>) -> bool {
+        is_known(&self.reaches, site_of(at, rule), pattern)
     }
 
-    // What is known of this scope.
-    fn scope(&mut self, at: Entrance) -> Option<&mut ScopeTags<A>> {
-        self.relays.get_mut(at.relay)?.scopes.get_mut(at.scope)
+    /// Keeps a label of this scope.
+    pub fn keep_label(&mut self, at: Entrance, pattern: &Plain<A>) -> Result<(), AllocError> {
+        keep(self.alloc, &mut self.labels, site_of(at, 0), pattern)
+    }
+
+    /// Keeps a reach of the match at this place in the scope.
+    pub fn keep_reach(
+        &mut self,
+        at: Entrance,
+        rule: usize,
+        pattern: &Plain<A>,
+    ) -> Result<(), AllocError> {
+        keep(self.alloc, &mut self.reaches, site_of(at, rule), pattern)
     }
 }
 
-/// Whether the pattern fits one of these, if there are any.
-pub(crate) fn is_known<A: Allocator>(known: Option<&mut Patterns<A>>, pattern: &Plain<A>) -> bool {
-    match known {
-        Some(known) => fits_any(pattern, known),
+// The places of the relay, of the scope and of the match.
+fn site_of(at: Entrance, rule: usize) -> ((usize, usize), usize) {
+    ((at.relay, at.scope), rule)
+}
+
+// Whether the pattern fits one that stands there.
+fn is_known<A: Allocator + Copy>(
+    known: &BTreeMap<Key, Vec<Plain<A>, A>, A>,
+    site: ((usize, usize), usize),
+    pattern: &Plain<A>,
+) -> bool {
+    let mut front = FoldHasher::default();
+    if fits_one(known, (site, front.finish()), pattern) {
+        return true;
+    }
+    for item in pattern.items() {
+        let PatternItem::Literal(text) = item else {
+            return false;
+        };
+        put_part(&mut front, text);
+        if fits_one(known, (site, front.finish()), pattern) {
+            return true;
+        }
+    }
+    false
+}
+
+// Whether the pattern fits one of this key.
+fn fits_one<A: Allocator + Copy>(
+    known: &BTreeMap<Key, Vec<Plain<A>, A>, A>,
+    key: Key,
+    pattern: &Plain<A>,
+) -> bool {
+    match known.get(&key) {
+        Some(others) => fits_any(pattern, others),
         None => false,
     }
+}
+
+// Keeps the pattern there.
+fn keep<A: Allocator + Copy>(
+    alloc: A,
+    known: &mut BTreeMap<Key, Vec<Plain<A>, A>, A>,
+    site: ((usize, usize), usize),
+    pattern: &Plain<A>,
+) -> Result<(), AllocError> {
+    let key = (site, front_of(pattern));
+    let mut all = match known.remove(&key) {
+        Some(all) => all,
+        None => Vec::new(alloc),
+    };
+    all.push(copied(alloc, pattern)?)?;
+    known.insert(key, all)?;
+    Ok(())
+}
+
+// The number of the literal parts that the pattern begins with.
+fn front_of<A: Allocator>(pattern: &Plain<A>) -> u64 {
+    let mut front = FoldHasher::default();
+    for item in pattern.items() {
+        match item {
+            PatternItem::Literal(text) => put_part(&mut front, text),
+            _ => return front.finish(),
+        }
+    }
+    front.finish()
+}
+
+// Adds a part.
+fn put_part(front: &mut FoldHasher, part: &[u8]) {
+    front.write(part);
+    front.write_u8(b'.');
 }
 
 /// The matches of this scope; none, where there is no such scope.
@@ -72,25 +139,4 @@ pub(crate) fn matches_at<A: Allocator + Copy>(net: &Net<A>, at: Entrance) -> &[M
         Some(found) => &found.matches,
         None => &[],
     }
-}
-
-// Nothing is known of the relay's scopes.
-fn relay_tags<A: Allocator + Copy>(alloc: A, node: &Node<A>) -> Result<RelayTags<A>, AllocError> {
-    let mut scopes = Vec::new(alloc);
-    for scope in &node.relay.scopes {
-        scopes.push(scope_tags(alloc, scope)?)?;
-    }
-    Ok(RelayTags { scopes })
-}
-
-// Nothing is known of the scope and its matches.
-fn scope_tags<A: Allocator + Copy>(alloc: A, scope: &Scope<A>) -> Result<ScopeTags<A>, AllocError> {
-    let mut reaches = Vec::new(alloc);
-    for _ in &scope.matches {
-        reaches.push(Vec::new(alloc))?;
-    }
-    Ok(ScopeTags {
-        labels: Vec::new(alloc),
-        reaches,
-    })
 }

@@ -7,15 +7,18 @@ use Rattle.label_plan.proofs.labelled.certified.Goals as goal
 pub returns-in-Ok : goal.returns-in-Ok
 returns-in-Ok g c =
     let confs = texts c.args.confs.now in
-    let said = subst (λ text. Say confs (text_lines text) c.in-Ok.plan) c.deref-2.ensures.value c.in-Ok.ensures.plan in
-    let off = all_off (text_lines c.args.net.now) c.requires.lines (subst (λ ls. Say confs ls c.in-Ok.plan) c.requires.lines_are said) c.requires.labels in
+    let read = c.in-Ok.ensures.plan in
+    let said = subst (λ text. Say confs (text_lines text) read.before) c.deref-2.ensures.value read.was in
+    let off = all_off (text_lines c.args.net.now) c.requires.lines (subst (λ ls. Say confs ls read.before) c.requires.lines_are said) c.requires.labels in
     record {
       lines = c.requires.lines;
       lines_are = c.requires.lines_are;
       before = off.before;
       was = off.was;
-      after = c.in-Ok.plan;
+      after = read.before;
       is = said;
       extends = off.extends;
+      changed = c.in-Ok.plan;
+      dropped = read.dropped;
       closed = c.in_ok-is_closed-in-Ok.ensures (let z = c.if-not-branch-2.false in search rules);
     }
