@@ -1,12 +1,14 @@
 //! A plan is labelled, and then asked for its broken rules.
 
-ghost use Rattle.std.specs.Prelude.{◌≡◌, length, true, IfOk, IfErr, IfSome, IsTrue};
+ghost use Rattle.std.specs.Prelude.{◌≡◌, [], length, true, IfOk, IfErr, IfSome, IsTrue};
+ghost use Rattle.deliberate_drops.specs.Plans.{IsNoDroppedPlan};
 ghost use Rattle.plan_lines.specs.Faults.{IsRefusal};
 ghost use Rattle.plan_lines.specs.Forms.{confs_named};
 ghost use Rattle.plan_lines.specs.Plans.{texts};
 ghost use Rattle.labelled_check.specs.Checks.{AreChecked, IsLabelledCheck};
 
-use label_plan::labelled_text;
+use deliberate_drops::{DropError, DropName, DroppedPlanError, plan_with_drops};
+use label_plan::labelled_dropping;
 use loss_checker::{BrokenRule, broken_rules};
 use plan_lines::{Plan, PlanError, conf_names};
 use std::alloc::{AllocError, Allocator};
@@ -32,17 +34,37 @@ pub fn check_labelled<A: Allocator + Copy>(
     confs: &[Vec<u8, A>],
 ) -> Result<LabelledCheck<A>, PlanError>
     requires { length confs.now ≡ length (confs_named net.now) }
-    ensures checked { IfOk result (λ found. IsLabelledCheck A (texts confs.now) net.now found.is_labelled found.text.items found.plan found.broken.items) }
+    ensures checked { IfOk result (λ found. IsLabelledCheck A (texts confs.now) [] net.now found.is_labelled found.text.items found.plan found.broken.items) }
     ensures refused { IfErr result (IsRefusal A net.now (texts confs.now)) }
 {
-    let labelled = labelled_text(alloc, net, confs)?;
+    match check_dropping(alloc, net, confs, &[]) {
+        Ok(found) => Ok(found),
+        Err(DroppedPlanError::Plan(error)) => Err(error),
+        // There is no name, so memory ran out.
+        Err(DroppedPlanError::Drop(_)) => Err(PlanError::Memory),
+    }
+}
+
+/// The same of the plan at whose named matches events may be let go, as `labelled_dropping` labels it: in place of the outputs of each such match stands a sink
+/// that keeps, and the rules are those of that plan. An error is the plan's own, or else that of the first name that means no match.
+pub fn check_dropping<A: Allocator + Copy>(
+    alloc: A,
+    net: &[u8],
+    confs: &[Vec<u8, A>],
+    drops: &[DropName<'_>],
+) -> Result<LabelledCheck<A>, DroppedPlanError>
+    requires { length confs.now ≡ length (confs_named net.now) }
+    ensures checked { IfOk result (λ found. IsLabelledCheck A (texts confs.now) drops.now net.now found.is_labelled found.text.items found.plan found.broken.items) }
+    ensures refused { IfErr result (IsNoDroppedPlan A net.now (texts confs.now) drops.now) }
+{
+    let plan = plan_with_drops(alloc, net, confs, drops)?;
+    let labelled = labelled_dropping(alloc, net, confs, drops, &plan)?;
     if let Some(text) = labelled {
-        let checked = checked(alloc, text, confs, true)?;
+        let checked = checked(alloc, text, confs, drops)?;
         if let Some(found) = checked {
             return Ok(found);
         }
     }
-    let plan = Plan::read(alloc, net, confs)?;
     let broken = broken_rules(alloc, &plan)?;
     let text = Vec::from_slice(alloc, net)?;
     Ok(LabelledCheck {
@@ -53,29 +75,30 @@ pub fn check_labelled<A: Allocator + Copy>(
     })
 }
 
-// The plan of the text, if that names as many configurations as there are and says a plan, and its broken rules.
+// The plan of the text, if that names as many configurations as there are and says a plan, and its broken rules. It is a labelled one.
 fn checked<A: Allocator + Copy>(
     alloc: A,
     text: Vec<u8, A>,
     confs: &[Vec<u8, A>],
-    is_labelled: bool,
+    drops: &[DropName<'_>],
 ) -> Result<Option<LabelledCheck<A>>, AllocError>
-    ensures { IfOk result (λ found. IfSome found (λ found. (found.text ≡ text) × (found.is_labelled ≡ is_labelled) × AreChecked (texts confs.now) text.items found.plan found.broken.items)) }
+    ensures { IfOk result (λ found. IfSome found (λ found. (found.text ≡ text) × (found.is_labelled ≡ true) × AreChecked (texts confs.now) drops.now text.items found.plan found.broken.items)) }
 {
     if !names_as_many(alloc, &text, confs.len())? {
         return Ok(None);
     }
-    match Plan::read(alloc, &text, confs) {
+    match plan_with_drops(alloc, &text, confs, drops) {
         Ok(plan) => {
             let broken = broken_rules(alloc, &plan)?;
             Ok(Some(LabelledCheck {
                 text,
                 plan,
-                is_labelled,
+                is_labelled: true,
                 broken,
             }))
         }
-        Err(PlanError::Memory) => Err(AllocError),
+        Err(DroppedPlanError::Plan(PlanError::Memory)) => Err(AllocError),
+        Err(DroppedPlanError::Drop(DropError::Memory)) => Err(AllocError),
         Err(_) => Ok(None),
     }
 }

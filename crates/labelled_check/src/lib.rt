@@ -3,4 +3,4 @@
 
 mod labelling;
 
-pub use labelling::{LabelledCheck, check_labelled};
+pub use labelling::{LabelledCheck, check_dropping, check_labelled};

@@ -1,3 +1,4 @@
+pub mod Dropping
 pub mod Explanations
 pub mod Leaving
 pub mod Stopping

@@ -6,6 +6,7 @@ use Rattle.std.specs.Prelude.{IfOk, MatchResult, Option}
 use Rattle.std.specs.declared.vec.Vec.{Vec}
 use Rattle.conf_listing.specs.Answers.{IsAdapted}
 use Rattle.conf_listing.specs.Networks.{AreAdaptedTexts}
+use Rattle.deliberate_drops.specs.declared.name.DropName.{DropName}
 use Rattle.labelled_check.specs.Checks.{IsLabelledCheck}
 use Rattle.loss_checker.specs.declared.broken.BrokenRule.{BrokenRule}
 use Rattle.loss_rules.specs.Breaks.{Subject}
@@ -22,12 +23,12 @@ use Rattle.relayctl.specs.declared.check.Check.{Check}
 use Rattle.relayctl.specs.declared.check.Check.TheVariants as check
 
 -- what is said of a plan that is labelled
-pub is_checked : (A : Type 0) (given : List ℕ) (confs : List (List ℕ)) (is_labelled : Bool) (text : List ℕ) (plan : Subject A) (broken : List (BrokenRule A))
-    → IsLabelledCheck A confs given is_labelled text plan broken → (found : Check A) → SaysCheck is_labelled plan broken found → IsTextsCheck A given confs found
-is_checked A given confs is_labelled text plan broken checked (check.Answered said) says =
+pub is_checked : (A : Type 0) (given : List ℕ) (confs : List (List ℕ)) (names : List DropName) (is_labelled : Bool) (text : List ℕ) (plan : Subject A) (broken : List (BrokenRule A))
+    → IsLabelledCheck A confs names given is_labelled text plan broken → (found : Check A) → SaysCheck names is_labelled plan broken found → IsTextsCheck A given confs names found
+is_checked A given confs names is_labelled text plan broken checked (check.Answered said) says =
     record { is_labelled = is_labelled; text = text; plan = plan; broken = broken; checked = checked; says = says }
-is_checked A given confs is_labelled text plan broken checked (check.Refused said) says =
-    inr (record { is_labelled = is_labelled; text = text; plan = plan; broken = broken; checked = checked; says = says })
+is_checked A given confs names is_labelled text plan broken checked (check.Refused said) says =
+    inr (inr (record { is_labelled = is_labelled; text = text; plan = plan; broken = broken; checked = checked; says = says }))
 
 -- the line of a text that isn't read
 pub stop_line : (fault : ReadFault) (lines : List ℕ) → lines ≡ unread_line fault → IsStopLine lines Usage

@@ -1,5 +1,6 @@
 -- What is said of a plan whose configurations are adapted.
 use Rattle.std.specs.Prelude.{◌≡◌, ◌⊎◌, true, false, ℕ, List, ◌++◌, codes, Option}
+use Rattle.deliberate_drops.specs.declared.name.DropName.{DropName}
 use Rattle.conf_listing.specs.Networks.{AreAdaptedTexts, AreNotAdapted}
 use Rattle.conf_listing.specs.declared.confs.StoppedConfs.{StoppedConfs}
 use Rattle.plan_answers.specs.Networks.{AreRead}
@@ -27,11 +28,11 @@ SaysStopped stopped (check.Answered said) = (stopped.has_fault ≡ false) × (sa
 SaysStopped stopped (check.Refused said) = (stopped.has_fault ≡ true) × (said.lines ≡ stopped.lines) × (said.status ≡ Usage)
 
 -- Each configuration is adapted, and this is said of the plan with those that stand for them.
-pub record IsOfAdapted (A : Type 0) (given : List ℕ) (confs accepted : List (List ℕ)) (found : Check A) : Type 0 where
+pub record IsOfAdapted (A : Type 0) (given : List ℕ) (confs accepted : List (List ℕ)) (names : List DropName) (found : Check A) : Type 0 where
   pub adapted : List (List ℕ)
   pub each : AreAdaptedTexts A confs accepted adapted
   pub before : Check A
-  pub is : IsTextsCheck A given adapted before
+  pub is : IsTextsCheck A given adapted names before
   pub noted : AddsAdaptedNote before found
 
 -- Some configuration isn't adapted, and this is said of them.
@@ -41,12 +42,12 @@ pub record IsOfStopped (A : Type 0) (given : List ℕ) (confs accepted : List (L
   pub says : SaysStopped stopped found
 
 -- what is said of the texts that are read
-pub record IsAdaptedCheck (A : Type 0) (net : Option (List ℕ)) (named : List ℕ → Option (List ℕ)) (accepted : List (List ℕ)) (found : Check A) : Type 0 where
+pub record IsAdaptedCheck (A : Type 0) (net : Option (List ℕ)) (named : List ℕ → Option (List ℕ)) (accepted : List (List ℕ)) (names : List DropName) (found : Check A) : Type 0 where
   pub given : List ℕ
   pub confs : List (List ℕ)
   pub read : AreRead net named given confs
-  pub is : IsOfAdapted A given confs accepted found ⊎ IsOfStopped A given confs accepted found
+  pub is : IsOfAdapted A given confs accepted names found ⊎ IsOfStopped A given confs accepted found
 
 -- all that `check --adapt` does to the writer of answers and to that of faults, and its status
-abbrev pub PrintsAdaptedCheck : (A : Type 0) → Option (List ℕ) → (List ℕ → Option (List ℕ)) → List (List ℕ) → Option (List ℕ) → Option (List ℕ) → Option (List ℕ) → Option (List ℕ) → Status → Type 0
-PrintsAdaptedCheck A net named accepted old new old_faults new_faults status = PrintsSuch (IsAdaptedCheck A net named accepted) old new old_faults new_faults status
+abbrev pub PrintsAdaptedCheck : (A : Type 0) → Option (List ℕ) → (List ℕ → Option (List ℕ)) → List (List ℕ) → List DropName → Option (List ℕ) → Option (List ℕ) → Option (List ℕ) → Option (List ℕ) → Status → Type 0
+PrintsAdaptedCheck A net named accepted names old new old_faults new_faults status = PrintsSuch (IsAdaptedCheck A net named accepted names) old new old_faults new_faults status

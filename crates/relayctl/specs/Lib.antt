@@ -1,5 +1,6 @@
 pub mod Adapting
 pub mod Checking
+pub mod Dropping
 pub mod Explaining
 pub mod Faults
 pub mod Labels

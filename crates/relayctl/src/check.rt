@@ -6,11 +6,13 @@ ghost use Rattle.plan_lines.specs.Plans.{texts as texts_of};
 ghost use Rattle.relayctl.specs.Adapting.{adapted_note as adapted_note_of, AddsAdaptedNote, IsAdaptedCheck, PrintsAdaptedCheck, SaysStopped};
 ghost use Rattle.relayctl.specs.Checking.{labels_note as labels_note_of, IsCheck, IsTextsCheck, PrintsCheck, PrintsFound, PrintsUnread, SaysCheck, SaysRules};
 
+use crate::drops::{put_drops, say_missing};
 use crate::explain::{Said, say_faults};
 use crate::faults::further_faults;
 use crate::listing::list_broken;
 use conf_listing::{AdaptedConfs, StoppedConfs, adapt_confs};
-use labelled_check::{LabelledCheck, check_labelled};
+use deliberate_drops::{DropError, DropName, DroppedPlanError};
+use labelled_check::{LabelledCheck, check_dropping};
 use loss_checker::{BrokenRule, Plan, PlanError, conf_names};
 use plan_answers::{Stop, print_stop, read_confs};
 use plan_warnings::{put_stale_reaches, put_warnings};
@@ -20,21 +22,23 @@ use std::alloc::{AllocError, Allocator};
 use std::io::{Read, Write};
 use text_lines::lines;
 
-/// Labels the plan that `net` gives, by this name in what is printed, and prints `yes` where each rule holds of it, with warnings of
-/// what may keep events from arriving; or every place where a rule is broken, and behind them, the shortest first, what each broken
+/// Labels the plan that `net` gives, by this name in what is printed, at whose named matches events may go on purpose: in place of the
+/// outputs of each stands a sink that keeps. It prints `yes` where each rule holds of that plan, with the matches at which events may go,
+/// and warnings of what may keep events from arriving; or every place where a rule is broken, and behind them, the shortest first, what each broken
 /// rule means, what mends it, and steps that lose an acknowledged event, where some were found. Of a plan without relays or clients,
-/// and of a fault, it says so in `faults`. Each text is read whole before a fault of the plan is looked for.
+/// of a fault, and of a name that means no match, it says so in `faults`. Each text is read whole before a fault of the plan is looked for.
 pub fn run_check<A: Allocator + Copy, R: Read, O: Open, W: Write, F: Write>(
     alloc: A,
     name: &str,
     net: &mut R,
     files: &O,
+    drops: &[DropName<'_>],
     out: &mut W,
     faults: &mut F,
 ) -> Status
-    ensures { PrintsCheck A (R.remaining net.old) (O.text_of files.now) (W.contents out.old) (W.contents out.new) (F.contents faults.old) (F.contents faults.new) result }
+    ensures { PrintsCheck A (R.remaining net.old) (O.text_of files.now) drops.now (W.contents out.old) (W.contents out.new) (F.contents faults.old) (F.contents faults.new) result }
 {
-    let found = check_read(alloc, name, net, files);
+    let found = check_read(alloc, name, net, files, drops);
     print_check(alloc, found, out, faults)
 }
 
@@ -46,12 +50,13 @@ pub fn run_adapted_check<A: Allocator + Copy, B: Allocator, R: Read, O: Open, W:
     net: &mut R,
     files: &O,
     accepted: &[String<B>],
+    drops: &[DropName<'_>],
     out: &mut W,
     faults: &mut F,
 ) -> Status
-    ensures { PrintsAdaptedCheck A (R.remaining net.old) (O.text_of files.now) (map string_bytes accepted.now) (W.contents out.old) (W.contents out.new) (F.contents faults.old) (F.contents faults.new) result }
+    ensures { PrintsAdaptedCheck A (R.remaining net.old) (O.text_of files.now) (map string_bytes accepted.now) drops.now (W.contents out.old) (W.contents out.new) (F.contents faults.old) (F.contents faults.new) result }
 {
-    let found = check_adapted(alloc, name, net, files, accepted);
+    let found = check_adapted(alloc, name, net, files, accepted, drops);
     print_check(alloc, found, out, faults)
 }
 
@@ -88,13 +93,14 @@ fn check_read<A: Allocator + Copy, R: Read, O: Open>(
     name: &str,
     net: &mut R,
     files: &O,
+    drops: &[DropName<'_>],
 ) -> Result<Check<A>, ReadFault>
-    ensures { IfOk result (IsCheck A (R.remaining net.old) (O.text_of files.now)) }
+    ensures { IfOk result (IsCheck A (R.remaining net.old) (O.text_of files.now) drops.now) }
 {
     let text = read_whole(alloc, net)?;
     let names = conf_names(alloc, &text)?;
     let confs = read_confs(alloc, &names, files)?;
-    let found = check_texts(alloc, name, &text, &names, &confs, &confs)?;
+    let found = check_texts(alloc, name, &text, &names, &confs, &confs, drops)?;
     Ok(found)
 }
 
@@ -105,8 +111,9 @@ fn check_adapted<A: Allocator + Copy, B: Allocator, R: Read, O: Open>(
     net: &mut R,
     files: &O,
     accepted: &[String<B>],
+    drops: &[DropName<'_>],
 ) -> Result<Check<A>, ReadFault>
-    ensures { IfOk result (IsAdaptedCheck A (R.remaining net.old) (O.text_of files.now) (map string_bytes accepted.now)) }
+    ensures { IfOk result (IsAdaptedCheck A (R.remaining net.old) (O.text_of files.now) (map string_bytes accepted.now) drops.now) }
 {
     let text = read_whole(alloc, net)?;
     let names = conf_names(alloc, &text)?;
@@ -115,14 +122,23 @@ fn check_adapted<A: Allocator + Copy, B: Allocator, R: Read, O: Open>(
         AdaptedConfs::Texts(adapted) => {
             let shown = adapted_names(alloc, &names)?;
             let lent = lent_names(alloc, &shown)?;
-            let found = check_texts(alloc, name, &text, &lent, &adapted.texts, &adapted.noted)?;
+            let found = check_texts(
+                alloc,
+                name,
+                &text,
+                &lent,
+                &adapted.texts,
+                &adapted.noted,
+                drops,
+            )?;
             Ok(as_adapted(found)?)
         }
         AdaptedConfs::Stopped(stopped) => Ok(not_adapted(stopped)),
     }
 }
 
-// What is said of a plan's text with these configurations, which are shown under these names by other texts of the same lines.
+// What is said of a plan's text with these configurations, which are shown under these names by other texts of the same lines, once events are let go
+// at the named matches.
 fn check_texts<A: Allocator + Copy>(
     alloc: A,
     name: &str,
@@ -130,14 +146,15 @@ fn check_texts<A: Allocator + Copy>(
     names: &[&str],
     confs: &[Vec<u8, A>],
     shown: &[Vec<u8, A>],
+    drops: &[DropName<'_>],
 ) -> Result<Check<A>, AllocError>
     requires { length confs.now ≡ length (confs_named text.now) }
-    ensures { IfOk result (IsTextsCheck A text.now (texts_of confs.now)) }
+    ensures { IfOk result (IsTextsCheck A text.now (texts_of confs.now) drops.now) }
 {
-    match check_labelled(alloc, text, confs) {
+    match check_dropping(alloc, text, confs, drops) {
         Ok(checked) => {
             let own = lines(alloc, text)?.len();
-            let added = format!(in alloc; "what `relayctl label {name}` prints")?;
+            let added = added_name(alloc, name, drops)?;
             let texts = Texts {
                 plan_name: name,
                 plan: &checked.text,
@@ -146,10 +163,11 @@ fn check_texts<A: Allocator + Copy>(
                 conf_names: names,
                 confs: shown,
             };
-            Ok(say_checked(alloc, &checked, &texts)?)
+            Ok(say_checked(alloc, &checked, &texts, drops)?)
         }
-        Err(PlanError::Memory) => Err(AllocError),
-        Err(fault) => {
+        Err(DroppedPlanError::Plan(PlanError::Memory)) => Err(AllocError),
+        Err(DroppedPlanError::Drop(DropError::Memory)) => Err(AllocError),
+        Err(DroppedPlanError::Plan(fault)) => {
             let texts = Texts {
                 plan_name: name,
                 plan: text,
@@ -162,6 +180,20 @@ fn check_texts<A: Allocator + Copy>(
             let hint = adapting_hint(fault, &further);
             Ok(Check::Refused(say_faults(alloc, &texts, fault, &further, hint)?))
         }
+        Err(DroppedPlanError::Drop(why)) => Ok(Check::Refused(say_missing(alloc, drops, why)?)),
+    }
+}
+
+// How the lines are called that were added to the plan of this name: where no matches are named, `relayctl label` prints them.
+fn added_name<A: Allocator>(
+    alloc: A,
+    name: &str,
+    drops: &[DropName<'_>],
+) -> Result<String<A>, AllocError> {
+    if drops.is_empty() {
+        format!(in alloc; "what `relayctl label {name}` prints")
+    } else {
+        format!(in alloc; "what is added to {name}")
     }
 }
 
@@ -243,8 +275,9 @@ fn say_checked<A: Allocator + Copy>(
     alloc: A,
     checked: &LabelledCheck<A>,
     texts: &Texts<'_, A>,
+    drops: &[DropName<'_>],
 ) -> Result<Check<A>, AllocError>
-    ensures { IfOk result (SaysCheck checked.now.is_labelled checked.now.plan checked.now.broken.items) }
+    ensures { IfOk result (SaysCheck drops.now checked.now.is_labelled checked.now.plan checked.now.broken.items) }
 {
     let net = checked.plan.net();
     if net.relays().is_empty() {
@@ -253,7 +286,7 @@ fn say_checked<A: Allocator + Copy>(
     if net.clients().is_empty() {
         return Ok(Check::Refused(say_empty(alloc, "no clients\n")?));
     }
-    let said = say_rules(alloc, &checked.plan, texts, &checked.broken)?;
+    let said = say_rules(alloc, &checked.plan, texts, &checked.broken, drops)?;
     Ok(Check::Answered(noted(said, checked.is_labelled)?))
 }
 
@@ -287,18 +320,20 @@ fn labels_note(is_labelled: bool) -> &'static str
     }
 }
 
-// A yes where no rule is broken, and behind it what that doesn't promise; else what is said of each that is, and of lines of the plan by which no
+// A yes where no rule is broken, and behind it what may go at the named matches and what that doesn't promise; else what is said of each that is, and of lines of the plan by which no
 // event goes.
 fn say_rules<A: Allocator + Copy>(
     alloc: A,
     plan: &Plan<A>,
     texts: &Texts<'_, A>,
     broken: &[BrokenRule<A>],
+    drops: &[DropName<'_>],
 ) -> Result<Said<A>, AllocError>
-    ensures { IfOk result (λ said. SaysRules plan.now broken.now said.lines.items said.status) }
+    ensures { IfOk result (λ said. SaysRules drops.now plan.now broken.now said.lines.items said.status) }
 {
     if broken.is_empty() {
         let mut lines = Vec::from_slice(alloc, b"yes\n")?;
+        put_drops(alloc, plan, texts, drops, &mut lines)?;
         put_warnings(alloc, plan, texts, &mut lines)?;
         return Ok(Said {
             lines,

@@ -4,6 +4,7 @@
 mod blanks;
 mod check;
 mod draw;
+mod drops;
 mod explain;
 mod faults;
 mod label;
@@ -12,26 +13,30 @@ mod words;
 
 use check::{run_adapted_check, run_check};
 use conf_listing::run_adapt;
+use deliberate_drops::DropName;
 use draw::run_draw;
+use drops::{DropNames, print_misspelt, read_names};
 use explain::run_explain;
 use folder_listing::{DataFolder, run_show};
 use label::{run_fresh_label, run_label};
 use program_text::{Folder, ReadFault, Status, print_version, put_last};
 use route_listing::run_ways;
+use std::alloc::{AllocError, Allocator};
 use std::io::{ErrorKind, Write};
 use std::process::ExitCode;
 use std::{env, io};
-use words::{Word, read_word};
+use words::{CheckWords, Word, read_word};
 
 const USAGE: &str =
-    "usage: relayctl check NET | check --adapt NET [--accept NAME].. | label [--fresh] NET | explain NET | draw NET [--dot] | ways CONF TAG.. | adapt CONF [--accept NAME].. | show DIR | --help | --version";
+    "usage: relayctl check NET [--drop MATCH].. | check --adapt NET [--accept NAME].. [--drop MATCH].. | label [--fresh] NET | explain NET | draw NET [--dot] | ways CONF TAG.. | adapt CONF [--accept NAME].. | show DIR | --help | --version";
 
 const HELP: &str =
-    "usage: relayctl check NET | check --adapt NET [--accept NAME].. | label [--fresh] NET | explain NET | draw NET [--dot] | ways CONF TAG.. | adapt CONF [--accept NAME].. | show DIR | --help | --version
+    "usage: relayctl check NET [--drop MATCH].. | check --adapt NET [--accept NAME].. [--drop MATCH].. | label [--fresh] NET | explain NET | draw NET [--dot] | ways CONF TAG.. | adapt CONF [--accept NAME].. | show DIR | --help | --version
 
 check NET        labels the plan NET, and prints `yes`, with warnings of what may keep events from
                  arriving, or every rule that is broken then, each with what it means, what mends
-                 it, and steps that lose an event
+                 it, and steps that lose an event; --drop RELAY:SCOPE:INDEX says that what comes to
+                 this match may go, which is named as by its reach line
 check --adapt NET    the same of the plan NET with its configurations adapted, as adapt does it;
                  --accept NAME accepts a change of what a relay does
 label NET        prints the plan NET with the label and reach lines that it lacks; --fresh: those
@@ -57,29 +62,19 @@ fn usage(rt: &impl Eprint) -> Status {
     Status::Usage
 }
 
+fn no_memory(rt: &impl Print) -> Status {
+    let _ = rt.println("fault memory");
+    Status::Usage
+}
+
 // Does what a word asks for.
-fn run(rt: &HostRuntime, word: Option<Word<'_>>) -> Status {
+fn run<A: Allocator>(rt: &HostRuntime, word: Option<Word<'_, A>>) -> Status {
     let folder = Folder::saying(rt);
     let out = &mut io::writer(rt);
     match word {
         Some(Word::Help) => put_last(out, HELP.as_bytes(), Status::Done),
         Some(Word::Version) => print_version(rt.alloc(), "relayctl", out),
-        Some(Word::Check(net)) => {
-            let faults = &mut rt.stderr();
-            run_check(rt.alloc(), net, &mut folder.text(net), &folder, out, faults)
-        }
-        Some(Word::CheckAdapted(net, accepted)) => {
-            let faults = &mut rt.stderr();
-            run_adapted_check(
-                rt.alloc(),
-                net,
-                &mut folder.text(net),
-                &folder,
-                accepted,
-                out,
-                faults,
-            )
-        }
+        Some(Word::Check(asked)) => check_plan(rt, &folder, &asked, out),
         Some(Word::Label(net)) => run_label(rt.alloc(), &mut folder.text(net), &folder, out),
         Some(Word::LabelFresh(net)) => {
             run_fresh_label(rt.alloc(), &mut folder.text(net), &folder, out)
@@ -108,6 +103,48 @@ fn run(rt: &HostRuntime, word: Option<Word<'_>>) -> Status {
     }
 }
 
+// Checks a plan, at whose named matches events may go.
+fn check_plan<'a, A: Allocator, W: Write>(
+    rt: &'a HostRuntime,
+    folder: &Folder<'a>,
+    asked: &CheckWords<'a, A>,
+    out: &mut W,
+) -> Status {
+    match read_names(rt.alloc(), &asked.drops) {
+        Ok(DropNames::Read(names)) => check_named(rt, folder, asked, &names, out),
+        Ok(DropNames::Misspelt(word)) => print_misspelt(rt.alloc(), word, &mut rt.stderr()),
+        Err(AllocError) => put_last(&mut rt.stderr(), b"fault memory\n", Status::Usage),
+    }
+}
+
+// The same with the names that were read.
+fn check_named<'a, A: Allocator, W: Write>(
+    rt: &'a HostRuntime,
+    folder: &Folder<'a>,
+    asked: &CheckWords<'a, A>,
+    drops: &[DropName<'_>],
+    out: &mut W,
+) -> Status {
+    let net = asked.net;
+    let text = &mut folder.text(net);
+    let faults = &mut rt.stderr();
+    if asked.adapts {
+        let accepted = &asked.accepted;
+        run_adapted_check(
+            rt.alloc(),
+            net,
+            text,
+            folder,
+            accepted,
+            drops,
+            out,
+            faults,
+        )
+    } else {
+        run_check(rt.alloc(), net, text, folder, drops, out, faults)
+    }
+}
+
 // Shows the journals and sinks of a data folder. Where there are none, that is said on standard error.
 fn show_folder<W: Write>(rt: &HostRuntime, path: &str, out: &mut W) -> Status {
     let folder = DataFolder::new(rt, path);
@@ -130,11 +167,11 @@ fn called_with(rt: &HostRuntime) -> io::Result<Vec<String>> {
 
 fn main(rt: HostRuntime) -> ExitCode {
     let status = match called_with(&rt) {
-        Ok(words) => run(&rt, read_word(&words)),
-        Err(e) if e.kind() == ErrorKind::OutOfMemory => {
-            let _ = rt.println("fault memory");
-            Status::Usage
-        }
+        Ok(words) => match read_word(rt.alloc(), &words) {
+            Ok(word) => run(&rt, word),
+            Err(AllocError) => no_memory(&rt),
+        },
+        Err(e) if e.kind() == ErrorKind::OutOfMemory => no_memory(&rt),
         Err(_) => usage(&rt),
     };
     ExitCode::from(status as u8)

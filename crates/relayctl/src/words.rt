@@ -1,18 +1,17 @@
 //! What the words of the command line ask for.
 
 use crate::draw::Drawing;
+use std::alloc::{AllocError, Allocator};
 
 /// What the program is asked to do; a path is taken from the working folder.
-#[derive(Clone, Copy, Debug, PartialEq, Eq)]
-pub enum Word<'a> {
+#[derive(Drop)]
+pub enum Word<'a, A: Allocator> {
     /// Say what it can be asked.
     Help,
     /// Say the version.
     Version,
-    /// Label the plan of a network, at this path, and say of each rule that is broken then what it means.
-    Check(&'a str),
-    /// The same with its configurations adapted; `--accept` and a name, again and again, say what is accepted.
-    CheckAdapted(&'a str, &'a [String]),
+    /// Label the plan of a network, and say of each rule that is broken then what it means.
+    Check(CheckWords<'a, A>),
     /// Label the plan of a network, at this path.
     Label(&'a str),
     /// Label it without its own labels and reaches.
@@ -29,14 +28,38 @@ pub enum Word<'a> {
     Show(&'a str),
 }
 
-/// Reads the words, of which the first is the program's own name. `None` where they ask for nothing that there is.
-pub fn read_word(words: &[String]) -> Option<Word<'_>> {
+/// Which plan is checked, and how.
+#[derive(Drop)]
+pub struct CheckWords<'a, A: Allocator> {
+    /// The path of the plan.
+    pub net: &'a str,
+    /// Whether its configurations are adapted.
+    pub adapts: bool,
+    /// What is accepted of them.
+    pub accepted: Vec<String<A>, A>,
+    /// At which matches events may go on purpose: what stands behind each `--drop`.
+    pub drops: Vec<&'a str, A>,
+}
+
+/// Reads the words, of which the first is the program's own name. `None` where they ask for nothing that there is. The only error is want
+/// of memory.
+pub fn read_word<A: Allocator + Copy>(
+    alloc: A,
+    words: &[String],
+) -> Result<Option<Word<'_, A>>, AllocError> {
+    match words {
+        [_, first, behind @ ..] if first.as_str() == "check" => check_word(alloc, behind),
+        _ => Ok(other_word(words)),
+    }
+}
+
+// The same of words that don't ask for a check.
+fn other_word<A: Allocator>(words: &[String]) -> Option<Word<'_, A>> {
     if words.len() < 2 {
         return None;
     }
     let behind = &words[2..];
     match words[1].as_str() {
-        "check" => check_word(behind),
         "label" => label_word(behind),
         "draw" => draw_word(behind),
         "ways" => ways_word(behind),
@@ -49,18 +72,90 @@ pub fn read_word(words: &[String]) -> Option<Word<'_>> {
     }
 }
 
-// Reads what stands behind `check`: a path, and `--adapt` in front of it or behind it, with what is accepted.
-fn check_word(words: &[String]) -> Option<Word<'_>> {
-    let (net, options) = flagged("--adapt", words)?;
-    match options {
-        Some(accepted) if are_accepting(accepted) => Some(Word::CheckAdapted(net, accepted)),
-        Some(_) => None,
-        None => Some(Word::Check(only_path(words)?)),
+// What an option of `check` waits for.
+#[derive(Clone, Copy, Debug, PartialEq, Eq)]
+enum Awaited {
+    // Nothing: none stands in front.
+    Nothing,
+    // The name of what is accepted.
+    Accepted,
+    // The name of a match.
+    Match,
+}
+
+// What was read so far of the words behind `check`.
+#[derive(Drop)]
+struct CheckReader<'a, A: Allocator> {
+    alloc: A,
+    net: Option<&'a str>,
+    adapts: bool,
+    accepted: Vec<String<A>, A>,
+    drops: Vec<&'a str, A>,
+    awaited: Awaited,
+}
+
+// Reads what stands behind `check`, in any order: a path, `--adapt`, `--drop` and a match as often as wanted, and so `--accept` and a name, where
+// `--adapt` is there.
+fn check_word<A: Allocator + Copy>(
+    alloc: A,
+    words: &[String],
+) -> Result<Option<Word<'_, A>>, AllocError> {
+    let mut reader = CheckReader {
+        alloc,
+        net: None,
+        adapts: false,
+        accepted: Vec::new(alloc),
+        drops: Vec::new(alloc),
+        awaited: Awaited::Nothing,
+    };
+    for word in words {
+        if !reader.take(word)? {
+            return Ok(None);
+        }
+    }
+    Ok(reader.finish())
+}
+
+impl<'a, A: Allocator + Copy> CheckReader<'a, A> {
+    // Takes the next word; false where it can't stand here.
+    fn take(&mut self, word: &'a str) -> Result<bool, AllocError> {
+        match self.awaited {
+            Awaited::Nothing => return Ok(self.begin(word)),
+            Awaited::Accepted => self.accepted.push(format!(in self.alloc; "{word}")?)?,
+            Awaited::Match => self.drops.push(word)?,
+        }
+        self.awaited = Awaited::Nothing;
+        Ok(true)
+    }
+
+    // Takes a word behind none that waits for one.
+    fn begin(&mut self, word: &'a str) -> bool {
+        match word {
+            "--accept" => self.awaited = Awaited::Accepted,
+            "--drop" => self.awaited = Awaited::Match,
+            "--adapt" if !self.adapts => self.adapts = true,
+            path if !is_option(path) && self.net.is_none() => self.net = Some(path),
+            _ => return false,
+        }
+        true
+    }
+
+    // What was asked; none where something is missing.
+    fn finish(self) -> Option<Word<'a, A>> {
+        if self.awaited != Awaited::Nothing || (!self.adapts && !self.accepted.is_empty()) {
+            return None;
+        }
+        Some(Word::Check(CheckWords {
+            net: self.net?,
+            adapts: self.adapts,
+            accepted: self.accepted,
+            drops: self.drops,
+        }))
     }
 }
 
 // Reads what stands behind `label`: a path, and `--fresh` in front of it or behind it.
-fn label_word(words: &[String]) -> Option<Word<'_>> {
+fn label_word<A: Allocator>(words: &[String]) -> Option<Word<'_, A>> {
     let (net, options) = flagged("--fresh", words)?;
     match options {
         Some([]) => Some(Word::LabelFresh(net)),
@@ -70,7 +165,7 @@ fn label_word(words: &[String]) -> Option<Word<'_>> {
 }
 
 // Reads what stands behind `draw`: a path, and `--dot` in front of it or behind it.
-fn draw_word(words: &[String]) -> Option<Word<'_>> {
+fn draw_word<A: Allocator>(words: &[String]) -> Option<Word<'_, A>> {
     let (net, options) = flagged("--dot", words)?;
     match options {
         Some([]) => Some(Word::Draw(net, Drawing::Dot)),
@@ -80,7 +175,7 @@ fn draw_word(words: &[String]) -> Option<Word<'_>> {
 }
 
 // Reads what stands behind `ways`: a path, and tags.
-fn ways_word(words: &[String]) -> Option<Word<'_>> {
+fn ways_word<A: Allocator>(words: &[String]) -> Option<Word<'_, A>> {
     match words {
         [conf, tags @ ..] => Some(Word::Ways(conf, tags)),
         [] => None,
@@ -88,7 +183,7 @@ fn ways_word(words: &[String]) -> Option<Word<'_>> {
 }
 
 // Reads what stands behind `adapt`: a path, and what is accepted.
-fn adapt_word(words: &[String]) -> Option<Word<'_>> {
+fn adapt_word<A: Allocator>(words: &[String]) -> Option<Word<'_, A>> {
     match words {
         [conf, accepted @ ..] if are_accepting(accepted) => Some(Word::Adapt(conf, accepted)),
         _ => None,

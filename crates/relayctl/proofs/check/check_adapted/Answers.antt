@@ -17,7 +17,7 @@ returns-in-Texts g c =
     let adapted = texts_of c.in-Texts.adapted.texts.items in
     let names : bytes c.deref-2.result.now ≡ confs_named text = ap bytes c.deref-2.ensures.value ∙ c.in_ok-names.ensures.names ∙ ap confs_named c.deref.ensures.value in
     let each : AreAdaptedTexts g.row.A.Denot confs (map string_bytes c.args.accepted.now) adapted = search rules in
-    let is : IsTextsCheck g.row.A.Denot text adapted c.in_ok-found-in-Texts.found = search rules in
+    let is : IsTextsCheck g.row.A.Denot text adapted c.args.drops.now c.in_ok-found-in-Texts.found = search rules in
     record {
       given = text;
       confs = confs;

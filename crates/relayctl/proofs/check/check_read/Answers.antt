@@ -17,6 +17,6 @@ returns g c =
       given = text;
       confs = confs;
       read = are_read net named text c.deref-2.result.now confs c.in_ok-text.ensures.whole names c.in_ok-confs.ensures.texts;
-      is = subst (λ (t : List ℕ). IsTextsCheck g.row.A.Denot t confs c.in_ok-found.found) c.deref-3.ensures.value
-          (subst (λ v. IsTextsCheck g.row.A.Denot c.deref-3.result.now (texts_of v) c.in_ok-found.found) c.deref-5.ensures.value c.in_ok-found.ensures);
+      is = subst (λ (t : List ℕ). IsTextsCheck g.row.A.Denot t confs c.args.drops.now c.in_ok-found.found) c.deref-3.ensures.value
+          (subst (λ v. IsTextsCheck g.row.A.Denot c.deref-3.result.now (texts_of v) c.args.drops.now c.in_ok-found.found) c.deref-5.ensures.value c.in_ok-found.ensures);
     }
