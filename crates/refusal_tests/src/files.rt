@@ -1,0 +1,45 @@
+//! What a folder has.
+
+use crate::told::Told;
+use crate::trial::Heap;
+use disk_files::{Dir, DirError, FileName};
+use numbered_files::read_file;
+
+fn tell_file<D: Dir>(
+    heap: Heap<'_>,
+    dir: &mut D,
+    name: &[u8],
+    told: &mut Told,
+) -> Result<(), DirError> {
+    let file = dir.open(name)?;
+    let bytes = read_file(heap, dir, file)?;
+    told.bytes(name);
+    told.bytes(&bytes);
+    Ok(())
+}
+
+fn tell_named<'a, D: Dir>(
+    heap: Heap<'a>,
+    dir: &mut D,
+    names: &[FileName<Heap<'a>>],
+    told: &mut Told,
+) -> Result<(), DirError> {
+    for name in names {
+        tell_file(heap, dir, name.as_bytes(), told)?;
+    }
+    Ok(())
+}
+
+// Tells the files of a folder: their names and their bytes.
+fn tell_files<D: Dir>(heap: Heap<'_>, dir: &mut D, told: &mut Told) -> Result<(), DirError> {
+    let names = dir.list(heap)?;
+    tell_named(heap, dir, &names, told)
+}
+
+/// Tells what is left in a folder: its files, their names and their bytes.
+pub fn tell_left<D: Dir + Drop>(heap: Heap<'_>, dir: D, told: &mut Told) {
+    let mut dir = dir;
+    if tell_files(heap, &mut dir, told).is_err() {
+        told.number(88_888);
+    }
+}
