@@ -130,16 +130,7 @@ fn check_named<'a, A: Allocator, W: Write>(
     let faults = &mut rt.stderr();
     if asked.adapts {
         let accepted = &asked.accepted;
-        run_adapted_check(
-            rt.alloc(),
-            net,
-            text,
-            folder,
-            accepted,
-            drops,
-            out,
-            faults,
-        )
+        run_adapted_check(rt.alloc(), net, text, folder, accepted, drops, out, faults)
     } else {
         run_check(rt.alloc(), net, text, folder, drops, out, faults)
     }
