@@ -60,7 +60,9 @@ fn played<'a, D: Dir + Drop>(
     acts: &[Act],
     told: &mut Told,
 ) -> Option<Buffer<D, Heap<'a>>> {
-    let mut buffer = open(heap, dir, RENEWED_PAST_IN_MEMORY).map_err(|(fault, _dir)| fault).ok()?;
+    let mut buffer = open(heap, dir, RENEWED_PAST_IN_MEMORY)
+        .map_err(|(fault, _dir)| fault)
+        .ok()?;
     take_all(heap, &mut buffer, acts, told).ok()?;
     Some(buffer)
 }
@@ -105,12 +107,7 @@ impl<'a> Trial<'a> for Place {
 
     fn made(&self, alloc: Global, heap: Heap<'a>) -> Option<Taking<'a>> {
         let mut told = Told::new(alloc);
-        let buffer = played(
-            heap,
-            MemoryDir::new(heap),
-            acts_before(self.0),
-            &mut told,
-        )?;
+        let buffer = played(heap, MemoryDir::new(heap), acts_before(self.0), &mut told)?;
         let some = entry(heap, number_of(self.act())).ok()?;
         Some(Taking { heap, buffer, some })
     }

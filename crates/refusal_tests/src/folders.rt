@@ -74,12 +74,7 @@ fn opened<D: Dir>(dir: &mut D) -> Result<(), DirError> {
     Ok(())
 }
 
-fn take<D: Dir>(
-    heap: Heap<'_>,
-    dir: &mut D,
-    act: Act,
-    told: &mut Told,
-) -> Result<(), DirError> {
+fn take<D: Dir>(heap: Heap<'_>, dir: &mut D, act: Act, told: &mut Told) -> Result<(), DirError> {
     match act {
         Act::Create => created(dir, b"new", 9)?,
         Act::Open => opened(dir)?,

@@ -11,7 +11,8 @@ use std::alloc::{AllocError, Global};
 use std::mem::replace;
 
 // Three chunks, of which one is queued, a Seal of 9, two chunks more, an entry more, a queueing and a removal.
-static JOURNAL: &[u8] = b"\0\0\0\x13\x02\0\0\0\0\0\0\0\x00\0\x01a\0\0\0\x01\x92\x01\x80\0\0\0\x09\x03\0\0\0\0\0\0\0\0\0\0\0\x13\x02\0\0\0\0\0\0\0\x03\0\x01b\0\0\0\x01\x92\x02\x80\0\0\0\x13\x02\0\0\0\0\0\0\0\x05\0\x01c\0\0\0\x01\x92\x03\x80\0\0\0\x09\x01\0\0\0\0\0\0\0\x09\0\0\0\x13\x02\0\0\0\0\0\0\0\x09\0\x01d\0\0\0\x01\x92\x04\x80\0\0\0\x13\x02\0\0\0\0\0\0\0\x0a\0\x01e\0\0\0\x01\x92\x05\x80\0\0\0\x13\x02\0\0\0\0\0\0\0\x0a\0\x01e\0\0\0\x01\x92\x06\x80\0\0\0\x09\x03\0\0\0\0\0\0\0\x09\0\0\0\x09\x04\0\0\0\0\0\0\0\0";
+static JOURNAL: &[u8] =
+    b"\0\0\0\x13\x02\0\0\0\0\0\0\0\x00\0\x01a\0\0\0\x01\x92\x01\x80\0\0\0\x09\x03\0\0\0\0\0\0\0\0\0\0\0\x13\x02\0\0\0\0\0\0\0\x03\0\x01b\0\0\0\x01\x92\x02\x80\0\0\0\x13\x02\0\0\0\0\0\0\0\x05\0\x01c\0\0\0\x01\x92\x03\x80\0\0\0\x09\x01\0\0\0\0\0\0\0\x09\0\0\0\x13\x02\0\0\0\0\0\0\0\x09\0\x01d\0\0\0\x01\x92\x04\x80\0\0\0\x13\x02\0\0\0\0\0\0\0\x0a\0\x01e\0\0\0\x01\x92\x05\x80\0\0\0\x13\x02\0\0\0\0\0\0\0\x0a\0\x01e\0\0\0\x01\x92\x06\x80\0\0\0\x09\x03\0\0\0\0\0\0\0\x09\0\0\0\x09\x04\0\0\0\0\0\0\0\0";
 
 static ITEMS: &[u8] = b"\x93\xa1a\x01\x80\x93\xa1b\x02\x80\x93\xa1c\x03\x80\x93";
 
@@ -100,12 +101,7 @@ fn feed(outline: &mut Outline<Heap<'_>>, piece: &[u8], told: &mut Told) -> Resul
 }
 
 // What was fed up to this place, by pieces of at most so many bytes.
-fn fed<'a>(
-    alloc: Global,
-    heap: Heap<'a>,
-    place: usize,
-    size: u8,
-) -> Option<Outline<Heap<'a>>> {
+fn fed<'a>(alloc: Global, heap: Heap<'a>, place: usize, size: u8) -> Option<Outline<Heap<'a>>> {
     let mut told = Told::new(alloc);
     let mut outline = Outline::new(heap);
     let (front, _) = JOURNAL.split_at(place.min(JOURNAL.len()));
@@ -115,7 +111,10 @@ fn fed<'a>(
     Some(outline)
 }
 
-fn finished<'a>(outline: Outline<Heap<'a>>, told: &mut Told) -> (Drawn<'a>, Result<(), AllocError>) {
+fn finished<'a>(
+    outline: Outline<Heap<'a>>,
+    told: &mut Told,
+) -> (Drawn<'a>, Result<(), AllocError>) {
     match outline.finish() {
         Ok(outlined) => (Drawn::Whole(outlined), Ok(())),
         Err((fault, outline)) => (Drawn::Open(outline), fault_of(fault, told)),

@@ -64,11 +64,7 @@ fn feed_bytes<'a>(feed: &mut Feed<Heap<'a>>, count: usize) -> Option<()> {
     Some(())
 }
 
-fn feed_rest(
-    feed: &mut Feed<Heap<'_>>,
-    fed: usize,
-    told: &mut Told,
-) -> Result<(), AllocError> {
+fn feed_rest(feed: &mut Feed<Heap<'_>>, fed: usize, told: &mut Told) -> Result<(), AllocError> {
     let (_, rest) = WHOLE.split_at(fed.min(WHOLE.len()));
     match feed.feed(rest) {
         Ok(()) => Ok(()),

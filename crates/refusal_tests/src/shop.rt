@@ -5,8 +5,8 @@ use crate::files::tell_left;
 use crate::told::Told;
 use crate::trial::Heap;
 use ack_receipt::{
-    AuditError, Basis, Claim, Closed, Delivery, Evidence, Leaf, Numbers, Pending, PurgeFault, Receipt, RedeemFault,
-    SharedBuffer, Stub, Takes,
+    AuditError, Basis, Claim, Closed, Delivery, Evidence, Leaf, Numbers, Pending, PurgeFault,
+    Receipt, RedeemFault, SharedBuffer, Stub, Takes,
 };
 use buffer_state::Stage;
 use buffer_store::BufferFault;

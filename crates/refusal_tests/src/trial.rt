@@ -124,12 +124,7 @@ fn is_right(answer: Option<Told>, ample: &Ample) -> bool {
 }
 
 // Whether state and what is left are as they are behind the call with ample memory.
-fn is_after<'a, T: Trial<'a>>(
-    alloc: Global,
-    trial: &T,
-    state: T::State,
-    ample: &Ample,
-) -> bool {
+fn is_after<'a, T: Trial<'a>>(alloc: Global, trial: &T, state: T::State, ample: &Ample) -> bool {
     let mut state = state;
     let is_shown = shown(alloc, trial, &mut state).is(&ample.after);
     closed(alloc, trial, state).is(&ample.left_after) && is_shown
@@ -150,10 +145,7 @@ fn goes<'a, T: Trial<'a>>(
     let first = answered(alloc, trial, &mut state);
     if !end(heap) {
         let holds = is_right(first, ample);
-        return went_if(
-            is_after(alloc, trial, state, ample) && holds,
-            Went::Through,
-        );
+        return went_if(is_after(alloc, trial, state, ample) && holds, Went::Through);
     }
     let stayed = first.is_none() && shown(alloc, trial, &mut state).is(&ample.before);
     let again = is_right(answered(alloc, trial, &mut state), ample);
