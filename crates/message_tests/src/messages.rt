@@ -145,6 +145,7 @@ fn messages(rt: HostRuntime) -> Result<(), Fail> {
     Ok(())
 }
 
+// Each is found where the last byte came.
 static FAULTS: [(&[u8], &str); 19] = [
     (b"\x01", "V1"),
     (b"\x90", "V1"),
@@ -209,6 +210,7 @@ fn printed(alloc: Global, bytes: &[u8]) -> Result<String<Global>, AllocError> {
 fn faults(rt: HostRuntime) -> Result<(), Fail> {
     for (bytes, code) in &FAULTS {
         assert_eq!(rt; printed(rt.alloc(), bytes)?.as_str(), *code, "of {bytes:?}");
+        assert!(rt; wants_more(rt.alloc(), bytes)?, "of {bytes:?}");
     }
     Ok(())
 }
