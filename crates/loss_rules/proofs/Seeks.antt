@@ -6,6 +6,10 @@ use Rattle.std.proofs.lemmas.List.Elements.{at_read}
 pub not_true : IsTrue false → ⊥
 not_true e = absurd (cc)
 
+-- what is answered where it holds
+pub holds_so : (P : Type 0) → P → IsTrue true ↔ P
+holds_so P p = (λ _. p, λ _. refl)
+
 module _ {X : Type 0} (P : X → Type 0) (xs : List X) where
   -- It holds of no element before this place, or of each.
   abbrev pub NoneBelow : ℕ → Type 0

@@ -4,19 +4,22 @@ ghost use Rattle.std.specs.Prelude.{◌≡◌, ◌↔◌, ◌⊎◌, ℕ, List, 
 ghost use Rattle.tag_pattern.specs.Items.{Item};
 ghost use Rattle.loss_rules.specs.Labels.{IsLabelOf, IsReachOf};
 
+use crate::hint::number_of;
 use crate::label::{Label, Reach};
 use crate::site::Site;
 use relay_net::Entrance;
 use std::alloc::{AllocError, Allocator};
 use std::collections::BTreeMap;
 use std::marker::Model;
-use tag_pattern::Plain;
+use tag_pattern::{Plain, Prefix};
 
 /// Lists of patterns, each of a site: the places of a relay, of a scope in it and of a match in that. Each call takes steps by
-/// the logarithm of the number of sites.
+/// the logarithm of the number of sites and patterns.
 #[derive(Drop)]
 pub(crate) struct PatternsBySite<'a, A: Allocator> {
     lists: BTreeMap<((usize, usize), usize), Vec<&'a [Plain<A>], A>, A>,
+    // For the number of each pattern the place of a list of its site that has such a one: a hint, on which nothing rests.
+    places: BTreeMap<u64, usize, A>,
 }
 
 impl<'a, A: Allocator + Copy> PatternsBySite<'a, A> {
@@ -28,6 +31,7 @@ impl<'a, A: Allocator + Copy> PatternsBySite<'a, A> {
     {
         PatternsBySite {
             lists: BTreeMap::new(alloc),
+            places: BTreeMap::new(alloc),
         }
     }
 
@@ -40,6 +44,8 @@ impl<'a, A: Allocator + Copy> PatternsBySite<'a, A> {
     ) -> Result<(), AllocError>
         ensures { OnOk result ((other : (ℕ × ℕ) × ℕ) (list : List (List Item)) → Contains (patterns_at self.new other) list ↔ (Contains (patterns_at self.old other) list ⊎ ((site ≡ other) × (patterns.now ≡ list)))) }
     {
+        let place = self.at(site).len();
+        self.note(site, place, patterns)?;
         let mut lists = match self.lists.remove(&site) {
             Some(lists) => lists,
             None => Vec::new(alloc),
@@ -47,6 +53,34 @@ impl<'a, A: Allocator + Copy> PatternsBySite<'a, A> {
         lists.push(patterns)?;
         self.lists.insert(site, lists)?;
         Ok(())
+    }
+
+    // Notes that these patterns stand at this place among the lists of the site.
+    fn note(
+        &mut self,
+        site: ((usize, usize), usize),
+        place: usize,
+        patterns: &[Plain<A>],
+    ) -> Result<(), AllocError>
+        ensures { OnOk result (self.new.lists ≡ self.old.lists) }
+    {
+        for pattern in patterns {
+            self.places.insert(number_of(site, None, pattern), place)?;
+        }
+        Ok(())
+    }
+
+    /// The place among the lists of this site where the pattern may stand, with this prefix in front if there is one; it may also be past them.
+    pub fn hint(
+        &self,
+        site: ((usize, usize), usize),
+        prefix: Option<&[u8]>,
+        pattern: &Plain<A>,
+    ) -> usize {
+        match self.places.get(&number_of(site, prefix, pattern)) {
+            Some(place) => *place,
+            None => usize::MAX,
+        }
     }
 
     /// The lists of patterns of this site.
@@ -97,6 +131,20 @@ impl<'a, A: Allocator + Copy> Labels<'a, A> {
     {
         self.by_scope.at(((scope.relay, scope.scope), 0))
     }
+
+    /// The place among these where the pattern may stand, with the prefix in front if there is one; it may also be past them.
+    pub(crate) fn hint(
+        &self,
+        scope: Entrance,
+        prefix: Option<&Prefix<A>>,
+        pattern: &Plain<A>,
+    ) -> usize {
+        let site = ((scope.relay, scope.scope), 0);
+        match prefix {
+            Some(prefix) => self.by_scope.hint(site, Some(prefix.as_bytes()), pattern),
+            None => self.by_scope.hint(site, None, pattern),
+        }
+    }
 }
 
 /// Reaches that are looked up by the match that they are of. To contracts it is their list.
@@ -136,5 +184,11 @@ impl<'a, A: Allocator + Copy> Reaches<'a, A> {
         ensures { (list : List (List Item)) → Contains (map (λ patterns. patterns.now) result.now) list ↔ Any (λ reach. IsReachOf at.place at.scope at.rule reach × (reach.patterns.items ≡ list)) self.now }
     {
         self.by_match.at(((at.place, at.scope), at.rule))
+    }
+
+    /// The place among these where the pattern may stand; it may also be past them.
+    pub(crate) fn hint(&self, at: Site, pattern: &Plain<A>) -> usize {
+        let site = ((at.place, at.scope), at.rule);
+        self.by_match.hint(site, None, pattern)
     }
 }

@@ -40,7 +40,22 @@ fn fits_any_entered<A: Allocator>(
     false
 }
 
-/// Whether the pattern, with the prefix in front if there is one, fits a label of this scope.
+// Whether the pattern, with the prefix in front if there is one, fits one of the list at this place, if there is one.
+fn fits_at<A: Allocator>(
+    prefix: Option<&Prefix<A>>,
+    pattern: &Plain<A>,
+    lists: &[&[Plain<A>]],
+    place: usize,
+) -> bool
+    ensures { IsTrue result → Any (λ list. Any (Fits (entered_items (option_copied prefix.entry) pattern.now)) list.now) lists.now }
+{
+    match lists.get(place) {
+        Some(others) => fits_any_entered(prefix, pattern, others),
+        None => false,
+    }
+}
+
+/// Whether the pattern, with the prefix in front if there is one, fits a label of this scope. Where it may stand is looked at first.
 pub(crate) fn fits_label<A: Allocator + Copy>(
     labels: &Labels<'_, A>,
     scope: Entrance,
@@ -49,6 +64,10 @@ pub(crate) fn fits_label<A: Allocator + Copy>(
 ) -> bool
     ensures { IsTrue result ↔ FitsLabelWith labels.now scope.relay scope.scope (option_copied prefix.entry) pattern.now }
 {
+    let hint = labels.hint(scope, prefix, pattern);
+    if fits_at(prefix, pattern, labels.at(scope), hint) {
+        return true;
+    }
     for patterns in labels.at(scope) {
         if fits_any_entered(prefix, pattern, patterns) {
             return true;
@@ -74,7 +93,17 @@ pub(crate) fn all_fit_label<A: Allocator + Copy>(
     true
 }
 
-/// Whether the pattern fits a reach of the match at this site.
+// Whether the pattern fits one of the list at this place, if there is one.
+fn fits_any_at<A: Allocator>(pattern: &Plain<A>, lists: &[&[Plain<A>]], place: usize) -> bool
+    ensures { IsTrue result → Any (λ list. Any (Fits pattern.now) list.now) lists.now }
+{
+    match lists.get(place) {
+        Some(others) => fits_any(pattern, others),
+        None => false,
+    }
+}
+
+/// Whether the pattern fits a reach of the match at this site. Where it may stand is looked at first.
 pub(crate) fn fits_reach<A: Allocator + Copy>(
     reaches: &Reaches<'_, A>,
     at: Site,
@@ -82,6 +111,10 @@ pub(crate) fn fits_reach<A: Allocator + Copy>(
 ) -> bool
     ensures { IsTrue result ↔ FitsReach reaches.now at.place at.scope at.rule pattern.now }
 {
+    let hint = reaches.hint(at, pattern);
+    if fits_any_at(pattern, reaches.at(at), hint) {
+        return true;
+    }
     for patterns in reaches.at(at) {
         if fits_any(pattern, patterns) {
             return true;

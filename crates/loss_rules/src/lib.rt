@@ -7,6 +7,7 @@ mod by_site;
 mod cycle;
 mod fitting;
 mod graph;
+mod hint;
 mod label;
 mod laws;
 mod ordered;

@@ -4,13 +4,19 @@ use Rattle.tag_pattern.specs.Patterns.{Fits}
 use Rattle.tag_pattern.specs.Prefixes.{entered_items}
 use Rattle.loss_rules.specs.Labels.{IsLabelOf}
 use Rattle.loss_rules.proofs.BySite.{both, any_found}
-use Rattle.loss_rules.proofs.Seeks.{not_true, found_any, none_more, no_any}
+use Rattle.loss_rules.proofs.Seeks.{holds_so, not_true, found_any, none_more, no_any}
 use Rattle.loss_rules.proofs.fitting.fits_label.Goals as goal
 
 pub returns-then-fits_any_entered : goal.returns-then-fits_any_entered
 returns-then-fits_any_entered g c =
     let found = found_any (λ r. Any (Fits (entered_items (option_copied c.args.prefix) c.args.pattern.now)) r.now) c.at-patterns-items.result.now c.loop-patterns.patterns-index c.patterns-item.result (omega arith) c.patterns-item.is (c.if-fits_any_entered.ensures.0 refl) in
     both found (any_found (λ r. r.now) c.at-patterns-items.result.now (IsLabelOf c.args.scope.relay c.args.scope.scope) (λ label. label.patterns.items) c.args.labels.now c.at-patterns-items.ensures (Any (Fits (entered_items (option_copied c.args.prefix) c.args.pattern.now))))
+
+pub returns-then-fits_at : goal.returns-then-fits_at
+returns-then-fits_at g c =
+    let P = Any (Fits (entered_items (option_copied c.args.prefix) c.args.pattern.now)) in
+    let found = holds_so (Any (λ r. P r.now) c.at.result.now) (c.if-fits_at.ensures refl) in
+    both found (any_found (λ r. r.now) c.at.result.now (IsLabelOf c.args.scope.relay c.args.scope.scope) (λ label. label.patterns.items) c.args.labels.now c.at.ensures P)
 
 pub loop-patterns-preserved : goal.loop-patterns-preserved
 loop-patterns-preserved g c = none_more (λ r. Any (Fits (entered_items (option_copied c.args.prefix) c.args.pattern.now)) r.now) c.at-patterns-items.result.now c.loop-patterns.patterns-index c.patterns-item.result (omega arith) c.patterns-item.is c.loop-patterns.invariant (λ p. not_true (c.if-fits_any_entered.ensures.1 p))
