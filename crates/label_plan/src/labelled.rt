@@ -23,8 +23,8 @@ use std::alloc::{AllocError, Allocator};
 /// What comes through a source with a prefix for a second time on its way, and fits no label behind it, is widened: first by `**` in place
 /// of the prefix, and then to `**`.
 ///
-/// Each line that comes out is derived once, and compared with those of its scope or match; the rules are then decided of the whole, which
-/// compares the patterns of all lines pair by pair, as `check` does.
+/// Each line that comes out is derived once, and compared with those of its scope or match that begin with the same literal parts; the rules
+/// are then decided of the whole, as `check` does.
 ///
 /// It answers no text where no lines close the plan: two relays have one number, so that the second can't be named in a line; or what a
 /// name or a pattern is can't be written as a word of a line; or there are more than 65,536 labels, also where each prefix is taken as

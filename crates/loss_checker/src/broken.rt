@@ -28,9 +28,9 @@ pub struct BrokenRule<A: Allocator> {
 /// The rules that don't hold of the plan, in the order of `Rule`, each with all places where it is broken; the first place of the first
 /// of them is what `check` answers.
 ///
-/// Labels and reaches are looked up by their scope and their match. The patterns of one scope's labels and matches are compared
-/// pair by pair, so the time grows as the square of a scope's length; hosts and numbers of relays are gone through for each that is
-/// named. Memory is needed for what labels and reaches are looked up in, to look for a cycle of relabels, and for the places. The only
+/// Labels and reaches are looked up by their scope and their match. A pattern is compared first with one that is spelled like it, where
+/// there is one, and else with all of the scope, so that the time may grow as the square of a scope's length; hosts and numbers of relays
+/// are gone through for each that is named. Memory is needed for what labels and reaches are looked up in, to look for a cycle of relabels, and for the places. The only
 /// error is want of it.
 pub fn broken_rules<A: Allocator + Copy>(
     alloc: A,
