@@ -8,3 +8,4 @@ pub mod Still
 pub mod Begun
 pub mod Answers
 pub mod Laws
+pub mod Openings

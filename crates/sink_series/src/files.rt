@@ -1,6 +1,6 @@
 //! The files of a sink in a folder.
 
-ghost use Rattle.std.specs.Prelude.{◌≡◌, ◌≢◌, ◌⊎◌, ◌↔◌, ℕ, ◌≤◌, Bool, List, ◌++◌, length, take, codes, Option, Some, None, IsSome, IsTrue, IfOk, OnOk, OnErr, IsErrOf};
+ghost use Rattle.std.specs.Prelude.{◌≡◌, ◌≢◌, ◌⊎◌, ◌↔◌, ℕ, ◌≤◌, Bool, List, ◌++◌, length, take, codes, Option, Some, None, IsSome, IsTrue, IfOk, IfErr, OnOk, OnErr, IsErrOf};
 ghost use Rattle.std.specs.List.{AllByRecursion};
 ghost use Rattle.std.specs.Ordering.{nat_cmp};
 ghost use Rattle.std.specs.BTreeSet.{contains};
@@ -12,7 +12,8 @@ ghost use Rattle.event_modes.specs.Message.{longest_tag};
 ghost use Rattle.sink_series.specs.Events.{Event, IsEvent, run_of, under, Holds};
 ghost use Rattle.sink_series.specs.Names.{sink_name, last_number};
 ghost use Rattle.sink_series.specs.Folders.{HasFile, HoldsTo, IsNext, SinkHolds};
-ghost use Rattle.sink_series.specs.Keeping.{file_with, IsSafe, StaysSafe, OthersStay, IsBeginning, HasMade};
+ghost use Rattle.sink_series.specs.Keeping.{file_with, IsSafe, StaysSafe, OthersStay, IsBeginning};
+ghost use Rattle.sink_series.specs.Openings.{LeavesSafe, IsRefused};
 ghost use Rattle.sink_series.specs.Faults.{HasCause};
 ghost use Rattle.sink_series.specs.Still.{IsStill};
 
@@ -86,12 +87,7 @@ pub(crate) fn make_next<A: Allocator + Copy, D: Dir>(
     dir: &mut D,
     path: &[u8],
 ) -> Result<Newest<A>, SeriesFault>
-    ensures honest { D.is_honest dir.old → D.is_honest dir.new }
-    ensures moments { D.is_honest dir.old
-        → LeavesOnly (D.history dir.old) (D.history dir.new) (HasMade (now (D.history dir.old)) path.now) }
-    ensures safe { D.is_honest dir.old → (name : List ℕ) (events : List Event)
-        → IsSafe (now (D.history dir.old)) name events
-        → StaysSafe (D.history dir.old) (D.history dir.new) name events }
+    ensures leaves { D.is_honest dir.old → LeavesSafe D.is_honest D.history path.now dir.old dir.new }
     ensures next { D.is_honest dir.old
         → IfOk result (λ newest. IsNext path.now (reads (now (D.history dir.old))) newest.number) }
     ensures made { D.is_honest dir.old
@@ -99,11 +95,8 @@ pub(crate) fn make_next<A: Allocator + Copy, D: Dir>(
     ensures opened { IfOk result (λ newest. D.opened dir.new newest.file ≡ Some (sink_name path.now newest.number)) }
     ensures path { IfOk result (λ newest. newest.path.items ≡ path.now) }
     ensures range { IfOk result (λ newest. (1 ≤ newest.number) × (newest.number ≤ last_number)) }
-    ensures err { D.is_honest dir.old → OnErr result (SameDisk (now (D.history dir.new)) (now (D.history dir.old))
-        ⊎ ((result ≡ Err SeriesFault.Fault) × (n : ℕ) × IsNext path.now (reads (now (D.history dir.old))) n
-        × Makes (sink_name path.now n) (now (D.history dir.old)) (now (D.history dir.new)))) }
-    ensures last { D.is_honest dir.old → IsErrOf result SeriesFault.LastNumber
-        → IsSome (reads (now (D.history dir.old)) (sink_name path.now last_number)) }
+    ensures refused { D.is_honest dir.old
+        → IfErr result (IsRefused path.now (now (D.history dir.old)) (now (D.history dir.new))) }
     ensures cause { HasCause (D.fault_count dir.old) (D.fault_count dir.new) result }
     ensures never_failed { result ≢ Err SeriesFault.Failed }
 {

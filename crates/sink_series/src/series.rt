@@ -6,9 +6,9 @@ ghost use Rattle.disk_files.specs.Moments.{Elapses, LeavesOnly, now};
 ghost use Rattle.disk_files.specs.Faults.{Rises};
 ghost use Rattle.event_modes.specs.Message.{longest_tag};
 ghost use Rattle.sink_series.specs.Events.{Event, run_of, under};
-ghost use Rattle.sink_series.specs.Names.{sink_name, last_number};
-ghost use Rattle.sink_series.specs.Folders.{IsNext, SinkHolds};
-ghost use Rattle.sink_series.specs.Keeping.{IsSafe, StaysSafe, OthersStay, IsBeginning, HasMade, Keeps};
+ghost use Rattle.sink_series.specs.Folders.{SinkHolds};
+ghost use Rattle.sink_series.specs.Keeping.{IsSafe, StaysSafe, OthersStay, IsBeginning, Keeps};
+ghost use Rattle.sink_series.specs.Openings.{folder_left, answer_of, IsFresh, OpensNext, LeavesSafe, IsRefused};
 ghost use Rattle.sink_series.specs.Faults.{HasCause};
 
 use crate::answers::Answers;
@@ -60,36 +60,16 @@ impl<D: Dir, A: Allocator + Copy> Series<D, A> {
     ///
     /// Each error hands the folder back: `Memory` and `LastNumber` as it was, `Fault` with the file made or not.
     pub fn open(alloc: A, dir: D, path: &[u8]) -> Result<Series<D, A>, (SeriesFault, D)>
-        ensures kept { D.is_honest dir → IfOk result (Keeps D.is_honest D.history) }
-        ensures opening { IfOk result (λ series. series.opening ≡ dir) }
-        ensures honest_back { D.is_honest dir → IfErr result (λ refused. D.is_honest refused.1) }
-        // What a stop leaves at any moment is what a stop before the call could leave, but for an empty file of the sink.
-        ensures moments { D.is_honest dir → IfOk result (λ series.
-            LeavesOnly (D.history dir) (D.history series.dir) (HasMade (now (D.history dir)) path.now)) }
-        ensures moments_back { D.is_honest dir → IfErr result (λ refused.
-            LeavesOnly (D.history dir) (D.history refused.1) (HasMade (now (D.history dir)) path.now)) }
-        ensures safe_back { D.is_honest dir → IfErr result (λ refused. (name : List ℕ) (events : List Event)
-            → IsSafe (now (D.history dir)) name events
-            → StaysSafe (D.history dir) (D.history refused.1) name events) }
-        ensures path { IfOk result (λ series. series.path ≡ path.now) }
-        ensures begun { IfOk result (λ series. (series.begun ≡ []) × (series.stored ≡ [])) }
-        ensures ready { IfOk result (λ series. series.has_failed ≡ false) }
-        ensures range { IfOk result (λ series. (1 ≤ series.number) × (series.number ≤ last_number)) }
-        ensures next { D.is_honest dir
-            → IfOk result (λ series. IsNext path.now (reads (now (D.history dir))) series.number) }
-        ensures made { D.is_honest dir
-            → IfOk result (λ series. Makes (newest series) (now (D.history dir)) (now (D.history series.dir))) }
-        ensures err { D.is_honest dir
-            → IfErr result (λ refused. SameDisk (now (D.history refused.1)) (now (D.history dir))
-            ⊎ ((refused.0 ≡ SeriesFault.Fault) × (n : ℕ) × IsNext path.now (reads (now (D.history dir))) n
-            × Makes (sink_name path.now n) (now (D.history dir)) (now (D.history refused.1)))) }
-        ensures last { D.is_honest dir → IfErr result (λ refused. refused.0 ≡ SeriesFault.LastNumber
-            → IsSome (reads (now (D.history dir)) (sink_name path.now last_number))) }
-        ensures later { IfOk result (λ series. D.fault_count dir ≤ D.fault_count series.dir) }
-        ensures later_back { IfErr result (λ refused. D.fault_count dir ≤ D.fault_count refused.1) }
-        ensures cause { IfErr result (λ refused. refused.0 ≡ SeriesFault.Fault
-            → Rises (D.fault_count dir) (D.fault_count refused.1)) }
+        // It goes on in the sink's next file, and each answer stays.
+        ensures opens { D.is_honest dir → IfOk result (OpensNext D.is_honest D.history dir path.now) }
+        ensures fresh { IfOk result (IsFresh dir path.now) }
+        ensures refused { D.is_honest dir → IfErr result (λ refused.
+            IsRefused path.now (now (D.history dir)) (now (D.history refused.1)) refused.0) }
         ensures never_failed { IfErr result (λ refused. refused.0 ≢ SeriesFault.Failed) }
+        // What a stop leaves at any moment is what a stop before the call could leave, but for an empty file of the sink.
+        ensures leaves { D.is_honest dir
+            → LeavesSafe D.is_honest D.history path.now dir (folder_left result) }
+        ensures cause { HasCause (D.fault_count dir) (D.fault_count (folder_left result)) (answer_of result) }
     {
         let mut dir = dir;
         let opening = Snapshot::of(&dir);

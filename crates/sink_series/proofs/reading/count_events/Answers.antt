@@ -1,4 +1,4 @@
-use Rattle.std.proofs.Common.{rules, ◌<◌, length, arith}
+use Rattle.std.proofs.Common.{rules, arith}
 use Rattle.sink_series.proofs.Onward.{some_case, none_case, shorter, count_start, count_more, count_end}
 use Rattle.sink_series.proofs.reading.count_events.Goals as goal
 

@@ -19,10 +19,17 @@ invariant_of-result g c =
       };
       kept = λ opened.
           let honest = subst g.D.Dir.is_honest c.of-opening.ensures opened in
-          keeps_new g.D.Dir.is_honest g.D.Dir.history _ c.args.dir c.args.path.now c.of-opening.ensures (e.honest honest) begun c.new-in-Ok.ensures
-          (subst (λ (p : List ℕ). Makes (sink_name p number) (now (g.D.Dir.history c.args.dir)) (now (g.D.Dir.history c.make_next.new.dir))) (sym e.path) (e.made honest))
-          (e.moments honest) (e.safe honest);
+          let leaves = e.leaves honest in
+          keeps_new g.D.Dir.is_honest g.D.Dir.history _ c.args.dir c.args.path.now c.of-opening.ensures leaves.honest begun c.new-in-Ok.ensures
+          (subst (λ (p : List ℕ). Makes (sink_name p number) (now (g.D.Dir.history c.args.dir)) (now (g.D.Dir.history c.make_next.new.dir))) (sym e.path) (e.made honest)) leaves.moments leaves.safe;
     }
 
-pub returns-in-Ok-clause-kept : goal.returns-in-Ok-clause-kept
-returns-in-Ok-clause-kept g c honest = (invariant_of-result g c).kept (subst g.D.Dir.is_honest (sym c.of-opening.ensures) honest)
+pub returns-in-Ok-clause-opens : goal.returns-in-Ok-clause-opens
+returns-in-Ok-clause-opens g c honest =
+    let e = c.in-Ok.ensures in
+    let number = c.in-Ok.field-0.number in
+    record {
+      next = e.next honest;
+      made = subst (λ (p : List ℕ). Makes (sink_name p number) (now (g.D.Dir.history c.args.dir)) (now (g.D.Dir.history c.make_next.new.dir))) (sym e.path) (e.made honest);
+      kept = (invariant_of-result g c).kept (subst g.D.Dir.is_honest (sym c.of-opening.ensures) honest);
+    }
