@@ -1,6 +1,7 @@
 pub mod Disk
 pub mod Moments
 pub mod Faults
+pub mod Calls
 pub mod Entry
 pub mod Table
 pub mod Past

@@ -15,10 +15,10 @@ use Rattle.file_pieces.specs.declared.piece.Piece.{Piece}
 use Rattle.journal_files.specs.Folders.{journal_name}
 use Rattle.journal_files.specs.JournalLogs.{JournalLog, records_of, state_of}
 use Rattle.journal_files.specs.Views.{OpenJournal}
-use Rattle.journal_files.specs.Disks.{Keeps, HasNoneFrom, HasNoStray}
+use Rattle.journal_files.specs.Disks.{Keeps, HasNoStray}
 use Rattle.journal_files.specs.Pieces.{HasNew, sealed}
 use Rattle.journal_files.specs.Sources.{CanGive, HasSource}
-use Rattle.journal_files.proofs.Names.{apart, numbers_apart, same_number}
+use Rattle.journal_files.proofs.Names.{numbers_apart, same_number}
 use Rattle.journal_files.proofs.Strays.{highest_reads}
 use Rattle.journal_files.proofs.Reopened.{placed_same}
 

@@ -1,7 +1,7 @@
 -- A new file is filled with pieces.
-use Rattle.std.proofs.Common.{◌≡◌, ⊎_elim, ℕ, ◌+◌, ◌≤◌, List, [], length, Option, Some, None, Result, Ok, Err, OnOk, OnErr, refl, sym, ap, subst, ◌∙◌, arith, inr}
+use Rattle.std.proofs.Common.{◌≡◌, ⊎_elim, ℕ, ◌+◌, ◌≤◌, List, [], Option, Some, None, Result, Ok, Err, OnOk, refl, sym, ap, subst, ◌∙◌, arith}
 use Rattle.std.specs.Prelude.{IsSome, IsOk, IsErrOf}
-use Rattle.disk_files.specs.Disk.{Disk, Makes, new_file, with_bytes, SameDisk, with_file, read_of}
+use Rattle.disk_files.specs.Disk.{Disk, Makes, new_file, with_bytes, read_of}
 use Rattle.disk_files.specs.Moments.{History, now, LeavesOnly}
 use Rattle.disk_files.specs.Faults.{HasCause}
 use Rattle.disk_files.specs.declared.dir.FileNo.{FileNo}

@@ -5,7 +5,7 @@ use Rattle.std.proofs.lemmas.Bool.{cases_lt}
 use Rattle.std.specs.Ordering.{nat_cmp}
 use Rattle.std.specs.BTreeMap.{BTreeMap, get}
 use Rattle.disk_files.specs.declared.dir.FileNo.{FileNo}
-use Rattle.disk_files.specs.Disk.{File, Disk, Folder, SameDisk, WasRemoved, read_of, reads}
+use Rattle.disk_files.specs.Disk.{File, Disk, SameDisk, WasRemoved, read_of, reads}
 use Rattle.journal_files.specs.Folders.{journal_name, IsNext}
 use Rattle.journal_files.specs.JournalLogs.{JournalLog}
 use Rattle.journal_files.specs.Views.{OpenJournal}

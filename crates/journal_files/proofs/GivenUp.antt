@@ -1,10 +1,10 @@
 -- A generation that isn't begun whole is given up.
-use Rattle.std.proofs.Common.{◌≡◌, ◌≢◌, ◌⊎◌, ⊎_elim, ℕ, ◌+◌, ◌-◌, ◌<◌, ◌≤◌, ◌^◌, Bool, true, false, cond, List, [], Option, Some, None, option_map, Err, Result, refl, sym, ap, subst, ◌∙◌, arith, inl, inr}
+use Rattle.std.proofs.Common.{◌≡◌, ◌≢◌, ◌⊎◌, ⊎_elim, ℕ, ◌≤◌, Bool, true, false, cond, List, [], Option, Some, None, option_map, Err, refl, sym, ap, subst, ◌∙◌, arith, inl, inr}
 use Rattle.std.specs.Prelude.{IsErrOf}
 use Rattle.std.specs.Str.{bytes_eq}
 use Rattle.std.proofs.lemmas.Option.{same_Some}
 use Rattle.std.proofs.lemmas.Slice.Eq.{bytes_eq-Decides}
-use Rattle.disk_files.specs.Disk.{File, Disk, Folder, MayStay, StopLeaves, SameDisk, Makes, Changes, with_file, with_bytes, new_file, unlinked, read_of, reads}
+use Rattle.disk_files.specs.Disk.{File, Disk, Folder, MayStay, StopLeaves, SameDisk, Makes, Changes, with_bytes, new_file, unlinked, read_of}
 use Rattle.disk_files.specs.Moments.{History, now, Elapses, LeavesOnly}
 use Rattle.disk_files.specs.Faults.{HasCause, Rises}
 use Rattle.disk_files.specs.declared.dir.DirError.{DirError}

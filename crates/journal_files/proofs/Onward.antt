@@ -2,7 +2,7 @@
 use Rattle.std.proofs.Common.{◌≡◌, ℕ, ◌+◌, ◌<◌, ◌^◌, List, Option, Some, ap, subst, ◌∙◌, arith}
 use Rattle.std.specs.Prelude.{IsSome}
 use Rattle.disk_files.specs.Disk.{Disk}
-use Rattle.disk_files.specs.Moments.{History, LeavesOnly, now}
+use Rattle.disk_files.specs.Moments.{History, LeavesOnly}
 use Rattle.disk_files.specs.declared.dir.FileNo.{FileNo}
 use Rattle.buffer_state.specs.State.{State}
 use Rattle.buffer_state.specs.Steps.{settled, reopened}

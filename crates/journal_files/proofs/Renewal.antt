@@ -1,7 +1,15 @@
 -- Why a journal isn't renewed.
-use Rattle.std.proofs.Common.{◌≡◌, ⊎_elim, ℕ, Result, Err, refl, sym, subst, ◌∙◌}
-use Rattle.std.specs.Prelude.{IsErrOf}
+use Rattle.std.proofs.Common.{◌≡◌, ⊎_elim, ℕ, ◌+◌, ◌<◌, ◌^◌, Result, Err, refl, sym, subst, arith}
+use Rattle.std.specs.Prelude.{◌≢◌, IsErrOf}
+use Rattle.disk_files.specs.Disk.{SameDisk}
+use Rattle.disk_files.specs.Moments.{History, LeavesOnly, now}
 use Rattle.disk_files.specs.Faults.{HasCause}
+use Rattle.buffer_state.specs.State.{State}
+use Rattle.journal_files.specs.Calls.{Renews, RefusesRenewal}
+use Rattle.journal_files.specs.JournalLogs.{JournalLog, OpensWithin}
+use Rattle.journal_files.specs.Views.{OpenJournal}
+use Rattle.journal_files.specs.Disks.{Recovers}
+use Rattle.journal_files.specs.Leftovers.{LeavesAtMost}
 use Rattle.disk_files.specs.declared.dir.DirError.{DirError}
 use Rattle.disk_files.specs.declared.dir.DirError.TheVariants as dir
 use Rattle.journal_files.specs.Faults.{HasReason, renew_error, renewal_error}
@@ -19,17 +27,66 @@ begun a b beginning.Short c = record { later = c.later; passed = tt; failed = λ
 pub reason_begun : {T U : Type 0} (a b : ℕ) (e : BeginError) (r : Result U RenewError) → HasReason {T = T} a b (Err e) beginning.Fault → r ≡ Err (renewal_error e) → HasReason a b r renewing.Fault
 reason_begun {U = U} a b e r c answer = subst (λ (q : Result U RenewError). HasReason a b q renewing.Fault) (sym answer) (begun a b e c)
 
--- the file that is copied from is too short
-pub begun_short : {T U : Type 0} (e : BeginError) (r : Result U RenewError) → r ≡ Err (renewal_error e) → IsErrOf r renewing.Short → IsErrOf {T = T} (Err e) beginning.Short
-begun_short beginning.Memory r answer short = absurd (let z = sym answer ∙ short in cc z)
-begun_short beginning.Fault r answer short = absurd (let z = sym answer ∙ short in cc z)
-begun_short beginning.Short r answer short = refl
+-- what is answered where the next generation isn't begun
+pub begun_whole : (e : BeginError) → (e ≡ beginning.Short → ⊥) → renewal_error e ≢ renewing.Short
+begun_whole beginning.Memory whole is = cc is
+begun_whole beginning.Fault whole is = cc is
+begun_whole beginning.Short whole is = whole refl
 
--- there was no memory for it
-pub begun_memory : {T U : Type 0} (e : BeginError) (r : Result U RenewError) → r ≡ Err (renewal_error e) → IsErrOf r renewing.Memory → IsErrOf {T = T} (Err e) beginning.Memory
-begun_memory beginning.Memory r answer memory = refl
-begun_memory beginning.Fault r answer memory = absurd (let z = sym answer ∙ memory in cc z)
-begun_memory beginning.Short r answer memory = absurd (let z = sym answer ∙ memory in cc z)
+pub begun_memory : (e : BeginError) → renewal_error e ≡ renewing.Memory → e ≡ beginning.Memory
+begun_memory beginning.Memory is = refl
+begun_memory beginning.Fault is = absurd (cc is)
+begun_memory beginning.Short is = absurd (cc is)
+
+pub begun_numbered : (e : BeginError) → renewal_error e ≢ renewing.LastGeneration
+begun_numbered beginning.Memory is = cc is
+begun_numbered beginning.Fault is = cc is
+begun_numbered beginning.Short is = cc is
+
+-- and where the older one isn't removed
+pub removal_whole : (e : DirError) → renew_error e ≢ renewing.Short
+removal_whole dir.Memory is = cc is
+removal_whole dir.Fault is = cc is
+removal_whole dir.NoSuchFile is = cc is
+removal_whole dir.NameTaken is = cc is
+
+pub removal_numbered : (e : DirError) → renew_error e ≢ renewing.LastGeneration
+removal_numbered dir.Memory is = cc is
+removal_numbered dir.Fault is = cc is
+removal_numbered dir.NoSuchFile is = cc is
+removal_numbered dir.NameTaken is = cc is
+
+pub removal_fault : {T : Type 0} (e : DirError) → IsErrOf {T = T} (Err e) dir.Fault → renew_error e ≡ renewing.Fault
+removal_fault dir.Memory only = absurd (cc only)
+removal_fault dir.Fault only = refl
+removal_fault dir.NoSuchFile only = refl
+removal_fault dir.NameTaken only = refl
+
+pub removal_memory : {T : Type 0} (e : DirError) → IsErrOf {T = T} (Err e) dir.Fault → renew_error e ≢ renewing.Memory
+removal_memory dir.Memory only is = cc only
+removal_memory dir.Fault only is = cc is
+removal_memory dir.NoSuchFile only is = cc is
+removal_memory dir.NameTaken only is = cc is
+
+-- a refused renewal
+pub renews_not : {T : Type 0} (old new : OpenJournal) (chunks : State) (first last : ℕ) (before after : History) (t : JournalLog) (e : RenewError) (r : Result T RenewError) → r ≡ Err e
+    → e ≢ renewing.Short → (e ≡ renewing.Fault → Recovers old.path (now after) t) → LeavesAtMost old.path (old.number + 1) first last (now before) (now after)
+    → LeavesOnly before after (OpensWithin old.path t) → Renews old new chunks first last before after t r
+renews_not {T = T} old new chunks first last before after t e r answer whole fault left moments =
+    subst (λ (q : Result T RenewError). Renews old new chunks first last before after t q) (sym answer)
+    (record { ok = tt; whole = λ is. whole (cc is); fault = λ is. fault (cc is); left = left; moments = moments })
+
+pub refuses_not : {D T : Type 0} (is_honest : D → Type 0) (history : D → History) (journal : OpenJournal) (old new : D) (e : RenewError) (r : Result T RenewError) → r ≡ Err e
+    → e ≢ renewing.LastGeneration → journal.number + 1 < 2 ^ 32 → (is_honest old → e ≡ renewing.Memory → SameDisk (now (history new)) (now (history old)))
+    → RefusesRenewal is_honest history journal journal old new r
+refuses_not {T = T} is_honest history journal old new e r answer numbered few memory =
+    subst (λ (q : Result T RenewError). RefusesRenewal is_honest history journal journal old new q) (sym answer)
+    (record {
+      journal_is = refl;
+      last = (λ is. absurd (numbered (cc is)), λ many. absurd (omega (arith, many, few)));
+      unchanged = λ honest is. absurd (numbered (cc is));
+      memory_same = λ honest is. memory honest (cc is);
+    })
 
 refused : {T U : Type 0} (a b : ℕ) (e : DirError) → HasCause {T = T} a b (Err e) → HasReason {T = U} a b (Err (renew_error e)) renewing.Fault
 refused a b dir.Memory c = record { later = c.later; passed = tt; failed = λ yes. absurd (cc yes); others = λ no. c.memory refl }

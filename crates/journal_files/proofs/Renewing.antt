@@ -1,6 +1,6 @@
 -- A journal goes on in the next generation.
 use Rattle.std.proofs.Common.{◌≡◌, ◌⊎◌, ⊎_elim, ℕ, ◌+◌, ◌<◌, ◌≤◌, ◌^◌, false, List, Option, Some, None, option_map, Result, OnOk, OnErr, refl, sym, ap, subst, ◌∙◌, arith, inr}
-use Rattle.std.specs.Prelude.{IsSome}
+use Rattle.std.specs.Prelude.{◌≢◌, IsSome}
 use Rattle.std.specs.Str.{bytes_eq}
 use Rattle.std.proofs.lemmas.Option.{same_Some}
 use Rattle.disk_files.specs.Disk.{File, Disk, SameDisk, Changes, unlinked, read_of, reads}
@@ -13,7 +13,7 @@ use Rattle.journal_files.specs.Folders.{journal_name}
 use Rattle.journal_files.specs.JournalLogs.{JournalLog, state_of, new_generation, IsOfSome, OpensWithin}
 use Rattle.journal_files.specs.Views.{OpenJournal, IsOpenIn}
 use Rattle.journal_files.specs.Disks.{Keeps, Recovers, HasNoneFrom, IsBelowSome, HasAllBelow}
-use Rattle.journal_files.proofs.Names.{same_number, numbers_apart}
+use Rattle.journal_files.proofs.Names.{same_number, numbers_apart, apart}
 use Rattle.journal_files.proofs.Recovery.{recovers}
 use Rattle.journal_files.proofs.Steps.{either}
 use Rattle.journal_files.proofs.Beginning.{kept_above, renewed}
@@ -79,3 +79,9 @@ pub removing : {T E : Type 0} (path : List ℕ) (t : JournalLog) (name : List �
     → OnOk result (Changes name unlinked (now mid) (now new)) → OnErr result (SameDisk (now new) (now mid) ⊎ Changes name unlinked (now mid) (now new)) → LeavesOnly old new (OpensWithin path t)
 removing path t name old mid new result so_far time still ok err =
     goes_on old mid new (OpensWithin path t) so_far time (still (now new) (either result ok err (λ changes. inr changes) (λ some. some)))
+
+-- a generation is made and another one is removed, or not: files of other names stay
+pub others_beyond : (old mid new : Disk) (own next name : List ℕ) → ((other : List ℕ) → other ≢ next → mid other ≡ old other) → SameDisk new mid ⊎ Changes own unlinked mid new
+    → name ≢ own → name ≢ next → new name ≡ old name
+others_beyond old mid new own next name begun removed not_own not_next =
+    ⊎_elim (λ same. same name) (λ changes. elsewhere mid new own name _ changes (apart own name (λ e. not_own (sym e)))) removed ∙ begun name not_next

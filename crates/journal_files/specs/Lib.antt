@@ -9,3 +9,5 @@ pub mod Leftovers
 pub mod Sources
 pub mod Found
 pub mod Laws
+pub mod Openings
+pub mod Calls

@@ -14,8 +14,9 @@ ghost use Rattle.journal_files.specs.JournalLogs.{JournalLog, begun, all_durable
 ghost use Rattle.journal_files.specs.Views.{IsOpenIn, IsReady, HasShortTags};
 ghost use Rattle.journal_files.specs.Folders.{journal_name};
 ghost use Rattle.journal_files.specs.Disks.{Keeps, Recovers, HasNoStray, HasNoGap};
-ghost use Rattle.journal_files.specs.Leftovers.{LeavesAtMost};
+ghost use Rattle.journal_files.specs.Calls.{WritesOwn, BeginsStep, Renews, IsNextOf, RefusesRenewal, LeavesOthers};
 ghost use Rattle.journal_files.specs.Faults.{HasReason};
+ghost use Rattle.disk_files.specs.Calls.{LeavesAlone};
 ghost use Rattle.journal_files.specs.declared.error.ReadError.{ReadError};
 ghost use Rattle.journal_files.specs.declared.error.RenewError.{RenewError};
 ghost use Rattle.journal_files.specs.declared.placing.Placing.TheVariants.{Stays};
@@ -76,7 +77,6 @@ impl<A: Allocator> Journal<A> {
     /// After its `Ok` each stop leaves all steps that were begun. The error is `Fault`, and changes nothing.
     pub fn sync<D: Dir>(&self, dir: &mut D) -> Result<(), DirError>
         requires open { IsOpenIn self.now (D.opened dir.old) }
-        ensures honest { D.is_honest dir.old → D.is_honest dir.new }
         ensures ok { D.is_honest dir.old → (t : JournalLog) → Keeps self.now (now (D.history dir.old)) t
             → OnOk result (Keeps self.now (now (D.history dir.new)) (all_durable t)) }
         ensures err { D.is_honest dir.old → (t : JournalLog) → Keeps self.now (now (D.history dir.old)) t
@@ -84,12 +84,7 @@ impl<A: Allocator> Journal<A> {
         // A stop at any moment of the call leaves a folder that opens so.
         ensures moments { D.is_honest dir.old → (t : JournalLog) → Keeps self.now (now (D.history dir.old)) t
             → LeavesOnly (D.history dir.old) (D.history dir.new) (OpensWithin self.now.path t) }
-        // Files of other names stay as they are.
-        ensures elsewhere { D.is_honest dir.old → (name : List ℕ) → name ≢ journal_name self.now.path self.now.number
-            → now (D.history dir.new) name ≡ now (D.history dir.old) name }
-        ensures opened { (other : FileNo) → D.opened dir.new other ≡ D.opened dir.old other }
-        ensures cause { HasCause (D.fault_count dir.old) (D.fault_count dir.new) result }
-        ensures only { OnErr result (result ≡ Err DirError.Fault) }
+        ensures own { WritesOwn D.is_honest D.history D.opened D.fault_count self.now dir.old dir.new result }
     {
         dir.sync(self.file)
     }
@@ -114,11 +109,7 @@ impl<A: Allocator + Copy> Journal<A> {
         ensures rest { self.new ≡ record self.old { ready = self.new.ready; places = self.new.places; placing = self.new.placing } }
         ensures places { SamePlaces self.old.places self.new.places }
         ensures keeps { D.is_honest dir.old → (t : JournalLog) → Keeps self.old (now (D.history dir.old)) t → Keeps self.new (now (D.history dir.new)) t }
-        ensures honest { D.is_honest dir.old → D.is_honest dir.new }
-        ensures time { D.is_honest dir.old → Elapses (D.history dir.old) (D.history dir.new) }
-        ensures same { D.is_honest dir.old → SameDisk (now (D.history dir.new)) (now (D.history dir.old)) }
-        ensures opened { (other : FileNo) → D.opened dir.new other ≡ D.opened dir.old other }
-        ensures cause { D.fault_count dir.new ≡ D.fault_count dir.old }
+        ensures alone { LeavesAlone D.is_honest D.history D.opened D.fault_count dir.old dir.new }
     {
         self.spell(item)?;
         dir.reserve(self.file, self.ready.len())
@@ -152,24 +143,13 @@ impl<A: Allocator + Copy> Journal<A> {
         requires open { IsOpenIn self.old (D.opened dir.old) }
         requires room { length self.old.ready ≤ D.bytes_left dir.old self.old.file }
         ensures journal { self.new ≡ record self.old { len = self.old.len + length self.old.ready; ready = []; places = self.new.places; placing = Stays } }
-        ensures honest { D.is_honest dir.old → D.is_honest dir.new }
-        ensures ok { D.is_honest dir.old → (t : JournalLog) (item : Step) → Keeps self.old (now (D.history dir.old)) t
-            → IsReady self.old item → Allows (state_of t) item
-            → OnOk result (Keeps self.new (now (D.history dir.new)) (begun item t)) }
-        ensures err { D.is_honest dir.old → (t : JournalLog) (item : Step) → Keeps self.old (now (D.history dir.old)) t
-            → IsReady self.old item → Allows (state_of t) item
-            → OnErr result (Recovers self.old.path (now (D.history dir.new)) (begun item t)) }
-        ensures stray { D.is_honest dir.old → (t : JournalLog) → Keeps self.old (now (D.history dir.old)) t → HasNoStray self.old.path (now (D.history dir.new)) }
         // A stop at any moment of the call leaves a folder that opens so.
-        ensures moments { D.is_honest dir.old → (t : JournalLog) (item : Step) → Keeps self.old (now (D.history dir.old)) t
+        ensures begins { D.is_honest dir.old → (t : JournalLog) (item : Step) → Keeps self.old (now (D.history dir.old)) t
             → IsReady self.old item → Allows (state_of t) item
-            → LeavesOnly (D.history dir.old) (D.history dir.new) (OpensWithin self.old.path (begun item t)) }
-        // Files of other names stay as they are.
-        ensures elsewhere { D.is_honest dir.old → (name : List ℕ) → name ≢ journal_name self.old.path self.old.number
-            → now (D.history dir.new) name ≡ now (D.history dir.old) name }
-        ensures opened { (other : FileNo) → D.opened dir.new other ≡ D.opened dir.old other }
-        ensures cause { HasCause (D.fault_count dir.old) (D.fault_count dir.new) result }
-        ensures only { OnErr result (result ≡ Err DirError.Fault) }
+            → BeginsStep self.old self.new (D.history dir.old) (D.history dir.new) t item result }
+        ensures stray { D.is_honest dir.old → (t : JournalLog) → Keeps self.old (now (D.history dir.old)) t
+            → HasNoStray self.old.path (now (D.history dir.new)) }
+        ensures own { WritesOwn D.is_honest D.history D.opened D.fault_count self.old dir.old dir.new result }
     {
         // Called for their laws alone.
         places_follow();
@@ -209,38 +189,20 @@ impl<A: Allocator + Copy> Journal<A> {
     pub fn renew<D: Dir>(&mut self, dir: &mut D, chunks: &Chunks<A>) -> Result<(), RenewError>
         requires open { IsOpenIn self.old (D.opened dir.old) }
         requires tags { HasShortTags chunks.now }
-        ensures honest { D.is_honest dir.old → D.is_honest dir.new }
-        ensures ok { D.is_honest dir.old → (t : JournalLog) → Keeps self.old (now (D.history dir.old)) t
-            → settled (state_of t) ≡ reopened chunks.now
-            → OnOk result (Keeps self.new (now (D.history dir.new)) (new_generation chunks.now)) }
-        ensures whole { D.is_honest dir.old → (t : JournalLog) → Keeps self.old (now (D.history dir.old)) t
-            → settled (state_of t) ≡ reopened chunks.now → result ≢ Err RenewError.Short }
-        ensures state { OnOk result (settled (state_of (new_generation chunks.now)) ≡ reopened chunks.now) }
-        ensures fault { D.is_honest dir.old → (t : JournalLog) → Keeps self.old (now (D.history dir.old)) t
-            → settled (state_of t) ≡ reopened chunks.now
-            → (result ≡ Err RenewError.Fault) → Recovers self.old.path (now (D.history dir.new)) t }
         // A stop at any moment of the call leaves a folder that opens so.
-        ensures moments { D.is_honest dir.old → (t : JournalLog) → Keeps self.old (now (D.history dir.old)) t
+        ensures renews { D.is_honest dir.old → (t : JournalLog) → Keeps self.old (now (D.history dir.old)) t
             → settled (state_of t) ≡ reopened chunks.now
-            → LeavesOnly (D.history dir.old) (D.history dir.new) (OpensWithin self.old.path t) }
-        ensures gap { D.is_honest dir.old → (t : JournalLog) → Keeps self.old (now (D.history dir.old)) t → HasNoGap self.old.path (now (D.history dir.new)) }
-        ensures left { D.is_honest dir.old → (t : JournalLog) → Keeps self.old (now (D.history dir.old)) t
-            → settled (state_of t) ≡ reopened chunks.now
-            → OnErr result (LeavesAtMost self.old.path (self.old.number + 1) (D.fault_count dir.old) (D.fault_count dir.new) (now (D.history dir.old)) (now (D.history dir.new))) }
-        ensures gone { D.is_honest dir.old → OnOk result (reads (now (D.history dir.new)) (journal_name self.old.path self.old.number) ≡ None) }
+            → Renews self.old self.new chunks.now (D.fault_count dir.old) (D.fault_count dir.new)
+            (D.history dir.old) (D.history dir.new) t result }
+        ensures gap { D.is_honest dir.old → (t : JournalLog) → Keeps self.old (now (D.history dir.old)) t
+            → HasNoGap self.old.path (now (D.history dir.new)) }
         ensures memory { D.is_honest dir.old → (t : JournalLog) → Keeps self.old (now (D.history dir.old)) t
             → (result ≡ Err RenewError.Memory) → Keeps self.new (now (D.history dir.new)) t }
-        ensures last { (result ≡ Err RenewError.LastGeneration) ↔ (2 ^ 32 ≤ self.old.number + 1) }
-        ensures unchanged { (result ≡ Err RenewError.LastGeneration) → D.is_honest dir.old → SameDisk (now (D.history dir.new)) (now (D.history dir.old)) }
-        ensures memory_same { D.is_honest dir.old → (result ≡ Err RenewError.Memory) → SameDisk (now (D.history dir.new)) (now (D.history dir.old)) }
-        // Files of other names stay as they are.
-        ensures elsewhere { D.is_honest dir.old → (name : List ℕ) → name ≢ journal_name self.old.path self.old.number → name ≢ journal_name self.old.path (self.old.number + 1)
-            → now (D.history dir.new) name ≡ now (D.history dir.old) name }
-        ensures path { self.new.path ≡ self.old.path }
-        ensures number { OnOk result (self.new.number ≡ self.old.number + 1) }
-        ensures journal { OnErr result (self.new ≡ self.old) }
-        ensures open { result ≢ Err RenewError.Fault → IsOpenIn self.new (D.opened dir.new) }
-        ensures cause { HasReason (D.fault_count dir.old) (D.fault_count dir.new) result RenewError.Fault }
+        ensures next { OnOk result (IsNextOf self.old self.new chunks.now) }
+        ensures gone { D.is_honest dir.old
+            → OnOk result (reads (now (D.history dir.new)) (journal_name self.old.path self.old.number) ≡ None) }
+        ensures refused { RefusesRenewal D.is_honest D.history self.old self.new dir.old dir.new result }
+        ensures others { LeavesOthers D.is_honest D.history D.opened D.fault_count self.old self.new dir.old dir.new result }
     {
         if self.number == u32::MAX {
             return Err(RenewError::LastGeneration);

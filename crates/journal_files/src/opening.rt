@@ -1,19 +1,17 @@
 //! Opening a journal: what the folder means, and a new generation that says so.
 
-ghost use Rattle.std.specs.Prelude.{◌≡◌, ◌≢◌, ◌⊎◌, ◌↔◌, ℕ, ◌+◌, ◌-◌, ◌^◌, ◌<◌, ◌≤◌, List, Some, None, false, Ok, IsSome, IsTrue, OnErr, IfOk, IfSome, Err};
+ghost use Rattle.std.specs.Prelude.{◌≡◌, ◌≢◌, ◌⊎◌, ◌↔◌, ℕ, ◌+◌, ◌-◌, ◌^◌, ◌<◌, ◌≤◌, Some, None, false, Ok, IsSome, IsTrue, IfOk, IfErr, IfSome, Err};
 ghost use Rattle.std.specs.Ordering.{nat_cmp};
 ghost use Rattle.std.specs.BTreeSet.{contains};
 ghost use Rattle.disk_files.specs.Disk.{SameDisk, WasRemoved, reads};
-ghost use Rattle.disk_files.specs.Moments.{Elapses, LeavesOnly, now};
-ghost use Rattle.buffer_state.specs.Steps.{settled, reopened};
-ghost use Rattle.journal_files.specs.Folders.{journal_name, Opens, IsDamagedFolder, IsNext};
-ghost use Rattle.journal_files.specs.JournalLogs.{JournalLog, OpensWithin, new_generation, state_of};
-ghost use Rattle.journal_files.specs.Views.{IsOpenIn, HasShortTags};
-ghost use Rattle.journal_files.specs.Disks.{Keeps, Recovers, HasNoGap, HasNoneBelow};
+ghost use Rattle.disk_files.specs.Moments.{Elapses, now};
+ghost use Rattle.buffer_state.specs.Steps.{reopened};
+ghost use Rattle.journal_files.specs.Folders.{journal_name, Opens, IsDamagedFolder};
+ghost use Rattle.journal_files.specs.Views.{HasShortTags};
 ghost use Rattle.journal_files.specs.Faults.{HasReason};
 ghost use Rattle.chunk_journal.specs.Meaning.{EndsUnsealed, IsDamaged};
 ghost use Rattle.journal_files.specs.Found.{FindsSource, IsFound, IsLastTaken, IsMeant, IsSo};
-ghost use Rattle.journal_files.specs.Leftovers.{ReadsAs, LeavesNext};
+ghost use Rattle.journal_files.specs.Openings.{OpensNext, IsFresh, IsRefused, LeavesFolder};
 ghost use Rattle.journal_files.specs.declared.error.OpenError.{OpenError};
 
 use crate::error::OpenError;
@@ -48,44 +46,18 @@ impl<A: Allocator + Copy> Journal<A> {
     /// After `Fault` the folder opens to what it opened to. It reads as before, since the new file is removed again, but where the device
     /// failed in making it or in removing it; or the new file is whole, and the device failed as older ones were removed.
     pub fn open<D: Dir>(alloc: A, dir: &mut D, path: &[u8]) -> Result<Opened<A>, OpenError>
-        ensures honest { D.is_honest dir.old → D.is_honest dir.new }
-        ensures state { D.is_honest dir.old
-            → IfOk result (λ opened. Opens path.now (reads (now (D.history dir.old))) opened.chunks) }
-        ensures keeps { D.is_honest dir.old → HasNoGap path.now (now (D.history dir.old))
-            → IfOk result (λ opened. Keeps opened.journal (now (D.history dir.new)) (new_generation opened.chunks)) }
-        // No chunk is claimed, and the queue goes by rising serial.
-        ensures unclaimed { IfOk result (λ opened. reopened opened.chunks ≡ opened.chunks) }
-        ensures starts { IfOk result (λ opened. settled (state_of (new_generation opened.chunks)) ≡ reopened opened.chunks) }
-        ensures tags { IfOk result (λ opened. HasShortTags opened.chunks) }
-        ensures next { D.is_honest dir.old → IfOk result (λ opened. IsNext path.now (now (D.history dir.old)) opened.journal.number) }
-        ensures path { IfOk result (λ opened. opened.journal.path ≡ path.now) }
-        ensures open { IfOk result (λ opened. IsOpenIn opened.journal (D.opened dir.new)) }
-        ensures damaged { D.is_honest dir.old → (result ≡ Err OpenError.Damaged)
-            → IsDamagedFolder path.now (reads (now (D.history dir.old))) }
-        ensures last { D.is_honest dir.old → (result ≡ Err OpenError.LastGeneration)
-            → IsSome (reads (now (D.history dir.old)) (journal_name path.now (2 ^ 32 - 1))) }
-        // Where there is a last generation, it isn't read.
-        ensures unread { D.is_honest dir.old → IsSome (reads (now (D.history dir.old)) (journal_name path.now (2 ^ 32 - 1)))
-            → result ≢ Err OpenError.Damaged }
-        // Files of other names stay as they are.
-        ensures elsewhere { D.is_honest dir.old → (name : List ℕ) → ((n : ℕ) → n < 2 ^ 32 → name ≢ journal_name path.now n)
-            → now (D.history dir.new) name ≡ now (D.history dir.old) name }
-        ensures unchanged { D.is_honest dir.old → result ≢ Err OpenError.Fault
-            → OnErr result (SameDisk (now (D.history dir.new)) (now (D.history dir.old))) }
-        ensures left { D.is_honest dir.old → HasNoGap path.now (now (D.history dir.old))
-            → OnErr result (ReadsAs (now (D.history dir.old)) (now (D.history dir.new))
-            ⊎ LeavesNext path.now (D.fault_count dir.old) (D.fault_count dir.new) (now (D.history dir.old)) (now (D.history dir.new))) }
+        ensures opens { D.is_honest dir.old → IfOk result (λ opened.
+            OpensNext path.now (now (D.history dir.old)) (now (D.history dir.new)) opened.journal opened.chunks) }
+        ensures fresh { IfOk result (λ opened. IsFresh path.now (D.opened dir.new) opened.journal opened.chunks) }
+        ensures refused { D.is_honest dir.old → IfErr result (IsRefused path.now
+            (D.fault_count dir.old) (D.fault_count dir.new) (now (D.history dir.old)) (now (D.history dir.new))) }
         // A stop at any moment of the call, whatever it answers, leaves a folder that opens to what one before the call could open to.
-        ensures moments { D.is_honest dir.old → HasNoGap path.now (now (D.history dir.old))
-            → (t : JournalLog) → Recovers path.now (now (D.history dir.old)) t
-            → LeavesOnly (D.history dir.old) (D.history dir.new) (OpensWithin path.now t) }
-        ensures gap { D.is_honest dir.old → HasNoGap path.now (now (D.history dir.old)) → HasNoGap path.now (now (D.history dir.new)) }
-        ensures alone { D.is_honest dir.old → IfOk result (λ opened. HasNoneBelow path.now (now (D.history dir.new)) opened.journal.number) }
+        ensures leaves { D.is_honest dir.old → LeavesFolder D.is_honest D.history path.now dir.old dir.new }
         ensures cause { HasReason (D.fault_count dir.old) (D.fault_count dir.new) result OpenError.Fault }
     {
-        let found = find(alloc, dir, path)?;
         // Called for its law alone.
         answers_one_way();
+        let found = find(alloc, dir, path)?;
         let number = found.greatest + 1;
         let older = Older::open(alloc, dir, path, number)?;
         let journal = begin(

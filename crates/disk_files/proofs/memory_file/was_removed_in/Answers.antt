@@ -1,4 +1,4 @@
-use Rattle.std.proofs.Common.{sym, ◌∙◌}
+use Rattle.std.proofs.Common.{sym}
 use Rattle.disk_files.proofs.Changed.{place_found, place_none, removed_found, removed_none}
 use Rattle.disk_files.proofs.memory_file.was_removed_in.Goals as goal
 

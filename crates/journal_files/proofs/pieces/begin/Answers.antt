@@ -4,7 +4,6 @@ use Rattle.disk_files.specs.Moments.{now}
 use Rattle.disk_files.proofs.Moments.{started}
 use Rattle.chunk_journal.specs.Journal.{journal_bytes}
 use Rattle.chunk_journal.specs.Meaning.{chunk_records}
-use Rattle.journal_files.specs.Faults.{begin_error}
 use Rattle.disk_files.specs.Faults.{Rises}
 use Rattle.journal_files.specs.JournalLogs.{OpensWithin}
 use Rattle.journal_files.specs.Leftovers.{IsGivenUp}

@@ -1,7 +1,7 @@
 use Rattle.std.proofs.Common.{Ok, Err, [], ap, refl, ◌∙◌, arith, inl}
 use Rattle.disk_files.specs.Moments.{now}
 use Rattle.disk_files.proofs.Moments.{started}
-use Rattle.journal_files.specs.Faults.{begin_error, copy_error}
+use Rattle.journal_files.specs.Faults.{begin_error}
 use Rattle.file_pieces.specs.Adding.{IsLeftOf}
 use Rattle.journal_files.specs.Pieces.{IsUnfinished}
 use Rattle.journal_files.specs.declared.error.BeginError.TheVariants as beginning

@@ -3,10 +3,10 @@ use Rattle.journal_files.specs.declared.error.BeginError.{BeginError}
 use Rattle.journal_files.specs.declared.error.OpenError.TheVariants as opening
 use Rattle.journal_files.specs.Faults.{HasReason, open_error, opening_error}
 use Rattle.journal_files.proofs.Heard.{answered, reason_dir}
-use Rattle.journal_files.proofs.Steps.{any_err}
 use Rattle.disk_files.specs.Disk.{reads, read_of}
 use Rattle.disk_files.specs.Moments.{LeavesOnly, now}
 use Rattle.journal_files.specs.Folders.{journal_name}
+use Rattle.journal_files.specs.Disks.{HasNoGap}
 use Rattle.file_pieces.specs.Adding.{IsLeftOf}
 use Rattle.journal_files.specs.Pieces.{AreOlder, ChangesBelow, IsGoneBut}
 use Rattle.journal_files.proofs.Beginning.{of_folder}
@@ -15,108 +15,116 @@ use Rattle.journal_files.proofs.Fresh.{is_next, own_is_above, opened_alone}
 use Rattle.journal_files.proofs.GivenUp.{given_up_behind, left_next}
 use Rattle.journal_files.proofs.OlderFiles.{still_older}
 use Rattle.journal_files.proofs.OneWay.{one_way}
-use Rattle.journal_files.proofs.OpeningMoments.{quiet, looked, keeps_still, no_gap_still, whole_still, removed_so}
+use Rattle.journal_files.proofs.OpeningMoments.{quiet, looked as looked_twice, keeps_still, no_gap_still, whole_still, removed_so}
 use Rattle.journal_files.proofs.Sourced.{still_open}
 use Rattle.journal_files.proofs.Strays.{same_gap}
-use Rattle.journal_files.proofs.Unopened.{was_memory, was_short, not_last, reason_begun}
+use Rattle.journal_files.proofs.Unopened.{if_err, fault_only, search_refused, call_refused, begin_refused, reason_begun}
 use Rattle.journal_files.proofs.journal.Journal.open.Goals as goal
 
-pub returns-in_err-found-clause-moments : goal.returns-in_err-found-clause-moments
-returns-in_err-found-clause-moments g c = λ honest stray t before. quiet c.args.path.now t (g.D.Dir.history c.args.dir.now) (g.D.Dir.history c.find.new.dir) before (c.find.ensures.time honest) (c.find.ensures.same honest)
+-- the folder was searched in vain
 
-pub returns-in_err-older-clause-moments : goal.returns-in_err-older-clause-moments
-returns-in_err-older-clause-moments g c = λ honest stray t before.
-    let found_honest = c.in_ok-found.ensures.honest honest in
-    looked c.args.path.now t (g.D.Dir.history c.args.dir.now) (g.D.Dir.history c.find.new.dir) (g.D.Dir.history c.open.new.dir) before (c.find.ensures.time honest) (c.find.ensures.same honest) (c.open.ensures.time found_honest) (c.open.ensures.same found_honest)
+pub returns-in_err-found-clause-leaves : goal.returns-in_err-found-clause-leaves
+returns-in_err-found-clause-leaves g c = λ honest.
+    let found = c.find.ensures in
+    record {
+      honest = found.honest honest;
+      elsewhere = λ name _. found.same honest name;
+      gap = λ stray. same_gap c.args.path.now (now (g.D.Dir.history c.args.dir.now)) (now (g.D.Dir.history c.find.new.dir)) (found.same honest) stray;
+      moments = λ stray t before. quiet c.args.path.now t (g.D.Dir.history c.args.dir.now) (g.D.Dir.history c.find.new.dir) before (found.time honest) (found.same honest);
+    }
 
-pub returns-in_err-journal-clause-moments : goal.returns-in_err-journal-clause-moments
-returns-in_err-journal-clause-moments g c = λ honest stray t before.
-    let older_honest = c.in_ok-older.ensures.honest (c.in_ok-found.ensures.honest honest) in
+pub returns-in_err-found-clause-refused : goal.returns-in_err-found-clause-refused
+returns-in_err-found-clause-refused g c = λ honest.
+    let found = c.in_err-found.ensures in
+    let e = c.in_err-found.field-0.0 in
+    if_err _ e c.from_residual.result (answered e c.from_residual.result c.from_residual.ensures.1)
+    (search_refused c.args.path.now _ _ _ _ c.answers_one_way.ensures (g.met.D.Dir.reads_stay c.args.dir.now honest) e (λ is. found.damaged honest (ap Err is)) (λ is. found.last honest (ap Err is))
+    (λ there is. found.unread honest there (ap Err is)) (found.same honest) (λ stray. inl (λ q. ap read_of (found.same honest q))))
+
+-- the older generations aren't opened
+
+pub returns-in_err-older-clause-leaves : goal.returns-in_err-older-clause-leaves
+returns-in_err-older-clause-leaves g c = λ honest.
+    let found = c.in_ok-found.ensures in
+    let mid = found.honest honest in
+    record {
+      honest = c.open.ensures.honest mid;
+      elsewhere = λ name _. c.open.ensures.same mid name ∙ found.same honest name;
+      gap = λ stray. same_gap c.args.path.now (now (g.D.Dir.history c.args.dir.now)) (now (g.D.Dir.history c.open.new.dir)) (λ name. c.open.ensures.same mid name ∙ found.same honest name) stray;
+      moments = λ stray t before. looked_twice c.args.path.now t (g.D.Dir.history c.args.dir.now) (g.D.Dir.history c.find.new.dir) (g.D.Dir.history c.open.new.dir) before (c.find.ensures.time honest) (c.find.ensures.same honest) (c.open.ensures.time mid) (c.open.ensures.same mid);
+    }
+
+pub returns-in_err-older-clause-refused : goal.returns-in_err-older-clause-refused
+returns-in_err-older-clause-refused g c = λ honest.
+    let mid = c.in_ok-found.ensures.honest honest in
+    let e = c.in_err-older.field-0.0 in
+    let same = λ (name : List ℕ). c.open.ensures.same mid name ∙ c.in_ok-found.ensures.same honest name in
+    if_err _ (open_error e) c.from_residual-in_err-older.result (answered (open_error e) c.from_residual-in_err-older.result c.from_residual-in_err-older.ensures.1)
+    (call_refused c.args.path.now _ _ _ _ e (λ _. same) (λ stray. inl (λ q. ap read_of (same q))))
+
+-- the next generation isn't begun
+
+pub begin-requires-clause-source : goal.begin-requires-clause-source
+begin-requires-clause-source g c = still_open (g.D.Dir.opened c.find.new.dir) (g.D.Dir.opened c.open.new.dir) c.in_ok-older.ensures.others c.in_ok-found.found.file c.in_ok-found.ensures.open
+
+pub returns-in_err-journal-clause-leaves : goal.returns-in_err-journal-clause-leaves
+returns-in_err-journal-clause-leaves g c = λ honest.
+    let found = c.in_ok-found.ensures in
+    let older = c.in_ok-older.ensures in
+    let mid = found.honest honest in
+    let ready = older.honest mid in
+    let path = c.args.path.now in
+    let greatest = c.in_ok-found.found.greatest in
+    let first = g.D.Dir.history c.args.dir.now in
+    let looked = g.D.Dir.history c.open.new.dir in
+    let begun = g.D.Dir.history c.begin.new.dir in
+    let small : greatest + 1 < 2 ^ 32 = omega (arith, found.below) in
     let on = afresh (g.D.Dir.opened c.find.new.dir) (g.D.Dir.opened c.open.new.dir) c.in_ok-older.ensures.others (now (g.D.Dir.history c.args.dir.now)) (now (g.D.Dir.history c.find.new.dir)) (now (g.D.Dir.history c.open.new.dir)) c.args.path.now
-    c.in_ok-found.found.greatest c.in_ok-found.found.file c.in_ok-found.found.places c.in_ok-found.found.chunks (c.in_ok-found.ensures.same honest) (c.in_ok-older.ensures.same (c.in_ok-found.ensures.honest honest)) c.in_ok-found.ensures.below (c.in_ok-found.ensures.greatest honest)
-    (c.in_ok-found.ensures.source honest) in
-    let m = of_folder c.args.path.now (reads (now (g.D.Dir.history c.args.dir.now))) t c.in_ok-found.found.chunks (one_way c.answers_one_way.ensures c.args.path.now (reads (now (g.D.Dir.history c.args.dir.now)))) (before (reads (now (g.D.Dir.history c.args.dir.now))) (g.met.D.Dir.reads_stay c.args.dir.now honest))
-    (c.in_ok-found.ensures.state honest) c.in_ok-found.ensures.unclaimed in
-    beginning c.args.path.now t (g.D.Dir.history c.args.dir.now) (g.D.Dir.history c.find.new.dir) (g.D.Dir.history c.open.new.dir) (g.D.Dir.history c.begin.new.dir) before (c.find.ensures.time honest) (c.find.ensures.same honest) (c.open.ensures.time (c.in_ok-found.ensures.honest honest)) (c.open.ensures.same (c.in_ok-found.ensures.honest honest))
-    (λ then. c.begin.ensures.moments older_honest t then (none on stray) m on.source)
+    c.in_ok-found.found.greatest c.in_ok-found.found.file c.in_ok-found.found.places c.in_ok-found.found.chunks (found.same honest) (older.same mid) found.below (found.greatest honest)
+    (found.source honest) in
+    record {
+      honest = c.begin.ensures.honest ready;
+      elsewhere = λ name differs. c.begin.ensures.elsewhere ready name (differs (greatest + 1) small) ∙ on.same name;
+      gap = λ stray. c.begin.ensures.gap ready (none on stray) (all on stray);
+      moments = λ stray t before.
+          let m = of_folder path (reads (now first)) t c.in_ok-found.found.chunks (one_way c.answers_one_way.ensures path (reads (now first))) (before (reads (now first)) (g.met.D.Dir.reads_stay c.args.dir.now honest))
+          (found.state honest) found.unclaimed in
+          beginning path t first (g.D.Dir.history c.find.new.dir) looked begun before (c.find.ensures.time honest) (c.find.ensures.same honest) (c.open.ensures.time mid) (c.open.ensures.same mid)
+          (λ then. c.begin.ensures.moments ready t then (none on stray) m on.source);
+    }
 
-pub returns-in_err-remove-clause-moments : goal.returns-in_err-remove-clause-moments
-returns-in_err-remove-clause-moments g c = λ honest stray t before.
-    let older_honest = c.in_ok-older.ensures.honest (c.in_ok-found.ensures.honest honest) in
+pub returns-in_err-journal-clause-refused : goal.returns-in_err-journal-clause-refused
+returns-in_err-journal-clause-refused g c = λ honest.
+    let found = c.in_ok-found.ensures in
+    let older = c.in_ok-older.ensures in
+    let mid = found.honest honest in
+    let ready = older.honest mid in
+    let path = c.args.path.now in
+    let greatest = c.in_ok-found.found.greatest in
+    let first = g.D.Dir.history c.args.dir.now in
+    let looked = g.D.Dir.history c.open.new.dir in
+    let begun = g.D.Dir.history c.begin.new.dir in
+    let small : greatest + 1 < 2 ^ 32 = omega (arith, found.below) in
     let on = afresh (g.D.Dir.opened c.find.new.dir) (g.D.Dir.opened c.open.new.dir) c.in_ok-older.ensures.others (now (g.D.Dir.history c.args.dir.now)) (now (g.D.Dir.history c.find.new.dir)) (now (g.D.Dir.history c.open.new.dir)) c.args.path.now
-    c.in_ok-found.found.greatest c.in_ok-found.found.file c.in_ok-found.found.places c.in_ok-found.found.chunks (c.in_ok-found.ensures.same honest) (c.in_ok-older.ensures.same (c.in_ok-found.ensures.honest honest)) c.in_ok-found.ensures.below (c.in_ok-found.ensures.greatest honest)
-    (c.in_ok-found.ensures.source honest) in
-    let m = of_folder c.args.path.now (reads (now (g.D.Dir.history c.args.dir.now))) t c.in_ok-found.found.chunks (one_way c.answers_one_way.ensures c.args.path.now (reads (now (g.D.Dir.history c.args.dir.now)))) (before (reads (now (g.D.Dir.history c.args.dir.now))) (g.met.D.Dir.reads_stay c.args.dir.now honest))
-    (c.in_ok-found.ensures.state honest) c.in_ok-found.ensures.unclaimed in
-    let begun_honest = c.in_ok-journal.ensures.honest older_honest in
-    let keeps = c.in_ok-journal.ensures.ok older_honest (none on stray) on.source in
-    let removing = said_of (λ (p : List ℕ) (k : ℕ). LeavesOnly (g.D.Dir.history c.begin.new.dir) (g.D.Dir.history c.remove.new.dir) (IsLeftOf (ChangesBelow p k (now (g.D.Dir.history c.begin.new.dir))))) c.in_ok-older.ensures.path c.in_ok-older.ensures.number (c.remove.ensures.moments begun_honest) in
-    removed_so c.args.path.now (c.in_ok-found.found.greatest + 1) c.in_ok-journal.journal (now (g.D.Dir.history c.begin.new.dir)) c.in_ok-found.found.chunks c.in_ok-journal.ensures.path c.in_ok-journal.ensures.number keeps
-    t c.in_ok-journal.ensures.state m (g.D.Dir.history c.args.dir.now) (g.D.Dir.history c.begin.new.dir) (g.D.Dir.history c.remove.new.dir) refl (beginning c.args.path.now t (g.D.Dir.history c.args.dir.now) (g.D.Dir.history c.find.new.dir) (g.D.Dir.history c.open.new.dir) (g.D.Dir.history c.begin.new.dir) before (c.find.ensures.time honest) (c.find.ensures.same honest) (c.open.ensures.time (c.in_ok-found.ensures.honest honest)) (c.open.ensures.same (c.in_ok-found.ensures.honest honest))
-    (λ then. c.begin.ensures.moments older_honest t then (none on stray) m on.source)) removing
+    c.in_ok-found.found.greatest c.in_ok-found.found.file c.in_ok-found.found.places c.in_ok-found.found.chunks (found.same honest) (older.same mid) found.below (found.greatest honest)
+    (found.source honest) in
+    let e = c.in_err-journal.field-0.0 in
+    let next = is_next path (now first) greatest (greatest + 1) refl (found.greatest honest) in
+    let answer = answered (opening_error e) c.from_residual-in_err-journal.result c.from_residual-in_err-journal.ensures.1 in
+    if_err _ (opening_error e) c.from_residual-in_err-journal.result answer
+    (begin_refused path _ _ _ _ e (λ (short : e ≡ BeginError.Short). c.begin.ensures.whole ready on.source (c.in_err-journal.was ∙ ap Err short))
+    (λ memory name. c.begin.ensures.memory ready (c.in_err-journal.was ∙ ap Err memory) name ∙ on.same name)
+    (λ stray. left_next path (greatest + 1) _ _ (now first) (now begun) next
+    (given_up_behind (g.D.Dir.fault_count c.args.dir.now) (g.D.Dir.fault_count c.open.new.dir) (g.D.Dir.fault_count c.begin.new.dir) _ (now first) (now looked) (now begun)
+    (older.cause.passed ∙ found.cause.passed) on.same (c.in_err-journal.ensures.left ready on.source))))
 
-pub returns-clause-moments : goal.returns-clause-moments
-returns-clause-moments g c = λ honest stray t before.
-    let older_honest = c.in_ok-older.ensures.honest (c.in_ok-found.ensures.honest honest) in
-    let on = afresh (g.D.Dir.opened c.find.new.dir) (g.D.Dir.opened c.open.new.dir) c.in_ok-older.ensures.others (now (g.D.Dir.history c.args.dir.now)) (now (g.D.Dir.history c.find.new.dir)) (now (g.D.Dir.history c.open.new.dir)) c.args.path.now
-    c.in_ok-found.found.greatest c.in_ok-found.found.file c.in_ok-found.found.places c.in_ok-found.found.chunks (c.in_ok-found.ensures.same honest) (c.in_ok-older.ensures.same (c.in_ok-found.ensures.honest honest)) c.in_ok-found.ensures.below (c.in_ok-found.ensures.greatest honest)
-    (c.in_ok-found.ensures.source honest) in
-    let m = of_folder c.args.path.now (reads (now (g.D.Dir.history c.args.dir.now))) t c.in_ok-found.found.chunks (one_way c.answers_one_way.ensures c.args.path.now (reads (now (g.D.Dir.history c.args.dir.now)))) (before (reads (now (g.D.Dir.history c.args.dir.now))) (g.met.D.Dir.reads_stay c.args.dir.now honest))
-    (c.in_ok-found.ensures.state honest) c.in_ok-found.ensures.unclaimed in
-    let begun_honest = c.in_ok-journal.ensures.honest older_honest in
-    let keeps = c.in_ok-journal.ensures.ok older_honest (none on stray) on.source in
-    let removing = said_of (λ (p : List ℕ) (k : ℕ). LeavesOnly (g.D.Dir.history c.begin.new.dir) (g.D.Dir.history c.remove.new.dir) (IsLeftOf (ChangesBelow p k (now (g.D.Dir.history c.begin.new.dir))))) c.in_ok-older.ensures.path c.in_ok-older.ensures.number (c.remove.ensures.moments begun_honest) in
-    removed_so c.args.path.now (c.in_ok-found.found.greatest + 1) c.in_ok-journal.journal (now (g.D.Dir.history c.begin.new.dir)) c.in_ok-found.found.chunks c.in_ok-journal.ensures.path c.in_ok-journal.ensures.number keeps
-    t c.in_ok-journal.ensures.state m (g.D.Dir.history c.args.dir.now) (g.D.Dir.history c.begin.new.dir) (g.D.Dir.history c.remove.new.dir) refl (beginning c.args.path.now t (g.D.Dir.history c.args.dir.now) (g.D.Dir.history c.find.new.dir) (g.D.Dir.history c.open.new.dir) (g.D.Dir.history c.begin.new.dir) before (c.find.ensures.time honest) (c.find.ensures.same honest) (c.open.ensures.time (c.in_ok-found.ensures.honest honest)) (c.open.ensures.same (c.in_ok-found.ensures.honest honest))
-    (λ then. c.begin.ensures.moments older_honest t then (none on stray) m on.source)) removing
+pub returns-in_err-journal-clause-cause : goal.returns-in_err-journal-clause-cause
+returns-in_err-journal-clause-cause g c =
+    let answer = answered (opening_error c.in_err-journal.field-0.0) c.from_residual-in_err-journal.result c.from_residual-in_err-journal.ensures.1 in
+    reason_begun (g.D.Dir.fault_count c.args.dir.now) (g.D.Dir.fault_count c.open.new.dir) (g.D.Dir.fault_count c.begin.new.dir) c.in_err-journal.field-0.0 c.from_residual-in_err-journal.result
+    (c.in_ok-older.ensures.cause.passed ∙ c.in_ok-found.ensures.cause.passed) c.in_err-journal.ensures.cause answer
 
-pub returns-in_err-found-clause-gap : goal.returns-in_err-found-clause-gap
-returns-in_err-found-clause-gap g c = λ honest stray. same_gap c.args.path.now (now (g.D.Dir.history c.args.dir.now)) (now (g.D.Dir.history c.find.new.dir)) (c.find.ensures.same honest) stray
-
-pub returns-in_err-older-clause-gap : goal.returns-in_err-older-clause-gap
-returns-in_err-older-clause-gap g c = λ honest stray.
-    same_gap c.args.path.now (now (g.D.Dir.history c.args.dir.now)) (now (g.D.Dir.history c.open.new.dir)) (λ name. c.open.ensures.same (c.in_ok-found.ensures.honest honest) name ∙ c.in_ok-found.ensures.same honest name) stray
-
-pub returns-in_err-journal-clause-gap : goal.returns-in_err-journal-clause-gap
-returns-in_err-journal-clause-gap g c = λ honest stray.
-    let older_honest = c.in_ok-older.ensures.honest (c.in_ok-found.ensures.honest honest) in
-    let on = afresh (g.D.Dir.opened c.find.new.dir) (g.D.Dir.opened c.open.new.dir) c.in_ok-older.ensures.others (now (g.D.Dir.history c.args.dir.now)) (now (g.D.Dir.history c.find.new.dir)) (now (g.D.Dir.history c.open.new.dir)) c.args.path.now
-    c.in_ok-found.found.greatest c.in_ok-found.found.file c.in_ok-found.found.places c.in_ok-found.found.chunks (c.in_ok-found.ensures.same honest) (c.in_ok-older.ensures.same (c.in_ok-found.ensures.honest honest)) c.in_ok-found.ensures.below (c.in_ok-found.ensures.greatest honest)
-    (c.in_ok-found.ensures.source honest) in
-    c.begin.ensures.gap older_honest (none on stray) (all on stray)
-
-pub returns-in_err-remove-clause-gap : goal.returns-in_err-remove-clause-gap
-returns-in_err-remove-clause-gap g c = λ honest stray.
-    let older_honest = c.in_ok-older.ensures.honest (c.in_ok-found.ensures.honest honest) in
-    let on = afresh (g.D.Dir.opened c.find.new.dir) (g.D.Dir.opened c.open.new.dir) c.in_ok-older.ensures.others (now (g.D.Dir.history c.args.dir.now)) (now (g.D.Dir.history c.find.new.dir)) (now (g.D.Dir.history c.open.new.dir)) c.args.path.now
-    c.in_ok-found.found.greatest c.in_ok-found.found.file c.in_ok-found.found.places c.in_ok-found.found.chunks (c.in_ok-found.ensures.same honest) (c.in_ok-older.ensures.same (c.in_ok-found.ensures.honest honest)) c.in_ok-found.ensures.below (c.in_ok-found.ensures.greatest honest)
-    (c.in_ok-found.ensures.source honest) in
-    let begun_honest = c.in_ok-journal.ensures.honest older_honest in
-    let keeps = c.in_ok-journal.ensures.ok older_honest (none on stray) on.source in
-    let below = said_of (λ (p : List ℕ) (k : ℕ). ChangesBelow p k (now (g.D.Dir.history c.begin.new.dir)) (now (g.D.Dir.history c.remove.new.dir))) c.in_ok-older.ensures.path c.in_ok-older.ensures.number (c.remove.ensures.elsewhere begun_honest) in
-    no_gap_still c.args.path.now (c.in_ok-found.found.greatest + 1) c.in_ok-journal.journal (now (g.D.Dir.history c.begin.new.dir)) c.in_ok-found.found.chunks c.in_ok-journal.ensures.path c.in_ok-journal.ensures.number keeps (now (g.D.Dir.history c.remove.new.dir)) below
-
-pub returns-clause-gap : goal.returns-clause-gap
-returns-clause-gap g c = λ honest stray.
-    let older_honest = c.in_ok-older.ensures.honest (c.in_ok-found.ensures.honest honest) in
-    let on = afresh (g.D.Dir.opened c.find.new.dir) (g.D.Dir.opened c.open.new.dir) c.in_ok-older.ensures.others (now (g.D.Dir.history c.args.dir.now)) (now (g.D.Dir.history c.find.new.dir)) (now (g.D.Dir.history c.open.new.dir)) c.args.path.now
-    c.in_ok-found.found.greatest c.in_ok-found.found.file c.in_ok-found.found.places c.in_ok-found.found.chunks (c.in_ok-found.ensures.same honest) (c.in_ok-older.ensures.same (c.in_ok-found.ensures.honest honest)) c.in_ok-found.ensures.below (c.in_ok-found.ensures.greatest honest)
-    (c.in_ok-found.ensures.source honest) in
-    let begun_honest = c.in_ok-journal.ensures.honest older_honest in
-    let keeps = c.in_ok-journal.ensures.ok older_honest (none on stray) on.source in
-    let below = said_of (λ (p : List ℕ) (k : ℕ). ChangesBelow p k (now (g.D.Dir.history c.begin.new.dir)) (now (g.D.Dir.history c.remove.new.dir))) c.in_ok-older.ensures.path c.in_ok-older.ensures.number (c.remove.ensures.elsewhere begun_honest) in
-    no_gap_still c.args.path.now (c.in_ok-found.found.greatest + 1) c.in_ok-journal.journal (now (g.D.Dir.history c.begin.new.dir)) c.in_ok-found.found.chunks c.in_ok-journal.ensures.path c.in_ok-journal.ensures.number keeps (now (g.D.Dir.history c.remove.new.dir)) below
-
-pub returns-clause-keeps : goal.returns-clause-keeps
-returns-clause-keeps g c = λ honest stray.
-    let older_honest = c.in_ok-older.ensures.honest (c.in_ok-found.ensures.honest honest) in
-    let on = afresh (g.D.Dir.opened c.find.new.dir) (g.D.Dir.opened c.open.new.dir) c.in_ok-older.ensures.others (now (g.D.Dir.history c.args.dir.now)) (now (g.D.Dir.history c.find.new.dir)) (now (g.D.Dir.history c.open.new.dir)) c.args.path.now
-    c.in_ok-found.found.greatest c.in_ok-found.found.file c.in_ok-found.found.places c.in_ok-found.found.chunks (c.in_ok-found.ensures.same honest) (c.in_ok-older.ensures.same (c.in_ok-found.ensures.honest honest)) c.in_ok-found.ensures.below (c.in_ok-found.ensures.greatest honest)
-    (c.in_ok-found.ensures.source honest) in
-    let begun_honest = c.in_ok-journal.ensures.honest older_honest in
-    let keeps = c.in_ok-journal.ensures.ok older_honest (none on stray) on.source in
-    let below = said_of (λ (p : List ℕ) (k : ℕ). ChangesBelow p k (now (g.D.Dir.history c.begin.new.dir)) (now (g.D.Dir.history c.remove.new.dir))) c.in_ok-older.ensures.path c.in_ok-older.ensures.number (c.remove.ensures.elsewhere begun_honest) in
-    keeps_still c.args.path.now (c.in_ok-found.found.greatest + 1) c.in_ok-journal.journal (now (g.D.Dir.history c.begin.new.dir)) c.in_ok-found.found.chunks c.in_ok-journal.ensures.path c.in_ok-journal.ensures.number keeps (now (g.D.Dir.history c.remove.new.dir)) below
+-- the older generations aren't removed
 
 pub remove-requires : goal.remove-requires
 remove-requires g c =
@@ -127,112 +135,67 @@ remove-requires g c =
           (subst (λ (k : ℕ). AreOlder c.args.path.now k (g.D.Dir.opened c.begin.new.dir) c.in_ok-older.older.files) (sym c.in_ok-older.ensures.number) files);
     }
 
-pub returns-clause-open : goal.returns-clause-open
-returns-clause-open g c =
+pub returns-in_err-remove-clause-leaves : goal.returns-in_err-remove-clause-leaves
+returns-in_err-remove-clause-leaves g c = λ honest.
+    let found = c.in_ok-found.ensures in
+    let older = c.in_ok-older.ensures in
+    let mid = found.honest honest in
+    let ready = older.honest mid in
+    let path = c.args.path.now in
     let greatest = c.in_ok-found.found.greatest in
-    let small : greatest + 1 < 2 ^ 32 = omega (arith, c.in_ok-found.ensures.below) in
-    let path_is = c.in_ok-journal.ensures.path ∙ sym c.in_ok-older.ensures.path in
-    let number_is = c.in_ok-journal.ensures.number ∙ sym c.in_ok-older.ensures.number in
-    c.in_ok-remove.ensures.kept c.in_ok-journal.journal.file _
-    (own_is_above c.in_ok-older.older.path.now c.in_ok-older.older.number c.in_ok-journal.journal path_is number_is (subst (λ (k : ℕ). k < 2 ^ 32) (sym c.in_ok-older.ensures.number) small))
-    c.in_ok-journal.ensures.open
+    let first = g.D.Dir.history c.args.dir.now in
+    let looked = g.D.Dir.history c.open.new.dir in
+    let begun = g.D.Dir.history c.begin.new.dir in
+    let small : greatest + 1 < 2 ^ 32 = omega (arith, found.below) in
+    let on = afresh (g.D.Dir.opened c.find.new.dir) (g.D.Dir.opened c.open.new.dir) c.in_ok-older.ensures.others (now (g.D.Dir.history c.args.dir.now)) (now (g.D.Dir.history c.find.new.dir)) (now (g.D.Dir.history c.open.new.dir)) c.args.path.now
+    c.in_ok-found.found.greatest c.in_ok-found.found.file c.in_ok-found.found.places c.in_ok-found.found.chunks (found.same honest) (older.same mid) found.below (found.greatest honest)
+    (found.source honest) in
+    let journal = c.in_ok-journal.ensures in
+    let whole = journal.honest ready in
+    let keeps = λ (stray : HasNoGap path (now first)). journal.ok ready (none on stray) on.source in
+    let end = now (g.D.Dir.history c.remove.new.dir) in
+    let below = said_of (λ (p : List ℕ) (k : ℕ). ChangesBelow p k (now begun) end) older.path older.number (c.remove.ensures.elsewhere whole) in
+    let removing = said_of (λ (p : List ℕ) (k : ℕ). LeavesOnly begun (g.D.Dir.history c.remove.new.dir) (IsLeftOf (ChangesBelow p k (now begun)))) older.path older.number (c.remove.ensures.moments whole) in
+    record {
+      honest = c.remove.ensures.honest whole;
+      elsewhere = λ name differs. below name (λ n lt. differs n (omega (arith, lt, small))) ∙ journal.elsewhere ready name (differs (greatest + 1) small) ∙ older.same mid name ∙ found.same honest name;
+      gap = λ stray. no_gap_still path (greatest + 1) c.in_ok-journal.journal (now begun) c.in_ok-found.found.chunks journal.path journal.number (keeps stray) end below;
+      moments = λ stray t before.
+          let m = of_folder path (reads (now first)) t c.in_ok-found.found.chunks (one_way c.answers_one_way.ensures path (reads (now first))) (before (reads (now first)) (g.met.D.Dir.reads_stay c.args.dir.now honest))
+          (found.state honest) found.unclaimed in
+          removed_so path (greatest + 1) c.in_ok-journal.journal (now begun) c.in_ok-found.found.chunks journal.path journal.number (keeps stray) t journal.state m first begun (g.D.Dir.history c.remove.new.dir) refl
+          (beginning path t first (g.D.Dir.history c.find.new.dir) looked begun before (c.find.ensures.time honest) (c.find.ensures.same honest) (c.open.ensures.time mid) (c.open.ensures.same mid)
+          (λ then. c.begin.ensures.moments ready t then (none on stray) m on.source)) removing;
+    }
 
-pub returns-in_err-remove-clause-elsewhere : goal.returns-in_err-remove-clause-elsewhere
-returns-in_err-remove-clause-elsewhere g c = λ honest name differs.
-    let older_honest = c.in_ok-older.ensures.honest (c.in_ok-found.ensures.honest honest) in
-    let begun_honest = c.in_ok-journal.ensures.honest older_honest in
-    let small : c.in_ok-found.found.greatest + 1 < 2 ^ 32 = omega (arith, c.in_ok-found.ensures.below) in
-    let below = said_of (λ (p : List ℕ) (k : ℕ). ChangesBelow p k (now (g.D.Dir.history c.begin.new.dir)) (now (g.D.Dir.history c.remove.new.dir))) c.in_ok-older.ensures.path c.in_ok-older.ensures.number (c.remove.ensures.elsewhere begun_honest) in
-    below name (λ n lt. differs n (omega (arith, lt, small)))
-    ∙ c.in_ok-journal.ensures.elsewhere older_honest name (differs (c.in_ok-found.found.greatest + 1) small) ∙ c.in_ok-older.ensures.same (c.in_ok-found.ensures.honest honest) name ∙ c.in_ok-found.ensures.same honest name
-
-pub returns-clause-elsewhere : goal.returns-clause-elsewhere
-returns-clause-elsewhere g c = λ honest name differs.
-    let older_honest = c.in_ok-older.ensures.honest (c.in_ok-found.ensures.honest honest) in
-    let begun_honest = c.in_ok-journal.ensures.honest older_honest in
-    let small : c.in_ok-found.found.greatest + 1 < 2 ^ 32 = omega (arith, c.in_ok-found.ensures.below) in
-    let below = said_of (λ (p : List ℕ) (k : ℕ). ChangesBelow p k (now (g.D.Dir.history c.begin.new.dir)) (now (g.D.Dir.history c.remove.new.dir))) c.in_ok-older.ensures.path c.in_ok-older.ensures.number (c.remove.ensures.elsewhere begun_honest) in
-    below name (λ n lt. differs n (omega (arith, lt, small)))
-    ∙ c.in_ok-journal.ensures.elsewhere older_honest name (differs (c.in_ok-found.found.greatest + 1) small) ∙ c.in_ok-older.ensures.same (c.in_ok-found.ensures.honest honest) name ∙ c.in_ok-found.ensures.same honest name
-
-pub returns-in_err-journal-clause-elsewhere : goal.returns-in_err-journal-clause-elsewhere
-returns-in_err-journal-clause-elsewhere g c = λ honest name differs.
-    let older_honest = c.in_ok-older.ensures.honest (c.in_ok-found.ensures.honest honest) in
-    let small : c.in_ok-found.found.greatest + 1 < 2 ^ 32 = omega (arith, c.in_ok-found.ensures.below) in
-    c.begin.ensures.elsewhere older_honest name (differs (c.in_ok-found.found.greatest + 1) small) ∙ c.in_ok-older.ensures.same (c.in_ok-found.ensures.honest honest) name ∙ c.in_ok-found.ensures.same honest name
-
-pub returns-clause-alone : goal.returns-clause-alone
-returns-clause-alone g c = λ honest n from lt.
+pub returns-in_err-remove-clause-refused : goal.returns-in_err-remove-clause-refused
+returns-in_err-remove-clause-refused g c = λ honest.
+    let found = c.in_ok-found.ensures in
+    let older = c.in_ok-older.ensures in
+    let mid = found.honest honest in
+    let ready = older.honest mid in
+    let path = c.args.path.now in
     let greatest = c.in_ok-found.found.greatest in
-    let found_honest = c.in_ok-found.ensures.honest honest in
-    let older_honest = c.in_ok-older.ensures.honest found_honest in
-    let begun_honest = c.in_ok-journal.ensures.honest older_honest in
-    let small : greatest + 1 < 2 ^ 32 = omega (arith, c.in_ok-found.ensures.below) in
-    let number_is = c.in_ok-journal.ensures.number in
-    let under : n < greatest + 1 = omega (arith, lt, number_is) in
-    let gone : IsGoneBut c.args.path.now c.in_ok-older.older.files (now (g.D.Dir.history c.begin.new.dir)) n = opened_alone c.args.path.now (greatest + 1) n c.in_ok-older.older.files (now (g.D.Dir.history c.find.new.dir)) (now (g.D.Dir.history c.open.new.dir)) (now (g.D.Dir.history c.begin.new.dir)) small under (c.in_ok-older.ensures.same found_honest)
-    (c.in_ok-journal.ensures.elsewhere older_honest) (c.in_ok-older.ensures.all found_honest n from under) in
-    subst (λ (p : List ℕ). reads (now (g.D.Dir.history c.remove.new.dir)) (journal_name p n) ≡ None) c.in_ok-older.ensures.path
-    (c.in_ok-remove.ensures.gone begun_honest n (omega (arith, under, small)) (subst (λ (p : List ℕ). IsGoneBut p c.in_ok-older.older.files (now (g.D.Dir.history c.begin.new.dir)) n) (sym c.in_ok-older.ensures.path) gone))
-
-pub returns-clause-next : goal.returns-clause-next
-returns-clause-next g c = λ honest.
-    is_next c.args.path.now (now (g.D.Dir.history c.args.dir.now)) c.in_ok-found.found.greatest c.in_ok-journal.journal.number c.in_ok-journal.ensures.number (c.in_ok-found.ensures.greatest honest)
-
-pub returns-in_err-journal-clause-unchanged : goal.returns-in_err-journal-clause-unchanged
-returns-in_err-journal-clause-unchanged g c = λ honest not_fault.
-    let e = c.in_err-journal.field-0.0 in
-    let answer = answered (opening_error e) c.from_residual-in_err-journal.result c.from_residual-in_err-journal.ensures.1 in
-    let older_honest = c.in_ok-older.ensures.honest (c.in_ok-found.ensures.honest honest) in
+    let first = g.D.Dir.history c.args.dir.now in
+    let looked = g.D.Dir.history c.open.new.dir in
+    let begun = g.D.Dir.history c.begin.new.dir in
+    let small : greatest + 1 < 2 ^ 32 = omega (arith, found.below) in
     let on = afresh (g.D.Dir.opened c.find.new.dir) (g.D.Dir.opened c.open.new.dir) c.in_ok-older.ensures.others (now (g.D.Dir.history c.args.dir.now)) (now (g.D.Dir.history c.find.new.dir)) (now (g.D.Dir.history c.open.new.dir)) c.args.path.now
-    c.in_ok-found.found.greatest c.in_ok-found.found.file c.in_ok-found.found.places c.in_ok-found.found.chunks (c.in_ok-found.ensures.same honest) (c.in_ok-older.ensures.same (c.in_ok-found.ensures.honest honest)) c.in_ok-found.ensures.below (c.in_ok-found.ensures.greatest honest)
-    (c.in_ok-found.ensures.source honest) in
-    let whole = λ (short : e ≡ BeginError.Short). c.begin.ensures.whole older_honest on.source (c.in_err-journal.was ∙ ap Err short) in
-    let unbegun = c.begin.ensures.memory older_honest (c.in_err-journal.was ∙ ap Err (was_memory e c.from_residual-in_err-journal.result answer not_fault whole)) in
-    any_err c.from_residual-in_err-journal.result (λ name. unbegun name ∙ on.same name)
-
-pub returns-in_err-journal-clause-damaged : goal.returns-in_err-journal-clause-damaged
-returns-in_err-journal-clause-damaged g c = λ honest is.
-    let e = c.in_err-journal.field-0.0 in
-    let answer = answered (opening_error e) c.from_residual-in_err-journal.result c.from_residual-in_err-journal.ensures.1 in
-    let older_honest = c.in_ok-older.ensures.honest (c.in_ok-found.ensures.honest honest) in
-    let on = afresh (g.D.Dir.opened c.find.new.dir) (g.D.Dir.opened c.open.new.dir) c.in_ok-older.ensures.others (now (g.D.Dir.history c.args.dir.now)) (now (g.D.Dir.history c.find.new.dir)) (now (g.D.Dir.history c.open.new.dir)) c.args.path.now
-    c.in_ok-found.found.greatest c.in_ok-found.found.file c.in_ok-found.found.places c.in_ok-found.found.chunks (c.in_ok-found.ensures.same honest) (c.in_ok-older.ensures.same (c.in_ok-found.ensures.honest honest)) c.in_ok-found.ensures.below (c.in_ok-found.ensures.greatest honest)
-    (c.in_ok-found.ensures.source honest) in
-    absurd (c.begin.ensures.whole older_honest on.source (c.in_err-journal.was ∙ ap Err (was_short e c.from_residual-in_err-journal.result answer is)))
-
-pub returns-in_err-journal-clause-unread : goal.returns-in_err-journal-clause-unread
-returns-in_err-journal-clause-unread g c = λ honest there is.
-    let e = c.in_err-journal.field-0.0 in
-    let answer = answered (opening_error e) c.from_residual-in_err-journal.result c.from_residual-in_err-journal.ensures.1 in
-    let older_honest = c.in_ok-older.ensures.honest (c.in_ok-found.ensures.honest honest) in
-    let on = afresh (g.D.Dir.opened c.find.new.dir) (g.D.Dir.opened c.open.new.dir) c.in_ok-older.ensures.others (now (g.D.Dir.history c.args.dir.now)) (now (g.D.Dir.history c.find.new.dir)) (now (g.D.Dir.history c.open.new.dir)) c.args.path.now
-    c.in_ok-found.found.greatest c.in_ok-found.found.file c.in_ok-found.found.places c.in_ok-found.found.chunks (c.in_ok-found.ensures.same honest) (c.in_ok-older.ensures.same (c.in_ok-found.ensures.honest honest)) c.in_ok-found.ensures.below (c.in_ok-found.ensures.greatest honest)
-    (c.in_ok-found.ensures.source honest) in
-    c.begin.ensures.whole older_honest on.source (c.in_err-journal.was ∙ ap Err (was_short e c.from_residual-in_err-journal.result answer is))
-
-pub returns-in_err-journal-clause-last : goal.returns-in_err-journal-clause-last
-returns-in_err-journal-clause-last g c = λ honest is.
-    let answer = answered (opening_error c.in_err-journal.field-0.0) c.from_residual-in_err-journal.result c.from_residual-in_err-journal.ensures.1 in
-    absurd (not_last c.in_err-journal.field-0.0 c.from_residual-in_err-journal.result answer is)
-
-pub returns-in_err-journal-clause-cause : goal.returns-in_err-journal-clause-cause
-returns-in_err-journal-clause-cause g c =
-    let answer = answered (opening_error c.in_err-journal.field-0.0) c.from_residual-in_err-journal.result c.from_residual-in_err-journal.ensures.1 in
-    reason_begun (g.D.Dir.fault_count c.args.dir.now) (g.D.Dir.fault_count c.open.new.dir) (g.D.Dir.fault_count c.begin.new.dir) c.in_err-journal.field-0.0 c.from_residual-in_err-journal.result
-    (c.in_ok-older.ensures.cause.passed ∙ c.in_ok-found.ensures.cause.passed) c.in_err-journal.ensures.cause answer
-
-pub begin-requires-clause-source : goal.begin-requires-clause-source
-begin-requires-clause-source g c = still_open (g.D.Dir.opened c.find.new.dir) (g.D.Dir.opened c.open.new.dir) c.in_ok-older.ensures.others c.in_ok-found.found.file c.in_ok-found.ensures.open
-
-pub returns-in_err-journal-clause-honest : goal.returns-in_err-journal-clause-honest
-returns-in_err-journal-clause-honest g c = λ honest. c.begin.ensures.honest (c.in_ok-older.ensures.honest (c.in_ok-found.ensures.honest honest))
-
-pub returns-in_err-remove-clause-honest : goal.returns-in_err-remove-clause-honest
-returns-in_err-remove-clause-honest g c = λ honest. c.remove.ensures.honest (c.in_ok-journal.ensures.honest (c.in_ok-older.ensures.honest (c.in_ok-found.ensures.honest honest)))
-
-pub returns-clause-honest : goal.returns-clause-honest
-returns-clause-honest g c = λ honest. c.in_ok-remove.ensures.honest (c.in_ok-journal.ensures.honest (c.in_ok-older.ensures.honest (c.in_ok-found.ensures.honest honest)))
+    c.in_ok-found.found.greatest c.in_ok-found.found.file c.in_ok-found.found.places c.in_ok-found.found.chunks (found.same honest) (older.same mid) found.below (found.greatest honest)
+    (found.source honest) in
+    let journal = c.in_ok-journal.ensures in
+    let whole = journal.honest ready in
+    let keeps = λ (stray : HasNoGap path (now first)). journal.ok ready (none on stray) on.source in
+    let end = now (g.D.Dir.history c.remove.new.dir) in
+    let below = said_of (λ (p : List ℕ) (k : ℕ). ChangesBelow p k (now begun) end) older.path older.number (c.remove.ensures.elsewhere whole) in
+    let e = c.in_err-remove.field-0.0 in
+    if_err _ (open_error e) c.from_residual-in_err-remove.result (answered (open_error e) c.from_residual-in_err-remove.result c.from_residual-in_err-remove.ensures.1)
+    (call_refused path _ _ _ _ e (λ not. absurd (not (fault_only e c.in_err-remove.ensures.only)))
+    (λ stray. inr (record {
+      number = greatest + 1;
+      next = is_next path (now first) greatest (greatest + 1) refl (found.greatest honest);
+      left = inr (whole_still path (greatest + 1) c.in_ok-journal.journal (now begun) c.in_ok-found.found.chunks journal.path journal.number (keeps stray) end below);
+    })))
 
 pub returns-in_err-remove-clause-cause : goal.returns-in_err-remove-clause-cause
 returns-in_err-remove-clause-cause g c =
@@ -242,34 +205,85 @@ returns-in_err-remove-clause-cause g c =
     subst (λ (n : ℕ). HasReason n (g.D.Dir.fault_count c.remove.new.dir) c.from_residual-in_err-remove.result opening.Fault) so_far
     (reason_dir (g.D.Dir.fault_count c.begin.new.dir) (g.D.Dir.fault_count c.remove.new.dir) e c.from_residual-in_err-remove.result c.in_err-remove.ensures.only c.in_err-remove.ensures.cause answer)
 
-pub returns-in_err-found-clause-left : goal.returns-in_err-found-clause-left
-returns-in_err-found-clause-left g c = λ honest gap. any_err _ (inl (λ q. ap read_of (c.find.ensures.same honest q)))
+-- it is opened
 
-pub returns-in_err-older-clause-left : goal.returns-in_err-older-clause-left
-returns-in_err-older-clause-left g c = λ honest gap. any_err _ (inl (λ q. ap read_of (c.open.ensures.same (c.in_ok-found.ensures.honest honest) q ∙ c.in_ok-found.ensures.same honest q)))
-
-pub returns-in_err-journal-clause-left : goal.returns-in_err-journal-clause-left
-returns-in_err-journal-clause-left g c = λ honest gap.
-    let older_honest = c.in_ok-older.ensures.honest (c.in_ok-found.ensures.honest honest) in
+pub returns-clause-leaves : goal.returns-clause-leaves
+returns-clause-leaves g c = λ honest.
+    let found = c.in_ok-found.ensures in
+    let older = c.in_ok-older.ensures in
+    let mid = found.honest honest in
+    let ready = older.honest mid in
+    let path = c.args.path.now in
+    let greatest = c.in_ok-found.found.greatest in
+    let first = g.D.Dir.history c.args.dir.now in
+    let looked = g.D.Dir.history c.open.new.dir in
+    let begun = g.D.Dir.history c.begin.new.dir in
+    let small : greatest + 1 < 2 ^ 32 = omega (arith, found.below) in
     let on = afresh (g.D.Dir.opened c.find.new.dir) (g.D.Dir.opened c.open.new.dir) c.in_ok-older.ensures.others (now (g.D.Dir.history c.args.dir.now)) (now (g.D.Dir.history c.find.new.dir)) (now (g.D.Dir.history c.open.new.dir)) c.args.path.now
-    c.in_ok-found.found.greatest c.in_ok-found.found.file c.in_ok-found.found.places c.in_ok-found.found.chunks (c.in_ok-found.ensures.same honest) (c.in_ok-older.ensures.same (c.in_ok-found.ensures.honest honest)) c.in_ok-found.ensures.below (c.in_ok-found.ensures.greatest honest)
-    (c.in_ok-found.ensures.source honest) in
-    let next = is_next c.args.path.now (now (g.D.Dir.history c.args.dir.now)) c.in_ok-found.found.greatest (c.in_ok-found.found.greatest + 1) refl (c.in_ok-found.ensures.greatest honest) in
-    any_err _ (left_next c.args.path.now (c.in_ok-found.found.greatest + 1) _ _ (now (g.D.Dir.history c.args.dir.now)) (now (g.D.Dir.history c.begin.new.dir)) next
-    (given_up_behind (g.D.Dir.fault_count c.args.dir.now) (g.D.Dir.fault_count c.open.new.dir) (g.D.Dir.fault_count c.begin.new.dir) _ (now (g.D.Dir.history c.args.dir.now)) (now (g.D.Dir.history c.open.new.dir)) (now (g.D.Dir.history c.begin.new.dir))
-    (c.in_ok-older.ensures.cause.passed ∙ c.in_ok-found.ensures.cause.passed) on.same (c.in_err-journal.ensures.left older_honest on.source)))
+    c.in_ok-found.found.greatest c.in_ok-found.found.file c.in_ok-found.found.places c.in_ok-found.found.chunks (found.same honest) (older.same mid) found.below (found.greatest honest)
+    (found.source honest) in
+    let journal = c.in_ok-journal.ensures in
+    let whole = journal.honest ready in
+    let keeps = λ (stray : HasNoGap path (now first)). journal.ok ready (none on stray) on.source in
+    let end = now (g.D.Dir.history c.remove.new.dir) in
+    let below = said_of (λ (p : List ℕ) (k : ℕ). ChangesBelow p k (now begun) end) older.path older.number (c.remove.ensures.elsewhere whole) in
+    let removing = said_of (λ (p : List ℕ) (k : ℕ). LeavesOnly begun (g.D.Dir.history c.remove.new.dir) (IsLeftOf (ChangesBelow p k (now begun)))) older.path older.number (c.remove.ensures.moments whole) in
+    record {
+      honest = c.in_ok-remove.ensures.honest whole;
+      elsewhere = λ name differs. below name (λ n lt. differs n (omega (arith, lt, small))) ∙ journal.elsewhere ready name (differs (greatest + 1) small) ∙ older.same mid name ∙ found.same honest name;
+      gap = λ stray. no_gap_still path (greatest + 1) c.in_ok-journal.journal (now begun) c.in_ok-found.found.chunks journal.path journal.number (keeps stray) end below;
+      moments = λ stray t before.
+          let m = of_folder path (reads (now first)) t c.in_ok-found.found.chunks (one_way c.answers_one_way.ensures path (reads (now first))) (before (reads (now first)) (g.met.D.Dir.reads_stay c.args.dir.now honest))
+          (found.state honest) found.unclaimed in
+          removed_so path (greatest + 1) c.in_ok-journal.journal (now begun) c.in_ok-found.found.chunks journal.path journal.number (keeps stray) t journal.state m first begun (g.D.Dir.history c.remove.new.dir) refl
+          (beginning path t first (g.D.Dir.history c.find.new.dir) looked begun before (c.find.ensures.time honest) (c.find.ensures.same honest) (c.open.ensures.time mid) (c.open.ensures.same mid)
+          (λ then. c.begin.ensures.moments ready t then (none on stray) m on.source)) removing;
+    }
 
-pub returns-in_err-remove-clause-left : goal.returns-in_err-remove-clause-left
-returns-in_err-remove-clause-left g c = λ honest gap.
-    let older_honest = c.in_ok-older.ensures.honest (c.in_ok-found.ensures.honest honest) in
+pub returns-clause-fresh : goal.returns-clause-fresh
+returns-clause-fresh g c =
+    let greatest = c.in_ok-found.found.greatest in
+    let small : greatest + 1 < 2 ^ 32 = omega (arith, c.in_ok-found.ensures.below) in
+    let path_is = c.in_ok-journal.ensures.path ∙ sym c.in_ok-older.ensures.path in
+    let number_is = c.in_ok-journal.ensures.number ∙ sym c.in_ok-older.ensures.number in
+    record {
+      path_is = c.in_ok-journal.ensures.path;
+      open_in = c.in_ok-remove.ensures.kept c.in_ok-journal.journal.file _
+          (own_is_above c.in_ok-older.older.path.now c.in_ok-older.older.number c.in_ok-journal.journal path_is number_is (subst (λ (k : ℕ). k < 2 ^ 32) (sym c.in_ok-older.ensures.number) small))
+          c.in_ok-journal.ensures.open;
+      unclaimed = c.in_ok-found.ensures.unclaimed;
+      starts = c.in_ok-journal.ensures.state;
+      tags = c.in_ok-found.ensures.tags;
+    }
+
+pub returns-clause-opens : goal.returns-clause-opens
+returns-clause-opens g c = λ honest.
+    let found = c.in_ok-found.ensures in
+    let older = c.in_ok-older.ensures in
+    let mid = found.honest honest in
+    let ready = older.honest mid in
+    let path = c.args.path.now in
+    let greatest = c.in_ok-found.found.greatest in
+    let first = g.D.Dir.history c.args.dir.now in
+    let looked = g.D.Dir.history c.open.new.dir in
+    let begun = g.D.Dir.history c.begin.new.dir in
+    let small : greatest + 1 < 2 ^ 32 = omega (arith, found.below) in
     let on = afresh (g.D.Dir.opened c.find.new.dir) (g.D.Dir.opened c.open.new.dir) c.in_ok-older.ensures.others (now (g.D.Dir.history c.args.dir.now)) (now (g.D.Dir.history c.find.new.dir)) (now (g.D.Dir.history c.open.new.dir)) c.args.path.now
-    c.in_ok-found.found.greatest c.in_ok-found.found.file c.in_ok-found.found.places c.in_ok-found.found.chunks (c.in_ok-found.ensures.same honest) (c.in_ok-older.ensures.same (c.in_ok-found.ensures.honest honest)) c.in_ok-found.ensures.below (c.in_ok-found.ensures.greatest honest)
-    (c.in_ok-found.ensures.source honest) in
-    let begun_honest = c.in_ok-journal.ensures.honest older_honest in
-    let keeps = c.in_ok-journal.ensures.ok older_honest (none on gap) on.source in
-    let below = said_of (λ (p : List ℕ) (k : ℕ). ChangesBelow p k (now (g.D.Dir.history c.begin.new.dir)) (now (g.D.Dir.history c.remove.new.dir))) c.in_ok-older.ensures.path c.in_ok-older.ensures.number (c.remove.ensures.elsewhere begun_honest) in
-    any_err _ (inr (record {
-      number = c.in_ok-found.found.greatest + 1;
-      next = is_next c.args.path.now (now (g.D.Dir.history c.args.dir.now)) c.in_ok-found.found.greatest (c.in_ok-found.found.greatest + 1) refl (c.in_ok-found.ensures.greatest honest);
-      left = inr (whole_still c.args.path.now (c.in_ok-found.found.greatest + 1) c.in_ok-journal.journal (now (g.D.Dir.history c.begin.new.dir)) c.in_ok-found.found.chunks c.in_ok-journal.ensures.path c.in_ok-journal.ensures.number keeps (now (g.D.Dir.history c.remove.new.dir)) below);
-    }))
+    c.in_ok-found.found.greatest c.in_ok-found.found.file c.in_ok-found.found.places c.in_ok-found.found.chunks (found.same honest) (older.same mid) found.below (found.greatest honest)
+    (found.source honest) in
+    let journal = c.in_ok-journal.ensures in
+    let whole = journal.honest ready in
+    let keeps = λ (stray : HasNoGap path (now first)). journal.ok ready (none on stray) on.source in
+    let end = now (g.D.Dir.history c.remove.new.dir) in
+    let below = said_of (λ (p : List ℕ) (k : ℕ). ChangesBelow p k (now begun) end) older.path older.number (c.remove.ensures.elsewhere whole) in
+    record {
+      means = found.state honest;
+      next = is_next path (now first) greatest c.in_ok-journal.journal.number journal.number (found.greatest honest);
+      keeps = λ stray. keeps_still path (greatest + 1) c.in_ok-journal.journal (now begun) c.in_ok-found.found.chunks journal.path journal.number (keeps stray) end below;
+      alone = λ n from lt.
+          let under : n < greatest + 1 = omega (arith, lt, journal.number) in
+          let gone : IsGoneBut path c.in_ok-older.older.files (now begun) n = opened_alone path (greatest + 1) n c.in_ok-older.older.files (now (g.D.Dir.history c.find.new.dir)) (now looked) (now begun) small under (older.same mid)
+          (journal.elsewhere ready) (older.all mid n from under) in
+          subst (λ (p : List ℕ). reads end (journal_name p n) ≡ None) older.path
+          (c.in_ok-remove.ensures.gone whole n (omega (arith, under, small)) (subst (λ (p : List ℕ). IsGoneBut p c.in_ok-older.older.files (now begun) n) (sym older.path) gone));
+    }

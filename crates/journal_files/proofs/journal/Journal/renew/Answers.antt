@@ -1,43 +1,55 @@
-use Rattle.std.proofs.Common.{rules, refl, inl, ◌≡◌, ◌+◌, ◌<◌, ◌^◌, List, ℕ, ap, subst, sym, ◌∙◌, arith, inr}
+use Rattle.std.proofs.Common.{rules, refl, inl, ◌≡◌, ◌≢◌, ◌+◌, ◌<◌, ◌^◌, List, ℕ, Ok, Err, ap, subst, sym, ◌∙◌, arith, inr}
+use Rattle.disk_files.specs.Disk.{Disk}
 use Rattle.disk_files.specs.Moments.{now}
+use Rattle.journal_files.specs.Calls.{Renews, LeavesOthers}
 use Rattle.journal_files.specs.Faults.{renew_error, renewal_error}
 use Rattle.journal_files.specs.Folders.{journal_name}
-use Rattle.journal_files.specs.JournalLogs.{new_generation}
-use Rattle.journal_files.specs.Views.{OpenJournal, IsOpenIn}
-use Rattle.journal_files.specs.Disks.{Keeps, HasNoGap}
+use Rattle.journal_files.specs.Views.{OpenJournal}
+use Rattle.journal_files.specs.Disks.{HasNoGap}
 use Rattle.disk_files.proofs.Moments.{started}
 use Rattle.journal_files.proofs.Beginning.{of_all}
 use Rattle.journal_files.proofs.Begun.{next_no_stray}
 use Rattle.journal_files.specs.Leftovers.{IsGivenUp}
 use Rattle.journal_files.proofs.Afresh.{said_of}
 use Rattle.journal_files.proofs.Heard.{answered}
-use Rattle.journal_files.proofs.Steps.{any_err}
 use Rattle.journal_files.proofs.Onward.{onward, own_differs, still, none, all, source, beginning}
 use Rattle.journal_files.proofs.Recovery.{recovers}
-use Rattle.journal_files.proofs.Renewal.{reason_begun, reason_removed, begun_short}
-use Rattle.journal_files.proofs.Renewing.{still_keeps, still_recovers, removing, removed_gone, two_files, is_some_name}
+use Rattle.journal_files.proofs.Renewal.{reason_begun, reason_removed, begun_whole, begun_memory, begun_numbered, removal_whole, removal_fault, removal_memory, removal_numbered, renews_not, refuses_not}
+use Rattle.journal_files.proofs.Renewing.{still_keeps, still_recovers, removing, removed_gone, two_files, is_some_name, others_beyond}
 use Rattle.journal_files.proofs.Strays.{kept_no_gap, no_gap_of}
 use Rattle.journal_files.proofs.journal.Journal.renew.Goals as goal
 
-pub returns-then-self-clause-moments : goal.returns-then-self-clause-moments
-returns-then-self-clause-moments g c = λ honest t keeps means. started (g.D.Dir.history c.args.dir.now) _ (recovers c.args.self.now (now (g.D.Dir.history c.args.dir.now)) t keeps)
+-- it is the last generation
+
+pub returns-then-self-clause-renews : goal.returns-then-self-clause-renews
+returns-then-self-clause-renews g c = λ honest t keeps means. record {
+  ok = tt;
+  whole = λ is. cc is;
+  fault = λ is. absurd (cc is);
+  left = inl (inl (λ q. refl));
+  moments = started (g.D.Dir.history c.args.dir.now) _ (recovers c.args.self.now (now (g.D.Dir.history c.args.dir.now)) t keeps);
+}
 
 pub returns-then-self-clause-gap : goal.returns-then-self-clause-gap
 returns-then-self-clause-gap g c = λ honest t keeps. kept_no_gap c.args.self.now (now (g.D.Dir.history c.args.dir.now)) t keeps
 
-pub returns-in_err-next-clause-fault : goal.returns-in_err-next-clause-fault
-returns-in_err-next-clause-fault g c = λ honest t keeps means fault folder leaves.
-    let small : c.self.inside.len < 2 ^ 64 = search rules in
-    let on = onward (g.D.Dir.opened c.args.dir.now) _ c.args.self.now c.deref.result.now c.deref.ensures.value c.self.view_is c.requires.open small (omega (arith, c.if-self.false, c.self.inside.number)) in
-    let new = g.D.Dir.history c.begin.new.dir in
-    let so_far = beginning on keeps c.args.chunks.now means (g.D.Dir.history c.args.dir.now) new (c.begin.ensures.moments honest t) in
-    so_far.each new.moment so_far.later (omega arith) folder leaves
+-- the next one isn't begun
 
-pub returns-in_err-next-clause-moments : goal.returns-in_err-next-clause-moments
-returns-in_err-next-clause-moments g c = λ honest t keeps means.
+pub returns-in_err-next-clause-renews : goal.returns-in_err-next-clause-renews
+returns-in_err-next-clause-renews g c = λ honest t keeps means.
+    let old = c.args.self.now in
+    let path = old.path in
+    let first = g.D.Dir.history c.args.dir.now in
+    let begun = g.D.Dir.history c.begin.new.dir in
     let small : c.self.inside.len < 2 ^ 64 = search rules in
-    let on = onward (g.D.Dir.opened c.args.dir.now) _ c.args.self.now c.deref.result.now c.deref.ensures.value c.self.view_is c.requires.open small (omega (arith, c.if-self.false, c.self.inside.number)) in
-    beginning on keeps c.args.chunks.now means (g.D.Dir.history c.args.dir.now) (g.D.Dir.history c.begin.new.dir) (c.begin.ensures.moments honest t)
+    let on = onward (g.D.Dir.opened c.args.dir.now) _ old c.deref.result.now c.deref.ensures.value c.self.view_is c.requires.open small (omega (arith, c.if-self.false, c.self.inside.number)) in
+    let e = c.in_err-next.field-0.0 in
+    let so_far = beginning on keeps c.args.chunks.now means first begun (c.begin.ensures.moments honest t) in
+    renews_not old c.args.self.now c.args.chunks.now _ _ first begun t (renewal_error e) c.from_residual.result (answered (renewal_error e) c.from_residual.result c.from_residual.ensures.1)
+    (begun_whole e (λ short. c.in_err-next.ensures.whole honest (source on keeps c.args.chunks.now means) (ap Err short)))
+    (λ fault folder leaves. so_far.each begun.moment so_far.later (omega arith) folder leaves)
+    (inl (said_of (λ (p : List ℕ) (k : ℕ). IsGivenUp (g.D.Dir.fault_count c.args.dir.now) (g.D.Dir.fault_count c.begin.new.dir) (journal_name p k) (now first) (now begun)) on.path_is on.number_is
+    (c.in_err-next.ensures.left honest (source on keeps c.args.chunks.now means)))) so_far
 
 pub returns-in_err-next-clause-gap : goal.returns-in_err-next-clause-gap
 returns-in_err-next-clause-gap g c = λ honest t keeps.
@@ -45,39 +57,58 @@ returns-in_err-next-clause-gap g c = λ honest t keeps.
     let on = onward (g.D.Dir.opened c.args.dir.now) _ c.args.self.now c.deref.result.now c.deref.ensures.value c.self.view_is c.requires.open small (omega (arith, c.if-self.false, c.self.inside.number)) in
     subst (λ (p : List ℕ). HasNoGap p (now (g.D.Dir.history c.begin.new.dir))) on.path_is (c.begin.ensures.gap honest (none on keeps) (all on keeps))
 
-pub returns-in_err-next-clause-whole : goal.returns-in_err-next-clause-whole
-returns-in_err-next-clause-whole g c = λ honest t keeps means short.
-    let small : c.self.inside.len < 2 ^ 64 = search rules in
-    let on = onward (g.D.Dir.opened c.args.dir.now) _ c.args.self.now c.deref.result.now c.deref.ensures.value c.self.view_is c.requires.open small (omega (arith, c.if-self.false, c.self.inside.number)) in
-    c.in_err-next.ensures.whole honest (source on keeps c.args.chunks.now means)
-    (begun_short c.in_err-next.field-0.0 c.from_residual.result (answered (renewal_error c.in_err-next.field-0.0) c.from_residual.result c.from_residual.ensures.1) short)
+pub returns-in_err-next-clause-refused : goal.returns-in_err-next-clause-refused
+returns-in_err-next-clause-refused g c =
+    let e = c.in_err-next.field-0.0 in
+    refuses_not g.D.Dir.is_honest g.D.Dir.history c.args.self.now c.args.dir.now c.begin.new.dir (renewal_error e) c.from_residual.result (answered (renewal_error e) c.from_residual.result c.from_residual.ensures.1)
+    (begun_numbered e) (omega (arith, c.if-self.false, c.self.inside.number, ap (λ (j : OpenJournal). j.number) c.self.view_is))
+    (λ honest is. c.in_err-next.ensures.memory honest (ap Err (begun_memory e is)))
 
-pub returns-in_err-next-clause-cause : goal.returns-in_err-next-clause-cause
-returns-in_err-next-clause-cause g c =
-    reason_begun (g.D.Dir.fault_count c.args.dir.now) (g.D.Dir.fault_count c.begin.new.dir) c.in_err-next.field-0.0 c.from_residual.result c.in_err-next.ensures.cause
-    (answered (renewal_error c.in_err-next.field-0.0) c.from_residual.result c.from_residual.ensures.1)
-
-pub returns-in_err-remove-clause-fault : goal.returns-in_err-remove-clause-fault
-returns-in_err-remove-clause-fault g c = λ honest t keeps means fault.
+pub returns-in_err-next-clause-others : goal.returns-in_err-next-clause-others
+returns-in_err-next-clause-others g c =
+    let old = c.args.self.now in
     let small : c.self.inside.len < 2 ^ 64 = search rules in
-    let on = onward (g.D.Dir.opened c.args.dir.now) _ c.args.self.now c.deref.result.now c.deref.ensures.value c.self.view_is c.requires.open small (omega (arith, c.if-self.false, c.self.inside.number)) in
-    let begun = c.in_ok-next.ensures.ok honest (none on keeps) (source on keeps c.args.chunks.now means) in
-    still_recovers c.args.self.now c.in_ok-next.next (now (g.D.Dir.history c.begin.new.dir)) (now (g.D.Dir.history c.remove.new.self)) (c.in_ok-next.ensures.path ∙ on.path_is) (c.in_ok-next.ensures.number ∙ on.number_is) keeps.last
-    t c.args.chunks.now c.in_ok-next.ensures.state (of_all t c.args.chunks.now keeps.logged means) begun
-    (c.in_err-remove.ensures.err (c.in_ok-next.ensures.honest honest) _ (still on (g.D.Dir.opened c.begin.new.dir) c.in_ok-next.ensures.others))
+    let on = onward (g.D.Dir.opened c.args.dir.now) _ old c.deref.result.now c.deref.ensures.value c.self.view_is c.requires.open small (omega (arith, c.if-self.false, c.self.inside.number)) in
+    let e = c.in_err-next.field-0.0 in
+    record {
+      honest = c.begin.ensures.honest;
+      elsewhere = λ honest name own next. c.begin.ensures.elsewhere honest name (said_of (λ (p : List ℕ) (k : ℕ). name ≢ journal_name p k) (sym on.path_is) (sym on.number_is) next);
+      path_is = refl;
+      open_in = λ _. c.begin.ensures.kept old.file _ c.requires.open (own_differs on);
+      cause = reason_begun (g.D.Dir.fault_count c.args.dir.now) (g.D.Dir.fault_count c.begin.new.dir) e c.from_residual.result c.in_err-next.ensures.cause (answered (renewal_error e) c.from_residual.result c.from_residual.ensures.1);
+    }
 
-pub returns-in_err-remove-clause-moments : goal.returns-in_err-remove-clause-moments
-returns-in_err-remove-clause-moments g c = λ honest t keeps means.
+-- the older one isn't removed
+
+pub returns-in_err-remove-clause-renews : goal.returns-in_err-remove-clause-renews
+returns-in_err-remove-clause-renews g c = λ honest t keeps means.
+    let old = c.args.self.now in
+    let path = old.path in
+    let first = g.D.Dir.history c.args.dir.now in
+    let begun = g.D.Dir.history c.begin.new.dir in
     let small : c.self.inside.len < 2 ^ 64 = search rules in
-    let on = onward (g.D.Dir.opened c.args.dir.now) _ c.args.self.now c.deref.result.now c.deref.ensures.value c.self.view_is c.requires.open small (omega (arith, c.if-self.false, c.self.inside.number)) in
+    let on = onward (g.D.Dir.opened c.args.dir.now) _ old c.deref.result.now c.deref.ensures.value c.self.view_is c.requires.open small (omega (arith, c.if-self.false, c.self.inside.number)) in
+    let e = c.in_err-remove.field-0.0 in
+    let r = c.from_residual-in_err-remove.result in
+    let end = g.D.Dir.history c.remove.new.self in
     let opened = still on (g.D.Dir.opened c.begin.new.dir) c.in_ok-next.ensures.others in
-    let begun = c.in_ok-next.ensures.ok honest (none on keeps) (source on keeps c.args.chunks.now means) in
+    let anew = c.in_ok-next.ensures.ok honest (none on keeps) (source on keeps c.args.chunks.now means) in
     let after = c.begin.ensures.honest honest in
-    removing c.args.self.now.path t (journal_name c.args.self.now.path c.args.self.now.number) (g.D.Dir.history c.args.dir.now) (g.D.Dir.history c.begin.new.dir) (g.D.Dir.history c.remove.new.self) c.remove.result
-    (beginning on keeps c.args.chunks.now means (g.D.Dir.history c.args.dir.now) (g.D.Dir.history c.begin.new.dir) (c.begin.ensures.moments honest t)) (c.remove.ensures.time after)
-    (λ disk. still_recovers c.args.self.now c.in_ok-next.next (now (g.D.Dir.history c.begin.new.dir)) disk (c.in_ok-next.ensures.path ∙ on.path_is) (c.in_ok-next.ensures.number ∙ on.number_is) keeps.last
-    t c.args.chunks.now c.in_ok-next.ensures.state (of_all t c.args.chunks.now keeps.logged means) begun)
-    (c.remove.ensures.ok after _ opened) (c.remove.ensures.err after _ opened)
+    let left = c.in_err-remove.ensures.err after _ opened in
+    let path_is = c.in_ok-next.ensures.path ∙ on.path_is in
+    let number_is = c.in_ok-next.ensures.number ∙ on.number_is in
+    let held = λ (disk : Disk). still_recovers old c.in_ok-next.next (now begun) disk path_is number_is keeps.last t c.args.chunks.now c.in_ok-next.ensures.state (of_all t c.args.chunks.now keeps.logged means) anew in
+    renews_not old c.args.self.now c.args.chunks.now _ _ first end t (renew_error e) r (answered (renew_error e) r c.from_residual-in_err-remove.ensures.1)
+    (removal_whole e) (λ fault. held (now end) left)
+    (inr (record {
+      journal = c.in_ok-next.next;
+      chunks = c.args.chunks.now;
+      path_is = path_is;
+      number_is = number_is;
+      keeps = still_keeps old c.in_ok-next.next (now begun) (now end) path_is number_is keeps.last c.args.chunks.now anew left;
+    }))
+    (removing path t (journal_name path old.number) first begun end c.remove.result (beginning on keeps c.args.chunks.now means first begun (c.begin.ensures.moments honest t)) (c.remove.ensures.time after)
+    held (c.remove.ensures.ok after _ opened) (c.remove.ensures.err after _ opened))
 
 pub returns-in_err-remove-clause-gap : goal.returns-in_err-remove-clause-gap
 returns-in_err-remove-clause-gap g c = λ honest t keeps.
@@ -86,23 +117,57 @@ returns-in_err-remove-clause-gap g c = λ honest t keeps.
     no_gap_of c.args.self.now.path (now (g.D.Dir.history c.remove.new.self)) (next_no_stray c.args.self.now (now (g.D.Dir.history c.args.dir.now)) (now (g.D.Dir.history c.begin.new.dir)) (now (g.D.Dir.history c.remove.new.self)) t c.deref.result.now (c.self.inside.number + 1) keeps on.path_is on.number_is on.last
     (c.in_ok-next.ensures.there honest) (c.in_ok-next.ensures.elsewhere honest) (c.in_err-remove.ensures.err (c.in_ok-next.ensures.honest honest) _ (still on (g.D.Dir.opened c.begin.new.dir) c.in_ok-next.ensures.others)))
 
-pub returns-in_err-remove-clause-cause : goal.returns-in_err-remove-clause-cause
-returns-in_err-remove-clause-cause g c =
-    reason_removed (g.D.Dir.fault_count c.args.dir.now) (g.D.Dir.fault_count c.begin.new.dir) (g.D.Dir.fault_count c.remove.new.self) c.in_err-remove.field-0.0 c.from_residual-in_err-remove.result c.in_ok-next.ensures.cause.passed c.in_err-remove.ensures.cause
-    (answered (renew_error c.in_err-remove.field-0.0) c.from_residual-in_err-remove.result c.from_residual-in_err-remove.ensures.1)
+pub returns-in_err-remove-clause-refused : goal.returns-in_err-remove-clause-refused
+returns-in_err-remove-clause-refused g c =
+    let e = c.in_err-remove.field-0.0 in
+    let r = c.from_residual-in_err-remove.result in
+    refuses_not g.D.Dir.is_honest g.D.Dir.history c.args.self.now c.args.dir.now c.remove.new.self (renew_error e) r (answered (renew_error e) r c.from_residual-in_err-remove.ensures.1)
+    (removal_numbered e) (omega (arith, c.if-self.false, c.self.inside.number, ap (λ (j : OpenJournal). j.number) c.self.view_is))
+    (λ honest is. absurd (removal_memory e c.in_err-remove.ensures.only is))
 
-pub returns-clause-moments : goal.returns-clause-moments
-returns-clause-moments g c = λ honest t keeps means.
+pub returns-in_err-remove-clause-others : goal.returns-in_err-remove-clause-others
+returns-in_err-remove-clause-others g c =
     let small : c.self.inside.len < 2 ^ 64 = search rules in
     let on = onward (g.D.Dir.opened c.args.dir.now) _ c.args.self.now c.deref.result.now c.deref.ensures.value c.self.view_is c.requires.open small (omega (arith, c.if-self.false, c.self.inside.number)) in
+    let e = c.in_err-remove.field-0.0 in
+    let r = c.from_residual-in_err-remove.result in
+    record {
+      honest = λ honest. c.remove.ensures.honest (c.begin.ensures.honest honest);
+      elsewhere = λ honest name own next. others_beyond (now (g.D.Dir.history c.args.dir.now)) (now (g.D.Dir.history c.begin.new.dir)) (now (g.D.Dir.history c.remove.new.self)) (journal_name c.args.self.now.path c.args.self.now.number) _ name
+          (c.in_ok-next.ensures.elsewhere honest) (c.in_err-remove.ensures.err (c.begin.ensures.honest honest) _ (still on (g.D.Dir.opened c.begin.new.dir) c.in_ok-next.ensures.others)) own
+          (said_of (λ (p : List ℕ) (k : ℕ). name ≢ journal_name p k) (sym on.path_is) (sym on.number_is) next);
+      path_is = refl;
+      open_in = λ not. absurd (not (answered (renew_error e) r c.from_residual-in_err-remove.ensures.1 ∙ ap Err (removal_fault e c.in_err-remove.ensures.only)));
+      cause = reason_removed (g.D.Dir.fault_count c.args.dir.now) (g.D.Dir.fault_count c.begin.new.dir) (g.D.Dir.fault_count c.remove.new.self) e r c.in_ok-next.ensures.cause.passed c.in_err-remove.ensures.cause
+          (answered (renew_error e) r c.from_residual-in_err-remove.ensures.1);
+    }
+
+-- it is renewed
+
+pub returns-clause-renews : goal.returns-clause-renews
+returns-clause-renews g c = λ honest t keeps means.
+    let old = c.args.self.now in
+    let path = old.path in
+    let first = g.D.Dir.history c.args.dir.now in
+    let begun = g.D.Dir.history c.begin.new.dir in
+    let small : c.self.inside.len < 2 ^ 64 = search rules in
+    let on = onward (g.D.Dir.opened c.args.dir.now) _ old c.deref.result.now c.deref.ensures.value c.self.view_is c.requires.open small (omega (arith, c.if-self.false, c.self.inside.number)) in
+    let end = g.D.Dir.history c.remove.new.self in
     let opened = still on (g.D.Dir.opened c.begin.new.dir) c.in_ok-next.ensures.others in
-    let begun = c.in_ok-next.ensures.ok honest (none on keeps) (source on keeps c.args.chunks.now means) in
+    let anew = c.in_ok-next.ensures.ok honest (none on keeps) (source on keeps c.args.chunks.now means) in
     let after = c.begin.ensures.honest honest in
-    removing c.args.self.now.path t (journal_name c.args.self.now.path c.args.self.now.number) (g.D.Dir.history c.args.dir.now) (g.D.Dir.history c.begin.new.dir) (g.D.Dir.history c.remove.new.self) c.remove.result
-    (beginning on keeps c.args.chunks.now means (g.D.Dir.history c.args.dir.now) (g.D.Dir.history c.begin.new.dir) (c.begin.ensures.moments honest t)) (c.remove.ensures.time after)
-    (λ disk. still_recovers c.args.self.now c.in_ok-next.next (now (g.D.Dir.history c.begin.new.dir)) disk (c.in_ok-next.ensures.path ∙ on.path_is) (c.in_ok-next.ensures.number ∙ on.number_is) keeps.last
-    t c.args.chunks.now c.in_ok-next.ensures.state (of_all t c.args.chunks.now keeps.logged means) begun)
-    (c.remove.ensures.ok after _ opened) (c.remove.ensures.err after _ opened)
+    let path_is = c.in_ok-next.ensures.path ∙ on.path_is in
+    let number_is = c.in_ok-next.ensures.number ∙ on.number_is in
+    subst (λ (j : OpenJournal). Renews old j c.args.chunks.now (g.D.Dir.fault_count c.args.dir.now) (g.D.Dir.fault_count c.remove.new.self) first end t (Ok (tt {0}))) (sym c.next.view_is)
+    (record {
+      ok = still_keeps old c.in_ok-next.next (now begun) (now end) path_is number_is keeps.last c.args.chunks.now anew (inr (c.in_ok-remove.ensures.ok after _ opened));
+      whole = λ is. cc is;
+      fault = λ is. absurd (cc is);
+      left = tt;
+      moments = removing path t (journal_name path old.number) first begun end c.remove.result (beginning on keeps c.args.chunks.now means first begun (c.begin.ensures.moments honest t)) (c.remove.ensures.time after)
+          (λ disk. still_recovers old c.in_ok-next.next (now begun) disk path_is number_is keeps.last t c.args.chunks.now c.in_ok-next.ensures.state (of_all t c.args.chunks.now keeps.logged means) anew)
+          (c.remove.ensures.ok after _ opened) (c.remove.ensures.err after _ opened);
+    })
 
 pub returns-clause-gap : goal.returns-clause-gap
 returns-clause-gap g c = λ honest t keeps.
@@ -117,55 +182,26 @@ returns-clause-gone g c = λ honest.
     removed_gone (journal_name c.args.self.now.path c.args.self.now.number) (now (g.D.Dir.history c.begin.new.dir)) (now (g.D.Dir.history c.remove.new.self))
     (c.in_ok-remove.ensures.ok (c.in_ok-next.ensures.honest honest) _ (c.in_ok-next.ensures.others c.self.inside.file (is_some_name _ _ named) ∙ named))
 
-pub returns-clause-ok : goal.returns-clause-ok
-returns-clause-ok g c = λ honest t keeps means.
+pub returns-clause-others : goal.returns-clause-others
+returns-clause-others g c =
     let small : c.self.inside.len < 2 ^ 64 = search rules in
     let on = onward (g.D.Dir.opened c.args.dir.now) _ c.args.self.now c.deref.result.now c.deref.ensures.value c.self.view_is c.requires.open small (omega (arith, c.if-self.false, c.self.inside.number)) in
-    let begun = c.in_ok-next.ensures.ok honest (none on keeps) (source on keeps c.args.chunks.now means) in
-    subst (λ (j : OpenJournal). Keeps j (now (g.D.Dir.history c.remove.new.self)) (new_generation c.args.chunks.now)) (sym c.next.view_is)
-    (still_keeps c.args.self.now c.in_ok-next.next (now (g.D.Dir.history c.begin.new.dir)) (now (g.D.Dir.history c.remove.new.self)) (c.in_ok-next.ensures.path ∙ on.path_is) (c.in_ok-next.ensures.number ∙ on.number_is) keeps.last
-    c.args.chunks.now begun (inr (c.in_ok-remove.ensures.ok (c.in_ok-next.ensures.honest honest) _ (still on (g.D.Dir.opened c.begin.new.dir) c.in_ok-next.ensures.others))))
-
-pub returns-clause-open : goal.returns-clause-open
-returns-clause-open g c = λ differs.
     let journal = c.args.self.now in
     let next = c.in_ok-next.next in
     let path_is = c.deref.ensures.value ∙ ap (λ (j : OpenJournal). j.path) c.self.view_is in
     let number_is : c.self.inside.number + 1 ≡ journal.number + 1 = ap (λ (j : OpenJournal). j.number + 1) c.self.view_is in
     let file_is = ap (λ (j : OpenJournal). j.file) c.self.view_is in
-    let still = c.in_ok-next.ensures.others journal.file (is_some_name _ _ c.requires.open) ∙ c.requires.open in
-    let small : next.number < 2 ^ 32 = omega (arith, c.in_ok-next.ensures.number, c.if-self.false, c.self.inside.number) in
-    subst (λ (j : OpenJournal). IsOpenIn j (g.D.Dir.opened c.remove.new.self)) (sym c.next.view_is)
-    (c.in_ok-remove.ensures.others next.file
-    (λ same. two_files (g.D.Dir.opened c.begin.new.dir) journal next (c.in_ok-next.ensures.path ∙ path_is) (c.in_ok-next.ensures.number ∙ number_is) small still c.in_ok-next.ensures.open (same ∙ file_is))
-    ∙ c.in_ok-next.ensures.open)
-
-pub returns-then-self-clause-left : goal.returns-then-self-clause-left
-returns-then-self-clause-left g c = λ honest t keeps means. inl (inl (λ q. refl))
-
-pub returns-in_err-next-clause-left : goal.returns-in_err-next-clause-left
-returns-in_err-next-clause-left g c = λ honest t keeps means.
-    let small : c.self.inside.len < 2 ^ 64 = search rules in
-    let on = onward (g.D.Dir.opened c.args.dir.now) _ c.args.self.now c.deref.result.now c.deref.ensures.value c.self.view_is c.requires.open small (omega (arith, c.if-self.false, c.self.inside.number)) in
-    any_err _ (inl (said_of (λ (p : List ℕ) (k : ℕ). IsGivenUp (g.D.Dir.fault_count c.args.dir.now) (g.D.Dir.fault_count c.begin.new.dir) (journal_name p k) (now (g.D.Dir.history c.args.dir.now)) (now (g.D.Dir.history c.begin.new.dir))) on.path_is on.number_is
-    (c.in_err-next.ensures.left honest (source on keeps c.args.chunks.now means))))
-
-pub returns-in_err-next-clause-open : goal.returns-in_err-next-clause-open
-returns-in_err-next-clause-open g c = λ differs.
-    let small : c.self.inside.len < 2 ^ 64 = search rules in
-    let on = onward (g.D.Dir.opened c.args.dir.now) _ c.args.self.now c.deref.result.now c.deref.ensures.value c.self.view_is c.requires.open small (omega (arith, c.if-self.false, c.self.inside.number)) in
-    c.begin.ensures.kept c.args.self.now.file _ c.requires.open (own_differs on)
-
-pub returns-in_err-remove-clause-left : goal.returns-in_err-remove-clause-left
-returns-in_err-remove-clause-left g c = λ honest t keeps means.
-    let small : c.self.inside.len < 2 ^ 64 = search rules in
-    let on = onward (g.D.Dir.opened c.args.dir.now) _ c.args.self.now c.deref.result.now c.deref.ensures.value c.self.view_is c.requires.open small (omega (arith, c.if-self.false, c.self.inside.number)) in
-    let begun = c.in_ok-next.ensures.ok honest (none on keeps) (source on keeps c.args.chunks.now means) in
-    any_err _ (inr (record {
-      journal = c.in_ok-next.next;
-      chunks = c.args.chunks.now;
-      path_is = c.in_ok-next.ensures.path ∙ on.path_is;
-      number_is = c.in_ok-next.ensures.number ∙ on.number_is;
-      keeps = still_keeps c.args.self.now c.in_ok-next.next (now (g.D.Dir.history c.begin.new.dir)) (now (g.D.Dir.history c.remove.new.self)) (c.in_ok-next.ensures.path ∙ on.path_is) (c.in_ok-next.ensures.number ∙ on.number_is) keeps.last
-          c.args.chunks.now begun (c.in_err-remove.ensures.err (c.in_ok-next.ensures.honest honest) _ (still on (g.D.Dir.opened c.begin.new.dir) c.in_ok-next.ensures.others));
-    }))
+    let stays = c.in_ok-next.ensures.others journal.file (is_some_name _ _ c.requires.open) ∙ c.requires.open in
+    let last : next.number < 2 ^ 32 = omega (arith, c.in_ok-next.ensures.number, c.if-self.false, c.self.inside.number) in
+    subst (λ (j : OpenJournal). LeavesOthers g.D.Dir.is_honest g.D.Dir.history g.D.Dir.opened g.D.Dir.fault_count journal j c.args.dir.now c.remove.new.self (Ok (tt {0}))) (sym c.next.view_is)
+    (record {
+      honest = λ honest. c.remove.ensures.honest (c.begin.ensures.honest honest);
+      elsewhere = λ honest name own next. others_beyond (now (g.D.Dir.history c.args.dir.now)) (now (g.D.Dir.history c.begin.new.dir)) (now (g.D.Dir.history c.remove.new.self)) (journal_name c.args.self.now.path c.args.self.now.number) _ name
+          (c.in_ok-next.ensures.elsewhere honest) (inr (c.in_ok-remove.ensures.ok (c.begin.ensures.honest honest) _ (still on (g.D.Dir.opened c.begin.new.dir) c.in_ok-next.ensures.others))) own
+          (said_of (λ (p : List ℕ) (k : ℕ). name ≢ journal_name p k) (sym on.path_is) (sym on.number_is) next);
+      path_is = c.in_ok-next.ensures.path ∙ path_is;
+      open_in = λ _. c.in_ok-remove.ensures.others next.file
+          (λ same. two_files (g.D.Dir.opened c.begin.new.dir) journal next (c.in_ok-next.ensures.path ∙ path_is) (c.in_ok-next.ensures.number ∙ number_is) last stays c.in_ok-next.ensures.open (same ∙ file_is))
+          ∙ c.in_ok-next.ensures.open;
+      cause = record { later = omega (arith, c.in_ok-next.ensures.cause.passed, c.in_ok-remove.ensures.cause.passed); passed = c.in_ok-remove.ensures.cause.passed ∙ c.in_ok-next.ensures.cause.passed; failed = λ is. absurd (cc is); others = λ _. c.in_ok-remove.ensures.cause.passed ∙ c.in_ok-next.ensures.cause.passed };
+    })

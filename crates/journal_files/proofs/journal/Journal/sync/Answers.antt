@@ -19,9 +19,16 @@ returns-clause-moments g c = λ honest t keeps.
     (λ changes folder leaves. less_durable c.args.self.now.path t folder keeps.logged.few (recovers c.args.self.now _ _ (synced_all c.args.self.now _ _ t keeps changes) folder leaves))
     (λ same. recovers c.args.self.now _ t (kept c.args.self.now _ _ t keeps same)))
 
-pub returns-clause-elsewhere : goal.returns-clause-elsewhere
-returns-clause-elsewhere g c = λ honest name differs.
+pub returns-clause-own : goal.returns-clause-own
+returns-clause-own g c =
+    let synced = c.sync.ensures in
     let named = ap (λ (j : OpenJournal). g.D.Dir.opened c.args.dir.now j.file) c.self.view_is ∙ c.requires.open in
-    either c.sync.result (c.sync.ensures.ok honest _ named) (c.sync.ensures.err honest)
-    (λ changes. elsewhere _ _ _ name _ changes (apart _ name (λ e. differs (sym e))))
-    (λ same. same name)
+    record {
+      honest = synced.honest;
+      elsewhere = λ honest name differs. either c.sync.result (synced.ok honest _ named) (synced.err honest)
+          (λ changes. elsewhere _ _ _ name _ changes (apart _ name (λ e. differs (sym e))))
+          (λ same. same name);
+      stays_open = synced.opened;
+      cause = synced.cause;
+      only = synced.only;
+    }
