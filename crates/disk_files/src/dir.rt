@@ -4,8 +4,8 @@ ghost use Rattle.std.specs.Prelude.{◌≡◌, ◌≢◌, ◌⊎◌, ◌↔◌, 
 ghost use Rattle.std.specs.List.{IsDistinct};
 ghost use Rattle.std.specs.Str.{bytes_eq};
 ghost use Rattle.disk_files.specs.Disk.{with_bytes, flushed, unlinked, SameDisk, Makes, Changes, reads, StopLeaves, WasRemoved};
-ghost use Rattle.disk_files.specs.Moments.{History, Elapses, now};
-ghost use Rattle.disk_files.specs.Faults.{HasCause, FailsInTurn};
+ghost use Rattle.disk_files.specs.Moments.{History, now};
+ghost use Rattle.disk_files.specs.Calls.{CallsDevice, LeavesAlone};
 ghost use Rattle.disk_files.specs.declared.dir.FileNo.{FileNo};
 
 use std::alloc::{AllocError, AllocFailed, Allocator};
@@ -110,8 +110,7 @@ pub trait Dir {
     /// Makes an empty file, with room for so many bytes. `NameTaken`: a file has this name, or had it and was removed.
     /// After another error the file may be there all the same, but for `Memory`, which changes nothing.
     fn create(&mut self, name: &[u8], room: usize) -> Result<FileNo, DirError>
-        ensures honest { is_honest self.old → is_honest self.new }
-        ensures time { is_honest self.old → Elapses (history self.old) (history self.new) }
+        ensures device { CallsDevice is_honest history fails_after fault_count self.old self.new result }
         ensures ok { is_honest self.old
             → OnOk result (Makes name.now (now (history self.old)) (now (history self.new))) }
         ensures err { is_honest self.old
@@ -123,8 +122,6 @@ pub trait Dir {
         ensures room { IfOk result (λ file. room ≤ bytes_left self.new file) }
         ensures other_room { (other : FileNo) → IsSome (opened self.old other)
             → bytes_left self.old other ≤ bytes_left self.new other }
-        ensures cause { HasCause (fault_count self.old) (fault_count self.new) result }
-        ensures fault { is_honest self.old → FailsInTurn (fails_after self.old) (fails_after self.new) result }
         ensures memory { is_honest self.old → IsErrOf result DirError.Memory
             → SameDisk (now (history self.new)) (now (history self.old)) }
         ensures taken { is_honest self.old → IsErrOf result DirError.NameTaken
@@ -133,8 +130,7 @@ pub trait Dir {
 
     /// Opens a file that is there. `NoSuchFile`: no file reads under this name. No error changes the disk.
     fn open(&mut self, name: &[u8]) -> Result<FileNo, DirError>
-        ensures honest { is_honest self.old → is_honest self.new }
-        ensures time { is_honest self.old → Elapses (history self.old) (history self.new) }
+        ensures device { CallsDevice is_honest history fails_after fault_count self.old self.new result }
         ensures same { is_honest self.old → SameDisk (now (history self.new)) (now (history self.old)) }
         ensures ok { is_honest self.old
             → OnOk result (IsSome (reads (now (history self.old)) name.now)) }
@@ -143,8 +139,6 @@ pub trait Dir {
             → opened self.new other ≡ opened self.old other }
         ensures other_room { (other : FileNo) → IsSome (opened self.old other)
             → bytes_left self.old other ≤ bytes_left self.new other }
-        ensures cause { HasCause (fault_count self.old) (fault_count self.new) result }
-        ensures fault { is_honest self.old → FailsInTurn (fails_after self.old) (fails_after self.new) result }
         ensures missing { is_honest self.old → IsErrOf result DirError.NoSuchFile
             → (reads (now (history self.old)) name.now ≡ None) }
         ensures never_taken { result ≢ Err DirError.NameTaken };
@@ -152,20 +146,15 @@ pub trait Dir {
     /// Makes room for so many more bytes of an open file. The disk isn't touched, so a device's failure can't show here.
     fn reserve(&mut self, file: FileNo, room: usize) -> Result<(), AllocError>
         requires { IsSome (opened self.old file) }
-        ensures honest { is_honest self.old → is_honest self.new }
-        ensures time { is_honest self.old → Elapses (history self.old) (history self.new) }
-        ensures same { is_honest self.old → SameDisk (now (history self.new)) (now (history self.old)) }
-        ensures opened { (other : FileNo) → opened self.new other ≡ opened self.old other }
+        ensures alone { LeavesAlone is_honest history opened fault_count self.old self.new }
         ensures room { OnOk result (room ≤ bytes_left self.new file) }
         ensures other_room { (other : FileNo)
             → bytes_left self.old other ≤ bytes_left self.new other }
-        ensures cause { fault_count self.new ≡ fault_count self.old }
         ensures fault { is_honest self.old → (k : ℕ) → fails_after self.new k ≡ fails_after self.old k };
 
     /// The names of the files that are there, each once, in no certain order.
     fn list<B: Allocator + Copy>(&mut self, alloc: B) -> Result<Vec<FileName<B>, B>, DirError>
-        ensures honest { is_honest self.old → is_honest self.new }
-        ensures time { is_honest self.old → Elapses (history self.old) (history self.new) }
+        ensures device { CallsDevice is_honest history fails_after fault_count self.old self.new result }
         ensures same { is_honest self.old → SameDisk (now (history self.new)) (now (history self.old)) }
         ensures names { is_honest self.old
             → IfOk result (λ names. (name : List ℕ)
@@ -174,16 +163,13 @@ pub trait Dir {
         ensures opened { (other : FileNo) → opened self.new other ≡ opened self.old other }
         ensures other_room { (other : FileNo)
             → bytes_left self.old other ≤ bytes_left self.new other }
-        ensures cause { HasCause (fault_count self.old) (fault_count self.new) result }
-        ensures fault { is_honest self.old → FailsInTurn (fails_after self.old) (fails_after self.new) result }
         ensures only { OnErr result ((result ≡ Err DirError.Memory) ⊎ (result ≡ Err DirError.Fault)) };
 
     /// Adds bytes at an open file's end. After a `Fault` a beginning of them may be there.
     fn append(&mut self, file: FileNo, bytes: &[u8]) -> Result<(), DirError>
         requires open { IsSome (opened self.old file) }
         requires room { length bytes.now ≤ bytes_left self.old file }
-        ensures honest { is_honest self.old → is_honest self.new }
-        ensures time { is_honest self.old → Elapses (history self.old) (history self.new) }
+        ensures device { CallsDevice is_honest history fails_after fault_count self.old self.new result }
         ensures ok { is_honest self.old → (name : List ℕ) → opened self.old file ≡ Some name
             → OnOk result (Changes name (with_bytes bytes.now) (now (history self.old)) (now (history self.new))) }
         ensures err { is_honest self.old → (name : List ℕ) → opened self.old file ≡ Some name
@@ -193,15 +179,12 @@ pub trait Dir {
         ensures room_left { bytes_left self.old file ≤ bytes_left self.new file + length bytes.now }
         ensures other_room { (other : FileNo) → other ≢ file
             → bytes_left self.old other ≤ bytes_left self.new other }
-        ensures cause { HasCause (fault_count self.old) (fault_count self.new) result }
-        ensures fault { is_honest self.old → FailsInTurn (fails_after self.old) (fails_after self.new) result }
         ensures only { OnErr result (result ≡ Err DirError.Fault) };
 
     /// After its `Ok` each stop leaves the file, with all that was written to it. A `Fault` changes nothing.
     fn sync(&mut self, file: FileNo) -> Result<(), DirError>
         requires { IsSome (opened self.old file) }
-        ensures honest { is_honest self.old → is_honest self.new }
-        ensures time { is_honest self.old → Elapses (history self.old) (history self.new) }
+        ensures device { CallsDevice is_honest history fails_after fault_count self.old self.new result }
         ensures ok { is_honest self.old → (name : List ℕ) → opened self.old file ≡ Some name
             → OnOk result (Changes name flushed (now (history self.old)) (now (history self.new))) }
         ensures err { is_honest self.old
@@ -209,16 +192,13 @@ pub trait Dir {
         ensures opened { (other : FileNo) → opened self.new other ≡ opened self.old other }
         ensures other_room { (other : FileNo)
             → bytes_left self.old other ≤ bytes_left self.new other }
-        ensures cause { HasCause (fault_count self.old) (fault_count self.new) result }
-        ensures fault { is_honest self.old → FailsInTurn (fails_after self.old) (fails_after self.new) result }
         ensures only { OnErr result (result ≡ Err DirError.Fault) };
 
     /// Reads an open file from a place on, as far as the file and `into` reach, and says how many bytes these are.
     /// After a `Fault` nothing is known of what `into` holds.
     fn read_at(&mut self, file: FileNo, at: usize, into: &mut [u8]) -> Result<usize, DirError>
         requires { IsSome (opened self.old file) }
-        ensures honest { is_honest self.old → is_honest self.new }
-        ensures time { is_honest self.old → Elapses (history self.old) (history self.new) }
+        ensures device { CallsDevice is_honest history fails_after fault_count self.old self.new result }
         ensures same { is_honest self.old → SameDisk (now (history self.new)) (now (history self.old)) }
         ensures count { is_honest self.old → (name bytes : List ℕ)
             → opened self.old file ≡ Some name → reads (now (history self.old)) name ≡ Some bytes
@@ -230,15 +210,12 @@ pub trait Dir {
         ensures opened { (other : FileNo) → opened self.new other ≡ opened self.old other }
         ensures other_room { (other : FileNo)
             → bytes_left self.old other ≤ bytes_left self.new other }
-        ensures cause { HasCause (fault_count self.old) (fault_count self.new) result }
-        ensures fault { is_honest self.old → FailsInTurn (fails_after self.old) (fails_after self.new) result }
         ensures only { OnErr result (result ≡ Err DirError.Fault) };
 
     /// The length of an open file, in bytes.
     fn length(&mut self, file: FileNo) -> Result<usize, DirError>
         requires { IsSome (opened self.old file) }
-        ensures honest { is_honest self.old → is_honest self.new }
-        ensures time { is_honest self.old → Elapses (history self.old) (history self.new) }
+        ensures device { CallsDevice is_honest history fails_after fault_count self.old self.new result }
         ensures same { is_honest self.old → SameDisk (now (history self.new)) (now (history self.old)) }
         ensures length { is_honest self.old → (name bytes : List ℕ)
             → opened self.old file ≡ Some name → reads (now (history self.old)) name ≡ Some bytes
@@ -246,15 +223,12 @@ pub trait Dir {
         ensures opened { (other : FileNo) → opened self.new other ≡ opened self.old other }
         ensures other_room { (other : FileNo)
             → bytes_left self.old other ≤ bytes_left self.new other }
-        ensures cause { HasCause (fault_count self.old) (fault_count self.new) result }
-        ensures fault { is_honest self.old → FailsInTurn (fails_after self.old) (fails_after self.new) result }
         ensures only { OnErr result (result ≡ Err DirError.Fault) };
 
     /// Removes an open file, and closes it. After a `Fault` it may have been removed.
     fn remove(&mut self, file: FileNo) -> Result<(), DirError>
         requires { IsSome (opened self.old file) }
-        ensures honest { is_honest self.old → is_honest self.new }
-        ensures time { is_honest self.old → Elapses (history self.old) (history self.new) }
+        ensures device { CallsDevice is_honest history fails_after fault_count self.old self.new result }
         ensures ok { is_honest self.old → (name : List ℕ) → opened self.old file ≡ Some name
             → OnOk result (Changes name unlinked (now (history self.old)) (now (history self.new))) }
         ensures err { is_honest self.old → (name : List ℕ) → opened self.old file ≡ Some name
@@ -265,8 +239,6 @@ pub trait Dir {
             → opened self.new other ≡ opened self.old other }
         ensures other_room { (other : FileNo) → other ≢ file
             → bytes_left self.old other ≤ bytes_left self.new other }
-        ensures cause { HasCause (fault_count self.old) (fault_count self.new) result }
-        ensures fault { is_honest self.old → FailsInTurn (fails_after self.old) (fails_after self.new) result }
         ensures only { OnErr result (result ≡ Err DirError.Fault) };
 
     /// How many calls were refused for another reason than memory, up to the greatest number of its type.

@@ -50,6 +50,22 @@ module _ {D : Type 0} (is_honest : D → Type 0) (history : D → History) (open
     whole = λ h name seen is found w short. second.whole (first.honest h) name seen (first.stays_open file ∙ is) (ap read_of (first.same h name) ∙ found) (each seen w) short;
   }
 
+  -- one call, and then one that is refused
+  pub reads_not : {S T U : Type 0} (x : S) (e : PieceError) (W V G H K : List ℕ → Type 0) (old mid new : D) → Reads is_honest history opened bytes_left fault_count file W G old mid (Ok x)
+      → Reads {T = T} is_honest history opened bytes_left fault_count file V H mid new (Err e) → ((seen : List ℕ) → W seen → V seen) → Reads {T = U} is_honest history opened bytes_left fault_count file W K old new (Err e)
+  reads_not x e W V G H K old mid new first second each =
+      let both = reads_then x (Err e) W V G H (λ seen. Unit {0}) old mid new first second each (λ seen w given more. tt) in
+      record {
+        honest = both.honest;
+        time = both.time;
+        same = both.same;
+        stays_open = both.stays_open;
+        room = both.room;
+        cause = cause_as (fault_count old) (fault_count new) e both.cause;
+        ok = λ h name seen is found w. tt;
+        whole = λ h name seen is found w short. both.whole h name seen is found w (as_short e short);
+      }
+
   -- said in other words
   pub reads_as : {T : Type 0} (r : Result T PieceError) (W V G H : List ℕ → Type 0) (old new : D) → Reads is_honest history opened bytes_left fault_count file V G old new r → ((seen : List ℕ) → W seen → V seen)
       → ((seen : List ℕ) → W seen → G seen → H seen) → Reads is_honest history opened bytes_left fault_count file W H old new r

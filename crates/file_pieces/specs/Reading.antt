@@ -1,4 +1,4 @@
--- What a call does that reads a file. (Words of private functions.)
+-- What a call does that reads a file.
 use Rattle.std.specs.Prelude.{ℕ, ◌≡◌, ◌+◌, ◌≤◌, List, ◌++◌, take, Option, Some, Result, OnOk, IsErrOf}
 use Rattle.disk_files.specs.Disk.{SameDisk, reads}
 use Rattle.disk_files.specs.Moments.{History, Elapses, now}

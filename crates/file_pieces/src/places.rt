@@ -1,15 +1,11 @@
 //! Bytes at places of a file are read, one place behind another. No memory is asked for.
 
-ghost use Rattle.std.specs.Prelude.{◌≡◌, ◌+◌, ◌≤◌, List, ℕ, Some, IsSome, length, IfOk, OnOk, IsErrOf};
-ghost use Rattle.disk_files.specs.Disk.{SameDisk, reads};
-ghost use Rattle.disk_files.specs.Moments.{Elapses, now};
+ghost use Rattle.std.specs.Prelude.{◌≡◌, ◌+◌, ◌≤◌, IsSome, length, IfOk};
 ghost use Rattle.disk_files.specs.declared.dir.FileNo.{FileNo};
 ghost use Rattle.chunk_journal.specs.Places.{bytes_at, bytes_from};
-ghost use Rattle.file_pieces.specs.Adding.{HasPieceCause};
 ghost use Rattle.file_pieces.specs.Pieces.{CanTake, HasPart, places_room};
 ghost use Rattle.file_pieces.specs.Reading.{Reads, ReadsOn};
 ghost use Rattle.file_pieces.specs.Runs.{IsRun, LieInSpan};
-ghost use Rattle.file_pieces.specs.declared.error.PieceError.{PieceError};
 
 use crate::error::PieceError;
 use crate::packing::pack;
@@ -31,19 +27,9 @@ pub fn read_places<D: Dir>(
 ) -> Result<(), PieceError>
     requires open { IsSome (D.opened dir.old file) }
     requires fits { length into.old ≡ places_room places.now }
-    ensures honest { D.is_honest dir.old → D.is_honest dir.new }
-    ensures time { D.is_honest dir.old → Elapses (D.history dir.old) (D.history dir.new) }
-    ensures same { D.is_honest dir.old → SameDisk (now (D.history dir.new)) (now (D.history dir.old)) }
-    ensures bytes { D.is_honest dir.old → (name seen : List ℕ) → D.opened dir.old file ≡ Some name
-        → reads (now (D.history dir.old)) name ≡ Some seen → CanTake seen places.now
-        → OnOk result (into.new ≡ bytes_at seen places.now) }
-    ensures whole { D.is_honest dir.old → (name seen : List ℕ) → D.opened dir.old file ≡ Some name
-        → reads (now (D.history dir.old)) name ≡ Some seen → CanTake seen places.now
-        → IsErrOf result PieceError.Short → ⊥ }
+    ensures reads { Reads D.is_honest D.history D.opened D.bytes_left D.fault_count file
+        (λ seen. CanTake seen places.now) (λ seen. into.new ≡ bytes_at seen places.now) dir.old dir.new result }
     ensures len { length into.new ≡ length into.old }
-    ensures opened { (other : FileNo) → D.opened dir.new other ≡ D.opened dir.old other }
-    ensures room { (other : FileNo) → D.bytes_left dir.old other ≤ D.bytes_left dir.new other }
-    ensures cause { HasPieceCause (D.fault_count dir.old) (D.fault_count dir.new) result }
 {
     let mut count: usize = 0;
     let mut end: usize = 0;

@@ -1,12 +1,11 @@
 //! So many bytes of a file from one place on.
 
-ghost use Rattle.std.specs.Prelude.{◌≡◌, ◌≤◌, ◌-◌, List, ℕ, Some, IsSome, length, OnOk, IsErrOf};
-ghost use Rattle.disk_files.specs.Disk.{SameDisk, reads};
-ghost use Rattle.disk_files.specs.Moments.{Elapses, now};
+ghost use Rattle.std.specs.Prelude.{◌≡◌, ◌≤◌, ◌-◌, List, ℕ, Some, IsSome, length, OnOk};
+ghost use Rattle.disk_files.specs.Disk.{reads};
+ghost use Rattle.disk_files.specs.Moments.{now};
 ghost use Rattle.disk_files.specs.declared.dir.FileNo.{FileNo};
-ghost use Rattle.file_pieces.specs.Adding.{HasPieceCause};
 ghost use Rattle.file_pieces.specs.Pieces.{part_of, HasPart};
-ghost use Rattle.file_pieces.specs.declared.error.PieceError.{PieceError};
+ghost use Rattle.file_pieces.specs.Reading.{Reads};
 
 use crate::error::PieceError;
 use disk_files::{Dir, FileNo};
@@ -21,22 +20,12 @@ pub fn read_exact<D: Dir>(
     into: &mut [u8],
 ) -> Result<(), PieceError>
     requires { IsSome (D.opened dir.old file) }
-    ensures honest { D.is_honest dir.old → D.is_honest dir.new }
-    ensures time { D.is_honest dir.old → Elapses (D.history dir.old) (D.history dir.new) }
-    ensures same { D.is_honest dir.old → SameDisk (now (D.history dir.new)) (now (D.history dir.old)) }
-    ensures bytes { D.is_honest dir.old → (name seen : List ℕ) → D.opened dir.old file ≡ Some name
-        → reads (now (D.history dir.old)) name ≡ Some seen → HasPart seen at (length into.old)
-        → OnOk result (into.new ≡ part_of seen at (length into.old)) }
-    ensures whole { D.is_honest dir.old → (name seen : List ℕ) → D.opened dir.old file ≡ Some name
-        → reads (now (D.history dir.old)) name ≡ Some seen → HasPart seen at (length into.old)
-        → IsErrOf result PieceError.Short → ⊥ }
+    ensures reads { Reads D.is_honest D.history D.opened D.bytes_left D.fault_count file
+        (λ seen. HasPart seen at (length into.old)) (λ seen. into.new ≡ part_of seen at (length into.old)) dir.old dir.new result }
     // What is answered was there.
     ensures there { D.is_honest dir.old → (name seen : List ℕ) → D.opened dir.old file ≡ Some name
         → reads (now (D.history dir.old)) name ≡ Some seen → OnOk result (length into.old ≤ length seen - at) }
     ensures len { length into.new ≡ length into.old }
-    ensures opened { (other : FileNo) → D.opened dir.new other ≡ D.opened dir.old other }
-    ensures room { (other : FileNo) → D.bytes_left dir.old other ≤ D.bytes_left dir.new other }
-    ensures cause { HasPieceCause (D.fault_count dir.old) (D.fault_count dir.new) result }
 {
     let read = dir.read_at(file, at as usize, into)?;
     if read < into.len() {

@@ -5,7 +5,8 @@ ghost use Rattle.std.specs.Ordering.{nat_cmp};
 ghost use Rattle.std.specs.BTreeSet.{contains};
 ghost use Rattle.disk_files.specs.Disk.{SameDisk, reads};
 ghost use Rattle.disk_files.specs.Moments.{Elapses, now};
-ghost use Rattle.disk_files.specs.Faults.{HasCause, FailsInTurn};
+ghost use Rattle.disk_files.specs.Calls.{CallsDevice};
+ghost use Rattle.disk_files.specs.Faults.{HasCause};
 ghost use Rattle.disk_files.specs.declared.dir.FileNo.{FileNo};
 ghost use Rattle.numbered_files.specs.Names.{IsNumber, IsNamed, IsThere};
 
@@ -21,8 +22,7 @@ pub fn numbers<A: Allocator + Copy, D: Dir>(
     dir: &mut D,
     family: Family<'_>,
 ) -> Result<BTreeSet<u32, A>, DirError>
-    ensures honest { D.is_honest dir.old → D.is_honest dir.new }
-    ensures time { D.is_honest dir.old → Elapses (D.history dir.old) (D.history dir.new) }
+    ensures device { CallsDevice D.is_honest D.history D.fails_after D.fault_count dir.old dir.new result }
     ensures same { D.is_honest dir.old → SameDisk (now (D.history dir.new)) (now (D.history dir.old)) }
     ensures numbers { D.is_honest dir.old
         → IfOk result (λ found. (n : ℕ)
@@ -30,8 +30,6 @@ pub fn numbers<A: Allocator + Copy, D: Dir>(
     ensures opened { (other : FileNo) → D.opened dir.new other ≡ D.opened dir.old other }
     ensures other_room { (other : FileNo)
         → D.bytes_left dir.old other ≤ D.bytes_left dir.new other }
-    ensures cause { HasCause (D.fault_count dir.old) (D.fault_count dir.new) result }
-    ensures fault { D.is_honest dir.old → FailsInTurn (D.fails_after dir.old) (D.fails_after dir.new) result }
     ensures only { OnErr result ((result ≡ Err DirError.Memory) ⊎ (result ≡ Err DirError.Fault)) }
 {
     let names = dir.list(alloc)?;

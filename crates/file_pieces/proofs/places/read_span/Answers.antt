@@ -10,14 +10,14 @@ returns-in-Ok-clause-reads g c =
     let run = c.args.run in
     let count : length c.split_at_mut-part.result.0.now ≡ run.span = c.split_at_mut-part.ensures.front_len in
     record {
-      honest = e.honest;
-      time = e.time;
-      same = e.same;
-      stays_open = e.opened;
-      room = e.room;
-      cause = cause_on (g.D.Dir.fault_count c.args.dir.now) (g.D.Dir.fault_count c.read_exact.new.dir) c.in-Ok.field-0 _ e.cause;
+      honest = e.reads.honest;
+      time = e.reads.time;
+      same = e.reads.same;
+      stays_open = e.reads.stays_open;
+      room = e.reads.room;
+      cause = cause_on (g.D.Dir.fault_count c.args.dir.now) (g.D.Dir.fault_count c.read_exact.new.dir) c.in-Ok.field-0 _ e.reads.cause;
       ok = λ h name seen is found can. c.pack.ensures.bytes seen (subst (λ n. c.read_exact.new.into ≡ part_of seen run.at n) (sym e.len)
-          (e.bytes h name seen is found (subst (HasPart seen run.at) (sym count) (span_taken seen run.places.now run.at run.span c.requires.span can))));
+          (e.reads.ok h name seen is found (subst (HasPart seen run.at) (sym count) (span_taken seen run.places.now run.at run.span c.requires.span can))));
       whole = λ h name seen is found can short. absurd (cc short);
     }
 
@@ -27,12 +27,12 @@ returns-in-Err-clause-reads g c =
     let run = c.args.run in
     let count : length c.split_at_mut-part.result.0.now ≡ run.span = c.split_at_mut-part.ensures.front_len in
     record {
-      honest = e.honest;
-      time = e.time;
-      same = e.same;
-      stays_open = e.opened;
-      room = e.room;
-      cause = cause_as (g.D.Dir.fault_count c.args.dir.now) (g.D.Dir.fault_count c.read_exact.new.dir) c.in-Err.fault e.cause;
+      honest = e.reads.honest;
+      time = e.reads.time;
+      same = e.reads.same;
+      stays_open = e.reads.stays_open;
+      room = e.reads.room;
+      cause = cause_as (g.D.Dir.fault_count c.args.dir.now) (g.D.Dir.fault_count c.read_exact.new.dir) c.in-Err.fault e.reads.cause;
       ok = λ h name seen is found can. tt;
-      whole = λ h name seen is found can short. e.whole h name seen is found (subst (HasPart seen run.at) (sym count) (span_taken seen run.places.now run.at run.span c.requires.span can)) (as_short c.in-Err.fault short);
+      whole = λ h name seen is found can short. e.reads.whole h name seen is found (subst (HasPart seen run.at) (sym count) (span_taken seen run.places.now run.at run.span c.requires.span can)) (as_short c.in-Err.fault short);
     }

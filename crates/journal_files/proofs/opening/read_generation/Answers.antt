@@ -15,7 +15,7 @@ returns-in-Some-clause-meant g c = λ honest.
     let old = now (g.D.Dir.history c.args.dir.now) in
     let mid = now (g.D.Dir.history c.open.new.self) in
     let name = c.deref.ensures.value ∙ c.in_ok-name.ensures ∙ c.generations.ensures c.args.number in
-    let there = c.in_ok-file.ensures.honest honest in
+    let there = c.in_ok-file.ensures.device.honest honest in
     let outlined = c.in-Some.outlined in
     subst (λ (n : List ℕ). IsMeant (reads old n) outlined.chunks outlined.places) name
     (meant_of old mid c.deref.result.now (c.in_ok-file.ensures.same honest) (c.in_ok-file.ensures.ok honest) c.in_ok-outline.outline outlined.chunks outlined.places outlined.used
@@ -25,13 +25,13 @@ returns-in-Some-clause-meant g c = λ honest.
 
 pub returns-in-Some-clause-time : goal.returns-in-Some-clause-time
 returns-in-Some-clause-time g c = λ honest.
-    let there = c.in_ok-file.ensures.honest honest in
-    elapsed (g.D.Dir.history c.args.dir.now) (g.D.Dir.history c.open.new.self) (g.D.Dir.history c.feed_file.new.dir) (c.in_ok-file.ensures.time honest) (c.in_ok-outline.ensures.time there) (c.in_ok-outline.ensures.same there)
+    let there = c.in_ok-file.ensures.device.honest honest in
+    elapsed (g.D.Dir.history c.args.dir.now) (g.D.Dir.history c.open.new.self) (g.D.Dir.history c.feed_file.new.dir) (c.in_ok-file.ensures.device.time honest) (c.in_ok-outline.ensures.time there) (c.in_ok-outline.ensures.same there)
 
 pub returns-clause-time : goal.returns-clause-time
 returns-clause-time g c = λ honest.
-    let there = c.in_ok-file.ensures.honest honest in
-    elapsed (g.D.Dir.history c.args.dir.now) (g.D.Dir.history c.open.new.self) (g.D.Dir.history c.feed_file.new.dir) (c.in_ok-file.ensures.time honest) (c.in_ok-outline.ensures.time there) (c.in_ok-outline.ensures.same there)
+    let there = c.in_ok-file.ensures.device.honest honest in
+    elapsed (g.D.Dir.history c.args.dir.now) (g.D.Dir.history c.open.new.self) (g.D.Dir.history c.feed_file.new.dir) (c.in_ok-file.ensures.device.time honest) (c.in_ok-outline.ensures.time there) (c.in_ok-outline.ensures.same there)
 
 pub returns-in-Some-clause-tags : goal.returns-in-Some-clause-tags
 returns-in-Some-clause-tags g c =
@@ -50,7 +50,7 @@ returns-clause-unsealed g c = λ honest _.
     let old = now (g.D.Dir.history c.args.dir.now) in
     let mid = now (g.D.Dir.history c.open.new.self) in
     let name = c.deref.ensures.value ∙ c.in_ok-name.ensures ∙ c.generations.ensures c.args.number in
-    let there = c.in_ok-file.ensures.honest honest in
+    let there = c.in_ok-file.ensures.device.honest honest in
     subst (λ (n : List ℕ). IsSo (reads old n) EndsUnsealed) name
     (so_of old mid c.deref.result.now (c.in_ok-file.ensures.same honest) (c.in_ok-file.ensures.ok honest) EndsUnsealed
     (λ bytes is. c.in_ok-outlined.ensures.unsealed bytes (c.in_ok-outline.ensures.all there c.deref.result.now bytes c.in_ok-file.ensures.opened is) (ap Ok c.in-None.is)))
@@ -60,7 +60,7 @@ returns-in_err-outline-clause-damaged g c = λ honest damaged.
     let old = now (g.D.Dir.history c.args.dir.now) in
     let mid = now (g.D.Dir.history c.open.new.self) in
     let name = c.deref.ensures.value ∙ c.in_ok-name.ensures ∙ c.generations.ensures c.args.number in
-    let there = c.in_ok-file.ensures.honest honest in
+    let there = c.in_ok-file.ensures.device.honest honest in
     let answer = answered c.in_err-outline.field-0.0 c.from_residual-in_err-outline.result c.from_residual-in_err-outline.ensures.1 in
     let e : c.in_err-outline.field-0.0 ≡ opening.Damaged = cc (answer, damaged) in
     subst (λ (n : List ℕ). IsSo (reads old n) IsDamaged) name
@@ -72,7 +72,7 @@ returns-in_err-outlined-clause-damaged g c = λ honest damaged.
     let old = now (g.D.Dir.history c.args.dir.now) in
     let mid = now (g.D.Dir.history c.open.new.self) in
     let name = c.deref.ensures.value ∙ c.in_ok-name.ensures ∙ c.generations.ensures c.args.number in
-    let there = c.in_ok-file.ensures.honest honest in
+    let there = c.in_ok-file.ensures.device.honest honest in
     let answer = answered c.in_err-outlined.field-0.0 c.from_residual-in_err-outlined.result c.from_residual-in_err-outlined.ensures.1 in
     let e : c.in_err-outlined.field-0.0 ≡ opening.Damaged = cc (answer, damaged) in
     subst (λ (n : List ℕ). IsSo (reads old n) IsDamaged) name

@@ -7,7 +7,7 @@ use Rattle.journal_files.proofs.outlining.feed_file.Goals as goal
 
 pub returns-in_err-len-clause-cause : goal.returns-in_err-len-clause-cause
 returns-in_err-len-clause-cause g c =
-    reason_dir (g.D.Dir.fault_count c.args.dir.now) (g.D.Dir.fault_count c.length.new.self) c.in_err-len.field-0.0 c.from_residual.result c.in_err-len.ensures.only c.in_err-len.ensures.cause
+    reason_dir (g.D.Dir.fault_count c.args.dir.now) (g.D.Dir.fault_count c.length.new.self) c.in_err-len.field-0.0 c.from_residual.result c.in_err-len.ensures.only c.in_err-len.ensures.device.cause
     (answered (open_error c.in_err-len.field-0.0) c.from_residual.result c.from_residual.ensures.1)
 
 pub feed_part-requires-clause-open : goal.feed_part-requires-clause-open

@@ -12,6 +12,6 @@ returns-clause-bytes g c honest name bytes opened reads =
     whole bytes _ _ _ _ c.in_ok-read.read c.in_ok-bytes.bytes.len
     (omega (arith, first.length honest name bytes opened reads, c.in_ok-bytes.ensures.len, c.deref_mut.ensures.value, c.deref_mut.ensures.len))
     (omega (arith, first.length honest name bytes opened reads, c.in_ok-bytes.ensures.len))
-    (still.count (first.honest honest) name bytes named found)
-    (still.bytes (first.honest honest) name bytes named found)
+    (still.count (first.device.honest honest) name bytes named found)
+    (still.bytes (first.device.honest honest) name bytes named found)
     c.truncate.ensures.items

@@ -30,10 +30,10 @@ returns-in_err-file-clause-leaves g c honest =
     let on = n.honest honest in
     let e = c.in_err-file.ensures in
     record {
-      honest = e.honest on;
-      moments = then_made _ _ _ c.args.path.now c.deref.result.now c.in_ok-number.number (c.deref.ensures.value ∙ c.in_ok-name.ensures) (still _ _ _ _ (before _ _) (n.time honest) (n.same honest)) (n.same honest) (e.time on)
+      honest = e.device.honest on;
+      moments = then_made _ _ _ c.args.path.now c.deref.result.now c.in_ok-number.number (c.deref.ensures.value ∙ c.in_ok-name.ensures) (still _ _ _ _ (before _ _) (n.time honest) (n.same honest)) (n.same honest) (e.device.time on)
           (e.err on);
-      safe = λ name events safe. safe_on _ _ _ name events (safe_rests _ _ name events (n.time honest) (n.same honest) safe) (e.time on)
+      safe = λ name events safe. safe_on _ _ _ name events (safe_rests _ _ name events (n.time honest) (n.same honest) safe) (e.device.time on)
           (safe_then _ _ c.deref.result.now name events (e.err on) (safe_same _ _ name events (n.same honest) safe));
     }
 
@@ -43,9 +43,9 @@ returns-clause-leaves g c honest =
     let on = n.honest honest in
     let e = c.in_ok-file.ensures in
     record {
-      honest = e.honest on;
-      moments = then_made _ _ _ c.args.path.now c.deref.result.now c.in_ok-number.number (c.deref.ensures.value ∙ c.in_ok-name.ensures) (still _ _ _ _ (before _ _) (n.time honest) (n.same honest)) (n.same honest) (e.time on)
+      honest = e.device.honest on;
+      moments = then_made _ _ _ c.args.path.now c.deref.result.now c.in_ok-number.number (c.deref.ensures.value ∙ c.in_ok-name.ensures) (still _ _ _ _ (before _ _) (n.time honest) (n.same honest)) (n.same honest) (e.device.time on)
           (inr (e.ok on));
-      safe = λ name events safe. safe_on _ _ _ name events (safe_rests _ _ name events (n.time honest) (n.same honest) safe) (e.time on)
+      safe = λ name events safe. safe_on _ _ _ name events (safe_rests _ _ name events (n.time honest) (n.same honest) safe) (e.device.time on)
           (safe_made _ _ c.deref.result.now name events (e.ok on) (safe_same _ _ name events (n.same honest) safe));
     }

@@ -9,14 +9,14 @@ pub returns-clause-still : goal.returns-clause-still
 returns-clause-still g c honest =
     let f = c.in_ok-file.ensures in
     let b = c.in_ok-bytes.ensures in
-    let on = f.honest honest in
-    (b.honest on, still_on _ _ _ (still_on _ _ _ (still_here _) (f.time honest) (f.same honest)) (b.time on) (b.same on))
+    let on = f.device.honest honest in
+    (b.honest on, still_on _ _ _ (still_on _ _ _ (still_here _) (f.device.time honest) (f.same honest)) (b.time on) (b.same on))
 
 pub returns-clause-content : goal.returns-clause-content
 returns-clause-content g c honest bytes there =
     let f = c.in_ok-file.ensures in
     let b = c.in_ok-bytes.ensures in
-    let on = f.honest honest in
+    let on = f.device.honest honest in
     let name = c.deref.result.now in
     let before : reads (now (g.D.Dir.history c.args.dir.now)) name ≡ Some bytes =
     ap (λ (n : List ℕ). reads (now (g.D.Dir.history c.args.dir.now)) n) (c.deref.ensures.value ∙ c.in_ok-name.ensures) ∙ there in

@@ -1,16 +1,21 @@
-use Rattle.std.proofs.Common.{ap, refl, arith, length-append}
+use Rattle.std.proofs.Common.{rules, ap, refl, arith, length-append}
 use Rattle.disk_files.specs.Disk.{with_bytes}
 use Rattle.disk_files.proofs.Changed.{changes_from, sound_changed, now_changed, opened_same, room_other, number_apart}
 use Rattle.disk_files.proofs.Written.{last_grown}
 use Rattle.disk_files.proofs.memory.MemoryDirDir.append.Goals as goal
 
-pub returns-clause-honest : goal.returns-clause-honest
-returns-clause-honest g c = λ honest.
-    let change = changes_from c.args.self.now.files.items c.note.new.self.files.items c.grow_at.new.files.items c.args.file.0 (with_bytes c.args.bytes.now) (ap (λ d. d.files.items) c.note.ensures) c.grow_at.ensures.changed in (
-      sound_changed _ _ c.args.file.0 (with_bytes c.args.bytes.now) change (λ f fits. omega (arith, fits, length-append f.written c.args.bytes.now)) honest.0,
-      last_grown c.args.self.now.files.items c.grow_at.new.files.items c.args.file.0 c.args.bytes.now change c.args.self.now.past c.args.self.now.last c.note.new.self.last c.last_of-self.result c.note.new.self.past
-          honest.1 (ap (λ d. d.last) c.note.ensures) (ap (λ d. d.past) c.note.ensures) c.last_of-self.ensures,
-    )
+pub returns-clause-device : goal.returns-clause-device
+returns-clause-device g c = record {
+  honest = λ honest.
+      let change = changes_from c.args.self.now.files.items c.note.new.self.files.items c.grow_at.new.files.items c.args.file.0 (with_bytes c.args.bytes.now) (ap (λ d. d.files.items) c.note.ensures) c.grow_at.ensures.changed in (
+        sound_changed _ _ c.args.file.0 (with_bytes c.args.bytes.now) change (λ f fits. omega (arith, fits, length-append f.written c.args.bytes.now)) honest.0,
+        last_grown c.args.self.now.files.items c.grow_at.new.files.items c.args.file.0 c.args.bytes.now change c.args.self.now.past c.args.self.now.last c.note.new.self.last c.last_of-self.result c.note.new.self.past
+            honest.1 (ap (λ d. d.last) c.note.ensures) (ap (λ d. d.past) c.note.ensures) c.last_of-self.ensures,
+      );
+  time = search rules;
+  cause = search rules;
+  fault = search rules;
+}
 
 pub returns-clause-ok : goal.returns-clause-ok
 returns-clause-ok g c = λ honest name opened.

@@ -1,4 +1,4 @@
-use Rattle.std.proofs.Common.{◌≡◌, ◌≤◌, ◌∷◌, Some, None, IsSome, cond, slice_get, ap, refl, sym, subst, ◌∙◌, arith, length}
+use Rattle.std.proofs.Common.{rules, ◌≡◌, ◌≤◌, ◌∷◌, Some, None, IsSome, cond, slice_get, ap, refl, sym, subst, ◌∙◌, arith, length}
 use Rattle.disk_files.specs.Table.{disk_of, name_of, room_of}
 use Rattle.disk_files.specs.Readable.{now_is}
 use Rattle.disk_files.proofs.Table.{found}
@@ -16,17 +16,22 @@ returns-then-is_some-clause-taken g c = λ honest err.
     let here = now_is files c.args.self.now.past name ∙ sym (ap (disk_of files) place.named) ∙ found files some.0 place.entry honest.0 place.found in
     subst IsSome (sym here) refl
 
-pub returns-clause-honest : goal.returns-clause-honest
-returns-clause-honest g c = λ honest.
-    let files = c.args.self.now.files.items in
-    let name = c.args.name.now in
-    let mid_is = ap (λ d. d.files.items) c.note.ensures ∙ c.in_ok-reserve.ensures.items in
-    let none = place_none files name (sym c.place_of.ensures ∙ none_of c.place_of.result (sym c.is_some.ensures ∙ c.if-is_some.false)) in (
-      sound_made files c.note.new.self.files.items c.push_reserved.new.self.items c.in_ok-file.file name mid_is c.push_reserved.ensures.items c.in_ok-file.ensures.name
-          c.in_ok-file.ensures.state honest.0 none,
-      ap (λ d. d.last) c.note.ensures ∙ honest.1 ∙ sym (last_made files c.note.new.self.files.items c.push_reserved.new.self.items c.in_ok-file.file c.args.self.now.past mid_is c.push_reserved.ensures.items)
-          ∙ ap (λ p. last_place c.push_reserved.new.self.items p) (ap (λ fs. fs ∷ c.args.self.now.past) (sym c.in_ok-reserve.ensures.items) ∙ ap (λ d. d.past) (sym c.note.ensures)),
-    )
+pub returns-clause-device : goal.returns-clause-device
+returns-clause-device g c = record {
+  honest = λ honest.
+      let files = c.args.self.now.files.items in
+      let name = c.args.name.now in
+      let mid_is = ap (λ d. d.files.items) c.note.ensures ∙ c.in_ok-reserve.ensures.items in
+      let none = place_none files name (sym c.place_of.ensures ∙ none_of c.place_of.result (sym c.is_some.ensures ∙ c.if-is_some.false)) in (
+        sound_made files c.note.new.self.files.items c.push_reserved.new.self.items c.in_ok-file.file name mid_is c.push_reserved.ensures.items c.in_ok-file.ensures.name
+            c.in_ok-file.ensures.state honest.0 none,
+        ap (λ d. d.last) c.note.ensures ∙ honest.1 ∙ sym (last_made files c.note.new.self.files.items c.push_reserved.new.self.items c.in_ok-file.file c.args.self.now.past mid_is c.push_reserved.ensures.items)
+            ∙ ap (λ p. last_place c.push_reserved.new.self.items p) (ap (λ fs. fs ∷ c.args.self.now.past) (sym c.in_ok-reserve.ensures.items) ∙ ap (λ d. d.past) (sym c.note.ensures)),
+      );
+  time = search rules;
+  cause = search rules;
+  fault = search rules;
+}
 
 pub returns-clause-ok : goal.returns-clause-ok
 returns-clause-ok g c = λ honest.

@@ -1,17 +1,22 @@
-use Rattle.std.proofs.Common.{ap, refl, sym, ◌∙◌, arith}
+use Rattle.std.proofs.Common.{rules, ap, refl, sym, ◌∙◌, arith}
 use Rattle.disk_files.specs.Disk.{flushed}
 use Rattle.disk_files.proofs.Changed.{changes_from, sound_changed, now_changed, opened_same, rooms_from}
 use Rattle.disk_files.specs.Written.{last_place}
 use Rattle.disk_files.proofs.Written.{last_kept}
 use Rattle.disk_files.proofs.memory.MemoryDirDir.sync.Goals as goal
 
-pub returns-clause-honest : goal.returns-clause-honest
-returns-clause-honest g c = λ honest.
-    let change = changes_from c.args.self.now.files.items c.note.new.self.files.items c.flush_at.new.files.items c.args.file.0 flushed (ap (λ d. d.files.items) c.note.ensures) c.flush_at.ensures.changed in (
-      sound_changed _ _ c.args.file.0 flushed change (λ f fits. omega arith) honest.0,
-      ap (λ d. d.last) c.note.ensures ∙ honest.1 ∙ sym (last_kept c.args.self.now.files.items c.flush_at.new.files.items c.args.file.0 flushed change c.args.self.now.past (λ f. refl))
-          ∙ ap (λ d. last_place c.flush_at.new.files.items d.past) (sym c.note.ensures),
-    )
+pub returns-clause-device : goal.returns-clause-device
+returns-clause-device g c = record {
+  honest = λ honest.
+      let change = changes_from c.args.self.now.files.items c.note.new.self.files.items c.flush_at.new.files.items c.args.file.0 flushed (ap (λ d. d.files.items) c.note.ensures) c.flush_at.ensures.changed in (
+        sound_changed _ _ c.args.file.0 flushed change (λ f fits. omega arith) honest.0,
+        ap (λ d. d.last) c.note.ensures ∙ honest.1 ∙ sym (last_kept c.args.self.now.files.items c.flush_at.new.files.items c.args.file.0 flushed change c.args.self.now.past (λ f. refl))
+            ∙ ap (λ d. last_place c.flush_at.new.files.items d.past) (sym c.note.ensures),
+      );
+  time = search rules;
+  cause = search rules;
+  fault = search rules;
+}
 
 pub returns-clause-ok : goal.returns-clause-ok
 returns-clause-ok g c = λ honest name opened.

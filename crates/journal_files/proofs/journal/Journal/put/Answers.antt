@@ -12,12 +12,12 @@ returns-clause-own g c =
     let told = c.append-told.ensures in
     let named = ap (λ (j : OpenJournal). g.D.Dir.opened c.args.dir.now j.file) c.self.view_is ∙ c.requires.open in
     record {
-      honest = told.honest;
+      honest = told.device.honest;
       elsewhere = λ honest name differs. either c.append-told.result (told.ok honest _ named) (told.err honest _ named)
           (λ changes. elsewhere _ _ _ name _ changes (apart _ name (λ e. differs (sym e))))
           (λ some. elsewhere _ _ _ name _ some.1 (apart _ name (λ e. differs (sym e))));
       stays_open = told.opened;
-      cause = told.cause;
+      cause = told.device.cause;
       only = told.only;
     }
 
@@ -42,6 +42,6 @@ returns-clause-begins g c = λ honest t item keeps ready allowed.
           (λ changes. put_ok c.places_follow.ensures c.leads_in_order.ensures.behind c.args.self.now new old mid t item c.deref.result.now bytes goes keeps ready.can allowed changes);
       err = on_err c.append-told.result (c.append-told.ensures.err honest _ named)
           (λ some. put_err c.places_follow.ensures c.leads_in_order.ensures.behind c.args.self.now new old mid t item c.deref.result.now bytes goes keeps ready.can allowed some.0 some.1);
-      moments = put_moments c.places_follow.ensures c.leads_in_order.ensures.behind c.args.self.now new old mid t item c.deref.result.now bytes goes keeps ready.can allowed c.append-told.result (c.append-told.ensures.time honest)
+      moments = put_moments c.places_follow.ensures c.leads_in_order.ensures.behind c.args.self.now new old mid t item c.deref.result.now bytes goes keeps ready.can allowed c.append-told.result (c.append-told.ensures.device.time honest)
           (c.append-told.ensures.ok honest _ named) (c.append-told.ensures.err honest _ named);
     }

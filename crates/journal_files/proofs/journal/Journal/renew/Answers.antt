@@ -107,7 +107,7 @@ returns-in_err-remove-clause-renews g c = λ honest t keeps means.
       number_is = number_is;
       keeps = still_keeps old c.in_ok-next.next (now begun) (now end) path_is number_is keeps.last c.args.chunks.now anew left;
     }))
-    (removing path t (journal_name path old.number) first begun end c.remove.result (beginning on keeps c.args.chunks.now means first begun (c.begin.ensures.moments honest t)) (c.remove.ensures.time after)
+    (removing path t (journal_name path old.number) first begun end c.remove.result (beginning on keeps c.args.chunks.now means first begun (c.begin.ensures.moments honest t)) (c.remove.ensures.device.time after)
     held (c.remove.ensures.ok after _ opened) (c.remove.ensures.err after _ opened))
 
 pub returns-in_err-remove-clause-gap : goal.returns-in_err-remove-clause-gap
@@ -132,13 +132,13 @@ returns-in_err-remove-clause-others g c =
     let e = c.in_err-remove.field-0.0 in
     let r = c.from_residual-in_err-remove.result in
     record {
-      honest = λ honest. c.remove.ensures.honest (c.begin.ensures.honest honest);
+      honest = λ honest. c.remove.ensures.device.honest (c.begin.ensures.honest honest);
       elsewhere = λ honest name own next. others_beyond (now (g.D.Dir.history c.args.dir.now)) (now (g.D.Dir.history c.begin.new.dir)) (now (g.D.Dir.history c.remove.new.self)) (journal_name c.args.self.now.path c.args.self.now.number) _ name
           (c.in_ok-next.ensures.elsewhere honest) (c.in_err-remove.ensures.err (c.begin.ensures.honest honest) _ (still on (g.D.Dir.opened c.begin.new.dir) c.in_ok-next.ensures.others)) own
           (said_of (λ (p : List ℕ) (k : ℕ). name ≢ journal_name p k) (sym on.path_is) (sym on.number_is) next);
       path_is = refl;
       open_in = λ not. absurd (not (answered (renew_error e) r c.from_residual-in_err-remove.ensures.1 ∙ ap Err (removal_fault e c.in_err-remove.ensures.only)));
-      cause = reason_removed (g.D.Dir.fault_count c.args.dir.now) (g.D.Dir.fault_count c.begin.new.dir) (g.D.Dir.fault_count c.remove.new.self) e r c.in_ok-next.ensures.cause.passed c.in_err-remove.ensures.cause
+      cause = reason_removed (g.D.Dir.fault_count c.args.dir.now) (g.D.Dir.fault_count c.begin.new.dir) (g.D.Dir.fault_count c.remove.new.self) e r c.in_ok-next.ensures.cause.passed c.in_err-remove.ensures.device.cause
           (answered (renew_error e) r c.from_residual-in_err-remove.ensures.1);
     }
 
@@ -164,7 +164,7 @@ returns-clause-renews g c = λ honest t keeps means.
       whole = λ is. cc is;
       fault = λ is. absurd (cc is);
       left = tt;
-      moments = removing path t (journal_name path old.number) first begun end c.remove.result (beginning on keeps c.args.chunks.now means first begun (c.begin.ensures.moments honest t)) (c.remove.ensures.time after)
+      moments = removing path t (journal_name path old.number) first begun end c.remove.result (beginning on keeps c.args.chunks.now means first begun (c.begin.ensures.moments honest t)) (c.remove.ensures.device.time after)
           (λ disk. still_recovers old c.in_ok-next.next (now begun) disk path_is number_is keeps.last t c.args.chunks.now c.in_ok-next.ensures.state (of_all t c.args.chunks.now keeps.logged means) anew)
           (c.remove.ensures.ok after _ opened) (c.remove.ensures.err after _ opened);
     })
@@ -195,7 +195,7 @@ returns-clause-others g c =
     let last : next.number < 2 ^ 32 = omega (arith, c.in_ok-next.ensures.number, c.if-self.false, c.self.inside.number) in
     subst (λ (j : OpenJournal). LeavesOthers g.D.Dir.is_honest g.D.Dir.history g.D.Dir.opened g.D.Dir.fault_count journal j c.args.dir.now c.remove.new.self (Ok (tt {0}))) (sym c.next.view_is)
     (record {
-      honest = λ honest. c.remove.ensures.honest (c.begin.ensures.honest honest);
+      honest = λ honest. c.remove.ensures.device.honest (c.begin.ensures.honest honest);
       elsewhere = λ honest name own next. others_beyond (now (g.D.Dir.history c.args.dir.now)) (now (g.D.Dir.history c.begin.new.dir)) (now (g.D.Dir.history c.remove.new.self)) (journal_name c.args.self.now.path c.args.self.now.number) _ name
           (c.in_ok-next.ensures.elsewhere honest) (inr (c.in_ok-remove.ensures.ok (c.begin.ensures.honest honest) _ (still on (g.D.Dir.opened c.begin.new.dir) c.in_ok-next.ensures.others))) own
           (said_of (λ (p : List ℕ) (k : ℕ). name ≢ journal_name p k) (sym on.path_is) (sym on.number_is) next);
@@ -203,5 +203,5 @@ returns-clause-others g c =
       open_in = λ _. c.in_ok-remove.ensures.others next.file
           (λ same. two_files (g.D.Dir.opened c.begin.new.dir) journal next (c.in_ok-next.ensures.path ∙ path_is) (c.in_ok-next.ensures.number ∙ number_is) last stays c.in_ok-next.ensures.open (same ∙ file_is))
           ∙ c.in_ok-next.ensures.open;
-      cause = record { later = omega (arith, c.in_ok-next.ensures.cause.passed, c.in_ok-remove.ensures.cause.passed); passed = c.in_ok-remove.ensures.cause.passed ∙ c.in_ok-next.ensures.cause.passed; failed = λ is. absurd (cc is); others = λ _. c.in_ok-remove.ensures.cause.passed ∙ c.in_ok-next.ensures.cause.passed };
+      cause = record { later = omega (arith, c.in_ok-next.ensures.cause.passed, c.in_ok-remove.ensures.device.cause.passed); passed = c.in_ok-remove.ensures.device.cause.passed ∙ c.in_ok-next.ensures.cause.passed; failed = λ is. absurd (cc is); others = λ _. c.in_ok-remove.ensures.device.cause.passed ∙ c.in_ok-next.ensures.cause.passed };
     })

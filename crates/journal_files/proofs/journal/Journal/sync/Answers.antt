@@ -14,7 +14,7 @@ returns-clause-ok g c = λ honest t keeps.
 pub returns-clause-moments : goal.returns-clause-moments
 returns-clause-moments g c = λ honest t keeps.
     let named = ap (λ (j : OpenJournal). g.D.Dir.opened c.args.dir.now j.file) c.self.view_is ∙ c.requires.open in
-    one_call _ _ _ (c.sync.ensures.time honest) (recovers c.args.self.now _ t keeps)
+    one_call _ _ _ (c.sync.ensures.device.time honest) (recovers c.args.self.now _ t keeps)
     (either c.sync.result (c.sync.ensures.ok honest _ named) (c.sync.ensures.err honest)
     (λ changes folder leaves. less_durable c.args.self.now.path t folder keeps.logged.few (recovers c.args.self.now _ _ (synced_all c.args.self.now _ _ t keeps changes) folder leaves))
     (λ same. recovers c.args.self.now _ t (kept c.args.self.now _ _ t keeps same)))
@@ -24,11 +24,11 @@ returns-clause-own g c =
     let synced = c.sync.ensures in
     let named = ap (λ (j : OpenJournal). g.D.Dir.opened c.args.dir.now j.file) c.self.view_is ∙ c.requires.open in
     record {
-      honest = synced.honest;
+      honest = synced.device.honest;
       elsewhere = λ honest name differs. either c.sync.result (synced.ok honest _ named) (synced.err honest)
           (λ changes. elsewhere _ _ _ name _ changes (apart _ name (λ e. differs (sym e))))
           (λ same. same name);
       stays_open = synced.opened;
-      cause = synced.cause;
+      cause = synced.device.cause;
       only = synced.only;
     }
