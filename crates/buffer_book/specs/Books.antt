@@ -94,13 +94,15 @@ pub record SameBook {D : Type 0} (old new : Book D) : Type 0 where
   pub waiting : (place : ℕ) → waiting_at new.waiting place ≡ waiting_at old.waiting place
   pub removed : new.removed ≡ old.removed
 
--- the book stays as it is, and so does what its buffer holds
+-- the book stays as it is, and so do the buffer's chunks and how many appends are known to be synced
 pub record Unchanged {D : Type 0} (old new : Book D) : Type 0 where
   pub book : SameBook old new
   pub chunks : new.buffer.chunks ≡ old.buffer.chunks
+  pub synced : new.synced ≡ old.synced
 
--- entries are appended for a delivery, and noted
+-- entries are appended for a delivery, where it was planned, and noted
 pub record Appends {D : Type 0} (delivery serial : ℕ) (tag : List ℕ) (entries : List (List ℕ)) (old new : Book D) : Type 0 where
+  pub place : planned old.buffer.limits old.buffer.chunks tag entries ≡ Ok serial
   pub chunks : new.buffer.chunks ≡ appended serial tag entries old.buffer.chunks
   pub appends : new.appends ≡ old.appends ++ record { delivery = delivery; serial = serial; count = length entries } ∷ []
   pub first : new.first ≡ old.first

@@ -1,10 +1,12 @@
 -- What shows that a chunk may leave its buffer, and when it serves.
-use Rattle.std.specs.Prelude.{ℕ, ◌≡◌, ◌⊎◌, true, cond, List, length, Option, None, Some, IsSome, IsSomeAnd, IfSome, Result, Ok, Err}
+use Rattle.std.specs.Prelude.{ℕ, ◌≡◌, ◌⊎◌, true, false, cond, List, length, Option, None, Some, IsSome, IsSomeAnd, IfSome, Result, Ok, Err, OnErr}
+use Rattle.disk_files.specs.Faults.{Rises}
 use Rattle.disk_files.specs.Moments.{History}
 use Rattle.event_modes.specs.declared.chunk_id.ChunkId.{ChunkId}
 use Rattle.sink_series.specs.Views.{StoredView}
-use Rattle.buffer_state.specs.State.{State, chunk_at}
+use Rattle.buffer_state.specs.State.{State, IsAt, chunk_at}
 use Rattle.buffer_state.specs.Steps.{oldest}
+use Rattle.buffer_state.specs.declared.chunk.Stage.TheVariants as stage
 use Rattle.buffer_store.specs.Buffers.{Held}
 use Rattle.buffer_store.specs.Durability.{BeganWell}
 use Rattle.buffer_store.specs.declared.fault.BufferFault.{BufferFault}
@@ -97,17 +99,32 @@ IsUnread result = (result ≡ Err BufferFault.Failed) ⊎ ((result ≡ Err Buffe
 abbrev pub to_drop : {A : Type 0} → Takes A → State → Option ℕ
 to_drop takes state = cond takes.drops (oldest state) None
 
--- the call was refused so
-abbrev pub IsRefused : {T C E : Type 0} → PurgeFault → Result T (PurgeFault × C × E) → Type 0
-IsRefused fault (Ok done) = ⊥
-IsRefused fault (Err refused) = refused.0 ≡ fault
-
--- A buffer that the device failed before lets nothing go: the evidence doesn't serve, or the call is refused for that.
-abbrev pub IsStopped : {T C E : Type 0} → Result T (PurgeFault × C × E) → Type 0
-IsStopped (Ok done) = ⊥
-IsStopped (Err refused) = (refused.0 ≡ PurgeFault.Stranger) ⊎ (refused.0 ≡ PurgeFault.Buffer BufferFault.Failed)
-
 -- the answer, without what a refusal hands back
 abbrev pub answer_of : {T C E : Type 0} → Result T (PurgeFault × C × E) → Result T PurgeFault
 answer_of (Ok done) = Ok done
 answer_of (Err refused) = Err refused.0
+
+-- the call was refused for this that the buffer answered
+abbrev pub IsRefused : {T : Type 0} → BufferFault → Result T PurgeFault → Type 0
+IsRefused fault answer = answer ≡ Err (PurgeFault.Buffer fault)
+
+-- Why a purge is refused. `Stranger` exactly where the evidence doesn't serve, as far as that is to be seen; where it shows what is in a sink, the entries may not be read in place of it.
+-- Else the first of the buffer's own reasons that applies: the device failed it before, the chunk isn't claimed, there is no memory, or the device fails.
+pub record RefusesPurge {A D T : Type 0} (is_honest : D → Type 0) (history : D → History) (fault_count : D → ℕ) (leaf : Leaf) (takes : Takes A) (claim : Claimed) (shown : Shows) (old new : Held D) (answer : Result T PurgeFault) : Type 0 where
+  pub astray : (IsFor leaf takes claim shown → ⊥) → answer ≡ Err PurgeFault.Stranger
+  pub stranger : CanCompare is_honest history old shown → answer ≡ Err PurgeFault.Stranger → Serves leaf takes old.chunks claim shown → ⊥
+  pub never : CanCompare is_honest history old shown → (Serves leaf takes old.chunks claim shown → ⊥)
+      → OnErr answer ((answer ≡ Err PurgeFault.Stranger) ⊎ (IsSome (stored_of shown) × (IsRefused BufferFault.Failed answer ⊎ (IsRefused BufferFault.Memory answer ⊎ IsRefused BufferFault.Fault answer))))
+  pub failed : IsRefused BufferFault.Failed answer → old.failed ≡ true
+  pub stopped : old.failed ≡ true → (answer ≡ Err PurgeFault.Stranger) ⊎ IsRefused BufferFault.Failed answer
+  pub gone : IsRefused BufferFault.Gone answer → (old.failed ≡ false) × (IsAt stage.Claimed old.chunks claim.serial → ⊥)
+  pub undamaged : CanCompare is_honest history old shown → IsRefused BufferFault.Damaged answer → ⊥
+  pub only : CanCompare is_honest history old shown → Serves leaf takes old.chunks claim shown → old.failed ≡ false → IsAt stage.Claimed old.chunks claim.serial
+      → OnErr answer (IsRefused BufferFault.Memory answer ⊎ IsRefused BufferFault.Fault answer)
+  pub cause : IsRefused BufferFault.Fault answer → Rises (fault_count old.dir) (fault_count new.dir)
+
+-- How a purge leaves its buffer: with its limits, and failed only where it may have come to write. Entries that couldn't be read leave it as it was.
+pub record SparesBuffer {A D T : Type 0} (is_honest : D → Type 0) (history : D → History) (leaf : Leaf) (takes : Takes A) (claim : Claimed) (shown : Shows) (old new : Held D) (answer : Result T PurgeFault) : Type 0 where
+  pub limits : new.limits ≡ old.limits
+  pub flags : (IsRefused BufferFault.Fault answer → ⊥) → new.failed ≡ old.failed
+  pub spared : CanCompare is_honest history old shown → (Serves leaf takes old.chunks claim shown → ⊥) → new.failed ≡ old.failed

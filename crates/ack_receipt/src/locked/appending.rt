@@ -2,7 +2,6 @@
 
 ghost use Rattle.std.specs.Prelude.{◌≡◌, ◌<◌, false, length, Ok, IfOk, OnOk, OnErr};
 ghost use Rattle.book_audit.specs.Audits.{SameLines};
-ghost use Rattle.buffer_state.specs.Steps.{planned};
 ghost use Rattle.buffer_book.specs.Books.{Appends, IsWaiting, Steady, Unchanged, WritesLine};
 ghost use Rattle.ack_receipt.specs.Redeeming.{line_of};
 
@@ -29,13 +28,11 @@ impl<D: Dir, A: Allocator + Copy> LockedBuffer<D, A> {
         ensures number { IfOk result (λ receipt. receipt.delivery ≡ delivery.now.number) }
         ensures leaf { IfOk result (λ receipt. receipt.leaf ≡ terms.now.leaf) }
         ensures line { IfOk result (λ receipt. receipt.line ≡ length self.old.lines) }
-        ensures place { IfOk result (λ receipt. planned self.old.buffer.limits self.old.buffer.chunks delivery.now.tag delivery.now.message.entries ≡ Ok receipt.serial) }
-        // The entries of the delivery, under its tag, and no others.
+        // The entries of the delivery, under its tag, and no others, where they were planned.
         ensures appended { IfOk result (λ receipt. Appends delivery.now.number receipt.serial delivery.now.tag delivery.now.message.entries self.old self.new) }
         ensures written { IfOk result (λ receipt. WritesLine (length self.old.appends) (record { delivery = delivery.now.number; serial = receipt.serial; count = length delivery.now.message.entries }) self.old self.new) }
         // The append is synced, and all before it.
         ensures synced { OnOk result ((self.new.synced ≡ length self.new.appends) × (self.new.buffer.staged ≡ false)) }
-        ensures count { OnErr result (self.new.synced ≡ self.old.synced) }
         ensures same { OnErr result (Unchanged self.old self.new) }
         ensures steady { Steady self.old.buffer self.new.buffer result }
     {
@@ -62,12 +59,10 @@ impl<D: Dir, A: Allocator + Copy> LockedBuffer<D, A> {
         requires some { 0 < length delivery.now.message.entries }
         ensures number { IfOk result (λ pending. pending.delivery ≡ delivery.now.number) }
         ensures leaf { IfOk result (λ pending. pending.leaf ≡ terms.now.leaf) }
-        ensures place { IfOk result (λ pending. planned self.old.buffer.limits self.old.buffer.chunks delivery.now.tag delivery.now.message.entries ≡ Ok pending.serial) }
         ensures appended { IfOk result (λ pending. Appends delivery.now.number pending.serial delivery.now.tag delivery.now.message.entries self.old self.new) }
         ensures waits { IfOk result (λ pending. IsWaiting self.new.waiting pending.place (line_of pending)) }
         // It has no receipt, and no line is closed.
         ensures lines { (self.new.lines ≡ self.old.lines) × SameLines self.old.pages self.new.pages }
-        ensures count { OnErr result (self.new.synced ≡ self.old.synced) }
         ensures same { OnErr result (Unchanged self.old self.new) }
         ensures steady { Steady self.old.buffer self.new.buffer result }
     {

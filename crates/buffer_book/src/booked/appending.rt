@@ -49,14 +49,12 @@ impl<D: Dir, A: Allocator + Copy> Booked<D, A> {
         entries: &Entries<A>,
     ) -> Result<Noted, BufferFault>
         requires some { 0 < length entries.now }
-        ensures place { IfOk result (λ noted. planned self.old.buffer.limits self.old.buffer.chunks tag.now entries.now ≡ Ok noted.serial) }
         ensures noted { IfOk result (λ noted. Appends delivery noted.serial tag.now entries.now self.old self.new) }
         ensures line { IfOk result (λ noted. noted.line ≡ length self.old.lines) }
         ensures written { IfOk result (λ noted. WritesLine (length self.old.appends) (record { delivery = delivery; serial = noted.serial; count = length entries.now }) self.old self.new) }
         ensures waiting { self.new.waiting ≡ self.old.waiting }
         // The append is synced, and all before it.
         ensures synced { OnOk result ((self.new.synced ≡ length self.new.appends) × (self.new.buffer.staged ≡ false)) }
-        ensures count { OnErr result (self.new.synced ≡ self.old.synced) }
         ensures same { OnErr result (Unchanged self.old self.new) }
         ensures refused { RefusesAppend tag.now entries.now self.old result }
         ensures steady { Steady self.old.buffer self.new.buffer result }
@@ -88,14 +86,12 @@ impl<D: Dir, A: Allocator + Copy> Booked<D, A> {
         entries: &Entries<A>,
     ) -> Result<Waits, BufferFault>
         requires some { 0 < length entries.now }
-        ensures place { IfOk result (λ waits. planned self.old.buffer.limits self.old.buffer.chunks tag.now entries.now ≡ Ok waits.serial) }
         ensures noted { IfOk result (λ waits. Appends delivery waits.serial tag.now entries.now self.old self.new) }
         ensures number { IfOk result (λ waits. waits.place ≡ length self.old.appends) }
         ensures waits { IfOk result (λ waits. IsWaiting self.new.waiting waits.place (record { delivery = delivery; serial = waits.serial; count = length entries.now })) }
         // No line is written, and none is closed.
         ensures lines { (self.new.lines ≡ self.old.lines) × SameLines self.old.pages self.new.pages }
         ensures syncs { Syncs self.old self.new }
-        ensures count { OnErr result (self.new.synced ≡ self.old.synced) }
         ensures same { OnErr result (Unchanged self.old self.new) }
         ensures refused { RefusesAppend tag.now entries.now self.old result }
         ensures steady { Steady self.old.buffer self.new.buffer result }

@@ -9,7 +9,7 @@ ghost use Rattle.buffer_store.specs.declared.fault.BufferFault.{BufferFault};
 ghost use Rattle.buffer_book.specs.declared.fault.PurgeFault.{PurgeFault};
 ghost use Rattle.buffer_book.specs.Claims.{IsCopied};
 ghost use Rattle.disk_files.specs.Faults.{Rises};
-ghost use Rattle.buffer_book.specs.Evidences.{CanCompare, IsFor, IsLike, IsRefused, IsStopped, IsUnread, IsWhole, Serves, ShowsLike, stored_of, to_drop};
+ghost use Rattle.buffer_book.specs.Evidences.{CanCompare, IsFor, IsLike, IsUnread, IsWhole, RefusesPurge, Serves, ShowsLike, SparesBuffer, answer_of, stored_of, to_drop};
 ghost use Rattle.buffer_book.specs.Books.{Removes, Steady, Unchanged};
 
 use super::Booked;
@@ -117,28 +117,11 @@ impl<D: Dir, A: Allocator + Copy> Booked<D, A> {
         ensures like { OnOk result (ShowsLike self.old.buffer.chunks claim.serial evidence) }
         ensures serves { CanCompare D.is_honest D.history self.old.buffer evidence → OnOk result (Serves leaf takes.now self.old.buffer.chunks claim evidence) }
         ensures removes { OnOk result (Removes claim.serial self.old self.new) }
-        ensures stranger { CanCompare D.is_honest D.history self.old.buffer evidence
-            → IsRefused PurgeFault.Stranger result → Serves leaf takes.now self.old.buffer.chunks claim evidence → ⊥ }
-        ensures astray { (IsFor leaf takes.now claim evidence → ⊥) → IfErr result (λ e. e.0 ≡ PurgeFault.Stranger) }
-        ensures never { CanCompare D.is_honest D.history self.old.buffer evidence → (Serves leaf takes.now self.old.buffer.chunks claim evidence → ⊥)
-            → IfErr result (λ e. (e.0 ≡ PurgeFault.Stranger) ⊎ (IsSome (stored_of evidence)
-            × ((e.0 ≡ PurgeFault.Buffer BufferFault.Failed) ⊎ ((e.0 ≡ PurgeFault.Buffer BufferFault.Memory) ⊎ (e.0 ≡ PurgeFault.Buffer BufferFault.Fault))))) }
-        ensures failed { IsRefused (PurgeFault.Buffer BufferFault.Failed) result → self.old.buffer.failed ≡ true }
-        ensures stopped { self.old.buffer.failed ≡ true → IsStopped result }
-        ensures gone { IsRefused (PurgeFault.Buffer BufferFault.Gone) result → (self.old.buffer.failed ≡ false) × (IsAt Claimed self.old.buffer.chunks claim.serial → ⊥) }
-        ensures undamaged { CanCompare D.is_honest D.history self.old.buffer evidence → IsRefused (PurgeFault.Buffer BufferFault.Damaged) result → ⊥ }
-        ensures only { CanCompare D.is_honest D.history self.old.buffer evidence
-            → Serves leaf takes.now self.old.buffer.chunks claim evidence → self.old.buffer.failed ≡ false → IsAt Claimed self.old.buffer.chunks claim.serial
-            → IfErr result (λ e. (e.0 ≡ PurgeFault.Buffer BufferFault.Memory) ⊎ (e.0 ≡ PurgeFault.Buffer BufferFault.Fault)) }
+        ensures refused { RefusesPurge D.is_honest D.history D.fault_count leaf takes.now claim evidence self.old.buffer self.new.buffer (answer_of result) }
         ensures back { IfErr result (λ e. (e.1 ≡ claim) × (e.2 ≡ evidence)) }
-        ensures count { OnErr result (self.new.synced ≡ self.old.synced) }
         ensures same { OnErr result (Unchanged self.old self.new) }
-        // Only a purge that may come to write can fail the buffer; entries that couldn't be read leave it as it was.
-        ensures flags { (IsRefused (PurgeFault.Buffer BufferFault.Fault) result → ⊥) → self.new.buffer.failed ≡ self.old.buffer.failed }
-        ensures spared { CanCompare D.is_honest D.history self.old.buffer evidence → (Serves leaf takes.now self.old.buffer.chunks claim evidence → ⊥)
-            → self.new.buffer.failed ≡ self.old.buffer.failed }
-        ensures cause { IsRefused (PurgeFault.Buffer BufferFault.Fault) result → Rises (D.fault_count self.old.buffer.dir) (D.fault_count self.new.buffer.dir) }
-        ensures limits { self.new.buffer.limits ≡ self.old.buffer.limits }
+        // Only a purge that may come to write can fail the buffer.
+        ensures spares { SparesBuffer D.is_honest D.history leaf takes.now claim evidence self.old.buffer self.new.buffer (answer_of result) }
     {
         match self.serves(leaf, takes, &claim, &evidence) {
             Ok(true) => {}
@@ -165,7 +148,6 @@ impl<D: Dir, A: Allocator + Copy> Booked<D, A> {
         ensures gone { (result ≡ Err BufferFault.Gone) ↔ ((self.old.buffer.failed ≡ false) × (to_drop takes.now self.old.buffer.chunks ≡ None)) }
         ensures only { self.old.buffer.failed ≡ false → (serial : ℕ) → to_drop takes.now self.old.buffer.chunks ≡ Some serial
             → OnErr result ((result ≡ Err BufferFault.Memory) ⊎ (result ≡ Err BufferFault.Fault)) }
-        ensures count { OnErr result (self.new.synced ≡ self.old.synced) }
         ensures same { OnErr result (Unchanged self.old self.new) }
         ensures steady { Steady self.old.buffer self.new.buffer result }
     {
@@ -240,7 +222,6 @@ impl<D: Dir, A: Allocator + Copy> Booked<D, A> {
         ensures gone { (result ≡ Err BufferFault.Gone) ↔ ((self.old.buffer.failed ≡ false) × (IsAt Claimed self.old.buffer.chunks serial → ⊥)) }
         ensures only { self.old.buffer.failed ≡ false → IsAt Claimed self.old.buffer.chunks serial
             → OnErr result ((result ≡ Err BufferFault.Memory) ⊎ (result ≡ Err BufferFault.Fault)) }
-        ensures count { OnErr result (self.new.synced ≡ self.old.synced) }
         ensures same { OnErr result (Unchanged self.old self.new) }
         ensures steady { Steady self.old.buffer self.new.buffer result }
         ensures cause { result ≡ Err BufferFault.Fault → Rises (D.fault_count self.old.buffer.dir) (D.fault_count self.new.buffer.dir) }
