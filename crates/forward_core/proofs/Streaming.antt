@@ -1,5 +1,5 @@
 -- Reading the messages of a stream, one arrival after another.
-use Rattle.std.proofs.Common.{ℕ, ◌≡◌, ◌+◌, ◌-◌, ◌<◌, ◌≤◌, List, [], ◌∷◌, ◌++◌, length, take, drop, map, refl, ap, sym, ◌∙◌, subst, arith, Some, None}
+use Rattle.std.proofs.Common.{ℕ, ◌≡◌, ◌+◌, ◌-◌, ◌<◌, ◌≤◌, List, [], ◌∷◌, ◌++◌, length, take, drop, map, refl, ap, sym, ◌∙◌, subst, arith, append_assoc, Option, Some, None}
 use Rattle.std.proofs.lemmas.List.{take-append-drop, drop-drop, length-drop, length-take-le, map-append, append-nil}
 use Rattle.msgpack_bytes.specs.Item.{IsOpen}
 use Rattle.event_modes.specs.declared.fault.ModeFault.{ModeFault}
@@ -12,7 +12,7 @@ use Rattle.event_modes.proofs.Again.{some_byte}
 use Rattle.forward_core.specs.declared.fault.SessionFault.TheVariants.{BadStream}
 use Rattle.forward_core.specs.Demands.{Wanted, Delivers, Closes}
 use Rattle.forward_core.specs.Streams.{messages_in}
-use Rattle.forward_core.specs.Server.{Opened, Over, ReadsOn}
+use Rattle.forward_core.specs.Server.{Opened, Outcome, Over, ReadsOn, ServerPhase, close_by, phase_by}
 
 -- the first `len` bytes were read as messages that are wanted to be delivered
 pub record Reading (bytes : List ℕ) (len : ℕ) (wants : List Wanted) : Type 0 where
@@ -127,3 +127,59 @@ reads_fault sends bytes len wants new_wants fault r p w = record {
 -- the bytes that are left grow fewer
 pub less_left : (bytes : List ℕ) (old len n : ℕ) → len ≡ old → 0 < n → len + n ≤ length bytes → length bytes - (len + n) < length bytes - old
 less_left bytes old len n e s f = omega arith
+
+-- bytes behind others are behind where the messages of these end
+splits_before : (bytes rest back : List ℕ) (arrivals : List Arrival) → Splits bytes arrivals rest → Splits (bytes ++ back) arrivals (rest ++ back)
+splits_before bytes rest back [] s = ap (λ (z : List ℕ). z ++ back) s
+splits_before bytes rest back (a ∷ arrivals) s =
+    (s.0, s.1 ++ back, s.2, splits_before s.1 rest back arrivals s.3, ap (λ (z : List ℕ). z ++ back) s.4 ∙ append_assoc s.0 s.1 back)
+
+-- what was read up to there, and what was read from there on
+splits_both : (bytes middle rest : List ℕ) (first more : List Arrival) → Splits bytes first middle → Splits middle more rest → Splits bytes (first ++ more) rest
+splits_both bytes middle rest [] more s t = subst (λ (z : List ℕ). Splits z more rest) (sym s) t
+splits_both bytes middle rest (a ∷ first) more s t = (s.0, s.1, s.2, splits_both s.1 middle rest first more s.3 t, s.4)
+
+messages_both : (first more : List Arrival) → messages_in (first ++ more) ≡ messages_in first ++ messages_in more
+messages_both [] more = refl
+messages_both (Sent p ∷ first) more = ap (λ (z : List Parts). p ∷ z) (messages_both first more)
+messages_both (Heartbeat ∷ first) more = messages_both first more
+
+-- a session that stays open met no fault
+no_fault : (fault : Option ModeFault) → phase_by fault ≡ Opened → fault ≡ None
+no_fault None e = refl
+no_fault (Some f) e = cc
+
+-- bytes that are read whole, and those behind them
+pub reads_both : (front back : List ℕ) (one two : Outcome) → ReadsOn [] front one → one.rest ≡ [] → one.phase ≡ Opened → ReadsOn [] back two
+    → ReadsOn [] (front ++ back) (record { phase = two.phase; rest = two.rest; sends = []; wants = one.wants ++ two.wants })
+reads_both front back one two r none opened s =
+    let whole : r.fault ≡ None = no_fault r.fault (sym (ap (λ (o : Outcome). o.phase) r.is) ∙ opened) in
+    let ends : r.rest ≡ [] = sym (ap (λ (o : Outcome). o.rest) r.is) ∙ none in
+    let first : one.wants ≡ map Delivers r.messages =
+    ap (λ (o : Outcome). o.wants) r.is ∙ ap (λ (f : Option ModeFault). map Delivers r.messages ++ close_by f) whole ∙ append-nil (map Delivers r.messages) in
+    let behind : Splits (front ++ back) r.stream.arrivals back =
+    subst (λ (z : List ℕ). Splits (front ++ back) r.stream.arrivals (z ++ back)) ends (splits_before front r.rest back r.stream.arrivals r.stream.splits) in
+    record {
+      messages = r.messages ++ s.messages;
+      rest = s.rest;
+      fault = s.fault;
+      stream = record {
+        arrivals = r.stream.arrivals ++ s.stream.arrivals;
+        splits = splits_both (front ++ back) back s.rest r.stream.arrivals s.stream.arrivals behind s.stream.splits;
+        are = ap (λ (z : List Parts). z ++ s.messages) r.stream.are ∙ ap (λ (z : List Parts). messages_in r.stream.arrivals ++ z) s.stream.are
+            ∙ sym (messages_both r.stream.arrivals s.stream.arrivals);
+        ends = s.stream.ends;
+      };
+      is = both_wants one.wants r.messages s.messages s.fault two s.rest first s.is;
+    }
+  where
+    both_wants : (wants : List Wanted) (messages more : List Parts) (fault : Option ModeFault) (two : Outcome) (rest : List ℕ)
+        → wants ≡ map Delivers messages → two ≡ record { phase = phase_by fault; rest = rest; sends = []; wants = map Delivers more ++ close_by fault }
+        → ◌≡◌ {A = Outcome} (record { phase = two.phase; rest = two.rest; sends = []; wants = wants ++ two.wants })
+        (record { phase = phase_by fault; rest = rest; sends = []; wants = map Delivers (messages ++ more) ++ close_by fault })
+    both_wants wants messages more fault two rest w e = rw (e, w, map-append, append_assoc)
+
+-- the same by its parts
+pub reads_so : (bytes : List ℕ) (phase : ServerPhase) (rest sends : List ℕ) (first more wants : List Wanted) → sends ≡ [] → wants ≡ first ++ more
+    → ReadsOn [] bytes (record { phase = phase; rest = rest; sends = []; wants = first ++ more }) → ReadsOn [] bytes (record { phase = phase; rest = rest; sends = sends; wants = wants })
+reads_so bytes phase rest sends first more wants s w r = rw (s, w) r

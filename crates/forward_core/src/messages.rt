@@ -1,6 +1,6 @@
 //! The messages of an open session.
 
-ghost use Rattle.std.specs.Prelude.{◌≤◌, length, IfOk};
+ghost use Rattle.std.specs.Prelude.{◌≤◌, ◌++◌, [], length, IfOk, IfSome};
 ghost use Rattle.forward_core.specs.Server.{ServerPhase, ReadsOn, outcome_of};
 
 use crate::fault::SessionFault;
@@ -35,4 +35,26 @@ pub fn take_messages<A: Allocator + Copy>(
             }
         }
     }
+}
+
+/// Reads the messages in these bytes and in those behind them, and says how many of those behind were read. `None` where
+/// the first ones aren't read whole.
+pub fn take_both<A: Allocator + Copy>(
+    alloc: A,
+    front: &[u8],
+    back: &[u8],
+) -> Result<Option<TakenItem<A>>, AllocError>
+    ensures reads { IfOk result (λ found. IfSome found (λ taken. (before : ServerPhase)
+        → ReadsOn [] (front.now ++ back.now) (outcome_of before back.now taken))) }
+    ensures len { IfOk result (λ found. IfSome found (λ taken. taken.len ≤ length back.now)) }
+{
+    let mut taken = take_messages(alloc, Vec::new(alloc), front)?;
+    if !taken.has_read(front.len()) {
+        return Ok(None);
+    }
+    let mut more = take_messages(alloc, Vec::new(alloc), back)?;
+    taken.demands.append(&mut more.demands)?;
+    taken.len = more.len;
+    taken.stage = more.stage;
+    Ok(Some(taken))
 }

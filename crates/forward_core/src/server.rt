@@ -5,11 +5,11 @@ ghost use Rattle.msgpack_bytes.specs.Item.{IsOpen};
 ghost use Rattle.ack_receipt.specs.Reservations.{Answer};
 ghost use Rattle.forward_core.specs.Demands.{wanted};
 ghost use Rattle.forward_core.specs.Handshakes.{IsHosted};
-ghost use Rattle.forward_core.specs.Server.{IsAskedIn, Outcome, Over, ServerReads, after, idle_server, initial_server, outcome_of, phase_at, phase_of};
+ghost use Rattle.forward_core.specs.Server.{IsAskedIn, Opened, Outcome, Over, ReadsOn, ServerReads, after, idle_server, initial_server, outcome_of, phase_at, phase_of};
 
 use crate::demand::Demand;
 use crate::fault::{SessionError, SessionFault};
-use crate::messages::take_messages;
+use crate::messages::{take_both, take_messages};
 use crate::outbox::Outbox;
 use crate::past::{AskedSoFar, TakenSoFar};
 use crate::security::Security;
@@ -138,20 +138,92 @@ impl<A: Allocator + Copy> ServerSession<A> {
         ensures only { IfErr result (λ e. (e ≡ SessionError.Fault SessionFault.Closed) ⊎ (e ≡ SessionError.Memory)) }
         ensures err { OnErr result (self.new ≡ self.old) }
     {
-        if let Phase::Closed = &self.phase {
-            return Err(SessionError::Fault(SessionFault::Closed));
+        match &self.phase {
+            Phase::Closed => Err(SessionError::Fault(SessionFault::Closed)),
+            Phase::Awaiting(_) => Ok(self.read_whole(piece)?),
+            Phase::Open => Ok(self.read_on(piece)?),
         }
+    }
+
+    // Reads the piece with what is held, which takes it in. The error is want of memory, and changes nothing.
+    fn read_whole(&mut self, piece: &[u8]) -> Result<Vec<Demand<A>, A>, AllocError>
+        requires { self.old.phase ≡ Over → ⊥ }
+        ensures reads { IfOk result (λ demands. (out : Outcome)
+            × ServerReads self.old.phase (self.old.held ++ piece.now) out
+            × (self.new ≡ after self.old out) × (map wanted demands.items ≡ out.wants)) }
+        ensures asked { IfOk result (λ demands. All (λ demand. IsAskedIn self.new.asked (wanted demand)) demands.items) }
+        ensures err { OnErr result (self.new ≡ self.old) }
+    {
         let before = self.held.len();
         if self.held.take(piece)? {
             return Ok(self.wait());
         }
         match self.take_all() {
             Ok(demands) => Ok(demands),
-            Err(_) => {
+            Err(e) => {
                 self.held.truncate(before);
-                Err(SessionError::Memory)
+                Err(e)
             }
         }
+    }
+
+    // The same of an open session. What is held takes in only what it lacks of a message: all that is whole behind it is read where it came.
+    fn read_on(&mut self, piece: &[u8]) -> Result<Vec<Demand<A>, A>, AllocError>
+        requires { self.old.phase ≡ Opened }
+        ensures reads { IfOk result (λ demands. (out : Outcome)
+            × ServerReads self.old.phase (self.old.held ++ piece.now) out
+            × (self.new ≡ after self.old out) × (map wanted demands.items ≡ out.wants)) }
+        ensures asked { IfOk result (λ demands. All (λ demand. IsAskedIn self.new.asked (wanted demand)) demands.items) }
+        ensures err { OnErr result (self.new ≡ self.old) }
+    {
+        let before = self.held.len();
+        let Some(n) = self.held.complete(piece)? else {
+            return Ok(self.wait());
+        };
+        match self.read_behind(piece.split_at(n).1) {
+            Ok(demands) => Ok(demands),
+            Err(e) => {
+                self.held.truncate(before);
+                Err(e)
+            }
+        }
+    }
+
+    // Reads what is held, and what came behind it where it lies. The error is want of memory, and changes nothing.
+    fn read_behind(&mut self, more: &[u8]) -> Result<Vec<Demand<A>, A>, AllocError>
+        requires { self.old.phase ≡ Opened }
+        ensures reads { IfOk result (λ demands. (out : Outcome)
+            × ServerReads self.old.phase (self.old.held ++ more.now) out
+            × (self.new ≡ after self.old out) × (map wanted demands.items ≡ out.wants)) }
+        ensures asked { IfOk result (λ demands. All (λ demand. IsAskedIn self.new.asked (wanted demand)) demands.items) }
+        ensures err { OnErr result (self.new ≡ self.old) }
+    {
+        match take_both(self.held.alloc(), self.held.as_slice(), more)? {
+            Some(taken) => self.keep_rest(taken, more),
+            None => self.read_whole(more),
+        }
+    }
+
+    // What was read of what is held and of these bytes behind it, of which what wasn't read is held now. The error is want of memory, and
+    // changes nothing.
+    fn keep_rest(
+        &mut self,
+        taken: TakenItem<A>,
+        more: &[u8],
+    ) -> Result<Vec<Demand<A>, A>, AllocError>
+        requires open { self.old.phase ≡ Opened }
+        requires reads { ReadsOn [] (self.old.held ++ more.now) (outcome_of Opened more.now taken) }
+        requires len { taken.len ≤ length more.now }
+        ensures reads { IfOk result (λ demands. (out : Outcome)
+            × ServerReads self.old.phase (self.old.held ++ more.now) out
+            × (self.new ≡ after self.old out) × (map wanted demands.items ≡ out.wants)) }
+        ensures asked { IfOk result (λ demands. All (λ demand. IsAskedIn self.new.asked (wanted demand)) demands.items) }
+        ensures err { OnErr result (self.new ≡ self.old) }
+    {
+        self.held.replace(more.split_at(taken.len).1)?;
+        self.asked = self.asked.then(&taken.demands);
+        self.phase.move_to(taken.stage);
+        Ok(taken.demands)
     }
 
     // What is held only begins an item, so nothing is to be done yet.

@@ -1,8 +1,8 @@
 //! What the bytes at hand come to.
 
-ghost use Rattle.std.specs.Prelude.{◌≡◌, ◌++◌, ◌∷◌, [], map, OnOk};
+ghost use Rattle.std.specs.Prelude.{◌≡◌, ◌++◌, ◌∷◌, [], map, true, OnOk};
 ghost use Rattle.event_modes.specs.Reading.{meaning};
-ghost use Rattle.forward_core.specs.declared.taken.Standing.TheVariants.{Closed};
+ghost use Rattle.forward_core.specs.declared.taken.Standing.TheVariants.{Closed, Open};
 ghost use Rattle.forward_core.specs.Demands.{Closes, Delivers, wanted};
 
 use crate::demand::Demand;
@@ -71,5 +71,16 @@ impl<A: Allocator + Copy> TakenItem<A> {
         self.demands.push(Demand::Close(fault))?;
         self.stage = Standing::Closed;
         Ok(())
+    }
+
+    /// Whether so many bytes were read, and messages may come behind them.
+    pub fn has_read(&self, len: usize) -> bool
+        ensures len { result ≡ true → self.now.len ≡ len }
+        ensures stage { result ≡ true → self.now.stage ≡ Open }
+    {
+        match self.stage {
+            Standing::Open => self.len == len,
+            _ => false,
+        }
     }
 }

@@ -1,6 +1,6 @@
 //! Bytes that came and were not read yet.
 
-ghost use Rattle.std.specs.Prelude.{◌≡◌, ◌≤◌, ◌↔◌, ◌++◌, [], length, take, drop, IsTrue, IfOk, OnOk, OnErr};
+ghost use Rattle.std.specs.Prelude.{◌≡◌, ◌≤◌, ◌↔◌, ◌++◌, [], length, take, drop, IsTrue, IfOk, OnOk, OnErr, MatchOption};
 ghost use Rattle.msgpack_bytes.specs.Item.{IsOpen};
 ghost use Rattle.msgpack_bytes.specs.Pieces.{IsAfter};
 
@@ -16,17 +16,19 @@ use std::marker::Model;
 pub struct Unread<A: Allocator> {
     bytes: Vec<u8, A>,
     scanner: Scanner,
+    // How many of the bytes the scanner was given.
+    given: usize,
 }
 
 impl<A: Allocator> Model for Unread<A> {
-    ghost use Rattle.std.specs.Prelude.{ℕ, List};
+    ghost use Rattle.std.specs.Prelude.{ℕ, List, ◌≤◌, take, vec_len};
     ghost use Rattle.msgpack_bytes.specs.Pieces.{IsAfter};
 
     ghost Value = { List ℕ };
 
     ghost view = { λ u. u.bytes.items };
 
-    ghost invariant = { λ u. IsAfter u.scanner u.bytes.items };
+    ghost invariant = { λ u. (u.given ≤ vec_len u.bytes) × IsAfter u.scanner (take u.given u.bytes.items) };
 }
 
 impl<A: Allocator> Unread<A> {
@@ -37,6 +39,7 @@ impl<A: Allocator> Unread<A> {
         Unread {
             bytes: Vec::new(alloc),
             scanner: Scanner::new(),
+            given: 0,
         }
     }
 
@@ -47,10 +50,41 @@ impl<A: Allocator> Unread<A> {
         ensures err { OnErr result (self.new ≡ self.old) }
     {
         self.bytes.extend_from_slice(piece)?;
-        match self.scanner.take(piece) {
-            PieceScan::Need => Ok(true),
-            _ => Ok(false),
+        let begins = begins_only(&mut self.scanner, &self.bytes, self.given);
+        self.given = self.bytes.len();
+        Ok(begins)
+    }
+
+    /// Takes what the piece has of the item that is begun, and says how many bytes these are; all of them where they are none of an item,
+    /// and none where nothing is held. `None`: the whole piece was taken, and what is held still only begins an item.
+    ///
+    /// The error is want of memory, and changes nothing.
+    pub fn complete(&mut self, piece: &[u8]) -> Result<Option<usize>, AllocError>
+        ensures ok { IfOk result (λ taken. MatchOption taken ((self.new ≡ self.old ++ piece.now) × IsOpen self.new)
+            (λ n. (n ≤ length piece.now) × (self.new ≡ self.old ++ take n piece.now))) }
+        ensures err { OnErr result (self.new ≡ self.old) }
+    {
+        if self.bytes.is_empty() {
+            return Ok(Some(0));
         }
+        begins_only(&mut self.scanner, &self.bytes, self.given);
+        self.given = self.bytes.len();
+        self.bytes.reserve(piece.len())?;
+        let n = match self.scanner.take(piece) {
+            PieceScan::Need => {
+                let Ok(()) = self.bytes.extend_from_slice(piece) else {
+                    unreachable!();
+                };
+                self.given = self.bytes.len();
+                return Ok(None);
+            }
+            PieceScan::End(n) => n.min(piece.len()),
+            PieceScan::Bad(_) => piece.len(),
+        };
+        self.scanner = Scanner::new();
+        self.given = 0;
+        self.bytes.extend_from_slice(piece.split_at(n).0)?;
+        Ok(Some(n))
     }
 
     /// Keeps the first n bytes alone.
@@ -58,8 +92,9 @@ impl<A: Allocator> Unread<A> {
         requires { n ≤ length self.old }
         ensures { self.new ≡ take n self.old }
     {
+        self.scanner = Scanner::new();
+        self.given = 0;
         self.bytes.truncate(n);
-        self.scanner = scanned(&self.bytes);
     }
 
     /// The first n bytes were read.
@@ -67,8 +102,21 @@ impl<A: Allocator> Unread<A> {
         requires { n ≤ length self.old }
         ensures { self.new ≡ drop n self.old }
     {
+        self.scanner = Scanner::new();
+        self.given = 0;
         drop_front(&mut self.bytes, n);
-        self.scanner = scanned(&self.bytes);
+    }
+
+    /// What is held was read, and these bytes are held. The error is want of memory, and changes nothing.
+    pub fn replace(&mut self, bytes: &[u8]) -> Result<(), AllocError>
+        ensures ok { OnOk result (self.new ≡ bytes.now) }
+        ensures err { OnErr result (self.new ≡ self.old) }
+    {
+        self.bytes.reserve(bytes.len())?;
+        self.scanner = Scanner::new();
+        self.given = 0;
+        self.bytes.clear();
+        self.bytes.extend_from_slice(bytes)
     }
 
     /// What is held.
@@ -93,11 +141,15 @@ impl<A: Allocator + Copy> Unread<A> {
     }
 }
 
-// A scan that was given these bytes.
-fn scanned(bytes: &[u8]) -> Scanner
-    ensures { IsAfter result bytes.now }
+// Whether the bytes only begin an item. The scanner was given the first of them, and is given the others.
+fn begins_only(scanner: &mut Scanner, bytes: &[u8], given: usize) -> bool
+    requires within { given ≤ length bytes.now }
+    requires given { IsAfter scanner.old (take given bytes.now) }
+    ensures begins { IsTrue result ↔ IsOpen bytes.now }
+    ensures after { IsAfter scanner.new bytes.now }
 {
-    let mut scanner = Scanner::new();
-    scanner.take(bytes);
-    scanner
+    match scanner.take(bytes.split_at(given).1) {
+        PieceScan::Need => true,
+        _ => false,
+    }
 }
