@@ -1,5 +1,5 @@
 -- What the failures of a chunk say. Times are milliseconds since one fixed start.
-use Rattle.std.specs.Prelude.{ℕ, ◌≡◌, ◌+◌, ◌*◌, ◌-◌, ◌^◌, ◌<◌, ◌≤◌, ◌⊎◌, ⊤, false, min, refl, List, Option, None, Some}
+use Rattle.std.specs.Prelude.{ℕ, Bool, cond, nat_lt, ◌≡◌, ◌+◌, ◌*◌, ◌-◌, ◌^◌, ◌<◌, ◌≤◌, ◌⊎◌, ⊤, false, min, refl, List, Option, None, Some}
 use Rattle.std.specs.Coded.{Coded, code_by, coded×, coded_ℕ}
 use Rattle.std.specs.List.{All}
 use Rattle.retry_waits.specs.declared.settings.RetrySettings.{RetrySettings}
@@ -19,6 +19,25 @@ HasPassed seconds since now = since + 1000 * seconds ≤ now
 abbrev pub IsDue : RetrySettings → Option Failed → ℕ → Type 0
 IsDue settings None now = ⊤
 IsDue settings (Some failed) now = HasPassed (wait_after settings failed.count) failed.last now
+
+-- the moment so many seconds after that, at most the greatest u64
+abbrev pub moment_of : (seconds since : ℕ) → ℕ
+moment_of seconds since = min (since + 1000 * seconds) (2 ^ 64 - 1)
+
+-- whether the chunk has failed more often than `retry_max_times`, where that is set
+abbrev pub is_past_times : Option ℕ → ℕ → Bool
+is_past_times None count = false
+is_past_times (Some most) count = nat_lt most count
+
+-- from when on the retries of the chunk are over, where they don't go on for ever: at any time where it is past `retry_max_times`, else once `retry_timeout` has passed
+abbrev pub over_moment : RetrySettings → Failed → ℕ
+over_moment settings failed = cond (is_past_times settings.max_times failed.count) 0 (moment_of settings.timeout failed.first)
+
+-- from when on the chunk is to be looked at again: its wait has passed, or its retries are over
+abbrev pub look_moment : RetrySettings → Failed → ℕ
+look_moment settings failed =
+    let due = moment_of (wait_after settings failed.count) failed.last in
+    cond settings.forever due (min due (over_moment settings failed))
 
 -- the chunk has failed more often than `retry_max_times`, where that is set
 abbrev pub IsPastTimes : Option ℕ → ℕ → Type 0

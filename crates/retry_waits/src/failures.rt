@@ -1,8 +1,8 @@
 //! The failures of all chunks of a buffer.
 
-ghost use Rattle.std.specs.Prelude.{◌≡◌, ◌↔◌, IsTrue, OnOk, OnErr, None};
+ghost use Rattle.std.specs.Prelude.{◌≡◌, ◌↔◌, IsTrue, OnOk, OnErr, None, option_map};
 ghost use Rattle.std.specs.FinMap as map;
-ghost use Rattle.retry_waits.specs.Failed.{noted, IsDue, IsOver};
+ghost use Rattle.retry_waits.specs.Failed.{look_moment, noted, IsDue, IsOver};
 
 use crate::failed::Failed;
 use crate::settings::RetrySettings;
@@ -80,6 +80,16 @@ impl<A: Allocator + Copy> Failures<A> {
         match self.chunks.get(&serial) {
             Some(failed) => failed.is_due(settings, now),
             None => true,
+        }
+    }
+
+    /// From when on the chunk of this serial is to be looked at again: it may be tried, or is to be given up. `None` where it hasn't failed.
+    pub fn look(&self, settings: &RetrySettings, serial: u64) -> Option<u64>
+        ensures { result ≡ option_map (look_moment settings.now) (map.get self.now serial) }
+    {
+        match self.chunks.get(&serial) {
+            Some(failed) => Some(failed.look(settings)),
+            None => None,
         }
     }
 
