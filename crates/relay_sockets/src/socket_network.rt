@@ -8,12 +8,14 @@ use crate::clock::{Time, now_after};
 use crate::endpoint::Endpoint;
 use crate::network::{Accepted, NetFault, Network, Note, Spot};
 use crate::wire::{self, Moved, Wire};
+use libc::net as c;
 use mio::event::Event;
 use mio::net::{TcpListener, TcpStream};
 use mio::{Events, Interest, Poll, Registry, Token};
 use std::alloc::Allocator;
 use std::io::{ErrorKind, Read, Write};
 use std::net::Net;
+use std::os::fd::{AsRawFd, RawFd};
 use std::time::{Clock, Duration};
 
 /// How many events are taken from the system at once.
@@ -94,6 +96,7 @@ fn take_from(socket: &TcpListener) -> Accepted<TcpStream> {
         Ok((stream, _)) => {
             // Small answers are sent at once; where the system refuses that, they are sent all the same.
             let _ = stream.set_nodelay(true);
+            keep_alive(stream.as_raw_fd());
             Accepted::Stream(stream)
         }
         Err(e) => match e.kind() {
@@ -102,6 +105,14 @@ fn take_from(socket: &TcpListener) -> Accepted<TcpStream> {
             _ => Accepted::Refused,
         },
     }
+}
+
+// TRUSTED: has the system ask from time to time whether the other end of an idle connection is there still, so that one that is gone without a word
+// is closed. Where the system refuses that, it isn't asked for.
+fn keep_alive(fd: RawFd) {
+    let mut on = [0u8; 16];
+    on[..4].copy_from_slice(&1i32.to_ne_bytes());
+    let _ = unsafe { c::setsockopt(fd, c::SOL_SOCKET, c::SO_KEEPALIVE, &on, 4) };
 }
 
 // The port that the system chose for a socket; 0 where it doesn't say which.

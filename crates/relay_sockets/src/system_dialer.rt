@@ -1,5 +1,5 @@
 //! The system's sockets that go out. What the system does can't be stated: `dial` is trusted to hand it the endpoint that is noted
-//! beside the socket.
+//! beside the socket, and `disconnect` to break a connection off.
 
 ghost use Rattle.relay_sockets.specs.Traffics.{IsReadFrom, IsReadOff, IsWrittenTo, taking, unknown_traffic};
 ghost use Rattle.std.specs.Prelude.{◌≡◌};
@@ -8,13 +8,18 @@ use crate::clock::{Time, now_after};
 use crate::dialer::Dialer;
 use crate::endpoint::Endpoint;
 use crate::wire::{self, Moved, Wire};
+use libc::net as c;
 use std::alloc::{AllocError, Allocator};
 use std::io::{Read, Write};
 use std::net::{IpAddr, Net, OpenStream, SocketAddr, TcpStream, ToSocketAddrs};
+use std::os::fd::{AsRawFd, RawFd};
 use std::time::{Clock, Duration};
 
 /// How long an address may take to accept a connection, in milliseconds, before the next one is tried.
 const LONGEST_CONNECT: u64 = 10_000;
+
+/// How many bytes of an address of no family the system reads.
+const NOWHERE_LEN: u32 = 16;
 
 /// Connects by the system.
 #[derive(Drop)]
@@ -51,6 +56,13 @@ fn dial<R: Net + Clock>(rt: &R, host: &str, port: u16, until: u64) -> Option<R::
         }
     }
     None
+}
+
+// TRUSTED: breaks a connection off by a reset. A connection to an address of no family ends one so on Linux, where std offers no SO_LINGER; where the
+// system refuses it, the connection is closed as any other.
+fn disconnect(fd: RawFd) {
+    let nowhere = [0u8; c::_SS_SIZE];
+    let _ = unsafe { c::connect(fd, &nowhere, NOWHERE_LEN) };
 }
 
 // How long the system is to wait: it takes no time of zero.
@@ -94,7 +106,7 @@ impl<R: Net + Clock, A: Allocator + Copy> Dialer for SystemDialer<R, A> {
     }
 }
 
-impl<S: Read + Write + OpenStream, A: Allocator> Wire for SystemWire<S, A> {
+impl<S: Read + Write + OpenStream + AsRawFd, A: Allocator> Wire for SystemWire<S, A> {
     ghost use Rattle.relay_sockets.specs.Endpoints.{WentTo};
 
     ghost origin = { λ w. WentTo w.asked };
@@ -119,5 +131,9 @@ impl<S: Read + Write + OpenStream, A: Allocator> Wire for SystemWire<S, A> {
             return Moved::Broken;
         }
         wire::put(self.stream.write(bytes))
+    }
+
+    fn break_off(&self) {
+        disconnect(self.stream.as_raw_fd());
     }
 }

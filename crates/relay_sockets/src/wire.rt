@@ -43,6 +43,10 @@ pub trait Wire {
     fn put(&mut self, bytes: &[u8], most: Duration) -> Moved
         ensures origin { origin self.new ≡ origin self.old }
         ensures bytes { IsWrittenTo (traffic self.old) (traffic self.new) bytes.now result };
+
+    /// Breaks it off at once, on both ends, so that the system keeps nothing of it once it is closed. What was written and not
+    /// taken by the other end may be lost: so it is for a connection whose other end has answered all.
+    fn break_off(&self) {}
 }
 
 /// What the system's answer to a read comes to, which had room for bytes.
