@@ -2,6 +2,7 @@
 //! and a chunk leaves its buffer only on evidence that it arrived.
 #![tactic(auto)]
 
+mod bell;
 mod delivery;
 mod fault;
 mod locked;

@@ -4,6 +4,7 @@ ghost use Rattle.std.specs.Prelude.{◌≡◌, ◌<◌, true, length, IfOk, IfEr
 ghost use Rattle.buffer_book.specs.Evidences.{IsFor};
 ghost use Rattle.ack_receipt.specs.Redeeming.{AreReceiptsOf};
 
+use crate::bell::Bell;
 use crate::delivery::Delivery;
 use crate::fault::RedeemFault;
 use crate::locked::{GivenBack, GivenUp, LockedBuffer, Pending, Receipt, Terms, Unstaged};
@@ -15,15 +16,19 @@ use event_modes::Entries;
 use std::alloc::{AllocError, Allocator};
 use std::marker::Model;
 use std::sync::{Mutex, Wait};
+use std::time::Duration;
 
 /// One lock over a buffer and its book. The buffer's name and what lets its chunks go lie outside the lock, and never change: contracts see these `Terms`.
 ///
 /// What the lock keeps, whoever shares it: the buffer's own facts, and the book's: each append since is accounted for, each line of the book
 /// is of an append that is synced, and chunks leave by `purge` and `drop_oldest` alone. No call holds the lock longer than its own step.
+///
+/// Beside the lock a bell rings for each chunk that is queued, so that workers can sleep until then.
 #[derive(Drop)]
 pub struct SharedBuffer<D: Dir, A: Allocator> {
     terms: Terms<A>,
     lock: Mutex<LockedBuffer<D, A>>,
+    bell: Bell,
 }
 
 impl<D: Dir, A: Allocator> Model for SharedBuffer<D, A> {
@@ -43,6 +48,7 @@ impl<D: Dir, A: Allocator + Copy> SharedBuffer<D, A> {
         SharedBuffer {
             terms,
             lock: Mutex::new(locked),
+            bell: Bell::new(),
         }
     }
 
@@ -106,11 +112,13 @@ impl<D: Dir, A: Allocator + Copy> SharedBuffer<D, A> {
         self.lock.lock(rt).give_up(&self.terms, pending)
     }
 
-    /// Queues the staged chunk of this serial, and syncs the journal.
+    /// Queues the staged chunk of this serial, and syncs the journal. One that sleeps until a chunk is queued is woken.
     ///
     /// The first of `Failed`, `Gone`, `LastSerial`, `Memory` and `Fault` that applies. None changes the chunks.
     pub fn enqueue<R: Wait>(&self, rt: &R, serial: u64) -> Result<(), BufferFault> {
-        self.lock.lock(rt).enqueue(serial)
+        self.lock.lock(rt).enqueue(serial)?;
+        self.bell.ring();
+        Ok(())
     }
 
     /// The same, where what comes back shows that no chunk of this serial is staged any more. Where none was, it changes nothing, and
@@ -120,7 +128,21 @@ impl<D: Dir, A: Allocator + Copy> SharedBuffer<D, A> {
     pub fn enqueue_shown<R: Wait>(&self, rt: &R, serial: u64) -> Result<Unstaged, BufferFault>
         ensures { IfOk result (λ shown. shown ≡ record { leaf = self.now.leaf; serial = serial }) }
     {
-        self.lock.lock(rt).enqueue_shown(&self.terms, serial)
+        let shown = self.lock.lock(rt).enqueue_shown(&self.terms, serial)?;
+        self.bell.ring();
+        Ok(shown)
+    }
+
+    /// How often a chunk was queued while it is shared, as far as `sleep_until_queued` asks for it. A call that finds
+    /// nothing to queue may count too.
+    pub fn times_queued(&self) -> u64 {
+        self.bell.times()
+    }
+
+    /// Sleeps until a chunk is queued, where none was since that count, and no longer than this. It may return earlier.
+    /// A chunk that is given back wakes nobody.
+    pub fn sleep_until_queued<R: Wait>(&self, rt: &R, times: u64, most: Duration) {
+        self.bell.sleep(rt, times, most);
     }
 
     /// Lets the queued chunk of least serial go, and gives its serial.
@@ -213,7 +235,11 @@ impl<D: Dir, A: Allocator + Copy> SharedBuffer<D, A> {
     pub fn close(self) -> Closed<D, A>
         ensures { result.leaf ≡ self.leaf }
     {
-        let SharedBuffer { terms, lock } = self;
+        let SharedBuffer {
+            terms,
+            lock,
+            bell: _,
+        } = self;
         lock.into_inner().close(terms)
     }
 }
