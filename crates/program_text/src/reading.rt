@@ -1,10 +1,12 @@
 //! Texts that are read whole.
 
-ghost use Rattle.std.specs.Prelude.{◌<◌, ◌≤◌, length, IfOk};
+ghost use Rattle.std.specs.Prelude.{◌≡◌, ◌≢◌, ◌<◌, ◌≤◌, length, IfOk};
+ghost use Rattle.std.specs.IoError.{error_kind};
 ghost use Rattle.program_text.specs.Texts.{IsTextOf};
 
 use crate::opening::Open;
 use std::alloc::{AllocError, AllocFailed, Allocator};
+use std::io;
 use std::io::{ErrorKind, Read};
 
 /// How often a reader is called at most. One that hasn't ended then is one that fails.
@@ -23,6 +25,20 @@ pub enum ReadFault {
     Memory,
     /// The reader failed.
     Read,
+}
+
+impl ReadFault {
+    /// Why a text isn't read whose reader failed so, or couldn't be had. A file that is opened when it is first read may
+    /// want memory for its path then.
+    pub fn of(error: &io::Error) -> ReadFault
+        ensures memory { error_kind error.now ≡ ErrorKind.OutOfMemory → result ≡ ReadFault.Memory }
+        ensures read { error_kind error.now ≢ ErrorKind.OutOfMemory → result ≡ ReadFault.Read }
+    {
+        match error.kind() {
+            ErrorKind::OutOfMemory => ReadFault::Memory,
+            _ => ReadFault::Read,
+        }
+    }
 }
 
 impl From<AllocError> for ReadFault {
@@ -57,8 +73,7 @@ pub fn read_named<A: Allocator + Copy, O: Open>(
 {
     match files.open(name) {
         Ok(mut reader) => read_whole(alloc, &mut reader),
-        Err(e) if e.kind() == ErrorKind::OutOfMemory => Err(ReadFault::Memory),
-        Err(_) => Err(ReadFault::Read),
+        Err(e) => Err(ReadFault::of(&e)),
     }
 }
 
@@ -91,7 +106,7 @@ fn read_pieces<A: Allocator + Copy, R: Read>(
             Ok(n) if n > MOST_BYTES - text.len() => return Err(ReadFault::Read),
             Ok(n) => text.extend_from_slice(&piece[..n])?,
             Err(e) if e.kind() == ErrorKind::Interrupted => (),
-            Err(_) => return Err(ReadFault::Read),
+            Err(e) => return Err(ReadFault::of(&e)),
         }
     }
     Err(ReadFault::Read)

@@ -8,8 +8,9 @@ ghost use Rattle.stream_listing.specs.Decoding.{IsHeld, StopsAt, Lists, IsLast, 
 use crate::hex_text::{HexFault, HexText};
 use crate::lines::put_message;
 use event_modes::{Feed, FeedError, ModeFault, Next};
-use program_text::{MOST_READS, OutputFault, PIECE, Status, put_all, put_last};
+use program_text::{MOST_READS, OutputFault, PIECE, ReadFault, Status, put_all, put_last};
 use std::alloc::{AllocError, Allocator};
+use std::io;
 use std::io::{ErrorKind, Read, Write};
 
 /// Lists the messages of a hex text: the lines of each as soon as it is whole.
@@ -39,6 +40,18 @@ enum Stop {
     Memory,
     // The reader failed.
     Read,
+}
+
+impl Stop {
+    // Why nothing more is read where the reader failed so: it may at any place of the text.
+    fn of_reader(error: &io::Error) -> Stop
+        ensures { (left held : List ℕ) → StopsAt result left held }
+    {
+        match ReadFault::of(error) {
+            ReadFault::Memory => Stop::Memory,
+            ReadFault::Read => Stop::Read,
+        }
+    }
 }
 
 impl From<AllocError> for Stop {
@@ -189,7 +202,7 @@ fn decode_pieces<A: Allocator + Copy, R: Read, W: Write>(
                 }
             }
             Err(e) if e.kind() == ErrorKind::Interrupted => (),
-            Err(_) => return end(alloc, Stop::Read, out),
+            Err(e) => return end(alloc, Stop::of_reader(&e), out),
         }
     }
     end(alloc, Stop::Read, out)

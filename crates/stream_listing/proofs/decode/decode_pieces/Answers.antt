@@ -69,9 +69,9 @@ returns-in-Err-2 g c =
     let input = g.R.Read.remaining in
     let out = g.W.Write.contents in
     early_output (input c.args.input.now) (input c.read.new.self) (out c.args.out.now) (out c.loop.out) (out c.end-in-Err-2.new.out)
-    so_far.text c.loop.decoder.hex c.loop.decoder.feed.held so_far.arrivals Read c.end-in-Err-2.result
+    so_far.text c.loop.decoder.hex c.loop.decoder.feed.held so_far.arrivals c.of_reader.result c.end-in-Err-2.result
     (Consumes-kept (input c.args.input.now) (input c.loop.input) (input c.read.new.self) so_far.text so_far.consumed c.in-Err-2.ensures.bytes)
-    so_far.reads so_far.written tt c.end-in-Err-2.ensures
+    so_far.reads so_far.written (c.of_reader.ensures c.loop.decoder.hex c.loop.decoder.feed.held) c.end-in-Err-2.ensures
 
 pub loop-preserved : goal.loop-preserved
 loop-preserved g c =
