@@ -4,34 +4,18 @@ use Rattle.std.specs.Prelude.{IsSomeAnd, IfOk, Result, Ok, Err}
 use Rattle.std.specs.Option.{option_map_or}
 use Rattle.std.specs.List.{concat}
 use Rattle.std.proofs.lemmas.Bool.{false≢true}
-use Rattle.disk_files.specs.Disk.{Disk, SameDisk}
+use Rattle.disk_files.specs.Disk.{SameDisk}
 use Rattle.disk_files.specs.Moments.{History, now}
 use Rattle.buffer_state.specs.State.{State, Chunk, chunk_at}
 use Rattle.buffer_state.specs.Steps.{settled, reopened}
 use Rattle.chunk_journal.specs.Places.{entries_at}
 use Rattle.journal_files.specs.JournalLogs.{JournalLog, state_of}
-use Rattle.journal_files.specs.Views.{OpenJournal}
-use Rattle.journal_files.specs.Disks.{Keeps}
+use Rattle.journal_files.proofs.Steps.{kept}
 use Rattle.buffer_store.specs.Durability.{IsSound}
 use Rattle.buffer_store.specs.Logs.{Logged, held_of}
 use Rattle.buffer_store.specs.declared.settings.Settings.{Settings}
 use Rattle.buffer_store.specs.declared.fault.BufferFault.{BufferFault}
 use Rattle.buffer_store.proofs.Claims.{same_from, chunk_same, free}
-
--- what a journal keeps turns on what the disk has
-keeps_over : (journal : OpenJournal) (disk new : Disk) (t : JournalLog) → SameDisk new disk → Keeps journal disk t → Keeps journal new t
-keeps_over journal disk new t same keeps = record {
-  logged = keeps.logged;
-  first = keeps.first;
-  last = keeps.last;
-  synced = keeps.synced;
-  there = same _ ∙ keeps.there;
-  holds = keeps.holds;
-  fits = keeps.fits;
-  counted = keeps.counted;
-  newest = λ n lt small. same _ ∙ keeps.newest n lt small;
-  placed = keeps.placed;
-}
 
 -- the folder was read, and its disk is the same
 module _ {D : Type 0} (is_honest : D → Type 0) (history : D → History) (log : Logged D) (chunks : State) (settings : Settings) (going : log.failed ≡ false) (sound : IsSound is_honest history (held_of log chunks settings)) where
@@ -43,7 +27,7 @@ module _ {D : Type 0} (is_honest : D → Type 0) (history : D → History) (log 
       honest = honest k.honest;
       going = λ on. (let told = k.going on in record {
         logged = told.logged;
-        holds = record { keeps = keeps_over log.journal (now (history log.dir)) (now (history dir)) told.logged (same k.honest) told.holds.keeps; means = told.holds.means };
+        holds = record { keeps = kept log.journal (now (history log.dir)) (now (history dir)) told.logged told.holds.keeps (same k.honest); means = told.holds.means };
         loses = told.loses;
       });
       failed = λ fails. absurd (false≢true (sym going ∙ fails));

@@ -5,3 +5,4 @@ pub mod Told
 pub mod Plans
 pub mod Lasting
 pub mod Bodies
+pub mod Looking

@@ -2,7 +2,7 @@
 use Rattle.std.proofs.Common.{◌≡◌, ◌≢◌, ⊎_elim, inl, inr, ℕ, ◌≤◌, ◌||◌, Bool, true, false, List, refl, sym, ap, subst, ◌∙◌, arith}
 use Rattle.std.specs.Prelude.{Result, Ok, Err, Vec, OnOk, OnErr, is_err}
 use Rattle.std.proofs.lemmas.Bool.{true≢false}
-use Rattle.disk_files.specs.Disk.{Disk, SameDisk}
+use Rattle.disk_files.specs.Disk.{SameDisk}
 use Rattle.disk_files.specs.Moments.{History, Elapses, LeavesOnly, now}
 use Rattle.disk_files.specs.Faults.{HasCause, Rises}
 use Rattle.disk_files.specs.declared.dir.DirError.{DirError}
@@ -13,8 +13,10 @@ use Rattle.chunk_journal.specs.Meaning.{Allows}
 use Rattle.journal_files.specs.Folders.{journal_name}
 use Rattle.journal_files.specs.JournalLogs.{JournalLog, IsJournalLog, OpensWithin, begun, state_of}
 use Rattle.journal_files.specs.Views.{OpenJournal, IsReady}
-use Rattle.journal_files.specs.Disks.{Keeps, Recovers, HasNoGap}
+use Rattle.journal_files.specs.Disks.{Recovers, HasNoGap}
 use Rattle.journal_files.specs.Faults.{HasReason}
+use Rattle.journal_files.specs.declared.error.OpenError.{OpenError}
+use Rattle.journal_files.specs.declared.error.OpenError.TheVariants as opening
 use Rattle.journal_files.specs.declared.error.ReadError.{ReadError}
 use Rattle.journal_files.specs.declared.error.ReadError.TheVariants as read
 use Rattle.journal_files.proofs.Recovery.{recovers}
@@ -22,7 +24,7 @@ use Rattle.journal_files.proofs.Strays.{kept_no_gap}
 use Rattle.journal_files.proofs.Steps.{more_steps, log_begun}
 use Rattle.journal_files.proofs.OpeningMoments.{quiet}
 use Rattle.buffer_store.specs.Logs.{Logged, KeepsNow, Reads, Writes, Syncs, is_append}
-use Rattle.buffer_store.specs.Refusals.{of_read}
+use Rattle.buffer_store.specs.Refusals.{of_opening, of_read}
 use Rattle.buffer_store.specs.declared.fault.BufferFault.{BufferFault}
 use Rattle.buffer_store.specs.declared.fault.BufferFault.TheVariants as fault
 
@@ -87,6 +89,16 @@ reason_none before after e not same = record { later = omega (arith, same); pass
 
 pub reason_ok : {T : Type 0} (before after : ℕ) (x : T) → after ≡ before → HasReason {T = T} {E = BufferFault} before after (Ok x) fault.Fault
 reason_ok before after x same = record { later = omega (arith, same); passed = same; failed = λ q. absurd (cc q); others = λ _. same }
+
+-- so it is of an opening that is refused
+pub reason_opening : {T U : Type 0} (before after : ℕ) (e : OpenError) (f : BufferFault) → f ≡ of_opening e → HasReason {T = T} before after (Err e) opening.Fault → HasReason {T = U} before after (Err f) fault.Fault
+reason_opening {T} {U} before after e f is cause = subst (λ (x : BufferFault). HasReason {T = U} before after (Err x) fault.Fault) (sym is) (by e cause)
+  where
+    by : (e : OpenError) → HasReason {T = T} before after (Err e) opening.Fault → HasReason {T = U} before after (Err (of_opening e)) fault.Fault
+    by opening.Memory cause = reason_none before after fault.Memory (λ q. cc q) (cause.others (λ q. cc q))
+    by opening.Fault cause = reason_fault before after cause.later (cause.failed refl)
+    by opening.Damaged cause = reason_none before after fault.Damaged (λ q. cc q) (cause.others (λ q. cc q))
+    by opening.LastGeneration cause = reason_none before after fault.LastSerial (λ q. cc q) (cause.others (λ q. cc q))
 
 -- a read that was refused
 module _ {D A : Type 0} (is_honest : D → Type 0) (history : D → History) (fault_count : D → ℕ) (old new : Logged D) (serial : ℕ) (rest : new ≡ record old { dir = new.dir }) (honest : is_honest old.dir → is_honest new.dir)
@@ -300,7 +312,7 @@ module _ {D : Type 0} (is_honest : D → Type 0) (history : D → History) (faul
           }
 
 -- no time goes by
-elapses_none : (h : History) → Elapses h h
+pub elapses_none : (h : History) → Elapses h h
 elapses_none h = record { later = omega arith; past = λ t le name. refl; since = λ t above below. absurd (omega (arith, above, below)) }
 
 -- nothing was asked of the folder, since there was no memory for the chunks

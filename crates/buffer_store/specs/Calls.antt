@@ -1,14 +1,15 @@
 -- What the calls of a buffer have in common.
-use Rattle.std.specs.Prelude.{ℕ, ◌≡◌, ◌≢◌, ◌↔◌, Bool, true, List, Option, Result, OnOk, OnErr, Err}
-use Rattle.disk_files.specs.Disk.{SameDisk}
-use Rattle.disk_files.specs.Moments.{History, LeavesOnly, now}
+use Rattle.std.specs.Prelude.{ℕ, ◌≡◌, ◌≢◌, ◌↔◌, ◌+◌, Bool, true, List, Option, None, Result, OnOk, OnErr, Err}
+use Rattle.disk_files.specs.Disk.{SameDisk, reads}
+use Rattle.disk_files.specs.Moments.{History, Elapses, LeavesOnly, now}
 use Rattle.chunk_journal.specs.Records.{Record}
 use Rattle.journal_files.specs.Folders.{journal_name}
 use Rattle.journal_files.specs.JournalLogs.{JournalLog, IsJournalLog, OpensWithin}
 use Rattle.journal_files.specs.Disks.{Recovers, HasNoGap}
 use Rattle.journal_files.specs.Faults.{HasReason}
+use Rattle.journal_files.specs.Leftovers.{LeavesAtMost}
 use Rattle.buffer_store.specs.Buffers.{Held, HoldsNow, with_more}
-use Rattle.buffer_store.specs.Durability.{KeepsClaims}
+use Rattle.buffer_store.specs.Durability.{BeganWell, KeepsClaims}
 use Rattle.buffer_store.specs.declared.fault.BufferFault.{BufferFault}
 
 -- how a call leaves the failed flag: it rises with a `Fault`, and stays at all else
@@ -50,3 +51,31 @@ pub record Begins {D T : Type 0} (history : D → History) (old new : Held D) (m
   pub quiet : (t : JournalLog) → HoldsNow history old t → result ≢ Err BufferFault.Fault → OnErr result (LeavesOnly (history old.dir) (history new.dir) (OpensWithin old.journal.path t))
   pub failed : old.failed ≡ true → (t : JournalLog) → Recovers old.journal.path (now (history old.dir)) t → LeavesOnly (history old.dir) (history new.dir) (OpensWithin old.journal.path t)
   pub claims : KeepsClaims history old new
+
+-- What a call that only reads leaves alone: the buffer, what the disk has, and each chunk that
+-- was claimed. Time goes on, and the device may refuse.
+pub record OnlyReads {D T : Type 0} (is_honest : D → Type 0) (history : D → History)
+    (fault_count : D → ℕ) (old new : Held D) (result : Result T BufferFault) : Type 0 where
+  pub rest : new ≡ record old { dir = new.dir }
+  pub honest : is_honest old.dir → is_honest new.dir
+  pub time : is_honest old.dir → Elapses (history old.dir) (history new.dir)
+  pub same : is_honest old.dir → SameDisk (now (history new.dir)) (now (history old.dir))
+  pub claims : is_honest old.dir → KeepsClaims history old new
+  pub cause : HasReason (fault_count old.dir) (fault_count new.dir) result BufferFault.Fault
+
+-- What a renewal makes of the journal's files. Done, the next generation is the open one, and the
+-- older one's file is gone. Refused, the open one is as it was, and of the next no more is left
+-- than the device's failures leave. Files of other names stay as they are.
+pub record NextGeneration {D T : Type 0} (is_honest : D → Type 0) (history : D → History)
+    (fault_count : D → ℕ) (old new : Held D) (result : Result T BufferFault) : Type 0 where
+  pub number : OnOk result (new.journal.number ≡ old.journal.number + 1)
+  pub gone : is_honest old.dir
+      → OnOk result (reads (now (history new.dir)) (journal_name old.journal.path old.journal.number) ≡ None)
+  pub journal : OnErr result (new.journal ≡ old.journal)
+  pub left : BeganWell is_honest history old
+      → OnErr result (LeavesAtMost old.journal.path (old.journal.number + 1)
+      (fault_count old.dir) (fault_count new.dir) (now (history old.dir)) (now (history new.dir)))
+  pub elsewhere : is_honest old.dir → (name : List ℕ)
+      → name ≢ journal_name old.journal.path old.journal.number
+      → name ≢ journal_name old.journal.path (old.journal.number + 1)
+      → now (history new.dir) name ≡ now (history old.dir) name

@@ -1,8 +1,6 @@
 //! A buffer: what it holds, and the calls that write nothing.
 
 ghost use Rattle.std.specs.Prelude.{◌≡◌, ◌≢◌, ◌↔◌, ◌⊎◌, ◌≤◌, ℕ, true, false, length, Some, None, Ok, Err, IsSomeAnd, IfSome, IfOk, OnOk, OnErr};
-ghost use Rattle.disk_files.specs.Disk.{SameDisk};
-ghost use Rattle.disk_files.specs.Moments.{Elapses, now};
 ghost use Rattle.std.specs.List.{concat};
 ghost use Rattle.std.specs.List.Sorted.{IsStrictlySortedBy};
 ghost use Rattle.std.specs.Map.{keys_of};
@@ -12,7 +10,7 @@ ghost use Rattle.buffer_state.specs.State.{IsAt, chunk_at};
 ghost use Rattle.buffer_state.specs.Steps.{CanAppend, planned, queued_last, claimed, first_of, reopened};
 ghost use Rattle.buffer_state.specs.declared.chunk.Stage.TheVariants.{Queued, Claimed};
 ghost use Rattle.buffer_state.specs.declared.limits.AppendFault.{AppendFault};
-ghost use Rattle.journal_files.specs.Faults.{HasReason};
+ghost use Rattle.buffer_store.specs.Calls.{OnlyReads};
 ghost use Rattle.buffer_store.specs.Durability.{BeganWell, IsDurable, Endures, KeepsClaims, LastsNow};
 ghost use Rattle.buffer_store.specs.Refusals.{of_plan};
 ghost use Rattle.buffer_store.specs.declared.fault.BufferFault.{BufferFault};
@@ -76,11 +74,7 @@ impl<D: Dir, A: Allocator + Copy> Buffer<D, A> {
         ensures undamaged { BeganWell D.is_honest D.history self.old → result ≢ Err BufferFault.Damaged }
         ensures only { OnErr result ((result ≡ Err BufferFault.Failed) ⊎ ((result ≡ Err BufferFault.Gone) ⊎ ((result ≡ Err BufferFault.Memory)
             ⊎ ((result ≡ Err BufferFault.Fault) ⊎ (result ≡ Err BufferFault.Damaged))))) }
-        ensures rest { self.new ≡ record self.old { dir = self.new.dir } }
-        ensures honest { D.is_honest self.old.dir → D.is_honest self.new.dir }
-        ensures time { D.is_honest self.old.dir → Elapses (D.history self.old.dir) (D.history self.new.dir) }
-        ensures same { D.is_honest self.old.dir → SameDisk (now (D.history self.new.dir)) (now (D.history self.old.dir)) }
-        ensures cause { HasReason (D.fault_count self.old.dir) (D.fault_count self.new.dir) result BufferFault.Fault }
+        ensures reads { OnlyReads D.is_honest D.history D.fault_count self.old self.new result }
     {
         if self.has_failed() {
             return Err(BufferFault::Failed);

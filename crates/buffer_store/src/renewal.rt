@@ -1,13 +1,9 @@
 //! The journal of a buffer goes on in a new generation.
 
-ghost use Rattle.std.specs.Prelude.{◌≡◌, ◌≢◌, ◌↔◌, ◌⊎◌, ◌+◌, ◌*◌, ◌^◌, ◌<◌, ◌≤◌, ℕ, List, false, None, Err, IsTrue, OnOk, OnErr};
-ghost use Rattle.disk_files.specs.Disk.{reads};
-ghost use Rattle.disk_files.specs.Moments.{now};
+ghost use Rattle.std.specs.Prelude.{◌≡◌, ◌≢◌, ◌↔◌, ◌⊎◌, ◌+◌, ◌*◌, ◌^◌, ◌<◌, ◌≤◌, false, None, Err, IsTrue, OnOk, OnErr};
 ghost use Rattle.buffer_state.specs.State.{total_size};
-ghost use Rattle.journal_files.specs.Folders.{journal_name};
-ghost use Rattle.journal_files.specs.Leftovers.{LeavesAtMost};
 ghost use Rattle.journal_files.specs.JournalLogs.{new_generation};
-ghost use Rattle.buffer_store.specs.Calls.{Stays, Begins};
+ghost use Rattle.buffer_store.specs.Calls.{Stays, Begins, NextGeneration};
 ghost use Rattle.buffer_store.specs.Durability.{BeganWell};
 ghost use Rattle.buffer_store.specs.declared.fault.BufferFault.{BufferFault};
 
@@ -38,19 +34,10 @@ impl<D: Dir, A: Allocator + Copy> Buffer<D, A> {
         ensures only { OnErr result ((result ≡ Err BufferFault.Failed) ⊎ ((result ≡ Err BufferFault.LastSerial) ⊎ ((result ≡ Err BufferFault.Memory)
             ⊎ ((result ≡ Err BufferFault.Fault) ⊎ (result ≡ Err BufferFault.Damaged))))) }
         ensures undamaged { BeganWell D.is_honest D.history self.old → result ≢ Err BufferFault.Damaged }
-        ensures number { OnOk result (self.new.journal.number ≡ self.old.journal.number + 1) }
         ensures staged { OnOk result (self.new.staged ≡ false) }
         ensures rest { Stays D.is_honest D.history D.fault_count self.old self.new result }
         ensures begins { D.is_honest self.old.dir → Begins D.history self.old self.new None (λ _. new_generation self.old.chunks) result }
-        // Refused, the journal is the one that was open.
-        ensures journal { OnErr result (self.new.journal ≡ self.old.journal) }
-        ensures left { BeganWell D.is_honest D.history self.old
-            → OnErr result (LeavesAtMost self.old.journal.path (self.old.journal.number + 1) (D.fault_count self.old.dir) (D.fault_count self.new.dir) (now (D.history self.old.dir)) (now (D.history self.new.dir))) }
-        ensures gone { D.is_honest self.old.dir → OnOk result (reads (now (D.history self.new.dir)) (journal_name self.old.journal.path self.old.journal.number) ≡ None) }
-        // Files of other names stay as they are.
-        ensures elsewhere { D.is_honest self.old.dir → (name : List ℕ) → name ≢ journal_name self.old.journal.path self.old.journal.number
-            → name ≢ journal_name self.old.journal.path (self.old.journal.number + 1)
-            → now (D.history self.new.dir) name ≡ now (D.history self.old.dir) name }
+        ensures next { NextGeneration D.is_honest D.history D.fault_count self.old self.new result }
     {
         if self.log.has_failed() {
             return Err(BufferFault::Failed);

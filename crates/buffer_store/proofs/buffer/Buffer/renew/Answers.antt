@@ -1,10 +1,7 @@
-use Rattle.std.proofs.Common.{◌≡◌, ◌+◌, None, refl, inl, sym, subst, ◌∙◌}
-use Rattle.std.specs.Prelude.{OnErr}
-use Rattle.disk_files.specs.Moments.{now}
-use Rattle.journal_files.specs.Leftovers.{LeavesAtMost}
+use Rattle.std.proofs.Common.{None, refl, inl, sym, subst, ◌∙◌}
 use Rattle.journal_files.specs.JournalLogs.{new_generation}
 use Rattle.buffer_store.specs.Buffers.{Held}
-use Rattle.buffer_store.specs.Calls.{Begins}
+use Rattle.buffer_store.specs.Calls.{Begins, NextGeneration}
 use Rattle.buffer_store.specs.Durability.{BeganWell}
 use Rattle.buffer_store.specs.Logs.{held_of}
 use Rattle.buffer_store.specs.declared.fault.BufferFault.{BufferFault}
@@ -31,16 +28,25 @@ returns-clause-undamaged g c = λ began.
     let told = durable.going (sym c.has_failed.ensures ∙ c.if-has_failed.false) in
     c.renew.ensures.whole durable.honest told.logged told.holds.keeps told.holds.means
 
-pub returns-then-has_failed-clause-left : goal.returns-then-has_failed-clause-left
-returns-then-has_failed-clause-left g c = λ began. inl (inl (λ q. refl))
+pub returns-then-has_failed-clause-next : goal.returns-then-has_failed-clause-next
+returns-then-has_failed-clause-next g c = record {
+  number = tt;
+  gone = λ honest. tt;
+  journal = refl;
+  left = λ began. inl (inl (λ q. refl));
+  elsewhere = λ honest name other next. refl;
+}
 
-pub returns-clause-left : goal.returns-clause-left
-returns-clause-left g c = λ began.
-    let began0 : BeganWell g.D.Dir.is_honest g.D.Dir.history (held_of c.self.inside.log c.self.inside.chunks c.self.inside.settings) = subst (λ (b : Held g.row.D.Denot). BeganWell g.D.Dir.is_honest g.D.Dir.history b) (sym c.self.view_is) began in
-    let durable = c.self.invariant.durable began0 in
-    let told = durable.going (sym c.has_failed.ensures ∙ c.if-has_failed.false) in
-    subst (λ (b : Held g.row.D.Denot). OnErr c.renew.result (LeavesAtMost b.journal.path (b.journal.number + 1) (g.D.Dir.fault_count b.dir) (g.D.Dir.fault_count c.renew.new.self.dir) (now (g.D.Dir.history b.dir)) (now (g.D.Dir.history c.renew.new.self.dir)))) c.self.view_is
-    (c.renew.ensures.left durable.honest told.logged told.holds.keeps told.holds.means)
-
-pub returns-clause-journal : goal.returns-clause-journal
-returns-clause-journal g c = subst (λ (b : Held g.row.D.Denot). OnErr c.renew.result (c.renew.new.self.journal ≡ b.journal)) c.self.view_is c.renew.ensures.journal
+pub returns-clause-next : goal.returns-clause-next
+returns-clause-next g c =
+    let r = c.renew.ensures in
+    let old = held_of c.self.inside.log c.self.inside.chunks c.self.inside.settings in
+    let new = held_of c.renew.new.self c.self.inside.chunks c.self.inside.settings in
+    subst (λ (b : Held g.row.D.Denot). NextGeneration g.D.Dir.is_honest g.D.Dir.history g.D.Dir.fault_count b new c.renew.result) c.self.view_is
+    (record {
+      number = r.number;
+      gone = r.gone;
+      journal = r.journal;
+      left = λ began. (let durable = c.self.invariant.durable began in let told = durable.going (sym c.has_failed.ensures ∙ c.if-has_failed.false) in r.left durable.honest told.logged told.holds.keeps told.holds.means);
+      elsewhere = r.elsewhere;
+    })

@@ -2,7 +2,7 @@ use Rattle.std.proofs.Common.{ℕ, List, sym, subst}
 use Rattle.std.specs.List.Sorted.{IsStrictlySortedBy}
 use Rattle.std.specs.Map.{keys_of}
 use Rattle.std.specs.Ordering.{nat_cmp}
-use Rattle.buffer_state.specs.State.{State, Numbered}
+use Rattle.buffer_state.specs.State.{Numbered}
 use Rattle.buffer_state.specs.Slots.{AreBelow}
 use Rattle.buffer_state.proofs.Rooms.{keys_chunks}
 use Rattle.buffer_store.specs.Buffers.{Held}

@@ -14,25 +14,25 @@ returns-in-Ok g c =
     (record { dir = c.renew.new.dir; journal = c.renew.new.self; failed = c.self.inside.failed; staged = false; start = c.self.inside.start.value }) c.args.chunks.now (Ok (tt {0}))) c.self.view_is
     (record {
       only = tt;
-      last = (λ q. absurd (cc q), λ le. absurd (let q = c.in-Ok.ensures.last.1 le in cc q));
+      last = (λ q. absurd (cc q), λ le. absurd (let q = c.in-Ok.ensures.refused.last.1 le in cc q));
       flags = record { fails = λ q. absurd (cc q); stays = λ _. refl };
       kept = tt;
       staged = refl;
-      path = c.renew.ensures.path;
-      number = c.in-Ok.ensures.number;
+      path = c.renew.ensures.others.path_is;
+      number = c.in-Ok.ensures.next.number;
       start = refl;
-      honest = c.renew.ensures.honest;
-      elsewhere = c.renew.ensures.elsewhere;
+      honest = c.renew.ensures.others.honest;
+      elsewhere = c.renew.ensures.others.elsewhere;
       untouched = λ honest no torn. tt;
-      cause = reason_ok (g.D.Dir.fault_count c.self.inside.dir) (g.D.Dir.fault_count c.renew.new.dir) (tt {0}) c.in-Ok.ensures.cause.passed;
+      cause = reason_ok (g.D.Dir.fault_count c.self.inside.dir) (g.D.Dir.fault_count c.renew.new.dir) (tt {0}) c.in-Ok.ensures.others.cause.passed;
       gone = c.in-Ok.ensures.gone;
       journal = tt;
-      starts = c.in-Ok.ensures.state;
-      done = λ honest t keeps means. c.in-Ok.ensures.ok honest t keeps means;
+      starts = c.in-Ok.ensures.next.state;
+      done = λ honest t keeps means. (c.in-Ok.ensures.renews honest t keeps means).ok;
       refused = λ honest t keeps means no. tt;
       recovers = λ honest t keeps means q. absurd (cc q);
       gap = c.renew.ensures.gap;
-      moments = c.renew.ensures.moments;
+      moments = λ honest t keeps means. (c.renew.ensures.renews honest t keeps means).moments;
       whole = λ honest t keeps means q. absurd (cc q);
       left = λ honest t keeps means. tt;
     })
@@ -44,27 +44,27 @@ returns-in-Err-Memory g c =
     (record { dir = c.renew.new.dir; journal = c.renew.new.self; failed = c.self.inside.failed; staged = c.self.inside.staged; start = c.self.inside.start.value }) c.args.chunks.now (Err BufferFault.Memory)) c.self.view_is
     (record {
       only = inr (inl refl);
-      last = (λ q. absurd (cc q), λ le. absurd (let q = c.renew.ensures.last.1 le in cc (q, is)));
+      last = (λ q. absurd (cc q), λ le. absurd (let q = c.renew.ensures.refused.last.1 le in cc (q, is)));
       flags = record { fails = λ q. absurd (cc q); stays = λ _. refl };
       kept = refl;
       staged = tt;
-      path = c.renew.ensures.path;
+      path = c.renew.ensures.others.path_is;
       number = tt;
       start = refl;
-      honest = c.renew.ensures.honest;
-      elsewhere = c.renew.ensures.elsewhere;
-      untouched = λ honest no torn. c.renew.ensures.memory_same honest is;
-      cause = reason_none (g.D.Dir.fault_count c.self.inside.dir) (g.D.Dir.fault_count c.renew.new.dir) BufferFault.Memory (λ q. cc q) (c.renew.ensures.cause.others (λ q. cc (q, is)));
+      honest = c.renew.ensures.others.honest;
+      elsewhere = c.renew.ensures.others.elsewhere;
+      untouched = λ honest no torn. c.renew.ensures.refused.memory_same honest is;
+      cause = reason_none (g.D.Dir.fault_count c.self.inside.dir) (g.D.Dir.fault_count c.renew.new.dir) BufferFault.Memory (λ q. cc q) (c.renew.ensures.others.cause.others (λ q. cc (q, is)));
       gone = λ honest. tt;
-      journal = at_err c.renew.result _ is c.renew.ensures.journal;
+      journal = at_err c.renew.result _ is c.renew.ensures.refused.journal_is;
       starts = tt;
       done = λ honest t keeps means. tt;
       refused = λ honest t keeps means no. c.renew.ensures.memory honest t keeps is;
       recovers = λ honest t keeps means q. absurd (cc q);
       gap = c.renew.ensures.gap;
-      moments = c.renew.ensures.moments;
+      moments = λ honest t keeps means. (c.renew.ensures.renews honest t keeps means).moments;
       whole = λ honest t keeps means q. absurd (cc q);
-      left = λ honest t keeps means. at_err c.renew.result _ is (c.renew.ensures.left honest t keeps means);
+      left = λ honest t keeps means. at_err c.renew.result _ is (c.renew.ensures.renews honest t keeps means).left;
     })
 
 pub returns-in-Err-Fault : goal.returns-in-Err-Fault
@@ -74,27 +74,27 @@ returns-in-Err-Fault g c =
     (record { dir = c.renew.new.dir; journal = c.renew.new.self; failed = true; staged = c.self.inside.staged; start = c.self.inside.start.value }) c.args.chunks.now (Err BufferFault.Fault)) c.self.view_is
     (record {
       only = inr (inr (inl refl));
-      last = (λ q. absurd (cc q), λ le. absurd (let q = c.renew.ensures.last.1 le in cc (q, is)));
+      last = (λ q. absurd (cc q), λ le. absurd (let q = c.renew.ensures.refused.last.1 le in cc (q, is)));
       flags = record { fails = λ _. refl; stays = λ no. absurd (no refl) };
       kept = refl;
       staged = tt;
-      path = c.renew.ensures.path;
+      path = c.renew.ensures.others.path_is;
       number = tt;
       start = refl;
-      honest = c.renew.ensures.honest;
-      elsewhere = c.renew.ensures.elsewhere;
+      honest = c.renew.ensures.others.honest;
+      elsewhere = c.renew.ensures.others.elsewhere;
       untouched = λ honest no torn. absurd (no refl);
-      cause = reason_fault (g.D.Dir.fault_count c.self.inside.dir) (g.D.Dir.fault_count c.renew.new.dir) c.renew.ensures.cause.later (c.renew.ensures.cause.failed is);
+      cause = reason_fault (g.D.Dir.fault_count c.self.inside.dir) (g.D.Dir.fault_count c.renew.new.dir) c.renew.ensures.others.cause.later (c.renew.ensures.others.cause.failed is);
       gone = λ honest. tt;
-      journal = at_err c.renew.result _ is c.renew.ensures.journal;
+      journal = at_err c.renew.result _ is c.renew.ensures.refused.journal_is;
       starts = tt;
       done = λ honest t keeps means. tt;
       refused = λ honest t keeps means no. absurd (no refl);
-      recovers = λ honest t keeps means q. c.renew.ensures.fault honest t keeps means is;
+      recovers = λ honest t keeps means q. (c.renew.ensures.renews honest t keeps means).fault is;
       gap = c.renew.ensures.gap;
-      moments = c.renew.ensures.moments;
+      moments = λ honest t keeps means. (c.renew.ensures.renews honest t keeps means).moments;
       whole = λ honest t keeps means q. absurd (cc q);
-      left = λ honest t keeps means. at_err c.renew.result _ is (c.renew.ensures.left honest t keeps means);
+      left = λ honest t keeps means. at_err c.renew.result _ is (c.renew.ensures.renews honest t keeps means).left;
     })
 
 pub returns-in-Err-Short : goal.returns-in-Err-Short
@@ -104,27 +104,27 @@ returns-in-Err-Short g c =
     (record { dir = c.renew.new.dir; journal = c.renew.new.self; failed = c.self.inside.failed; staged = c.self.inside.staged; start = c.self.inside.start.value }) c.args.chunks.now (Err BufferFault.Damaged)) c.self.view_is
     (record {
       only = inr (inr (inr refl));
-      last = (λ q. absurd (cc q), λ le. absurd (let q = c.renew.ensures.last.1 le in cc (q, is)));
+      last = (λ q. absurd (cc q), λ le. absurd (let q = c.renew.ensures.refused.last.1 le in cc (q, is)));
       flags = record { fails = λ q. absurd (cc q); stays = λ _. refl };
       kept = refl;
       staged = tt;
-      path = c.renew.ensures.path;
+      path = c.renew.ensures.others.path_is;
       number = tt;
       start = refl;
-      honest = c.renew.ensures.honest;
-      elsewhere = c.renew.ensures.elsewhere;
+      honest = c.renew.ensures.others.honest;
+      elsewhere = c.renew.ensures.others.elsewhere;
       untouched = λ honest no torn. absurd (torn refl);
-      cause = reason_none (g.D.Dir.fault_count c.self.inside.dir) (g.D.Dir.fault_count c.renew.new.dir) BufferFault.Damaged (λ q. cc q) (c.renew.ensures.cause.others (λ q. cc (q, is)));
+      cause = reason_none (g.D.Dir.fault_count c.self.inside.dir) (g.D.Dir.fault_count c.renew.new.dir) BufferFault.Damaged (λ q. cc q) (c.renew.ensures.others.cause.others (λ q. cc (q, is)));
       gone = λ honest. tt;
-      journal = at_err c.renew.result _ is c.renew.ensures.journal;
+      journal = at_err c.renew.result _ is c.renew.ensures.refused.journal_is;
       starts = tt;
       done = λ honest t keeps means. tt;
-      refused = λ honest t keeps means no. absurd (c.renew.ensures.whole honest t keeps means is);
+      refused = λ honest t keeps means no. absurd ((c.renew.ensures.renews honest t keeps means).whole is);
       recovers = λ honest t keeps means q. absurd (cc q);
       gap = c.renew.ensures.gap;
-      moments = c.renew.ensures.moments;
-      whole = λ honest t keeps means q. c.renew.ensures.whole honest t keeps means is;
-      left = λ honest t keeps means. at_err c.renew.result _ is (c.renew.ensures.left honest t keeps means);
+      moments = λ honest t keeps means. (c.renew.ensures.renews honest t keeps means).moments;
+      whole = λ honest t keeps means q. (c.renew.ensures.renews honest t keeps means).whole is;
+      left = λ honest t keeps means. at_err c.renew.result _ is (c.renew.ensures.renews honest t keeps means).left;
     })
 
 pub returns-in-Err-LastGeneration : goal.returns-in-Err-LastGeneration
@@ -134,26 +134,26 @@ returns-in-Err-LastGeneration g c =
     (record { dir = c.renew.new.dir; journal = c.renew.new.self; failed = c.self.inside.failed; staged = c.self.inside.staged; start = c.self.inside.start.value }) c.args.chunks.now (Err BufferFault.LastSerial)) c.self.view_is
     (record {
       only = inl refl;
-      last = (λ q. c.renew.ensures.last.0 is, λ le. refl);
+      last = (λ q. c.renew.ensures.refused.last.0 is, λ le. refl);
       flags = record { fails = λ q. absurd (cc q); stays = λ _. refl };
       kept = refl;
       staged = tt;
-      path = c.renew.ensures.path;
+      path = c.renew.ensures.others.path_is;
       number = tt;
       start = refl;
-      honest = c.renew.ensures.honest;
-      elsewhere = c.renew.ensures.elsewhere;
-      untouched = λ honest no torn. c.renew.ensures.unchanged is honest;
-      cause = reason_none (g.D.Dir.fault_count c.self.inside.dir) (g.D.Dir.fault_count c.renew.new.dir) BufferFault.LastSerial (λ q. cc q) (c.renew.ensures.cause.others (λ q. cc (q, is)));
+      honest = c.renew.ensures.others.honest;
+      elsewhere = c.renew.ensures.others.elsewhere;
+      untouched = λ honest no torn. c.renew.ensures.refused.unchanged honest is;
+      cause = reason_none (g.D.Dir.fault_count c.self.inside.dir) (g.D.Dir.fault_count c.renew.new.dir) BufferFault.LastSerial (λ q. cc q) (c.renew.ensures.others.cause.others (λ q. cc (q, is)));
       gone = λ honest. tt;
-      journal = at_err c.renew.result _ is c.renew.ensures.journal;
+      journal = at_err c.renew.result _ is c.renew.ensures.refused.journal_is;
       starts = tt;
       done = λ honest t keeps means. tt;
-      refused = λ honest t keeps means no. subst (λ (j : OpenJournal). Keeps j (now (g.D.Dir.history c.renew.new.dir)) t) (sym (at_err c.renew.result _ is c.renew.ensures.journal))
-          (kept c.self.inside.journal (now (g.D.Dir.history c.self.inside.dir)) (now (g.D.Dir.history c.renew.new.dir)) t keeps (c.renew.ensures.unchanged is honest));
+      refused = λ honest t keeps means no. subst (λ (j : OpenJournal). Keeps j (now (g.D.Dir.history c.renew.new.dir)) t) (sym (at_err c.renew.result _ is c.renew.ensures.refused.journal_is))
+          (kept c.self.inside.journal (now (g.D.Dir.history c.self.inside.dir)) (now (g.D.Dir.history c.renew.new.dir)) t keeps (c.renew.ensures.refused.unchanged honest is));
       recovers = λ honest t keeps means q. absurd (cc q);
       gap = c.renew.ensures.gap;
-      moments = c.renew.ensures.moments;
+      moments = λ honest t keeps means. (c.renew.ensures.renews honest t keeps means).moments;
       whole = λ honest t keeps means q. absurd (cc q);
-      left = λ honest t keeps means. at_err c.renew.result _ is (c.renew.ensures.left honest t keeps means);
+      left = λ honest t keeps means. at_err c.renew.result _ is (c.renew.ensures.renews honest t keeps means).left;
     })

@@ -1,0 +1,37 @@
+-- What opening a buffer gives, why it is refused, and the folder that it leaves.
+use Rattle.std.specs.Prelude.{ℕ, ◌≡◌, false, List, Result, Ok, Err}
+use Rattle.disk_files.specs.Disk.{Disk}
+use Rattle.journal_files.specs.Openings.{IsRefused}
+use Rattle.journal_files.specs.declared.error.OpenError.{OpenError}
+use Rattle.buffer_store.specs.Buffers.{Held}
+use Rattle.buffer_store.specs.Refusals.{of_opening}
+use Rattle.buffer_store.specs.declared.fault.BufferFault.{BufferFault}
+use Rattle.buffer_store.specs.declared.settings.Settings.{Settings}
+
+-- a buffer just opened over this folder is as its settings say; nothing has failed, and nothing
+-- is to be synced
+pub record IsSet {D : Type 0} (dir : D) (settings : Settings) (buffer : Held D) : Type 0 where
+  pub start : buffer.start ≡ dir
+  pub limits : buffer.limits ≡ settings.limits
+  pub renewed_past : buffer.renewed_past ≡ settings.renewed_past
+  pub going : buffer.failed ≡ false
+  pub synced : buffer.staged ≡ false
+
+-- the folder that an opening leaves: the buffer's, or the one that is handed back
+abbrev pub left_of : {D : Type 0} → Result (Held D) (BufferFault × D) → D
+left_of (Ok buffer) = buffer.dir
+left_of (Err refused) = refused.1
+
+-- its answer, without the folder that a refusal hands back
+abbrev pub answer_of : {D : Type 0}
+    → Result (Held D) (BufferFault × D) → Result (Held D) BufferFault
+answer_of (Ok buffer) = Ok buffer
+answer_of (Err refused) = Err refused.0
+
+-- A refusal is one of the journal's, under the buffer's name for it. Over an honest folder it has
+-- that one's reasons, and leaves what that one leaves.
+pub record RefusesOpening (honest : Type 0) (path : List ℕ) (faults new_faults : ℕ)
+    (old new : Disk) (refused : BufferFault) : Type 0 where
+  pub of_journal : OpenError
+  pub named : refused ≡ of_opening of_journal
+  pub why : honest → IsRefused path faults new_faults old new of_journal
