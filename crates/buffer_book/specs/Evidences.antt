@@ -1,5 +1,5 @@
 -- What shows that a chunk may leave its buffer, and when it serves.
-use Rattle.std.specs.Prelude.{ℕ, ◌≡◌, ◌⊎◌, true, false, cond, List, length, Option, None, Some, IsSome, IsSomeAnd, IfSome, Result, Ok, Err, OnErr}
+use Rattle.std.specs.Prelude.{ℕ, ◌≡◌, ◌⊎◌, true, false, cond, length, Option, None, Some, IsSome, IsSomeAnd, IfSome, Result, Ok, Err, OnErr}
 use Rattle.disk_files.specs.Faults.{Rises}
 use Rattle.disk_files.specs.Moments.{History}
 use Rattle.event_modes.specs.declared.chunk_id.ChunkId.{ChunkId}
@@ -31,30 +31,18 @@ named (StoredAs id stored) = id
 named (Written id) = id
 named (Expired id) = id
 
--- the output forwards, and requires acknowledgements
-abbrev pub IsAcknowledging : {A : Type 0} → Basis A → Type 0
-IsAcknowledging basis.Acknowledged = Unit {0}
-IsAcknowledging (basis.Stored sink) = ⊥
-IsAcknowledging basis.Written = ⊥
+-- what an output gives: an acknowledgement where it forwards and requires them, what is in the sink
+-- of its path, or, where it requires none, that it was sent
+abbrev pub IsGiven : {A : Type 0} → Basis A → Shows → Type 0
+IsGiven basis.Acknowledged (Acknowledged id) = Unit {0}
+IsGiven (basis.Stored sink) (StoredAs id stored) = stored.path ≡ sink.items
+IsGiven basis.Written (Written id) = Unit {0}
+IsGiven basis shown = ⊥
 
--- the output writes the sink of this path
-abbrev pub IsSink : {A : Type 0} → Basis A → List ℕ → Type 0
-IsSink basis.Acknowledged path = ⊥
-IsSink (basis.Stored sink) path = path ≡ sink.items
-IsSink basis.Written path = ⊥
-
--- the output forwards, and requires no acknowledgements
-abbrev pub IsWriting : {A : Type 0} → Basis A → Type 0
-IsWriting basis.Acknowledged = ⊥
-IsWriting (basis.Stored sink) = ⊥
-IsWriting basis.Written = Unit {0}
-
--- The evidence is of a kind that lets chunks of this buffer go: what its output gives, of its sink's path; or the end of retries, where they end.
+-- The evidence is of a kind that lets chunks of this buffer go: what its output gives, or the end of retries, where they end.
 abbrev pub IsOfKind : {A : Type 0} → Takes A → Shows → Type 0
-IsOfKind takes (Acknowledged id) = IsAcknowledging takes.basis
-IsOfKind takes (StoredAs id stored) = IsSink takes.basis stored.path
-IsOfKind takes (Written id) = IsWriting takes.basis
 IsOfKind takes (Expired id) = takes.expires ≡ true
+IsOfKind takes shown = IsGiven takes.basis shown
 
 -- The evidence is for the claimed chunk of the buffer of this name: the claim is of this buffer, and the evidence names this chunk, and is of a kind that lets chunks go.
 abbrev pub IsFor : {A : Type 0} → Leaf → Takes A → Claimed → Shows → Type 0
@@ -108,23 +96,36 @@ answer_of (Err refused) = Err refused.0
 abbrev pub IsRefused : {T : Type 0} → BufferFault → Result T PurgeFault → Type 0
 IsRefused fault answer = answer ≡ Err (PurgeFault.Buffer fault)
 
--- Why a purge is refused. `Stranger` exactly where the evidence doesn't serve, as far as that is to be seen; where it shows what is in a sink, the entries may not be read in place of it.
--- Else the first of the buffer's own reasons that applies: the device failed it before, the chunk isn't claimed, there is no memory, or the device fails.
-pub record RefusesPurge {A D T : Type 0} (is_honest : D → Type 0) (history : D → History) (fault_count : D → ℕ) (leaf : Leaf) (takes : Takes A) (claim : Claimed) (shown : Shows) (old new : Held D) (answer : Result T PurgeFault) : Type 0 where
+-- Why a purge is refused. `Stranger` where the evidence doesn't serve; in its place, where it shows
+-- what is in a sink, why the chunk's entries couldn't be read. Else the first of the buffer's own
+-- reasons: the device failed it before, the chunk isn't claimed, no memory, or the device fails.
+pub record RefusesPurge {A D T : Type 0} (is_honest : D → Type 0) (history : D → History)
+    (fault_count : D → ℕ) (leaf : Leaf) (takes : Takes A) (claim : Claimed) (shown : Shows)
+    (old new : Held D) (answer : Result T PurgeFault) : Type 0 where
   pub astray : (IsFor leaf takes claim shown → ⊥) → answer ≡ Err PurgeFault.Stranger
-  pub stranger : CanCompare is_honest history old shown → answer ≡ Err PurgeFault.Stranger → Serves leaf takes old.chunks claim shown → ⊥
+  pub stranger : CanCompare is_honest history old shown
+      → answer ≡ Err PurgeFault.Stranger → Serves leaf takes old.chunks claim shown → ⊥
   pub never : CanCompare is_honest history old shown → (Serves leaf takes old.chunks claim shown → ⊥)
-      → OnErr answer ((answer ≡ Err PurgeFault.Stranger) ⊎ (IsSome (stored_of shown) × (IsRefused BufferFault.Failed answer ⊎ (IsRefused BufferFault.Memory answer ⊎ IsRefused BufferFault.Fault answer))))
+      → OnErr answer ((answer ≡ Err PurgeFault.Stranger) ⊎ (IsSome (stored_of shown)
+      × (IsRefused BufferFault.Failed answer
+      ⊎ (IsRefused BufferFault.Memory answer ⊎ IsRefused BufferFault.Fault answer))))
   pub failed : IsRefused BufferFault.Failed answer → old.failed ≡ true
-  pub stopped : old.failed ≡ true → (answer ≡ Err PurgeFault.Stranger) ⊎ IsRefused BufferFault.Failed answer
-  pub gone : IsRefused BufferFault.Gone answer → (old.failed ≡ false) × (IsAt stage.Claimed old.chunks claim.serial → ⊥)
+  pub stopped : old.failed ≡ true
+      → (answer ≡ Err PurgeFault.Stranger) ⊎ IsRefused BufferFault.Failed answer
+  pub gone : IsRefused BufferFault.Gone answer
+      → (old.failed ≡ false) × (IsAt stage.Claimed old.chunks claim.serial → ⊥)
   pub undamaged : CanCompare is_honest history old shown → IsRefused BufferFault.Damaged answer → ⊥
-  pub only : CanCompare is_honest history old shown → Serves leaf takes old.chunks claim shown → old.failed ≡ false → IsAt stage.Claimed old.chunks claim.serial
+  pub only : CanCompare is_honest history old shown → Serves leaf takes old.chunks claim shown
+      → old.failed ≡ false → IsAt stage.Claimed old.chunks claim.serial
       → OnErr answer (IsRefused BufferFault.Memory answer ⊎ IsRefused BufferFault.Fault answer)
   pub cause : IsRefused BufferFault.Fault answer → Rises (fault_count old.dir) (fault_count new.dir)
 
--- How a purge leaves its buffer: with its limits, and failed only where it may have come to write. Entries that couldn't be read leave it as it was.
-pub record SparesBuffer {A D T : Type 0} (is_honest : D → Type 0) (history : D → History) (leaf : Leaf) (takes : Takes A) (claim : Claimed) (shown : Shows) (old new : Held D) (answer : Result T PurgeFault) : Type 0 where
+-- How a purge leaves its buffer: with its limits, and failed only where it may have come to write.
+-- Entries that couldn't be read leave it as it was.
+pub record SparesBuffer {A D T : Type 0} (is_honest : D → Type 0) (history : D → History)
+    (leaf : Leaf) (takes : Takes A) (claim : Claimed) (shown : Shows) (old new : Held D)
+    (answer : Result T PurgeFault) : Type 0 where
   pub limits : new.limits ≡ old.limits
   pub flags : (IsRefused BufferFault.Fault answer → ⊥) → new.failed ≡ old.failed
-  pub spared : CanCompare is_honest history old shown → (Serves leaf takes old.chunks claim shown → ⊥) → new.failed ≡ old.failed
+  pub spared : CanCompare is_honest history old shown
+      → (Serves leaf takes old.chunks claim shown → ⊥) → new.failed ≡ old.failed

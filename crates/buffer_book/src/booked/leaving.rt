@@ -117,11 +117,13 @@ impl<D: Dir, A: Allocator + Copy> Booked<D, A> {
         ensures like { OnOk result (ShowsLike self.old.buffer.chunks claim.serial evidence) }
         ensures serves { CanCompare D.is_honest D.history self.old.buffer evidence → OnOk result (Serves leaf takes.now self.old.buffer.chunks claim evidence) }
         ensures removes { OnOk result (Removes claim.serial self.old self.new) }
-        ensures refused { RefusesPurge D.is_honest D.history D.fault_count leaf takes.now claim evidence self.old.buffer self.new.buffer (answer_of result) }
+        ensures refused { RefusesPurge D.is_honest D.history D.fault_count leaf takes.now claim evidence
+            self.old.buffer self.new.buffer (answer_of result) }
         ensures back { IfErr result (λ e. (e.1 ≡ claim) × (e.2 ≡ evidence)) }
         ensures same { OnErr result (Unchanged self.old self.new) }
         // Only a purge that may come to write can fail the buffer.
-        ensures spares { SparesBuffer D.is_honest D.history leaf takes.now claim evidence self.old.buffer self.new.buffer (answer_of result) }
+        ensures spares { SparesBuffer D.is_honest D.history leaf takes.now claim evidence
+            self.old.buffer self.new.buffer (answer_of result) }
     {
         match self.serves(leaf, takes, &claim, &evidence) {
             Ok(true) => {}
