@@ -2,7 +2,10 @@
 //
 //   relay load PORT CONNECTIONS WINDOW EVENTS BYTES MESSAGES    sends so many messages over so many connections, each with so many under
 //                                                               way, each with so many events of so many bytes (one event: Message
-//                                                               mode, more: PackedForward), and prints messages a second
+//                                                               mode, more: PackedForward), and prints messages a second; each has to
+//                                                               be answered once, by its own name
+//   relay reach PORT BYTES MESSAGES FILE    sends so many messages of one event of so many bytes, each once the one before stands in the
+//                                           sink's file, and prints the middle one of the times that this took, in milliseconds
 //   relay each PORT FILE      receives: appends each message to the file, syncs, and answers
 //   relay batch PORT FILE     the same with one sync for all that a poll brought
 #include <arpa/inet.h>
@@ -15,6 +18,7 @@
 #include <stdlib.h>
 #include <string.h>
 #include <sys/socket.h>
+#include <sys/stat.h>
 #include <time.h>
 #include <unistd.h>
 
@@ -229,39 +233,97 @@ static void send_one(Connection *c, uint8_t *bytes, size_t length, unsigned long
   c->under_way++;
 }
 
+static void connect_to(int port) {
+  struct sockaddr_in address = {.sin_family = AF_INET, .sin_port = htons(port), .sin_addr.s_addr = htonl(INADDR_LOOPBACK)};
+  int made = socket(AF_INET, SOCK_STREAM, 0);
+  check(connect(made, (struct sockaddr *)&address, sizeof address) == 0, "connect");
+  add(made);
+}
+
+// Takes the answers that a connection holds, each of which has to name a message that was sent and wasn't answered yet.
+static unsigned long take_answers(Connection *c, uint8_t *awaited, unsigned long sent) {
+  unsigned long n = c->length / (6 + ID);
+  for (unsigned long i = 0; i < n; i++) {
+    char id[ID + 1] = {0};
+    memcpy(id, c->held + i * (6 + ID) + 6, ID);
+    unsigned long number = strtoul(id, 0, 10);
+    errno = EPROTO;
+    check(number < sent && awaited[number], "an answer to no message");
+    awaited[number] = 0;
+  }
+  forget(c, n * (6 + ID));
+  c->under_way -= n;
+  return n;
+}
+
 static void load(int port, unsigned connections, unsigned window, unsigned events, unsigned size, unsigned long messages) {
   static uint8_t bytes[ROOM];
   size_t length = message(bytes, events, size);
-  struct sockaddr_in address = {.sin_family = AF_INET, .sin_port = htons(port), .sin_addr.s_addr = htonl(INADDR_LOOPBACK)};
-  for (unsigned i = 0; i < connections; i++) {
-    int made = socket(AF_INET, SOCK_STREAM, 0);
-    check(connect(made, (struct sockaddr *)&address, sizeof address) == 0, "connect");
-    add(made);
-  }
+  uint8_t *awaited = malloc(messages);
+  for (unsigned i = 0; i < connections; i++) connect_to(port);
   unsigned long sent = 0, answered = 0;
   double began = now();
   while (answered < messages) {
     struct pollfd polled[MOST];
     for (unsigned i = 0; i < count; i++) {
-      while (all[i].under_way < window && sent < messages) send_one(&all[i], bytes, length, sent++);
+      while (all[i].under_way < window && sent < messages) {
+        awaited[sent] = 1;
+        send_one(&all[i], bytes, length, sent++);
+      }
       polled[i] = (struct pollfd){.fd = all[i].socket, .events = POLLIN};
     }
     check(poll(polled, count, 20000) > 0, "no answer");
     for (unsigned i = 0; i < count; i++) {
       if (!polled[i].revents) continue;
       check(fill(&all[i]), "the connection is lost");
-      unsigned long n = all[i].length / (6 + ID);
-      forget(&all[i], n * (6 + ID));
-      all[i].under_way -= n;
-      answered += n;
+      answered += take_answers(&all[i], awaited, sent);
     }
   }
   printf("%.0f\n", messages / (now() - began));
 }
 
+static off_t size_of(const char *path) {
+  struct stat found;
+  return stat(path, &found) == 0 ? found.st_size : 0;
+}
+
+static int is_later(const void *a, const void *b) {
+  double x = *(const double *)a, y = *(const double *)b;
+  return (x > y) - (x < y);
+}
+
+static void reach(int port, unsigned size, unsigned long messages, const char *path) {
+  static uint8_t bytes[ROOM];
+  size_t length = message(bytes, 1, size);
+  double *took = malloc(messages * sizeof *took);
+  connect_to(port);
+  for (unsigned long sent = 0; sent < messages; sent++) {
+    off_t before = size_of(path);
+    double began = now();
+    send_one(&all[0], bytes, length, 0);
+    while (size_of(path) <= before) {
+      struct timespec pause = {.tv_nsec = 100000};
+      check(now() - began < 20, "a message didn't arrive");
+      nanosleep(&pause, 0);
+    }
+    took[sent] = 1000 * (now() - began);
+    while (all[0].under_way > 0) {
+      uint8_t awaited = 1;
+      check(fill(&all[0]), "the connection is lost");
+      take_answers(&all[0], &awaited, 1);
+    }
+  }
+  qsort(took, messages, sizeof *took, is_later);
+  printf("%.1f\n", took[messages / 2]);
+}
+
 int main(int n, char **words) {
   if (n == 8 && strcmp(words[1], "load") == 0) {
     load(atoi(words[2]), atoi(words[3]), atoi(words[4]), atoi(words[5]), atoi(words[6]), atol(words[7]));
+    return 0;
+  }
+  if (n == 6 && strcmp(words[1], "reach") == 0) {
+    reach(atoi(words[2]), atoi(words[3]), atol(words[4]), words[5]);
     return 0;
   }
   if (n == 4) receive(atoi(words[2]), words[3], strcmp(words[1], "each") == 0);
