@@ -18,7 +18,7 @@ none = record { purged = 0; failed = 0 }
 abbrev pub counted : Outcome → Worked → Worked
 counted Purged worked = record { purged = capped worked.purged 1; failed = worked.failed }
 counted Failed worked = record { purged = worked.purged; failed = capped worked.failed 1 }
-counted (Waits chunks) worked = worked
+counted (Waits others) worked = worked
 
 -- what an act adds: a purge counts, and a failure that is noted
 abbrev pub with_act : Act → Worked → Worked

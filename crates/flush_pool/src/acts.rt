@@ -1,5 +1,14 @@
 //! What came of a chunk that a worker claimed.
 
+/// What was known of a buffer's failed chunks when a chunk was judged.
+#[derive(Clone, Copy, Debug, PartialEq, Eq)]
+pub(crate) struct Others {
+    /// How many have failed and aren't forgotten: no more can wait.
+    pub failed: usize,
+    /// Whether one that waits was due.
+    pub due: bool,
+}
+
 /// What came of a chunk that a worker claimed.
 #[derive(Clone, Copy, Debug, PartialEq, Eq)]
 pub(crate) enum Outcome {
@@ -7,6 +16,6 @@ pub(crate) enum Outcome {
     Purged,
     /// Its delivery failed: it was noted, and the chunk is queued again.
     Failed,
-    /// Its wait hasn't passed, and it is queued again. So many chunks of the buffer have failed.
-    Waits(usize),
+    /// Its wait hasn't passed, and it is queued again. This was known of the buffer's others.
+    Waits(Others),
 }

@@ -22,8 +22,9 @@ use std::time::Clock;
 /// Delivers a buffer's chunks until `stop` is raised: claims one, has it carried, purges it on the evidence that comes back
 /// or gives it back to be tried again, and so on. Several may work on one buffer at once, with one `Retries`.
 ///
-/// A chunk that waits after a failure is given back and the next is tried. A worker that finds none to try sleeps for ten
-/// milliseconds. A chunk whose retries are over is let go where the buffer allows it. After a chunk was carried it is purged
+/// A chunk that waits after a failure is given back and the next is tried. A worker that finds none to try sleeps until a chunk
+/// is queued, one that waits is due, or it is to stop; it looks for that each ten milliseconds, and is woken at once where one is
+/// queued. A chunk whose retries are over is let go where the buffer allows it. After a chunk was carried it is purged
 /// before `stop` is looked at. `Worked` counts what this worker did: whole rounds, in each of which the chunk that it claimed is
 /// purged, by what the courier gave for it or the end of its retries, or given back.
 ///

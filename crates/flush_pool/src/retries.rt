@@ -43,7 +43,7 @@ impl<A: Allocator + Copy> Retries<A> {
     pub(crate) fn forget<R: Wait>(&self, rt: &R, serial: u64) -> Forgotten
         ensures { result.serial ≡ serial }
     {
-        self.known.lock(rt).forget(serial)
+        self.known.lock(rt).forget(&self.settings, serial)
     }
 
     /// Forgets those of the next chunks that the buffer has no more.
@@ -71,12 +71,18 @@ impl<A: Allocator + Copy> Retries<A> {
             .judge(&self.settings, expires, serial, read)
     }
 
+    /// Whether a chunk that waits may be tried now, as far as that is known.
+    pub(crate) fn is_due<R: Wait + Clock>(&self, rt: &R) -> bool {
+        let read = read_clock(rt);
+        self.known.lock(rt).is_due_at(read)
+    }
+
     /// The chunk of this serial has failed once more, now. The error changes nothing.
     pub(crate) fn note<R: Wait + Clock>(&self, rt: &R, serial: u64) -> Result<Noted, AllocError>
         ensures { IfOk result (λ shown. shown.serial ≡ serial) }
     {
         let read = read_clock(rt);
-        self.known.lock(rt).note(serial, read)
+        self.known.lock(rt).note(&self.settings, serial, read)
     }
 }
 

@@ -12,7 +12,7 @@ use crate::acts::Outcome;
 use crate::courier::Courier;
 use crate::fault::CarryFault;
 use crate::gate::Gate;
-use crate::pass::Pass;
+use crate::pass::{Seen, Watch};
 use crate::verdict::Verdict;
 use crate::worked::Worked;
 use crate::worker::Worker;
@@ -32,7 +32,7 @@ where
     G: Gate,
 {
     /// Works until it is told to stop, and gives the counts of what it did. Each chunk that it claims is purged or given back
-    /// before it looks at anything else. It sleeps where no chunk is queued, or where it has seen all that wait. Asks for a
+    /// before it looks at anything else. It sleeps where no chunk is queued, or where all that are wait. Asks for a
     /// worker that did nothing yet.
     ///
     /// `Memory` and `Failed` end it earlier. The chunk of that round is given back; what was done before stands.
@@ -53,35 +53,48 @@ where
         ensures ended { HasEnded self.new.acts result }
     {
         let mut worked = Worked::new();
-        let mut pass = Pass::new();
+        let mut watch = Watch::new();
         for _ in self.handle().forever() {
             if self.is_stopped() {
                 return Ok(worked);
             }
+            let times = self.times_queued();
             let Some(claim) = self.claim()? else {
-                self.rest();
-                pass = Pass::new();
+                self.rest(times);
+                watch = Watch::new();
                 continue;
             };
             let serial = claim.serial();
             let outcome = self.settle(claim)?;
             worked = worked.with(outcome);
-            pass = self.next_pass(pass, serial, outcome);
+            watch = self.watch_on(watch, serial, outcome, times);
         }
         unreachable!()
     }
 
-    // The pass after this chunk. Where one has ended, the worker sleeps before the next.
-    fn next_pass(&self, pass: Pass, serial: u64, outcome: Outcome) -> Pass {
-        let Outcome::Waits(failed) = outcome else {
-            return Pass::new();
+    // What the worker knows of the queue behind this chunk, which was claimed at this count. Where all that is queued waits, it sleeps first.
+    fn watch_on(&self, watch: Watch, serial: u64, outcome: Outcome, times: u64) -> Watch {
+        let Outcome::Waits(others) = outcome else {
+            return watch.anew();
         };
-        match pass.then(serial, failed) {
-            Some(pass) => pass,
-            None => {
-                self.rest();
-                Pass::new()
-            }
+        match watch.behind(serial, others, times) {
+            Seen::Part(watch) => watch,
+            Seen::All(times) => self.rest_behind(times, others.due),
+        }
+    }
+
+    // Sleeps where all that was queued up to this count waits, or is in other workers' hands, and one that waits is due or isn't. What is due then has gone
+    // from the buffer, or is with another worker: so it looks again soon.
+    fn rest_behind(&self, times: u64, due: bool) -> Watch {
+        if due {
+            self.rest(times);
+            self.look_for_gone();
+            return Watch::after(times);
+        }
+        if self.rest_on(times) {
+            Watch::after(times)
+        } else {
+            Watch::new()
         }
     }
 
@@ -97,7 +110,7 @@ where
         match judged.verdict() {
             Verdict::Wait => {
                 self.give_back(claim);
-                Ok(Outcome::Waits(judged.failed()))
+                Ok(Outcome::Waits(judged.others()))
             }
             Verdict::GiveUp => {
                 let evidence = Evidence::expired(&claim);

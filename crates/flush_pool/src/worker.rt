@@ -23,11 +23,13 @@ use std::marker::Model;
 use std::snapshot::Snapshot;
 use std::sync::Wait;
 use std::sync::atomic::{AtomicBool, Ordering};
-use std::thread;
 use std::time::{Clock, Duration};
 
-/// For how many milliseconds a worker sleeps that finds nothing to do.
+/// For how many milliseconds a worker sleeps at most that finds nothing to do, before it looks again.
 const REST: u64 = 10;
+
+/// How often it sleeps so at most where all that is queued waits, before it looks at each chunk again: for ten seconds.
+const RESTS: u32 = 1_000;
 
 /// A worker at a shared buffer, with all that it shares with the others. Contracts see the buffer's name and what lets its
 /// chunks go, and what this worker did there, one act after another: that is kept for the proofs alone, and takes no memory.
@@ -253,7 +255,7 @@ where
         match self.retries.note(self.rt, claim.serial()) {
             Ok(noted) => {
                 self.write(&Deed::Noted(noted));
-                self.retries.look_for_gone(self.rt, self.buffer);
+                self.look_for_gone();
                 Ok(())
             }
             Err(fault) => {
@@ -272,8 +274,34 @@ where
         self.write(&Deed::Forgot(forgotten));
     }
 
-    /// Sleeps for a while.
-    pub(crate) fn rest(&self) {
-        thread::sleep(self.rt, Duration::from_millis(REST));
+    /// How often a chunk was queued.
+    pub(crate) fn times_queued(&self) -> u64 {
+        self.buffer.times_queued()
+    }
+
+    /// Sleeps for a while, or until a chunk is queued, where none was since that count.
+    pub(crate) fn rest(&self, times: u64) {
+        let most = Duration::from_millis(REST);
+        self.buffer.sleep_until_queued(self.rt, times, most);
+    }
+
+    /// Sleeps where all that was queued up to that count waits: until one that waits is due, a chunk is queued, or it is to stop. It gives no
+    /// yes where none of these came for long.
+    pub(crate) fn rest_on(&self, times: u64) -> bool {
+        for _ in 0..RESTS {
+            self.rest(times);
+            if self.stop.load(Ordering::SeqCst)
+                || self.times_queued() != times
+                || self.retries.is_due(self.rt)
+            {
+                return true;
+            }
+        }
+        false
+    }
+
+    /// Forgets failed chunks that the buffer has no more, a few at a time.
+    pub(crate) fn look_for_gone(&self) {
+        self.retries.look_for_gone(self.rt, self.buffer);
     }
 }

@@ -5,10 +5,11 @@ ghost use Rattle.std.specs.FinMap as map;
 ghost use Rattle.retry_waits.specs.Failed.{noted};
 ghost use Rattle.flush_pool.specs.Verdicts.{IsVerdict};
 
+use crate::acts::Others;
 use crate::verdict::{Verdict, judge};
 use retry_waits::{Failures, RetrySettings};
 use std::alloc::{AllocError, Allocator};
-use std::collections::VecDeque;
+use std::collections::{BTreeSet, VecDeque};
 
 /// The failures of a buffer's chunks.
 #[derive(Drop)]
@@ -16,6 +17,9 @@ pub(super) struct Known<A: Allocator> {
     failures: Failures<A>,
     /// Each of those chunks, the one that was looked at longest ago first. Where there was no memory to say so, one is missing.
     turns: VecDeque<u64, A>,
+    /// From when on each of those chunks that waits is to be looked at again, and its serial. One that is tried now isn't
+    /// among them, and where there was no memory to say so, one is missing.
+    due: BTreeSet<(u64, u64), A>,
     /// The latest time that a worker read, in milliseconds of the monotonic clock.
     latest: u64,
 }
@@ -26,7 +30,7 @@ pub(crate) struct Judgement {
     serial: u64,
     expires: bool,
     verdict: Verdict,
-    failed: usize,
+    others: Others,
 }
 
 /// That a failure of the chunk of this serial was noted.
@@ -49,11 +53,11 @@ impl Judgement {
         self.verdict
     }
 
-    /// How many chunks have failed and aren't forgotten: no more can wait.
-    pub(crate) fn failed(&self) -> usize
-        ensures { result ≡ self.now.failed }
+    /// What was known of the buffer's failed chunks.
+    pub(crate) fn others(&self) -> Others
+        ensures { result ≡ self.now.others }
     {
-        self.failed
+        self.others
     }
 }
 
@@ -63,6 +67,7 @@ impl<A: Allocator + Copy> Known<A> {
         Known {
             failures: Failures::new(alloc),
             turns: VecDeque::new(alloc),
+            due: BTreeSet::new(alloc),
             latest: 0,
         }
     }
@@ -85,21 +90,69 @@ impl<A: Allocator + Copy> Known<A> {
         ensures serial { result.serial ≡ serial }
         ensures expires { result.expires ≡ expires }
         ensures verdict { IsVerdict settings.now expires (map.get self.old.failures serial) self.new.latest result.verdict }
-        ensures failed { result.failed ≡ map.len self.old.failures }
+        ensures failed { result.others.failed ≡ map.len self.old.failures }
         ensures time { self.new.latest ≡ max self.old.latest (unwrap_or read 0) }
         ensures failures { self.new.failures ≡ self.old.failures }
     {
         self.latest = later(self.latest, read);
+        let verdict = judge(settings, &self.failures, expires, serial, self.latest);
+        if verdict != Verdict::Wait {
+            self.end_wait(settings, serial);
+        }
         Judgement {
             serial,
             expires,
-            verdict: judge(settings, &self.failures, expires, serial, self.latest),
-            failed: self.failures.chunk_count(),
+            verdict,
+            others: Others {
+                failed: self.failures.chunk_count(),
+                due: self.is_due(),
+            },
+        }
+    }
+
+    /// Whether a chunk that waits is due at this time, as far as that is known.
+    pub(super) fn is_due_at(&mut self, read: Option<u64>) -> bool
+        ensures { self.new.failures ≡ self.old.failures }
+    {
+        self.latest = later(self.latest, read);
+        self.is_due()
+    }
+
+    // Whether one that waits is due at the latest time, as far as that is known.
+    fn is_due(&self) -> bool {
+        match self.due.first() {
+            Some((due, _)) => *due <= self.latest,
+            None => false,
+        }
+    }
+
+    // The chunk of this serial waits no longer: it is tried, or it is gone.
+    fn end_wait(&mut self, settings: &RetrySettings, serial: u64)
+        ensures failures { self.new.failures ≡ self.old.failures }
+        ensures time { self.new.latest ≡ self.old.latest }
+    {
+        if let Some(moment) = self.failures.look(settings, serial) {
+            let _ = self.due.remove(&(moment, serial));
+        }
+    }
+
+    // The chunk of this serial waits from now on, after its last failure.
+    fn begin_wait(&mut self, settings: &RetrySettings, serial: u64)
+        ensures failures { self.new.failures ≡ self.old.failures }
+        ensures time { self.new.latest ≡ self.old.latest }
+    {
+        if let Some(moment) = self.failures.look(settings, serial) {
+            let _ = self.due.insert((moment, serial));
         }
     }
 
     /// One failure more of the chunk of this serial, at the time that was read. The error comes only at its first failure.
-    pub(super) fn note(&mut self, serial: u64, read: Option<u64>) -> Result<Noted, AllocError>
+    pub(super) fn note(
+        &mut self,
+        settings: &RetrySettings,
+        serial: u64,
+        read: Option<u64>,
+    ) -> Result<Noted, AllocError>
         ensures serial { IfOk result (λ shown. shown.serial ≡ serial) }
         ensures ok { IfOk result (λ shown. self.new.failures ≡ map.insert self.old.failures serial (noted self.new.latest (map.get self.old.failures serial))) }
         ensures err { OnErr result (self.new.failures ≡ self.old.failures) }
@@ -112,14 +165,16 @@ impl<A: Allocator + Copy> Known<A> {
         if self.failures.chunk_count() > count {
             let _ = self.turns.push_back(serial);
         }
+        self.begin_wait(settings, serial);
         Ok(Noted { serial })
     }
 
     /// Lets what is known of the failures of the chunk of this serial go.
-    pub(super) fn forget(&mut self, serial: u64) -> Forgotten
+    pub(super) fn forget(&mut self, settings: &RetrySettings, serial: u64) -> Forgotten
         ensures serial { result.serial ≡ serial }
         ensures forgotten { self.new.failures ≡ map.remove self.old.failures serial }
     {
+        self.end_wait(settings, serial);
         self.failures.forget(serial);
         Forgotten { serial }
     }
