@@ -40,9 +40,9 @@ sender_of settings dialer = record {
 abbrev pub IsToOne : List Endpoint → Origin → Type 0
 IsToOne servers origin = Contains (map WentTo servers) origin
 
--- the connection went to the first of these servers that takes one
-abbrev pub IsToFirst : (takes : Endpoint → Bool) → List Endpoint → Origin → Type 0
-IsToFirst takes servers origin = Some origin ≡ option_map WentTo (find takes servers)
+-- the connection went to the first of these servers that takes one, or there is none where none does
+abbrev pub IsToFirst : (takes : Endpoint → Bool) → List Endpoint → Option Origin → Type 0
+IsToFirst takes servers origin = origin ≡ option_map WentTo (find takes servers)
 
 -- The evidence names this chunk: where the output asks for acknowledgements it is that one came, and else that the chunk was written to the connection.
 abbrev pub NamesChunk : Bool → Claimed → Shows → Type 0

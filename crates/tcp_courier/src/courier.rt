@@ -1,8 +1,10 @@
 //! Chunks that go to another relay.
 
-ghost use Rattle.std.specs.Prelude.{◌≡◌, ◌⊎◌, List, ℕ, IfErr, IfOk, None, find, length, map};
+ghost use Rattle.std.specs.Prelude.{◌≡◌, ◌⊎◌, ◌+◌, ◌<◌, ◌^◌, List, ℕ, IfErr, IfOk, IfSome, None, Some, length, map, option_map};
+ghost use Rattle.std.specs.List.{position_from};
 ghost use Rattle.std.specs.Arc.{arc_value};
 ghost use Rattle.tcp_courier.specs.Carrying.{Delivers, IsToFirst, IsToOne, NamesChunk, endpoint_of, sender_of};
+ghost use Rattle.tcp_courier.specs.Turns.{by_server, in_turn, place_in_turn, turn_after, turn_behind};
 ghost use Rattle.tcp_courier.specs.Talks.{begun};
 ghost use Rattle.relay_sockets.specs.Drawing.{IsDrawn};
 ghost use Rattle.relay_sockets.specs.Traffics.{IsFresh};
@@ -16,7 +18,7 @@ use flush_pool::{CarryFault, ClaimView, Courier};
 use forward_core::ClientSession;
 use handshake_keys::{copied, shown};
 use relay_conf::{ForwardSettings, Security as Secret, Server};
-use relay_sockets::{Dialer, Endpoint, Nonces};
+use relay_sockets::{Dialer, Endpoint, Nonces, Wire};
 use std::alloc::{AllocError, Allocator};
 use std::marker::Model;
 use std::sync::atomic::AtomicBool;
@@ -25,7 +27,15 @@ use std::sync::{Arc, Mutex, Wait};
 /// How many bytes are read at once: the answers are short.
 const PIECE: usize = 4_096;
 
-/// Sends chunks to the first of its servers that takes a connection, one connection for each chunk. Contracts see what it connects
+/// With which of a courier's servers the next carry begins: with the one at this place of the list. Past
+/// the end of the list it is the first.
+#[derive(Clone, Copy, Debug, PartialEq, Eq)]
+pub struct Turn {
+    pub place: usize,
+}
+
+/// Sends chunks to the first of its servers that takes a connection, from the one whose turn it is on,
+/// round, with one connection for each chunk. All threads that carry share the turn. Contracts see what it connects
 /// by, its servers in listed order, the name and key that it shows in handshakes, whether it asks for acknowledgements, and how long it waits.
 #[derive(Drop)]
 pub struct TcpCourier<N, A: Allocator> {
@@ -38,6 +48,7 @@ pub struct TcpCourier<N, A: Allocator> {
     timeout: u64,
     stop: Arc<AtomicBool, A>,
     nonces: Mutex<Nonces>,
+    turn: Mutex<Turn>,
 }
 
 impl<N, A: Allocator> Model for TcpCourier<N, A> {
@@ -83,6 +94,7 @@ impl<N: Dialer + Drop, A: Allocator + Copy> TcpCourier<N, A> {
             timeout: settings.ack_response_timeout.saturating_mul(1_000),
             stop,
             nonces: Mutex::new(nonces),
+            turn: Mutex::new(Turn { place: 0 }),
         })
     }
 
@@ -97,14 +109,22 @@ impl<N: Dialer + Drop, A: Allocator + Copy> TcpCourier<N, A> {
         Ok(ClientSession::open(self.alloc, security, salt.into_bytes())?)
     }
 
-    // A connection to the first server that takes one.
-    fn connect(&self, until: u64) -> Result<N::Stream, CarryFault>
-        ensures one { IfOk result (λ stream. IsToOne self.now.servers (N.Stream.origin stream)) }
-        ensures fresh { IfOk result (λ stream. IsFresh (N.Stream.traffic stream)) }
-        ensures first { N.is_known self.now.dialer → IfOk result (λ stream. IsToFirst (N.takes self.now.dialer) self.now.servers (N.Stream.origin stream)) }
-        ensures none { N.is_known self.now.dialer → IfErr result (λ fault. (fault ≡ CarryFault.Memory) ⊎ ((fault ≡ CarryFault.NoServer) × (find (N.takes self.now.dialer) self.now.servers ≡ None))) }
+    // A connection to the first server that takes one, from the one whose turn it is on, round.
+    fn connect(&self, turn: Turn, until: u64) -> Result<Option<Reached<N::Stream>>, AllocError>
+        ensures one { IfOk result (λ found. IfSome found (λ r. IsToOne self.now.servers (N.Stream.origin r.stream))) }
+        ensures within { IfOk result (λ found. IfSome found (λ r. r.place < length self.now.servers)) }
+        ensures fresh { IfOk result (λ found. IfSome found (λ r. IsFresh (N.Stream.traffic r.stream))) }
+        ensures first { N.is_known self.now.dialer → IfOk result (λ found. IsToFirst (N.takes self.now.dialer) (in_turn turn.place self.now.servers)
+            (option_map (λ r. N.Stream.origin r.stream) found)) }
+        ensures place { N.is_known self.now.dialer → IfOk result (λ found.
+            option_map (λ r. r.place) found ≡ place_in_turn (N.takes self.now.dialer) self.now.servers turn.place) }
     {
-        first_of(&*self.dialer, &self.servers, until)
+        let at = turn.place.min(self.servers.len());
+        let (before, behind) = self.servers.split_at(at);
+        match first_of(&*self.dialer, behind, at, until)? {
+            Some(reached) => Ok(Some(reached)),
+            None => first_of(&*self.dialer, before, 0, until),
+        }
     }
 
     // Sends a chunk, and gives what shows that it was acknowledged, or else written.
@@ -147,8 +167,29 @@ impl<N: Dialer + Drop, A: Allocator + Copy> TcpCourier<N, A> {
         })
     }
 
-    /// Connects to the first server that takes a connection, shakes hands where there is a key, sends the chunk and, where the
-    /// output requires it, waits for its acknowledgement. It gives the connection besides what shows that.
+    // Reads the chunk's entries, and sends them.
+    fn read_and_send<R: Wait, D: Dir>(
+        &self,
+        rt: &R,
+        stream: N::Stream,
+        until: u64,
+        chunk: &ClaimView<'_, D, A>,
+    ) -> Result<Carried<N::Stream, A>, CarryFault>
+        requires fresh { IsFresh (N.Stream.traffic stream) }
+        ensures origin { IfOk result (λ carried. N.Stream.origin carried.stream ≡ N.Stream.origin stream) }
+        ensures names { IfOk result (λ carried. NamesChunk self.now.asks chunk.now carried.evidence) }
+        ensures delivers { IfOk result (λ carried. Delivers self.now chunk.now (N.Stream.traffic carried.stream)) }
+    {
+        let entries = chunk.entries(rt)?;
+        self.send(rt, stream, until, chunk, &entries)
+    }
+
+    /// Connects to the first server that takes a connection, from the one whose turn it is on, round; only then reads the
+    /// chunk. It shakes hands where there is a key, sends the chunk and, where the output requires it, waits for its
+    /// acknowledgement. It gives the connection besides what shows that.
+    ///
+    /// Behind a server that took the connection and then failed the carry (`NoServer`, `Timeout`, `Session`) it is
+    /// the turn of the next one of the list; else the turn stays.
     ///
     /// `NoServer`: no server took a connection, or it was lost. `Timeout`: the time for an answer has passed, or the relay
     /// stops. `Session`: what came is no part of a handshake, or no acknowledgement. `Device`: the chunk can't be read, or has more bytes than a message can. `Memory`.
@@ -156,49 +197,103 @@ impl<N: Dialer + Drop, A: Allocator + Copy> TcpCourier<N, A> {
         &self,
         rt: &R,
         chunk: &ClaimView<'_, D, A>,
+        turn: &mut Turn,
     ) -> Result<Carried<N::Stream, A>, CarryFault>
         ensures one { IfOk result (λ carried. IsToOne self.now.servers (N.Stream.origin carried.stream)) }
-        ensures first { N.is_known self.now.dialer → IfOk result (λ carried. IsToFirst (N.takes self.now.dialer) self.now.servers (N.Stream.origin carried.stream)) }
+        ensures first { N.is_known self.now.dialer → IfOk result (λ carried. IsToFirst (N.takes self.now.dialer) (in_turn turn.old.place self.now.servers)
+            (Some (N.Stream.origin carried.stream))) }
         ensures delivers { IfOk result (λ carried. Delivers self.now chunk.now (N.Stream.traffic carried.stream)) }
         ensures names { IfOk result (λ carried. NamesChunk self.now.asks chunk.now carried.evidence) }
+        // Where no server takes a connection, the chunk isn't read.
+        ensures unread { N.is_known self.now.dialer → place_in_turn (N.takes self.now.dialer) self.now.servers turn.old.place ≡ None
+            → IfErr result (λ fault. (fault ≡ CarryFault.NoServer) ⊎ (fault ≡ CarryFault.Memory)) }
+        ensures turn { N.is_known self.now.dialer
+            → turn.new.place ≡ turn_after (place_in_turn (N.takes self.now.dialer) self.now.servers turn.old.place) turn.old.place result }
     {
-        let entries = chunk.entries(rt)?;
         let until = self.dialer.now_after(0).saturating_add(self.timeout);
-        let stream = self.connect(until)?;
-        self.send(rt, stream, until, chunk, &entries)
+        let Some(Reached { stream, place }) = self.connect(*turn, until)? else {
+            return Err(CarryFault::NoServer);
+        };
+        match self.read_and_send(rt, stream, until, chunk) {
+            Ok(carried) => Ok(carried),
+            Err(fault) => {
+                turn.pass(place, fault);
+                Err(fault)
+            }
+        }
+    }
+}
+
+impl Turn {
+    // The server at this place took the connection, and the carry failed so.
+    fn pass(&mut self, place: usize, fault: CarryFault)
+        requires { place + 1 < 2 ^ 64 }
+        ensures { self.new.place ≡ turn_behind place self.old.place fault }
+    {
+        if is_of_server(fault) {
+            self.place = place + 1;
+        }
+    }
+}
+
+// Whether a carry that fails so behind the connecting fails by its server.
+fn is_of_server(fault: CarryFault) -> bool
+    ensures { result ≡ by_server fault }
+{
+    match fault {
+        CarryFault::NoServer | CarryFault::Timeout | CarryFault::Session(_) => true,
+        CarryFault::Device | CarryFault::Memory => false,
     }
 }
 
 impl<R: Wait, D: Dir, N: Dialer + Drop, A: Allocator + Copy> Courier<R, D, A> for TcpCourier<N, A> {
-    /// Carries a chunk as `carry_over` does, and closes the connection.
+    /// Carries a chunk as `carry_over` does, by the turn that all threads share, and closes the connection.
     fn carry(&self, rt: &R, chunk: &ClaimView<'_, D, A>) -> Result<Evidence<A>, CarryFault>
         ensures { IfOk result (NamesChunk self.now.asks chunk.now) }
     {
-        let Carried {
-            stream: _,
-            evidence,
-        } = self.carry_over(rt, chunk)?;
+        let began = *self.turn.lock(rt);
+        let mut turn = began;
+        let carried = self.carry_over(rt, chunk, &mut turn);
+        if turn != began {
+            *self.turn.lock(rt) = turn;
+        }
+        let Carried { stream, evidence } = carried?;
+        if self.asks {
+            // All was answered, and nothing more is expected.
+            stream.break_off();
+        }
         Ok(evidence)
     }
 }
 
-// A connection to the first of these servers that takes one.
+// A connection that a server took, and the server's place in the list.
+struct Reached<S> {
+    stream: S,
+    place: usize,
+}
+
+// A connection to the first of these servers that takes one; the first of them has this place in the list.
 fn first_of<N: Dialer, A: Allocator>(
     dialer: &N,
     servers: &[Endpoint<A>],
+    from: usize,
     until: u64,
-) -> Result<N::Stream, CarryFault>
-    ensures one { IfOk result (λ stream. IsToOne servers.now (N.Stream.origin stream)) }
-    ensures fresh { IfOk result (λ stream. IsFresh (N.Stream.traffic stream)) }
-    ensures first { N.is_known dialer.now → IfOk result (λ stream. IsToFirst (N.takes dialer.now) servers.now (N.Stream.origin stream)) }
-    ensures none { N.is_known dialer.now → IfErr result (λ fault. (fault ≡ CarryFault.Memory) ⊎ ((fault ≡ CarryFault.NoServer) × (find (N.takes dialer.now) servers.now ≡ None))) }
+) -> Result<Option<Reached<N::Stream>>, AllocError>
+    requires { from + length servers.now < 2 ^ 64 }
+    ensures one { IfOk result (λ found. IfSome found (λ r. IsToOne servers.now (N.Stream.origin r.stream))) }
+    ensures within { IfOk result (λ found. IfSome found (λ r. r.place < from + length servers.now)) }
+    ensures fresh { IfOk result (λ found. IfSome found (λ r. IsFresh (N.Stream.traffic r.stream))) }
+    ensures first { N.is_known dialer.now → IfOk result (λ found. IsToFirst (N.takes dialer.now) servers.now (option_map (λ r. N.Stream.origin r.stream) found)) }
+    ensures place { N.is_known dialer.now → IfOk result (λ found. option_map (λ r. r.place) found ≡ position_from (N.takes dialer.now) from servers.now) }
 {
+    let mut place = from;
     for server in servers {
         if let Some(stream) = dialer.connect(server.host(), server.port(), until)? {
-            return Ok(stream);
+            return Ok(Some(Reached { stream, place }));
         }
+        place += 1;
     }
-    Err(CarryFault::NoServer)
+    Ok(None)
 }
 
 // Where these servers are, in their order.

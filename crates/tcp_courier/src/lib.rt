@@ -5,6 +5,6 @@ mod courier;
 mod exchange;
 mod line;
 
-pub use courier::{Carried, TcpCourier};
+pub use courier::{Carried, TcpCourier, Turn};
 pub use exchange::deliver;
 pub use line::Line;
