@@ -1,5 +1,5 @@
 -- The connections of a relay's loop, and the sources that they came in at.
-use Rattle.std.specs.Prelude.{ℕ, ◌≡◌, ◌<◌, ◌≤◌, ◌⊎◌, ◌++◌, Bool, false, true, List, [], length, map, Option, Some, IfSome, slice_get, slice_index_or, string_bytes}
+use Rattle.std.specs.Prelude.{ℕ, zero, suc, ◌≡◌, ◌<◌, ◌≤◌, ◌⊎◌, ◌++◌, Bool, false, true, List, [], length, map, Option, Some, IfSome, slice_get, slice_index_or, string_bytes}
 use Rattle.std.specs.List.{All, AllZip}
 use Rattle.relay_conf.specs.declared.relay.Relay.{Relay}
 use Rattle.relay_conf.specs.declared.relay.Source.{Source}
@@ -100,6 +100,15 @@ pub record MayRead (connection : ConnectionState) : Type 0 where
   pub whole : connection.is_broken ≡ false
   pub wants : connection.peer.closing ≡ false
   pub taken : length connection.peer.session.outgoing ≤ most_outgoing
+
+-- how many pieces a turn reads from a connection at most
+abbrev pub most_pieces : ℕ
+most_pieces = 4
+
+-- So many pieces came over a connection, one after another: each while it might be read, and the session was told each before the next one came.
+abbrev pub AreReceived : ℕ → ConnectionState → ConnectionState → Type 0
+AreReceived zero old new = new ≡ old
+AreReceived (suc pieces) old new = (between : ConnectionState) × AreReceived pieces old between × MayRead between × IsReceived between new
 
 -- what is outgoing was written, as far as the stream takes it for now
 abbrev pub IsFlushed : ConnectionState → Type 0

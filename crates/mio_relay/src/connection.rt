@@ -1,9 +1,9 @@
 //! A client's connection: its stream, its session, and what is known of the stream.
 
-ghost use Rattle.std.specs.Prelude.{◌≡◌, ◌≤◌, ◌+◌, ◌⊎◌, Err, IsErr, Ok, OnErr, OnOk, false, true, length, take};
+ghost use Rattle.std.specs.Prelude.{ℕ, ◌≡◌, ◌≤◌, ◌+◌, ◌⊎◌, Err, IsErr, Ok, OnErr, OnOk, false, true, length, take};
 ghost use Rattle.buffer_lanes.specs.Lanes.{KeepsLanes, NoneLater};
 ghost use Rattle.loop_core.specs.declared.fault.LoopFault.TheVariants as ends;
-ghost use Rattle.mio_relay.specs.Connections.{Brings, ConnectionState, IsFlushed, IsReceived, IsSameConnection, IsSettled, IsWrittenOn, MayClose, MayRead};
+ghost use Rattle.mio_relay.specs.Connections.{AreReceived, Brings, ConnectionState, IsFlushed, IsReceived, IsSameConnection, IsSettled, IsWrittenOn, MayClose, MayRead, most_pieces};
 
 use ack_receipt::Numbers;
 use buffer_lanes::Lanes;
@@ -33,6 +33,9 @@ impl From<NoNumber> for LoopFault {
 
 /// A connection with more bytes outgoing than this isn't read.
 const MOST_OUTGOING: usize = 1_048_576;
+
+/// How many pieces a turn reads from a connection; then the others have their turn.
+const MOST_PIECES: usize = 4;
 
 /// A client's stream with its session. Contracts see where the stream came in and what went over it, the session, and whether the stream
 /// failed or takes no bytes for now.
@@ -116,7 +119,7 @@ impl<S: Wire, A: Allocator + Copy> Connection<S, A> {
             && self.peer.outgoing().len() <= MOST_OUTGOING
     }
 
-    /// Reads a piece, if there is one, and has it received.
+    /// Reads up to four pieces, while there are some, and has each received before the next one is read.
     ///
     /// The error is that the numbers of deliveries have run out. Where what came may be lost for want of memory, the connection is to be
     /// closed: its client is to send again.
@@ -132,14 +135,36 @@ impl<S: Wire, A: Allocator + Copy> Connection<S, A> {
         ensures lanes { KeepsLanes lanes.old lanes.new }
         // Nothing is read of a connection that wants no reading.
         ensures only { MayRead self.old ⊎ ((result ≡ Ok tt) × (self.new ≡ self.old)) }
-        ensures received { OnOk result (IsReceived self.old self.new) }
+        // Each piece that came was received, in order, and no more than a turn has for one connection.
+        ensures received { OnOk result ((pieces : ℕ) × (pieces ≤ most_pieces) × AreReceived pieces self.old self.new) }
         // Each message that was demanded got its number, unless the connection is to be closed.
         ensures numbered { OnOk result ((numbers.new + length self.old.peer.session.asked ≡ numbers.old + length self.new.peer.session.asked)
             ⊎ (self.new.is_broken ≡ true)) }
     {
-        if !self.wants_reading() {
-            return Ok(());
+        for _pieces in 0..MOST_PIECES {
+            if !self.wants_reading() {
+                return Ok(());
+            }
+            self.receive_piece(rt, alloc, piece, lanes, numbers)?;
         }
+        Ok(())
+    }
+
+    // Reads a piece, if there is one, and has it received.
+    fn receive_piece<R: Wait, D: Dir + Drop>(
+        &mut self,
+        rt: &R,
+        alloc: A,
+        piece: &mut [u8],
+        lanes: &mut Lanes<D, A>,
+        numbers: &mut Numbers,
+    ) -> Result<(), NoNumber>
+        ensures same { IsSameConnection self.old self.new }
+        ensures lanes { KeepsLanes lanes.old lanes.new }
+        ensures received { OnOk result (IsReceived self.old self.new) }
+        ensures numbered { OnOk result ((numbers.new + length self.old.peer.session.asked ≡ numbers.old + length self.new.peer.session.asked)
+            ⊎ (self.new.is_broken ≡ true)) }
+    {
         let n = self.read_piece(piece);
         if n == 0 {
             return Ok(());

@@ -117,7 +117,7 @@ impl<S: Wire + Drop, A: Allocator + Copy> Connections<S, A> {
         }
     }
 
-    /// Reads a piece for the connection at this key, if its stream has one, and has it received. See `Connection::read`.
+    /// Reads a few pieces for the connection at this key, if its stream has some, and has them received. See `Connection::read`.
     pub fn read<R: Wait, D: Dir + Drop>(
         &mut self,
         key: usize,

@@ -245,8 +245,8 @@ impl<N: Network + Drop, D: Dir + Drop, A: Allocator + Copy> InLoop<N, D, A> {
         self.lanes.keep_stubs(self.alloc);
     }
 
-    /// Waits for sockets for at most ten milliseconds, and does what is to be done: takes connections in, reads at most one
-    /// piece from each, appends each message's entries to its buffers, makes one sync for each buffer that needs one, and then
+    /// Waits for sockets for at most ten milliseconds, and does what is to be done: takes connections in, reads at most four
+    /// pieces from each, appends each message's entries to its buffers, makes one sync for each buffer that needs one, and then
     /// answers.
     ///
     /// Each delivery that began is acknowledged or abandoned when it returns, but for those whose receipts there was no memory

@@ -60,7 +60,7 @@ impl<N: Network + Drop, D: Dir + Drop, A: Allocator + Copy> InLoop<N, D, A> {
         note_all(&self.notes, &mut self.ready, &mut self.connections);
     }
 
-    // Reads a piece from each connection that has one. The error is that the numbers of deliveries have run out.
+    // Reads what came from each connection, a few pieces at most. The error is that the numbers of deliveries have run out.
     pub(crate) fn read_all<R: Wait>(&mut self, rt: &R) -> Result<(), NoNumber>
         ensures { Stays self.old self.new }
     {

@@ -1,11 +1,30 @@
-use Rattle.std.proofs.Common.{◌∙◌, ap, take}
-use Rattle.mio_relay.specs.Connections.{ConnectionState}
-use Rattle.mio_relay.proofs.Reading.{is_received}
+use Rattle.std.proofs.Common.{inl, inr, refl}
+use Rattle.mio_relay.proofs.Reading.{lanes_more, may_at_first, numbered_more, received_more, same_more}
 use Rattle.mio_relay.proofs.connection.Connection.read.Goals as goal
 
-pub returns-clause-received : goal.returns-clause-received
-returns-clause-received g c =
-    is_received c.args.self.now c.read_piece-n.new.self c.heed.new.self (take c.read_piece-n.result c.read_piece-n.new.piece) c.split_at.result.0.now c.self.inside.peer
-    c.receive-received.new.self c.receive-received.result c.heed.result c.read_piece-n.ensures.came
-    (ap (λ (s : ConnectionState). s.traffic) c.heed.ensures.rest ∙ ap (λ (s : ConnectionState). s.traffic) c.self.view_is) c.split_at.ensures.front
-    (ap (λ (s : ConnectionState). s.peer) c.self.view_is) (ap (λ (s : ConnectionState). s.peer) c.heed.ensures.rest) c.receive-received.ensures.read c.heed.ensures.lost
+pub loop-pieces-preserved : goal.loop-pieces-preserved
+loop-pieces-preserved g c =
+    let was = c.loop-pieces.invariant in
+    let may = c.wants_reading.ensures c.if-not-wants_reading.false in
+    record {
+      same = same_more _ _ _ was.same c.in_ok-receive_piece.ensures.same;
+      lanes = lanes_more _ _ _ was.lanes c.in_ok-receive_piece.ensures.lanes;
+      only = inl (may_at_first _ _ was.only may);
+      received = received_more _ _ _ _ was.received may c.in_ok-receive_piece.ensures.received;
+      numbered = numbered_more c.args.self.now c.loop-pieces.self c.receive_piece.new.self _ _ _ may was.numbered c.in_ok-receive_piece.ensures.numbered;
+    }
+
+pub returns-in_err-receive_piece-clause-same : goal.returns-in_err-receive_piece-clause-same
+returns-in_err-receive_piece-clause-same g c = same_more _ _ _ c.loop-pieces.invariant.same c.in_err-receive_piece.ensures.same
+
+pub returns-in_err-receive_piece-clause-lanes : goal.returns-in_err-receive_piece-clause-lanes
+returns-in_err-receive_piece-clause-lanes g c = lanes_more _ _ _ c.loop-pieces.invariant.lanes c.in_err-receive_piece.ensures.lanes
+
+pub returns-in_err-receive_piece-clause-only : goal.returns-in_err-receive_piece-clause-only
+returns-in_err-receive_piece-clause-only g c = inl (may_at_first _ _ c.loop-pieces.invariant.only (c.wants_reading.ensures c.if-not-wants_reading.false))
+
+pub returns-then-not-wants_reading-clause-only : goal.returns-then-not-wants_reading-clause-only
+returns-then-not-wants_reading-clause-only g c = elim c.loop-pieces.invariant.only [ inl may ↦ inl may | inr same ↦ inr (refl, same) ]
+
+pub returns-clause-only : goal.returns-clause-only
+returns-clause-only g c = elim c.loop-pieces.invariant.only [ inl may ↦ inl may | inr same ↦ inr (refl, same) ]
