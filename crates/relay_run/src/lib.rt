@@ -2,6 +2,7 @@
 #![tactic(auto)]
 
 mod flush;
+mod held;
 mod relay;
 mod running;
 

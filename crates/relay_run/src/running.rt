@@ -5,9 +5,11 @@ ghost use Rattle.relay_run.specs.Running.{Continues, IsPoolOf, first_fault, rela
 ghost use Rattle.relay_run.specs.Starting.{ready_lines};
 
 use crate::flush::{Folder, Home, Pool, PoolEnd, copy_of};
+use crate::held::HeldFolder;
+use buffer_store::BufferFault;
 use loop_core::LoopFault;
 use mio_relay::{BoundRelay, Ended, InLoop, OpenRelay, ReadyPorts};
-use relay_buffers::{DeliveryJob, SystemFolders};
+use relay_buffers::{DeliveryJob, Folders, SystemFolders};
 use relay_sockets::SocketNetwork;
 use std::alloc::{AllocError, Allocator, Global};
 use std::marker::Model;
@@ -32,6 +34,7 @@ pub struct Running<R: Net + Clock + Clone + Drop> {
     // The lines that say that it is ready.
     ready: Vec<u8>,
     stop: Arc<AtomicBool>,
+    held: HeldFolder,
 }
 
 impl<R: Net + Clock + Clone + Drop> Model for Running<R> {
@@ -126,7 +129,7 @@ where
 {
     /// Opens the buffers of a relay that listens, and what delivers the chunks of each of its outputs, with files there.
     ///
-    /// `Buffer`: a buffer, a sink, or the folders, can't be opened. `NoNumber`: a buffer has no number of 32 bits. `Poll`: the system gives no
+    /// `Buffer`: a buffer, a sink, or the folders, can't be opened, or another relay has its files there. `NoNumber`: a buffer has no number of 32 bits. `Poll`: the system gives no
     /// random bytes. `Memory`.
     pub fn open(
         rt: &R,
@@ -141,6 +144,7 @@ where
             alloc: rt.alloc(),
             path: home.path,
         };
+        let held = hold(&folders, home)?;
         let OpenRelay {
             turning,
             jobs,
@@ -153,6 +157,7 @@ where
                 pools,
                 ready,
                 stop,
+                held,
             }),
             Err(fault) => {
                 stop.store(true, Ordering::SeqCst);
@@ -173,6 +178,7 @@ where
             pools,
             ready: _,
             stop,
+            held: _held,
         } = self;
         let mut threads = Vec::new(rt.alloc());
         let started = start_all(rt, pools, &mut threads);
@@ -191,6 +197,17 @@ where
             ends: ends?,
         })
     }
+}
+
+// Makes the folder ready, and takes it, before a file in it is touched.
+fn hold(
+    folders: &SystemFolders<'_, HostRuntime, Global>,
+    home: Home<'_>,
+) -> Result<HeldFolder, LoopFault> {
+    if !folders.make_ready() {
+        return Err(LoopFault::Buffer(BufferFault::Fault));
+    }
+    HeldFolder::take(home.files, home.path)
 }
 
 // What delivers the chunks of each output, and the lines that say that the sources are ready.
