@@ -223,8 +223,8 @@ fn adapted_names<A: Allocator + Copy>(
     Ok(shown)
 }
 
-// The same, lent.
-fn lent_names<A: Allocator + Copy>(
+/// Texts, lent.
+pub(crate) fn lent_names<A: Allocator + Copy>(
     alloc: A,
     names: &[String<A>],
 ) -> Result<Vec<&str, A>, AllocError> {

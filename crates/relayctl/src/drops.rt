@@ -21,6 +21,21 @@ pub enum DropNames<'t, A: Allocator> {
     Misspelt(&'t str),
 }
 
+/// Adds the lines of a text that stand for names of matches, without blanks round them: all but empty ones and those that begin with `#`.
+pub fn add_listed<A: Allocator + Copy>(
+    alloc: A,
+    text: &str,
+    words: &mut Vec<String<A>, A>,
+) -> Result<(), AllocError> {
+    for line in text.lines() {
+        let word = line.trim();
+        if !word.is_empty() && !word.as_bytes().starts_with(b"#") {
+            words.push(format!(in alloc; "{word}")?)?;
+        }
+    }
+    Ok(())
+}
+
 /// Reads the names of matches. The only error is want of memory.
 pub fn read_names<'t, A: Allocator>(
     alloc: A,

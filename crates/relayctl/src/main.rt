@@ -11,15 +11,16 @@ mod label;
 mod listing;
 mod words;
 
-use check::{run_adapted_check, run_check};
+use check::{lent_names, run_adapted_check, run_check};
 use conf_listing::run_adapt;
 use deliberate_drops::DropName;
 use draw::run_draw;
-use drops::{DropNames, print_misspelt, read_names};
+use drops::{DropNames, add_listed, print_misspelt, read_names};
 use explain::run_explain;
 use folder_listing::{DataFolder, run_show};
 use label::{run_fresh_label, run_label};
-use program_text::{Folder, ReadFault, Status, print_version, put_last};
+use plan_answers::{Stop, print_stop};
+use program_text::{Folder, ReadFault, Status, print_version, put_last, read_whole};
 use route_listing::run_ways;
 use std::alloc::{AllocError, Allocator};
 use std::io::{ErrorKind, Write};
@@ -28,15 +29,16 @@ use std::{env, io};
 use words::{CheckWords, Word, read_word};
 
 const USAGE: &str =
-    "usage: relayctl check NET [--drop MATCH].. | check --adapt NET [--accept NAME].. [--drop MATCH].. | label [--fresh] NET | explain NET | draw NET [--dot] | ways CONF TAG.. | adapt CONF [--accept NAME].. | show DIR | --help | --version";
+    "usage: relayctl check NET [--drop MATCH].. [--drops FILE].. | check --adapt NET [--accept NAME].. [--drop MATCH].. [--drops FILE].. | label [--fresh] NET | explain NET | draw NET [--dot] | ways CONF TAG.. | adapt CONF [--accept NAME].. | show DIR | --help | --version";
 
 const HELP: &str =
-    "usage: relayctl check NET [--drop MATCH].. | check --adapt NET [--accept NAME].. [--drop MATCH].. | label [--fresh] NET | explain NET | draw NET [--dot] | ways CONF TAG.. | adapt CONF [--accept NAME].. | show DIR | --help | --version
+    "usage: relayctl check NET [--drop MATCH].. [--drops FILE].. | check --adapt NET [--accept NAME].. [--drop MATCH].. [--drops FILE].. | label [--fresh] NET | explain NET | draw NET [--dot] | ways CONF TAG.. | adapt CONF [--accept NAME].. | show DIR | --help | --version
 
 check NET        labels the plan NET, and prints `yes`, with warnings of what may keep events from
                  arriving, or every rule that is broken then, each with what it means, what mends
                  it, and steps that lose an event; --drop RELAY:SCOPE:INDEX says that what comes to
-                 this match may go, which is named as by its reach line
+                 this match may go, which is named as by its reach line; --drops FILE says so of
+                 each line of a file
 check --adapt NET    the same of the plan NET with its configurations adapted, as adapt does it;
                  --accept NAME accepts a change of what a relay does
 label NET        prints the plan NET with the label and reach lines that it lacks; --fresh: those
@@ -110,10 +112,54 @@ fn check_plan<'a, A: Allocator, W: Write>(
     asked: &CheckWords<'a, A>,
     out: &mut W,
 ) -> Status {
-    match read_names(rt.alloc(), &asked.drops) {
+    match drop_words(rt, folder, &asked.drops, &asked.lists) {
+        Ok(words) => match lent_names(rt.alloc(), &words) {
+            Ok(lent) => check_words(rt, folder, asked, &lent, out),
+            Err(AllocError) => no_answer(rt, ReadFault::Memory),
+        },
+        Err(fault) => no_answer(rt, fault),
+    }
+}
+
+// Says on standard error why a plan has no answer.
+fn no_answer(rt: &HostRuntime, fault: ReadFault) -> Status {
+    print_stop(rt.alloc(), Stop::Unread(fault), &mut rt.stderr())
+}
+
+// The words that name matches: those of the command, and behind them those of the files at these paths. A file that isn't UTF-8 is one that
+// can't be read.
+fn drop_words<'a>(
+    rt: &HostRuntime,
+    folder: &Folder<'a>,
+    drops: &[&'a str],
+    lists: &[&'a str],
+) -> Result<Vec<String>, ReadFault> {
+    let mut words = Vec::new(rt.alloc());
+    for word in drops {
+        words.push(format!(in rt.alloc(); "{word}")?)?;
+    }
+    for path in lists {
+        let text = read_whole(rt.alloc(), &mut folder.text(path))?;
+        match String::from_utf8(text) {
+            Ok(text) => add_listed(rt.alloc(), &text, &mut words)?,
+            Err(_) => return Err(ReadFault::Read),
+        }
+    }
+    Ok(words)
+}
+
+// The same with the words that name matches.
+fn check_words<'a, A: Allocator, W: Write>(
+    rt: &'a HostRuntime,
+    folder: &Folder<'a>,
+    asked: &CheckWords<'a, A>,
+    words: &[&str],
+    out: &mut W,
+) -> Status {
+    match read_names(rt.alloc(), words) {
         Ok(DropNames::Read(names)) => check_named(rt, folder, asked, &names, out),
         Ok(DropNames::Misspelt(word)) => print_misspelt(rt.alloc(), word, &mut rt.stderr()),
-        Err(AllocError) => put_last(&mut rt.stderr(), b"fault memory\n", Status::Usage),
+        Err(AllocError) => no_answer(rt, ReadFault::Memory),
     }
 }
 

@@ -39,6 +39,8 @@ pub struct CheckWords<'a, A: Allocator> {
     pub accepted: Vec<String<A>, A>,
     /// At which matches events may go on purpose: what stands behind each `--drop`.
     pub drops: Vec<&'a str, A>,
+    /// The paths of files with such names: what stands behind each `--drops`.
+    pub lists: Vec<&'a str, A>,
 }
 
 /// Reads the words, of which the first is the program's own name. `None` where they ask for nothing that there is. The only error is want
@@ -81,6 +83,8 @@ enum Awaited {
     Accepted,
     // The name of a match.
     Match,
+    // The path of a file with names of matches.
+    List,
 }
 
 // What was read so far of the words behind `check`.
@@ -91,11 +95,12 @@ struct CheckReader<'a, A: Allocator> {
     adapts: bool,
     accepted: Vec<String<A>, A>,
     drops: Vec<&'a str, A>,
+    lists: Vec<&'a str, A>,
     awaited: Awaited,
 }
 
-// Reads what stands behind `check`, in any order: a path, `--adapt`, `--drop` and a match as often as wanted, and so `--accept` and a name, where
-// `--adapt` is there.
+// Reads what stands behind `check`, in any order: a path, `--adapt`, `--drop` and a match as often as wanted, so `--drops` and the path of a file
+// of matches, and so `--accept` and a name, where `--adapt` is there.
 fn check_word<A: Allocator + Copy>(
     alloc: A,
     words: &[String],
@@ -106,6 +111,7 @@ fn check_word<A: Allocator + Copy>(
         adapts: false,
         accepted: Vec::new(alloc),
         drops: Vec::new(alloc),
+        lists: Vec::new(alloc),
         awaited: Awaited::Nothing,
     };
     for word in words {
@@ -123,6 +129,7 @@ impl<'a, A: Allocator + Copy> CheckReader<'a, A> {
             Awaited::Nothing => return Ok(self.begin(word)),
             Awaited::Accepted => self.accepted.push(format!(in self.alloc; "{word}")?)?,
             Awaited::Match => self.drops.push(word)?,
+            Awaited::List => self.lists.push(word)?,
         }
         self.awaited = Awaited::Nothing;
         Ok(true)
@@ -133,6 +140,7 @@ impl<'a, A: Allocator + Copy> CheckReader<'a, A> {
         match word {
             "--accept" => self.awaited = Awaited::Accepted,
             "--drop" => self.awaited = Awaited::Match,
+            "--drops" => self.awaited = Awaited::List,
             "--adapt" if !self.adapts => self.adapts = true,
             path if !is_option(path) && self.net.is_none() => self.net = Some(path),
             _ => return false,
@@ -150,6 +158,7 @@ impl<'a, A: Allocator + Copy> CheckReader<'a, A> {
             adapts: self.adapts,
             accepted: self.accepted,
             drops: self.drops,
+            lists: self.lists,
         }))
     }
 }
