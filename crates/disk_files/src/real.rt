@@ -1,12 +1,12 @@
 //! A folder of the system.
 
-ghost use Rattle.std.specs.Prelude.{◌≡◌, ◌≢◌, ◌⊎◌, ℕ, Err, ◌≤◌, ◌<◌, Some, None, IsSome, IfSome, IfOk, OnErr, length, slice_get};
+ghost use Rattle.std.specs.Prelude.{◌≡◌, ◌≢◌, ◌⊎◌, ℕ, Err, ◌≤◌, ◌<◌, Some, None, IsSome, IfSome, IfOk, IfErr, OnErr, length, slice_get};
 ghost use Rattle.disk_files.specs.declared.dir.FileNo.{FileNo};
 ghost use Rattle.disk_files.specs.Faults.{HasCause, Rises};
 ghost use Rattle.disk_files.specs.Real.{open_name};
 
 use crate::{Dir, DirError, FileName, FileNo};
-use std::alloc::{AllocError, Allocator};
+use std::alloc::{AllocError, AllocFailed, Allocator};
 use std::fs::{OpenFile as _, OpenOptions};
 use std::io::{ErrorKind, Write};
 use std::os::unix::fs::FileExt;
@@ -52,17 +52,22 @@ where
         Ok(dir)
     }
 
-    /// The folder of this path, which has to be there by the first call.
-    pub fn new(rt: R, alloc: A, path: &str) -> Result<RealDir<R, A>, AllocError>
-        ensures { IfOk result (λ d. ⟦<RealDir<R, A> as Dir>⟧.fault_count d ≡ 0) }
+    /// The folder of this path, which has to be there by the first call. The error is want of memory, and has the runtime
+    /// again.
+    pub fn new(rt: R, alloc: A, path: &str) -> Result<RealDir<R, A>, AllocFailed<R>>
+        ensures count { IfOk result (λ d. ⟦<RealDir<R, A> as Dir>⟧.fault_count d ≡ 0) }
+        ensures value_returned { IfErr result (λ failed. failed.value ≡ rt) }
     {
-        Ok(RealDir {
-            rt,
-            alloc,
-            path: String::from_str(alloc, path)?,
-            files: Vec::new(alloc),
-            faults: 0,
-        })
+        match String::from_str(alloc, path) {
+            Ok(path) => Ok(RealDir {
+                rt,
+                alloc,
+                path,
+                files: Vec::new(alloc),
+                faults: 0,
+            }),
+            Err(AllocError) => Err(AllocFailed { value: rt }),
+        }
     }
 
     // Counts a refusal.
@@ -122,6 +127,7 @@ where
                 Ok(FileNo(at))
             }
             Err(error) if error.kind() == kind => Err(self.refuse(refusal)),
+            Err(error) if error.kind() == ErrorKind::OutOfMemory => Err(DirError::Memory),
             Err(_) => Err(self.refuse(DirError::Fault)),
         }
     }

@@ -30,10 +30,11 @@ where
     A: Allocator + Copy,
     ensures { IfOk result (λ placed. option_map string_bytes placed.path ≡ Some path.now) }
 {
-    Ok(PlacedDir {
-        dir: RealDir::new(rt, alloc, path)?,
-        path: Some(String::from_str(alloc, path)?),
-    })
+    let Ok(dir) = RealDir::new(rt, alloc, path) else {
+        return Err(AllocError);
+    };
+    let path = Some(String::from_str(alloc, path)?);
+    Ok(PlacedDir { dir, path })
 }
 
 /// An empty folder in memory.
