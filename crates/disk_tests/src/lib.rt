@@ -6,4 +6,6 @@ mod folders;
 #[cfg(test)]
 mod numbering;
 #[cfg(test)]
+mod rotations;
+#[cfg(test)]
 mod sinks;

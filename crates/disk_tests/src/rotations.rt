@@ -1,0 +1,100 @@
+//! A sink that stays open: when its next file is begun, and that it takes entries again behind a failure.
+
+use disk_files::{Dir, Fuse, MemoryDir};
+use event_modes::Entries;
+use numbered_files::read_file;
+use sink_rotation::{FileLimits, Rotation};
+use sink_series::{Series, SeriesFault};
+use std::alloc::Global;
+use std::test::Fail;
+
+const LIMITS: FileLimits = FileLimits {
+    bytes: 6,
+    millis: 1_000,
+    pause: 50,
+};
+
+const ENTRY: &[u8] = b"\x92\x01\x80";
+
+// Writes one entry of three bytes at this time. Whether it is taken.
+fn write<D: Dir>(
+    alloc: Global,
+    sink: Rotation<D, Global>,
+    time: u64,
+) -> Result<(Rotation<D, Global>, bool), SeriesFault>
+where
+    D: Drop,
+{
+    let Some(entries) = Entries::read(alloc, ENTRY, 1)? else {
+        return Ok((sink, false));
+    };
+    let (sink, stored) = sink.write_all_entries(time, b"a", &entries);
+    Ok((sink, stored.is_ok()))
+}
+
+// Writes an entry at each of these times: how many are taken, whether the last is, and the folder then.
+fn written<D: Dir + Drop>(
+    alloc: Global,
+    dir: D,
+    times: &[u64],
+) -> Result<(usize, bool, D), SeriesFault> {
+    let mut sink = Rotation::open(alloc, dir, b"out", LIMITS, 0).map_err(|(fault, _)| fault)?;
+    let mut taken: usize = 0;
+    let mut is_last_taken = false;
+    for time in times {
+        let (next, is_taken) = write(alloc, sink, *time)?;
+        sink = next;
+        is_last_taken = is_taken;
+        if is_taken {
+            taken = taken.saturating_add(1);
+        }
+    }
+    Ok((taken, is_last_taken, sink.into_dir()))
+}
+
+// How many bytes the file of this name has.
+fn length_of<D: Dir>(alloc: Global, dir: &mut D, name: &[u8]) -> Option<usize> {
+    let file = dir.open(name).ok()?;
+    Some(read_file(alloc, dir, file).ok()?.len())
+}
+
+// How many bytes the first three files have, where entries are written at these times.
+fn lengths(alloc: Global, times: &[u64]) -> Result<[Option<usize>; 3], SeriesFault> {
+    let (_, _, dir) = written(alloc, MemoryDir::new(alloc), times)?;
+    let mut dir = dir;
+    Ok([
+        length_of(alloc, &mut dir, b"out.0000000001.sink"),
+        length_of(alloc, &mut dir, b"out.0000000002.sink"),
+        length_of(alloc, &mut dir, b"out.0000000003.sink"),
+    ])
+}
+
+#[test]
+fn next_files(rt: HostRuntime) -> Result<(), Fail> {
+    let alloc = rt.alloc();
+    // Two items of five bytes have six of entries.
+    assert_eq!(rt; lengths(alloc, &[0, 1, 2])?, [Some(10), Some(5), None]);
+    assert_eq!(rt; lengths(alloc, &[0, 999])?, [Some(10), None, None]);
+    assert_eq!(rt; lengths(alloc, &[0, 1_000, 1_001])?, [Some(5), Some(10), None]);
+    assert_eq!(rt; lengths(alloc, &[5_000, 5_001])?, [Some(5), Some(5), None]);
+    Ok(())
+}
+
+// Whether a sink whose folder fails one call, behind so many, takes entries again after the pause, and has all that it took. True too
+// where it can't be opened.
+fn recovers(alloc: Global, passes: u64) -> Result<bool, SeriesFault> {
+    let folder = Fuse::once(MemoryDir::new(alloc), passes);
+    let Ok((taken, is_last_taken, dir)) = written(alloc, folder, &[0, 1, 2, 49, 60, 120, 180]) else {
+        return Ok(true);
+    };
+    let mut series = Series::open(alloc, dir.into_inner(), b"out").map_err(|(fault, _)| fault)?;
+    Ok(is_last_taken && 3 <= taken && taken <= series.content()?.len())
+}
+
+#[test]
+fn takes_entries_again(rt: HostRuntime) -> Result<(), Fail> {
+    for passes in 0..16 {
+        assert!(rt; recovers(rt.alloc(), passes)?);
+    }
+    Ok(())
+}

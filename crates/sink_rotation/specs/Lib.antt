@@ -1,0 +1,5 @@
+pub mod Views
+pub mod Closed
+pub mod Keeping
+pub mod Turning
+pub mod Steps
