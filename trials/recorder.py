@@ -4,11 +4,12 @@ from client import HOST, Stream, array, digest, table, text
 
 
 class Recorder(threading.Thread):
-    """A server at a free port, which acknowledges each message, but says nothing on its first connections."""
+    """A server at a free port, which acknowledges each message, but says nothing on its first connections. Or one without the key, which shows
+    each client its own name and digest."""
 
-    def __init__(self, key=None, silent=0, host=HOST):
+    def __init__(self, key=None, silent=0, host=HOST, reflects=False):
         super().__init__(daemon=True)
-        self.key, self.silent, self.host = key, silent, host
+        self.key, self.silent, self.host, self.reflects = key, silent, host, reflects
         self.chunks, self.times, self.salts, self.connections = [], [], [], []
         self.socket = socket.create_server((host, 0), backlog=128)
         self.port = self.socket.getsockname()[1]
@@ -26,7 +27,7 @@ class Recorder(threading.Thread):
 
     def serve(self, stream, place):
         try:
-            if self.key is not None:
+            if self.key is not None or self.reflects:
                 self.shake(stream)
             while True:
                 tag, packed, option = stream.value()
@@ -43,7 +44,10 @@ class Recorder(threading.Thread):
         stream.send(array([text("HELO"), asked]))
         ping = stream.value()
         self.salts.append(ping[2])
-        shown = digest(ping[2], name, nonce, self.key.encode())
+        if self.reflects:
+            name, shown = ping[1], ping[3]
+        else:
+            shown = digest(ping[2], name, nonce, self.key.encode())
         stream.send(array([text("PONG"), b"\xc3", text(""), text(name), text(shown)]))
 
     def ids(self):

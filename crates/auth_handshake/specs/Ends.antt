@@ -53,6 +53,10 @@ abbrev pub KnowsKey : ClientEnd → Told → Type 0
 KnowsKey client says =
     IsSomeAnd client.nonce (λ nonce. says.digest ≡ digest_of client.salt says.host nonce client.key)
 
+-- the item is a PONG under this name
+abbrev pub IsUnderName : List ℕ → List ℕ → Type 0
+IsUnderName item host = (says : Told) × IsPong item says × (says.host ≡ host)
+
 -- what a client that has sent its PING makes of an item
 abbrev pub IsVerdict : ClientEnd → List ℕ → Result Unit HandshakeFault → Type 0
 IsVerdict client item (Ok _) =

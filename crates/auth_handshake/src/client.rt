@@ -40,7 +40,7 @@ impl<A: Allocator> Model for Client<A> {
 }
 
 impl<A: Allocator> Client<A> {
-    ghost use Rattle.auth_handshake.specs.Ends.{IsVerdict, KnowsKey, client_digest, longest_host};
+    ghost use Rattle.auth_handshake.specs.Ends.{IsUnderName, IsVerdict, KnowsKey, client_digest, longest_host};
     ghost use Rattle.auth_handshake.specs.Readings.{told};
 
     /// A client of this host name, at most 1,024 bytes, and this shared key.
@@ -116,6 +116,16 @@ impl<A: Allocator> Client<A> {
             Ok(())
         } else {
             Err(HandshakeFault::WrongDigest)
+        }
+    }
+
+    /// Whether the item is a PONG under the client's own name. Whoever has no key can send the client's own digest back under it.
+    pub fn has_own_name(&self, item: &[u8]) -> bool
+        ensures { IsTrue result ↔ IsUnderName item.now self.now.host }
+    {
+        match pong_of(item) {
+            Some(pong) => pong.host == self.host.as_slice(),
+            None => false,
         }
     }
 

@@ -1,5 +1,5 @@
 -- A client's handshake, and what it hears then.
-use Rattle.std.proofs.Common.{ℕ, ◌≡◌, ◌⊎◌, ◌↔◌, List, take, drop, refl, ap, sym, ◌∙◌, subst, inl, inr, Option, Bool, true, false, Result, Err, IfErr, IsErrOf}
+use Rattle.std.proofs.Common.{ℕ, ◌≡◌, ◌⊎◌, ◌↔◌, List, take, drop, refl, ap, sym, ◌∙◌, subst, inl, inr, Option, None, Bool, true, false, Result, Err, IfErr, IsErrOf}
 use Rattle.std.proofs.lemmas.Result.{IfErr-at_err}
 use Rattle.auth_handshake.specs.declared.answers.HandshakeFault.{HandshakeFault}
 use Rattle.auth_handshake.specs.declared.answers.HandshakeFault.TheVariants.{NotHelo}
@@ -11,7 +11,7 @@ use Rattle.forward_core.specs.declared.fault.SessionFault.TheVariants.{Handshake
 use Rattle.forward_core.specs.declared.client_handshake.First.TheVariants.{Taken, Refused}
 use Rattle.forward_core.specs.declared.client.Phase.{Phase}
 use Rattle.forward_core.specs.declared.client.Phase.TheVariants.{Shaking}
-use Rattle.forward_core.specs.Client.{ClientPhase, AwaitsHelo, AwaitsPong, Ended, ClientState, Said, Fails, Listens, IsHeard, ReadsHelo, ReadsPong, TakesHelo, TakesPong, awaited, phase_if, phase_of, greeted}
+use Rattle.forward_core.specs.Client.{ClientPhase, AwaitsHelo, AwaitsPong, Ready, Ended, ClientState, Said, Fails, Listens, IsHeard, ReadsHelo, ReadsPong, TakesHelo, TakesPong, awaited, phase_if, phase_of, greeted}
 
 -- the client whose PONG is awaited
 pub pong_client : {A : Type 0} (phase : Phase A) (was_greeted : Bool) (inside client : ClientEnd)
@@ -50,6 +50,17 @@ pub pong_refused : (client inside : ClientEnd) (old : ClientState) (bytes outgoi
 pong_refused client inside old bytes outgoing held fault i b o h m =
     let at : TakesPong client old.held (Refused fault) = subst (λ (z : ClientEnd). TakesPong z old.held (Refused fault)) i (subst (λ (z : List ℕ). TakesPong inside z (Refused fault)) b m) in
     inr (inr (at.0, at.1, fault, at.2, at.3, (refl, rw (o, h) refl)))
+
+-- a PONG that was taken, and what is behind it
+pub pong_taken : (client inside : ClientEnd) (old new : ClientState) (bytes outgoing rest : List ℕ) (n : ℕ) (says : Said)
+    → inside ≡ client → bytes ≡ old.held → outgoing ≡ old.outgoing → TakesPong inside bytes (Taken n) → rest ≡ drop n bytes
+    → Listens None (record { phase = Ready; held = rest; outgoing = outgoing }) says new → ReadsPong client old says new
+pong_taken client inside old new bytes outgoing rest n says i b o m r l =
+    let at : TakesPong client old.held (Taken n) = subst (λ (z : ClientEnd). TakesPong z old.held (Taken n)) i (subst (λ (z : List ℕ). TakesPong inside z (Taken n)) b m) in
+    let behind : Listens None (record { phase = Ready; held = drop n old.held; outgoing = old.outgoing }) says new =
+    subst (λ (z : List ℕ). Listens None (record { phase = Ready; held = z; outgoing = old.outgoing }) says new) (r ∙ ap (drop n) b)
+    (subst (λ (z : List ℕ). Listens None (record { phase = Ready; held = rest; outgoing = z }) says new) o l) in
+    inr (inl (take n old.held, drop n old.held, at.1, at.2, behind))
 
 -- a HELO that was taken, and what is behind it
 pub helo_taken : (client inside new_client : ClientEnd) (old new : ClientState) (bytes outgoing sends rest : List ℕ) (n : ℕ) (says : Said)

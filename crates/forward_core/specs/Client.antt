@@ -1,15 +1,15 @@
 -- The end of a connection that connects (Forward Protocol Specification v1, "Connection Phases", "Response").
-use Rattle.std.specs.Prelude.{ℕ, ◌≡◌, ◌≤◌, ◌⊎◌, List, [], ◌++◌, length, take, drop, Option, Some, None, Bool, true, false, Ok, Err, IsSome, if◌then◌else◌}
+use Rattle.std.specs.Prelude.{ℕ, ◌≡◌, ◌≤◌, ◌⊎◌, List, [], ◌++◌, length, take, drop, Option, Some, None, Bool, true, false, Result, Ok, Err, IsSome, if◌then◌else◌}
 use Rattle.std.specs.List.{AllByRecursion, concat}
 use Rattle.msgpack_bytes.specs.declared.answers.MsgFault.{MsgFault}
 use Rattle.msgpack_bytes.specs.Item.{IsItemWithin, IsOpen}
 use Rattle.msgpack_bytes.specs.Kinds.{IsNil}
 use Rattle.msgpack_bytes.specs.Fault.{IsFaulty}
 use Rattle.auth_handshake.specs.declared.answers.HandshakeFault.{HandshakeFault}
-use Rattle.auth_handshake.specs.declared.answers.HandshakeFault.TheVariants.{NotHelo}
+use Rattle.auth_handshake.specs.declared.answers.HandshakeFault.TheVariants.{NotHelo, WrongDigest}
 use Rattle.auth_handshake.specs.Messages.{IsHelo}
 use Rattle.auth_handshake.specs.Written.{ping_bytes}
-use Rattle.auth_handshake.specs.Ends.{ClientEnd, client_digest, IsVerdict}
+use Rattle.auth_handshake.specs.Ends.{ClientEnd, client_digest, IsUnderName, IsVerdict}
 use Rattle.event_modes.specs.declared.chunk_id.ChunkId.{ChunkId}
 use Rattle.event_modes.specs.ChunkIds.{chunk_text}
 use Rattle.event_modes.specs.Acknowledgement.{IsAcknowledgement}
@@ -106,12 +106,19 @@ IsWaiting old says new = IsOpen old.held × (says ≡ Waits) × (new ≡ old)
 abbrev pub IsFailing : HandshakeFault → ClientState → Said → ClientState → Type 0
 IsFailing fault old says new = (says ≡ Fails (Handshake fault)) × (new ≡ record old { phase = Ended })
 
+-- What a session makes of an item that should be a PONG: what the client's end does. But it takes none under the client's own name, since whoever has no
+-- key can send the client's own digest back under that.
+abbrev pub IsJudged : ClientEnd → List ℕ → Result Unit HandshakeFault → Type 0
+IsJudged client item (Ok _) = IsVerdict client item (Ok tt) × (IsUnderName item client.host → ⊥)
+IsJudged client item (Err fault) = IsVerdict client item (Err fault)
+    ⊎ ((fault ≡ WrongDigest) × IsVerdict client item (Ok tt) × IsUnderName item client.host)
+
 -- the first item is a PONG that lets the client in, and what is behind it is read as replies; or it is refused
 abbrev pub ReadsPong : ClientEnd → ClientState → Said → ClientState → Type 0
 ReadsPong client old says new = IsWaiting old says new
-    ⊎ (((item : List ℕ) × (more : List ℕ) × IsShown old.held item more × IsVerdict client item (Ok tt)
+    ⊎ (((item : List ℕ) × (more : List ℕ) × IsShown old.held item more × IsJudged client item (Ok tt)
     × Listens None (record old { phase = Ready; held = more }) says new)
-    ⊎ ((item : List ℕ) × (more : List ℕ) × (fault : HandshakeFault) × IsShown old.held item more × IsVerdict client item (Err fault)
+    ⊎ ((item : List ℕ) × (more : List ℕ) × (fault : HandshakeFault) × IsShown old.held item more × IsJudged client item (Err fault)
     × IsFailing fault old says new))
 
 -- a session that took a HELO with this nonce: the PING is to be sent
@@ -194,6 +201,6 @@ TakesHelo client outgoing bytes (first.Refused fault) new sends = (fault ≡ Not
 
 -- what a client makes of what should be a PONG
 abbrev pub TakesPong : ClientEnd → List ℕ → First → Type 0
-TakesPong client bytes (first.Taken n) = (n ≤ length bytes) × IsShown bytes (take n bytes) (drop n bytes) × IsVerdict client (take n bytes) (Ok tt)
+TakesPong client bytes (first.Taken n) = (n ≤ length bytes) × IsShown bytes (take n bytes) (drop n bytes) × IsJudged client (take n bytes) (Ok tt)
 TakesPong client bytes first.Waits = IsOpen bytes
-TakesPong client bytes (first.Refused fault) = (item : List ℕ) × (more : List ℕ) × IsShown bytes item more × IsVerdict client item (Err fault)
+TakesPong client bytes (first.Refused fault) = (item : List ℕ) × (more : List ℕ) × IsShown bytes item more × IsJudged client item (Err fault)

@@ -40,7 +40,8 @@ pub fn take_helo<A: Allocator + Copy, B: Allocator>(
     }
 }
 
-/// Looks at the PONG that the bytes have to begin with.
+/// Looks at the PONG that the bytes have to begin with. One that the shared key made, but under the client's own name, is refused as if
+/// of another key.
 pub fn take_pong<A: Allocator>(client: &Client<A>, bytes: &[u8]) -> First
     requires { IsSome client.now.nonce }
     ensures { TakesPong client.now bytes.now result }
@@ -48,7 +49,9 @@ pub fn take_pong<A: Allocator>(client: &Client<A>, bytes: &[u8]) -> First
     let Some(end) = first_len(bytes) else {
         return First::Waits;
     };
-    match client.pong(bytes.split_at(end).0) {
+    let item = bytes.split_at(end).0;
+    match client.pong(item) {
+        Ok(()) if client.has_own_name(item) => First::Refused(HandshakeFault::WrongDigest),
         Ok(()) => First::Taken(end),
         Err(fault) => First::Refused(fault),
     }
