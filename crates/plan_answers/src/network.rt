@@ -114,8 +114,8 @@ fn read_checked<A: Allocator + Copy, R: Read, O: Open>(
     Ok(Checked { plan, answer, line })
 }
 
-// The plan of the texts that are read.
-fn read_plan<A: Allocator + Copy, R: Read, O: Open>(
+/// The plan of the texts that are read, or why there is none.
+pub fn read_plan<A: Allocator + Copy, R: Read, O: Open>(
     alloc: A,
     net: &mut R,
     files: &O,

@@ -1,12 +1,7 @@
 -- What is said of matches at which events may go.
 use Rattle.std.proofs.Common.{◌≡◌, ◌==◌, ◌+◌, ◌<◌, ◌≤◌, ℕ, zero, suc, Bool, false, Result, Ok, Err, List, [], ◌∷◌, ◌++◌, append_assoc, codes, get_or, take, length, slice_get, sym, ap, subst, refl, ◌∙◌, arith}
 use Rattle.std.proofs.lemmas.List.{take_all, take_more}
-use Rattle.std.proofs.lemmas.Option.{slice_get_within}
 use Rattle.std.specs.Prelude.{OnOk}
-use Rattle.deliberate_drops.specs.Drops.{IsRefused}
-use Rattle.deliberate_drops.specs.Plans.{IsNoDrop}
-use Rattle.deliberate_drops.specs.declared.error.DropError.{DropError}
-use Rattle.deliberate_drops.specs.declared.error.DropError.TheVariants as error
 use Rattle.deliberate_drops.specs.declared.name.DropName.{DropName}
 use Rattle.loss_checker.specs.declared.broken.BrokenRule.{BrokenRule}
 use Rattle.loss_rules.specs.Breaks.{Subject}
@@ -14,9 +9,8 @@ use Rattle.plan_warnings.specs.Notes.{AddsNotes}
 use Rattle.program_text.specs.Lines.{line}
 use Rattle.program_text.specs.declared.status.Status.{Status}
 use Rattle.program_text.specs.declared.status.Status.TheVariants.{Done}
-use Rattle.relay_net.specs.Network.{Network}
 use Rattle.relayctl.specs.Checking.{SaysRules}
-use Rattle.relayctl.specs.Dropping.{drops_head, one_more, place_in, AddsDrops, IsMissing, IsSaidOf, SayDrops, SaysMissing}
+use Rattle.relayctl.specs.Dropping.{drops_head, one_more, AddsDrops, IsSaidOf, SayDrops}
 
 -- what stands behind the names
 unfoldable pub no_name : DropName
@@ -55,20 +49,8 @@ all_listed plan (first ∷ others) i start lines some end (said, are, is) = (
   is ∙ append_assoc start drops_head said,
 )
 
--- a name that means no match is one of the names
-pub refused_within : {A : Type 0} (net : Network A) (names : List DropName) (why : DropError) → IsRefused net names why → ¬ (why ≡ error.Memory) → place_in why < length names
-refused_within net names (error.NoRelay at) (name, is, none) other = slice_get_within names at name is
-refused_within net names (error.NoScope at) (name, is, none) other = slice_get_within names at name is
-refused_within net names (error.NoMatch at) (name, is, none) other = slice_get_within names at name is
-refused_within net names error.Memory none other = absurd (other refl)
-
 -- a yes, with what is listed of the names behind it, and notes behind that
 pub says_yes : {A : Type 0} (names : List DropName) (plan : Subject A) (broken : List (BrokenRule A)) (start mid after : List ℕ) → length broken ≡ 0 → start ≡ line (codes "yes") → AddsDrops plan names start mid → AddsNotes mid after
     → SaysRules names plan broken after Done
 says_yes names plan [] start mid after none is (listed, are, mid_is) notes = (listed, are, subst (λ m. AddsNotes m after) (mid_is ∙ ap (λ s. s ++ listed) is) notes, refl)
 says_yes names plan (first ∷ others) start mid after none is adds notes = absurd (omega (arith, none))
-
--- what is said of a name that means no match
-pub missing : (A : Type 0) (given : List ℕ) (confs : List (List ℕ)) (names : List DropName) (why : DropError) (lines : List ℕ) (status : Status) → IsNoDrop A given confs names why → ¬ (why ≡ error.Memory)
-    → SaysMissing names why lines status → IsMissing A given confs names lines status
-missing A given confs names why lines status (plan, is, refused) other says = record { plan = plan; plan_is = is; why = why; refused = refused; named_fault = other; says = says }

@@ -6,6 +6,7 @@ use Rattle.std.specs.Prelude.{All, IsPermutation}
 use Rattle.std.specs.declared.vec.Vec.{Vec}
 use Rattle.std.proofs.Common.{◌≡◌, ℕ, List, ◌++◌, Bool, true, false, refl, ap, ◌∙◌, inl, inr, append_assoc, ◌<◌, ◌+◌, [], ◌∷◌, get_or, take, length, subst, sym}
 use Rattle.std.specs.Bool.{IsTrue}
+use Rattle.deliberate_drops.specs.declared.name.DropName.{DropName}
 use Rattle.losing_steps.specs.Losses.{IsLosingText}
 use Rattle.loss_rules.specs.Breaks.{Subject}
 use Rattle.loss_rules.specs.declared.answer.Answer.TheVariants as answer
@@ -23,9 +24,9 @@ loss_or_notes plan text true loses = inl (text, refl, loses refl)
 loss_or_notes plan text false loses = inr (text, refl)
 
 -- what is said of a no
-pub says_no : {A : Type 0} (plan : Subject A) (broken : Rule) (at : Place) (front text lines : List ℕ) (has_loss : Bool) → front ≡ answer_line (answer.No broken at)
-    → (IsTrue has_loss → IsLosingText plan.duty plan.net text) → lines ≡ (front ++ text) ++ last_line has_loss → SaysAnswer plan (answer.No broken at) lines No
-says_no plan broken at front text lines has_loss is loses are = record {
+pub says_no : {A : Type 0} (names : List DropName) (plan : Subject A) (broken : Rule) (at : Place) (front text lines : List ℕ) (has_loss : Bool) → front ≡ answer_line (answer.No broken at)
+    → (IsTrue has_loss → IsLosingText plan.duty plan.net text) → lines ≡ (front ++ text) ++ last_line has_loss → SaysAnswer names plan (answer.No broken at) lines No
+says_no names plan broken at front text lines has_loss is loses are = record {
   said = text ++ last_line has_loss;
   is_behind = loss_or_notes plan text has_loss loses;
   lines_are = are ∙ append_assoc front text (last_line has_loss) ∙ ap (λ f. f ++ (text ++ last_line has_loss)) is;

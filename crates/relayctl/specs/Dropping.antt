@@ -1,8 +1,7 @@
 -- What is said of matches at which events may go on purpose: those that are named behind a yes, and names that mean no match.
-use Rattle.std.specs.Prelude.{◌≡◌, ◌≢◌, ◌⊎◌, ℕ, List, [], ◌∷◌, ◌++◌, Contains, codes, map, slice_get, Option, Some}
+use Rattle.std.specs.Prelude.{◌≡◌, ◌≢◌, ◌<◌, ◌⊎◌, ℕ, List, [], ◌∷◌, ◌++◌, Contains, codes, length, map, Option}
 use Rattle.std.specs.Borrow.{Bor}
 use Rattle.std.specs.List.{AllZip}
-use Rattle.deliberate_drops.specs.Drops.{IsRefused}
 use Rattle.deliberate_drops.specs.Names.{spelled, IsName}
 use Rattle.deliberate_drops.specs.OneByOne.{IsMeant, IsRefusedAt}
 use Rattle.deliberate_drops.specs.Printed.{error_text, name_error_text}
@@ -13,6 +12,7 @@ use Rattle.deliberate_drops.specs.declared.place.MatchPlace.{MatchPlace}
 use Rattle.loss_rules.specs.Breaks.{Subject}
 use Rattle.plan_lines.specs.Plans.{IsPlanOf}
 use Rattle.program_text.specs.Lines.{line, memory_line}
+use Rattle.program_text.specs.Listings.{AreListed as AreLines}
 use Rattle.program_text.specs.Output.{IsPrinted}
 use Rattle.program_text.specs.declared.status.Status.{Status}
 use Rattle.program_text.specs.declared.status.Status.TheVariants.{Usage}
@@ -28,10 +28,10 @@ AreNames words names = AllZip (λ word name. IsName word name.relay name.scope.n
 abbrev pub IsNoName : List ℕ → Type 0
 IsNoName word = (relay : ℕ) (scope : List ℕ) (index : ℕ) → ¬ IsName word relay scope index
 
--- The words are names, or this one of them is none.
+-- The words are names, or one of them is none.
 abbrev pub AreReadOrMisspelt : {A : Type 0} → List (Bor (List ℕ)) → DropNames A → Type 0
 AreReadOrMisspelt words (found.Read names) = AreNames (map (λ word. word.now) words) names.items
-AreReadOrMisspelt words (found.Misspelt word) = Contains (map (λ word. word.now) words) word.now × IsNoName word.now
+AreReadOrMisspelt words found.Misspelt = (word : List ℕ) × Contains (map (λ word. word.now) words) word × IsNoName word
 
 -- a name as it is spelled
 abbrev pub name_text : DropName → List ℕ
@@ -41,10 +41,15 @@ name_text name = spelled name.relay name.scope.now name.index
 abbrev pub drop_fault : List ℕ → List ℕ → List ℕ
 drop_fault word why = line (codes "fault drop " ++ (word ++ (codes ": " ++ why)))
 
--- It is printed that a word is no name, or that memory ran out.
-pub record PrintsMisspelt (word : List ℕ) (old new : Option (List ℕ)) (status : Status) : Type 0 where
+-- the line of a word that is no name; of one that is nothing
+abbrev pub IsMisspeltLine : List ℕ → List ℕ → Type 0
+IsMisspeltLine word text =
+    (IsNoName word × (text ≡ drop_fault word name_error_text)) ⊎ (((relay : ℕ) × (scope : List ℕ) × (index : ℕ) × IsName word relay scope index) × (text ≡ []))
+
+-- Of each of the words that is no name it is printed that it is none; or that memory ran out.
+pub record PrintsMisspelt (words : List (List ℕ)) (old new : Option (List ℕ)) (status : Status) : Type 0 where
   pub lines : List ℕ
-  pub lines_are : (lines ≡ drop_fault word name_error_text) ⊎ (lines ≡ memory_line)
+  pub lines_are : AreLines IsMisspeltLine words lines ⊎ (lines ≡ memory_line)
   pub printed : IsPrinted old new lines Usage status
 
 -- What comes to a match may go.
@@ -79,27 +84,18 @@ AreListed plan (first ∷ others) listed = (said : List ℕ) × SayDrops plan (f
 abbrev pub AddsDrops : {A : Type 0} → Subject A → List DropName → List ℕ → List ℕ → Type 0
 AddsDrops plan names old new = (listed : List ℕ) × AreListed plan names listed × (new ≡ old ++ listed)
 
--- A name means no match.
+-- Names mean no match.
 
--- the place of the name among the names; want of memory is of none
-abbrev pub place_in : DropError → ℕ
-place_in (error.NoRelay at) = at
-place_in (error.NoScope at) = at
-place_in (error.NoMatch at) = at
-place_in error.Memory = 0
+-- the line of a name that means no match of the plan, and why; of one that means a match nothing
+abbrev pub IsMissingLine : {A : Type 0} → Subject A → DropName → List ℕ → Type 0
+IsMissingLine plan name text =
+    ((why : DropError) × IsRefusedAt plan.net name 0 why × (why ≢ error.Memory) × (text ≡ drop_fault (name_text name) (error_text why)))
+    ⊎ (((at : MatchPlace) × IsMeant plan.net name at) × (text ≡ []))
 
--- The line says which of the names means no match, and why.
-pub record SaysMissing (names : List DropName) (why : DropError) (lines : List ℕ) (status : Status) : Type 0 where
-  pub name : DropName
-  pub name_is : slice_get names (place_in why) ≡ Some name
-  pub lines_are : lines ≡ drop_fault (name_text name) (error_text why)
-  pub is_status : status ≡ Usage
-
--- The texts say a plan, of which one of the names means no match, and this is said of that.
+-- The texts say a plan, and this is said of each of the names that means no match of it, of which there are some.
 pub record IsMissing (A : Type 0) (given : List ℕ) (confs : List (List ℕ)) (names : List DropName) (lines : List ℕ) (status : Status) : Type 0 where
   pub plan : Subject A
   pub plan_is : IsPlanOf given confs plan
-  pub why : DropError
-  pub refused : IsRefused plan.net names why
-  pub named_fault : why ≢ error.Memory
-  pub says : SaysMissing names why lines status
+  pub listed : AreLines (IsMissingLine plan) names lines
+  pub some : 0 < length lines
+  pub is_status : status ≡ Usage

@@ -26,7 +26,7 @@ use text_lines::lines;
 /// outputs of each stands a sink that keeps. It prints `yes` where each rule holds of that plan, with the matches at which events may go,
 /// and warnings of what may keep events from arriving; or every place where a rule is broken, and behind them, the shortest first, what each broken
 /// rule means, what mends it, and steps that lose an acknowledged event, where some were found. Of a plan without relays or clients,
-/// of a fault, and of a name that means no match, it says so in `faults`. Each text is read whole before a fault of the plan is looked for.
+/// of a fault, and of names that mean no match, it says so in `faults`. Each text is read whole before a fault of the plan is looked for.
 pub fn run_check<A: Allocator + Copy, R: Read, O: Open, W: Write, F: Write>(
     alloc: A,
     name: &str,
@@ -180,7 +180,9 @@ fn check_texts<A: Allocator + Copy>(
             let hint = adapting_hint(fault, &further);
             Ok(Check::Refused(say_faults(alloc, &texts, fault, &further, hint)?))
         }
-        Err(DroppedPlanError::Drop(why)) => Ok(Check::Refused(say_missing(alloc, drops, why)?)),
+        Err(DroppedPlanError::Drop(_)) => {
+            Ok(Check::Refused(say_missing(alloc, text, confs, drops)?))
+        }
     }
 }
 

@@ -1,8 +1,11 @@
-//! Matches at which events may go on purpose: their names as words, what is said of them behind a yes, and where a name means no match.
+//! Matches at which events may go on purpose: their names as words, what is said of them behind a yes, and where names mean no match.
 
-ghost use Rattle.std.specs.Prelude.{◌≡◌, ◌++◌, ◌<◌, ℕ, List, length, IfOk, OnOk};
+ghost use Rattle.std.specs.Prelude.{◌≡◌, ◌++◌, ℕ, List, length, map, IfOk, OnOk};
 ghost use Rattle.deliberate_drops.specs.Printed.{error_text};
-ghost use Rattle.relayctl.specs.Dropping.{drop_fault, name_text, drops_head as drops_head_of, place_in as place_in_of, AddsDrops, AreReadOrMisspelt, IsSaidOf, PrintsMisspelt, SaysMissing};
+ghost use Rattle.plan_lines.specs.Forms.{confs_named};
+ghost use Rattle.plan_lines.specs.Plans.{texts as texts_of};
+ghost use Rattle.program_text.specs.Listings.{AreListed as AreLines};
+ghost use Rattle.relayctl.specs.Dropping.{drop_fault, drops_head as drops_head_of, name_text, AddsDrops, AreReadOrMisspelt, IsMisspeltLine, IsMissing, IsMissingLine, IsSaidOf, PrintsMisspelt};
 
 use crate::explain::Said;
 use deliberate_drops::{DropError, DropName, NameError, place_of};
@@ -12,13 +15,13 @@ use rule_advice::Texts;
 use std::alloc::{AllocError, Allocator};
 use std::io::Write;
 
-/// Names of matches that were read, or the first of the words that is none.
+/// Names of matches that were read, or that some of the words are none.
 #[derive(Drop)]
 pub enum DropNames<'t, A: Allocator> {
     /// All are names.
     Read(Vec<DropName<'t>, A>),
-    /// This word is none.
-    Misspelt(&'t str),
+    /// Some are none.
+    Misspelt,
 }
 
 /// Adds the lines of a text that stand for names of matches, without blanks round them: all but empty ones and those that begin with `#`.
@@ -47,38 +50,105 @@ pub fn read_names<'t, A: Allocator>(
     for word in words {
         match DropName::read(word) {
             Ok(name) => names.push(name)?,
-            Err(NameError) => return Ok(DropNames::Misspelt(word)),
+            Err(NameError) => return Ok(DropNames::Misspelt),
         }
     }
     Ok(DropNames::Read(names))
 }
 
-/// Prints that a word is no name of a match.
-pub fn print_misspelt<A: Allocator, F: Write>(alloc: A, word: &str, faults: &mut F) -> Status
-    ensures { PrintsMisspelt word.now (F.contents faults.old) (F.contents faults.new) result }
+/// Prints of each of the words that is no name of a match that it is none.
+pub fn print_misspelt<A: Allocator + Copy, F: Write>(
+    alloc: A,
+    words: &[&str],
+    faults: &mut F,
+) -> Status
+    ensures { PrintsMisspelt (map (λ word. word.now) words.now) (F.contents faults.old) (F.contents faults.new) result }
 {
-    match format!(in alloc; "fault drop {word}: {NameError}\n") {
-        Ok(line) => put_last(faults, line.as_bytes(), Status::Usage),
+    match misspelt_lines(alloc, words) {
+        Ok(lines) => put_last(faults, &lines, Status::Usage),
         Err(AllocError) => put_last(faults, b"fault memory\n", Status::Usage),
     }
 }
 
-/// What is said where one of the names means no match of the plan.
-pub(crate) fn say_missing<A: Allocator>(
-    alloc: A,
-    names: &[DropName<'_>],
-    why: DropError,
-) -> Result<Said<A>, AllocError>
-    requires { place_in_of why < length names.now }
-    ensures { IfOk result (λ said. SaysMissing names.now why said.lines.items said.status) }
+// The lines of the words that are no names.
+fn misspelt_lines<A: Allocator + Copy>(alloc: A, words: &[&str]) -> Result<Vec<u8, A>, AllocError>
+    ensures { IfOk result (λ lines. AreLines IsMisspeltLine (map (λ word. word.now) words.now) lines.items) }
 {
-    let lines = missing_line(alloc, &names[place_in(why)], why)?;
+    let mut lines = Vec::new(alloc);
+    for word in words {
+        let line = misspelt_line(alloc, word)?;
+        lines.extend_from_slice(&line)?;
+    }
+    Ok(lines)
+}
+
+// The line of a word that is no name; nothing of one that is.
+fn misspelt_line<A: Allocator + Copy>(alloc: A, word: &str) -> Result<Vec<u8, A>, AllocError>
+    ensures { IfOk result (λ line. IsMisspeltLine word.now line.items) }
+{
+    match DropName::read(word) {
+        Ok(_) => Ok(Vec::new(alloc)),
+        Err(NameError) => {
+            Ok(format!(in alloc; "fault drop {word}: {NameError}\n")?.into_bytes())
+        }
+    }
+}
+
+/// What is said where names mean no match of the plan that these texts say: a line for each such name. The only error is want of memory.
+pub(crate) fn say_missing<A: Allocator + Copy>(
+    alloc: A,
+    text: &[u8],
+    confs: &[Vec<u8, A>],
+    names: &[DropName<'_>],
+) -> Result<Said<A>, AllocError>
+    requires { length confs.now ≡ length (confs_named text.now) }
+    ensures { IfOk result (λ said. IsMissing A text.now (texts_of confs.now) names.now said.lines.items said.status) }
+{
+    // The plan was read before, and a name is known to mean no match of it.
+    let Ok(plan) = Plan::read(alloc, text, confs) else {
+        return Err(AllocError);
+    };
+    let lines = missing_lines(alloc, &plan, names)?;
+    if lines.is_empty() {
+        return Err(AllocError);
+    }
     let status = Status::Usage;
     Ok(Said { lines, status })
 }
 
-// The line of a name that means no match.
-fn missing_line<A: Allocator>(
+// The lines of the names that mean no match of the plan.
+fn missing_lines<A: Allocator + Copy>(
+    alloc: A,
+    plan: &Plan<A>,
+    names: &[DropName<'_>],
+) -> Result<Vec<u8, A>, AllocError>
+    ensures { IfOk result (λ lines. AreLines (IsMissingLine plan.now) names.now lines.items) }
+{
+    let mut lines = Vec::new(alloc);
+    for name in names {
+        let line = missing_line(alloc, plan, name)?;
+        lines.extend_from_slice(&line)?;
+    }
+    Ok(lines)
+}
+
+// The line of a name that means no match; nothing of one that means one.
+fn missing_line<A: Allocator + Copy>(
+    alloc: A,
+    plan: &Plan<A>,
+    name: &DropName<'_>,
+) -> Result<Vec<u8, A>, AllocError>
+    ensures { IfOk result (λ line. IsMissingLine plan.now name.now line.items) }
+{
+    match place_of(plan.net().relays(), name, 0) {
+        Ok(_) => Ok(Vec::new(alloc)),
+        Err(DropError::Memory) => Err(AllocError),
+        Err(why) => Ok(fault_line(alloc, name, why)?),
+    }
+}
+
+// The line that says why a name means no match.
+fn fault_line<A: Allocator>(
     alloc: A,
     name: &DropName<'_>,
     why: DropError,
@@ -86,16 +156,6 @@ fn missing_line<A: Allocator>(
     ensures { IfOk result (λ line. line.items ≡ drop_fault (name_text name.now) (error_text why)) }
 {
     Ok(format!(in alloc; "fault drop {name}: {why}\n")?.into_bytes())
-}
-
-// The place of the name among the names; want of memory is of none.
-fn place_in(why: DropError) -> usize
-    ensures { result ≡ place_in_of why }
-{
-    match why {
-        DropError::NoRelay(at) | DropError::NoScope(at) | DropError::NoMatch(at) => at,
-        DropError::Memory => 0,
-    }
 }
 
 /// Adds what may go: for each of the names the line of its match, and a line in front of these; nothing where there are no names.

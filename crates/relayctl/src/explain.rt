@@ -1,10 +1,12 @@
-//! The word `explain`: the checker's answer to a plan, or the plan's fault, with what it means and what mends it.
+//! The word `explain`: the checker's answer to a plan, at whose named matches events may go, or the plan's fault, with what it means and what mends it.
 
 ghost use Rattle.std.specs.Prelude.{◌≡◌, ◌++◌, flat_map, IfOk};
 ghost use Rattle.loss_rules.specs.Breaks.{IsAnswer};
 ghost use Rattle.plan_answers.specs.Networks.{plan_fault_line};
 ghost use Rattle.relayctl.specs.Explaining.{last_line as last_line_of, IsExplanation, PrintsExplanation, SaysAnswer, SaysFault, SaysFaults};
 
+use crate::drops::{put_drops, say_missing};
+use deliberate_drops::{DropError, DropName, DroppedPlanError, plan_with_drops};
 use loss_checker::{Answer, Plan, PlanError, check, conf_names};
 use plan_answers::{Stop, print_stop, read_confs};
 use program_text::{Open, ReadFault, Status, put_last, read_whole};
@@ -12,19 +14,21 @@ use rule_advice::{Texts, explain, explain_fault};
 use std::alloc::{AllocError, Allocator};
 use std::io::{Read, Write};
 
-/// Prints the checker's answer to the plan that `net` gives, by this name in what is printed; behind a no what the broken rule means, what
-/// mends it, and steps that lose an acknowledged event, where some were found. Or it prints the plan's first fault, and what that means
-/// and what mends it. Each text is read whole before a fault of the plan is looked for.
+/// Prints the checker's answer to the plan that `net` gives, by this name in what is printed, at whose named matches events may go on purpose: in
+/// place of the outputs of each stands a sink that keeps. Behind a yes it prints the matches at which events may go; behind a no what the broken
+/// rule means, what mends it, and steps that lose an acknowledged event, where some were found. Or it prints the plan's first fault, and what that
+/// means and what mends it, or which of the names mean no match. Each text is read whole before a fault of the plan is looked for.
 pub fn run_explain<A: Allocator + Copy, R: Read, O: Open, W: Write>(
     alloc: A,
     name: &str,
     net: &mut R,
     files: &O,
+    drops: &[DropName<'_>],
     out: &mut W,
 ) -> Status
-    ensures { PrintsExplanation A (R.remaining net.old) (O.text_of files.now) (W.contents out.old) (W.contents out.new) result }
+    ensures { PrintsExplanation A (R.remaining net.old) (O.text_of files.now) drops.now (W.contents out.old) (W.contents out.new) result }
 {
-    match explain_read(alloc, name, net, files) {
+    match explain_read(alloc, name, net, files, drops) {
         Ok(said) => put_last(out, &said.lines, said.status),
         Err(fault) => print_stop(alloc, Stop::Unread(fault), out),
     }
@@ -43,8 +47,9 @@ fn explain_read<A: Allocator + Copy, R: Read, O: Open>(
     name: &str,
     net: &mut R,
     files: &O,
+    drops: &[DropName<'_>],
 ) -> Result<Said<A>, ReadFault>
-    ensures { IfOk result (λ said. IsExplanation A (R.remaining net.old) (O.text_of files.now) said.lines.items said.status) }
+    ensures { IfOk result (λ said. IsExplanation A (R.remaining net.old) (O.text_of files.now) drops.now said.lines.items said.status) }
 {
     let text = read_whole(alloc, net)?;
     let names = conf_names(alloc, &text)?;
@@ -57,24 +62,28 @@ fn explain_read<A: Allocator + Copy, R: Read, O: Open>(
         conf_names: &names,
         confs: &confs,
     };
-    match Plan::read(alloc, &text, &confs) {
-        Ok(plan) => Ok(say_plan(alloc, &plan, &texts)?),
-        Err(PlanError::Memory) => Err(ReadFault::Memory),
-        Err(fault) => Ok(say_fault(alloc, &texts, fault)?),
+    match plan_with_drops(alloc, &text, &confs, drops) {
+        Ok(plan) => Ok(say_plan(alloc, &plan, &texts, drops)?),
+        Err(DroppedPlanError::Plan(PlanError::Memory)) => Err(ReadFault::Memory),
+        Err(DroppedPlanError::Drop(DropError::Memory)) => Err(ReadFault::Memory),
+        Err(DroppedPlanError::Plan(fault)) => Ok(say_fault(alloc, &texts, fault)?),
+        Err(DroppedPlanError::Drop(_)) => Ok(say_missing(alloc, &text, &confs, drops)?),
     }
 }
 
-// What is said of a plan: the line of the checker's answer, and behind a no what explains it.
+// What is said of a plan: the line of the checker's answer, behind a yes what may go at the named matches, and behind a no what explains it.
 fn say_plan<A: Allocator + Copy>(
     alloc: A,
     plan: &Plan<A>,
     texts: &Texts<'_, A>,
+    drops: &[DropName<'_>],
 ) -> Result<Said<A>, AllocError>
-    ensures { IfOk result (λ said. (found : Answer) × IsAnswer plan.now found × SaysAnswer plan.now found said.lines.items said.status) }
+    ensures { IfOk result (λ said. (found : Answer) × IsAnswer plan.now found × SaysAnswer drops.now plan.now found said.lines.items said.status) }
 {
     let answer = check(alloc, plan)?;
     let mut lines = format!(in alloc; "{answer}\n")?.into_bytes();
     let Answer::No { rule, place } = answer else {
+        put_drops(alloc, plan, texts, drops, &mut lines)?;
         return Ok(Said {
             lines,
             status: Status::Done,

@@ -20,6 +20,7 @@ use explain::run_explain;
 use folder_listing::{DataFolder, run_show};
 use label::{run_fresh_label, run_label};
 use plan_answers::{Stop, print_stop};
+use plan_ways::run_plan_ways;
 use program_text::{Folder, ReadFault, Status, print_version, put_last, read_whole};
 use route_listing::run_ways;
 use std::alloc::{AllocError, Allocator};
@@ -29,10 +30,10 @@ use std::{env, io};
 use words::{CheckWords, Word, read_word};
 
 const USAGE: &str =
-    "usage: relayctl check NET [--drop MATCH].. [--drops FILE].. | check --adapt NET [--accept NAME].. [--drop MATCH].. [--drops FILE].. | label [--fresh] NET | explain NET | draw NET [--dot] | ways CONF TAG.. | adapt CONF [--accept NAME].. | show DIR | --help | --version";
+    "usage: relayctl check NET [--drop MATCH].. [--drops FILE].. | check --adapt NET [--accept NAME].. [--drop MATCH].. [--drops FILE].. | label [--fresh] NET | explain NET [--drop MATCH].. [--drops FILE].. | draw NET [--dot] | ways CONF TAG.. | ways --plan NET TAG.. | adapt CONF [--accept NAME].. | show DIR | --help | --version";
 
 const HELP: &str =
-    "usage: relayctl check NET [--drop MATCH].. [--drops FILE].. | check --adapt NET [--accept NAME].. [--drop MATCH].. [--drops FILE].. | label [--fresh] NET | explain NET | draw NET [--dot] | ways CONF TAG.. | adapt CONF [--accept NAME].. | show DIR | --help | --version
+    "usage: relayctl check NET [--drop MATCH].. [--drops FILE].. | check --adapt NET [--accept NAME].. [--drop MATCH].. [--drops FILE].. | label [--fresh] NET | explain NET [--drop MATCH].. [--drops FILE].. | draw NET [--dot] | ways CONF TAG.. | ways --plan NET TAG.. | adapt CONF [--accept NAME].. | show DIR | --help | --version
 
 check NET        labels the plan NET, and prints `yes`, with warnings of what may keep events from
                  arriving, or every rule that is broken then, each with what it means, what mends
@@ -44,11 +45,14 @@ check --adapt NET    the same of the plan NET with its configurations adapted, a
 label NET        prints the plan NET with the label and reach lines that it lacks; --fresh: those
                  that it has are taken out first
 explain NET      prints the answer of relaynet check to the plan NET, what a broken
-                 rule or a fault means, what mends it, and steps that lose an event
+                 rule or a fault means, what mends it, and steps that lose an event; --drop and
+                 --drops say what may go, as for check
 draw NET         draws the plan NET, with the labels that it lacks, as a tree of text; --dot: for
                  Graphviz; each place where a rule is broken has a mark
 ways CONF TAG..  prints to which outputs each TAG goes from each source of the
                  configuration CONF
+ways --plan NET TAG..    prints where each TAG goes from each client of the plan NET that sends it,
+                 through all relays
 adapt CONF       prints the configuration CONF, as it runs in Fluentd, in the form that a relay
                  reads, or what of it changes what the relay does; --accept NAME accepts that
 show DIR         prints which chunks the journals in a relay's data folder DIR hold,
@@ -76,14 +80,12 @@ fn run<A: Allocator>(rt: &HostRuntime, word: Option<Word<'_, A>>) -> Status {
     match word {
         Some(Word::Help) => put_last(out, HELP.as_bytes(), Status::Done),
         Some(Word::Version) => print_version(rt.alloc(), "relayctl", out),
-        Some(Word::Check(asked)) => check_plan(rt, &folder, &asked, out),
+        Some(Word::Check(asked)) => answer_plan(rt, &folder, &asked, Answering::Check, out),
         Some(Word::Label(net)) => run_label(rt.alloc(), &mut folder.text(net), &folder, out),
         Some(Word::LabelFresh(net)) => {
             run_fresh_label(rt.alloc(), &mut folder.text(net), &folder, out)
         }
-        Some(Word::Explain(net)) => {
-            run_explain(rt.alloc(), net, &mut folder.text(net), &folder, out)
-        }
+        Some(Word::Explain(asked)) => answer_plan(rt, &folder, &asked, Answering::Explain, out),
         Some(Word::Draw(net, drawing)) => {
             let faults = &mut rt.stderr();
             run_draw(
@@ -97,6 +99,9 @@ fn run<A: Allocator>(rt: &HostRuntime, word: Option<Word<'_, A>>) -> Status {
             )
         }
         Some(Word::Ways(conf, tags)) => run_ways(rt.alloc(), &mut folder.text(conf), tags, out),
+        Some(Word::PlanWays(net, tags)) => {
+            run_plan_ways(rt.alloc(), &mut folder.text(net), &folder, tags, out)
+        }
         Some(Word::Adapt(conf, accepted)) => {
             run_adapt(rt.alloc(), &mut folder.text(conf), accepted, out)
         }
@@ -105,16 +110,26 @@ fn run<A: Allocator>(rt: &HostRuntime, word: Option<Word<'_, A>>) -> Status {
     }
 }
 
-// Checks a plan, at whose named matches events may go.
-fn check_plan<'a, A: Allocator, W: Write>(
+// By what a plan is answered.
+#[derive(Clone, Copy)]
+enum Answering {
+    // By what `check` prints.
+    Check,
+    // By what `explain` prints.
+    Explain,
+}
+
+// Checks or explains a plan, at whose named matches events may go.
+fn answer_plan<'a, A: Allocator, W: Write>(
     rt: &'a HostRuntime,
     folder: &Folder<'a>,
     asked: &CheckWords<'a, A>,
+    by: Answering,
     out: &mut W,
 ) -> Status {
     match drop_words(rt, folder, &asked.drops, &asked.lists) {
         Ok(words) => match lent_names(rt.alloc(), &words) {
-            Ok(lent) => check_words(rt, folder, asked, &lent, out),
+            Ok(lent) => answer_words(rt, folder, asked, by, &lent, out),
             Err(AllocError) => no_answer(rt, ReadFault::Memory),
         },
         Err(fault) => no_answer(rt, fault),
@@ -149,21 +164,36 @@ fn drop_words<'a>(
 }
 
 // The same with the words that name matches.
-fn check_words<'a, A: Allocator, W: Write>(
+fn answer_words<'a, A: Allocator, W: Write>(
     rt: &'a HostRuntime,
     folder: &Folder<'a>,
     asked: &CheckWords<'a, A>,
+    by: Answering,
     words: &[&str],
     out: &mut W,
 ) -> Status {
     match read_names(rt.alloc(), words) {
-        Ok(DropNames::Read(names)) => check_named(rt, folder, asked, &names, out),
-        Ok(DropNames::Misspelt(word)) => print_misspelt(rt.alloc(), word, &mut rt.stderr()),
+        Ok(DropNames::Read(names)) => match by {
+            Answering::Check => check_named(rt, folder, asked, &names, out),
+            Answering::Explain => explain_named(rt, folder, asked.net, &names, out),
+        },
+        Ok(DropNames::Misspelt) => print_misspelt(rt.alloc(), words, &mut rt.stderr()),
         Err(AllocError) => no_answer(rt, ReadFault::Memory),
     }
 }
 
-// The same with the names that were read.
+// Explains a plan, with the names that were read.
+fn explain_named<'a, W: Write>(
+    rt: &'a HostRuntime,
+    folder: &Folder<'a>,
+    net: &'a str,
+    drops: &[DropName<'_>],
+    out: &mut W,
+) -> Status {
+    run_explain(rt.alloc(), net, &mut folder.text(net), folder, drops, out)
+}
+
+// Checks a plan, with the names that were read.
 fn check_named<'a, A: Allocator, W: Write>(
     rt: &'a HostRuntime,
     folder: &Folder<'a>,

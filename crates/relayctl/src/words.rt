@@ -16,19 +16,21 @@ pub enum Word<'a, A: Allocator> {
     Label(&'a str),
     /// Label it without its own labels and reaches.
     LabelFresh(&'a str),
-    /// Explain the checker's answer to a plan, at this path.
-    Explain(&'a str),
+    /// Explain the checker's answer to a plan.
+    Explain(CheckWords<'a, A>),
     /// Draw the plan of a network, at this path.
     Draw(&'a str, Drawing),
     /// Say where these tags go under the configuration at this path.
     Ways(&'a str, &'a [String]),
+    /// Say where these tags go through the relays of the plan at this path.
+    PlanWays(&'a str, &'a [String]),
     /// Adapt the configuration at this path to the profile; `--accept` and a name, again and again, say what is accepted.
     Adapt(&'a str, &'a [String]),
     /// Show what the journals in the data folder at this path hold.
     Show(&'a str),
 }
 
-/// Which plan is checked, and how.
+/// Which plan is checked or explained, and how.
 #[derive(Drop)]
 pub struct CheckWords<'a, A: Allocator> {
     /// The path of the plan.
@@ -51,11 +53,12 @@ pub fn read_word<A: Allocator + Copy>(
 ) -> Result<Option<Word<'_, A>>, AllocError> {
     match words {
         [_, first, behind @ ..] if first.as_str() == "check" => check_word(alloc, behind),
+        [_, first, behind @ ..] if first.as_str() == "explain" => explain_word(alloc, behind),
         _ => Ok(other_word(words)),
     }
 }
 
-// The same of words that don't ask for a check.
+// The same of words that ask for neither a check nor an explanation.
 fn other_word<A: Allocator>(words: &[String]) -> Option<Word<'_, A>> {
     if words.len() < 2 {
         return None;
@@ -66,7 +69,6 @@ fn other_word<A: Allocator>(words: &[String]) -> Option<Word<'_, A>> {
         "draw" => draw_word(behind),
         "ways" => ways_word(behind),
         "adapt" => adapt_word(behind),
-        "explain" => Some(Word::Explain(only_path(behind)?)),
         "show" => Some(Word::Show(only_path(behind)?)),
         "--help" if behind.is_empty() => Some(Word::Help),
         "--version" if behind.is_empty() => Some(Word::Version),
@@ -74,7 +76,7 @@ fn other_word<A: Allocator>(words: &[String]) -> Option<Word<'_, A>> {
     }
 }
 
-// What an option of `check` waits for.
+// What an option of `check` or `explain` waits for.
 #[derive(Clone, Copy, Debug, PartialEq, Eq)]
 enum Awaited {
     // Nothing: none stands in front.
@@ -87,7 +89,7 @@ enum Awaited {
     List,
 }
 
-// What was read so far of the words behind `check`.
+// What was read so far of the words behind `check` or `explain`.
 #[derive(Drop)]
 struct CheckReader<'a, A: Allocator> {
     alloc: A,
@@ -105,6 +107,28 @@ fn check_word<A: Allocator + Copy>(
     alloc: A,
     words: &[String],
 ) -> Result<Option<Word<'_, A>>, AllocError> {
+    match plan_words(alloc, words)? {
+        Some(asked) => Ok(Some(Word::Check(asked))),
+        None => Ok(None),
+    }
+}
+
+// Reads what stands behind `explain`: the same without `--adapt`.
+fn explain_word<A: Allocator + Copy>(
+    alloc: A,
+    words: &[String],
+) -> Result<Option<Word<'_, A>>, AllocError> {
+    match plan_words(alloc, words)? {
+        Some(asked) if !asked.adapts => Ok(Some(Word::Explain(asked))),
+        _ => Ok(None),
+    }
+}
+
+// Reads the words behind `check`.
+fn plan_words<A: Allocator + Copy>(
+    alloc: A,
+    words: &[String],
+) -> Result<Option<CheckWords<'_, A>>, AllocError> {
     let mut reader = CheckReader {
         alloc,
         net: None,
@@ -149,17 +173,17 @@ impl<'a, A: Allocator + Copy> CheckReader<'a, A> {
     }
 
     // What was asked; none where something is missing.
-    fn finish(self) -> Option<Word<'a, A>> {
+    fn finish(self) -> Option<CheckWords<'a, A>> {
         if self.awaited != Awaited::Nothing || (!self.adapts && !self.accepted.is_empty()) {
             return None;
         }
-        Some(Word::Check(CheckWords {
+        Some(CheckWords {
             net: self.net?,
             adapts: self.adapts,
             accepted: self.accepted,
             drops: self.drops,
             lists: self.lists,
-        }))
+        })
     }
 }
 
@@ -183,11 +207,12 @@ fn draw_word<A: Allocator>(words: &[String]) -> Option<Word<'_, A>> {
     }
 }
 
-// Reads what stands behind `ways`: a path, and tags.
+// Reads what stands behind `ways`: a path, behind `--plan` where it is that of a plan, and tags.
 fn ways_word<A: Allocator>(words: &[String]) -> Option<Word<'_, A>> {
     match words {
-        [conf, tags @ ..] => Some(Word::Ways(conf, tags)),
-        [] => None,
+        [option, net, tags @ ..] if option.as_str() == "--plan" => Some(Word::PlanWays(net, tags)),
+        [conf, tags @ ..] if !is_option(conf) => Some(Word::Ways(conf, tags)),
+        _ => None,
     }
 }
 

@@ -4,4 +4,5 @@
 mod outputs;
 mod ways;
 
-pub use ways::run_ways;
+pub use outputs::put_output;
+pub use ways::{entered, run_ways};

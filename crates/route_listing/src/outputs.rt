@@ -26,8 +26,8 @@ pub(crate) fn put_buffer<A: Allocator + Copy, B: Allocator>(
     }
 }
 
-// Adds ` file` and the path, or ` forward` and each server; nothing of an output without a buffer.
-fn put_output<A: Allocator + Copy, B: Allocator>(
+/// Adds ` file` and the path, or ` forward` and each server; nothing of an output without a buffer.
+pub fn put_output<A: Allocator + Copy, B: Allocator>(
     alloc: A,
     line: &mut Vec<u8, A>,
     output: &Output<B>,

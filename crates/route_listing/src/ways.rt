@@ -115,8 +115,8 @@ fn behind_tag<A: Allocator + Copy>(
     Ok(text)
 }
 
-// The tag that an event of this tag has behind a source with this prefix; `None` where it is too long.
-fn entered<A: Allocator + Copy>(
+/// The tag that an event of this tag has behind a source with this prefix; `None` where it is too long. The only error is want of memory.
+pub fn entered<A: Allocator + Copy>(
     alloc: A,
     prefix: Option<&Prefix<A>>,
     tag: &[u8],

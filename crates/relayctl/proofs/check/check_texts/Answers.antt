@@ -5,7 +5,6 @@ use Rattle.plan_lines.specs.Plans.{texts as texts_of}
 use Rattle.plan_lines.specs.declared.error.PlanError.TheVariants as refusal
 use Rattle.plan_lines.specs.declared.error.PlanError.{PlanError}
 use Rattle.relayctl.specs.Explaining.{SaysFaults}
-use Rattle.relayctl.proofs.Dropping.{missing}
 use Rattle.relayctl.proofs.Stopping.{is_checked}
 use Rattle.relayctl.proofs.check.check_texts.Goals as goal
 
@@ -25,4 +24,4 @@ returns-in_ok-say_faults-in-Err-Plan g c =
     inl (record { fault = c.in-Err-Plan.fault; refused = refused; named_fault = meant; further = c.in_ok-further-in-Err-Plan.further.items; are_left = c.in_ok-further-in-Err-Plan.ensures; says = says })
 
 pub returns-in_ok-say_missing-in-Err-Drop : goal.returns-in_ok-say_missing-in-Err-Drop
-returns-in_ok-say_missing-in-Err-Drop g c = inr (inl (missing g.row.A.Denot c.args.text.now (texts_of c.args.confs.now) c.args.drops.now c.in-Err-Drop.why c.in_ok-say_missing-in-Err-Drop.field-0.lines.items c.in_ok-say_missing-in-Err-Drop.field-0.status (search rules) (search rules) c.in_ok-say_missing-in-Err-Drop.ensures))
+returns-in_ok-say_missing-in-Err-Drop g c = inr (inl c.in_ok-say_missing-in-Err-Drop.ensures)

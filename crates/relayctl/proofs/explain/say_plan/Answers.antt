@@ -14,4 +14,4 @@ returns g c =
     let is : IsAnswer c.args.plan.now found = search rules in
     let line : front ≡ answer_line found = search rules in
     let are : c.extend_from_slice-2.new.self.items ≡ (front ++ text) ++ last_line c.in_ok-said.said.has_loss = search rules in
-    (found, is, says_no c.args.plan.now c.in-No.rule c.in-No.place front text c.extend_from_slice-2.new.self.items c.in_ok-said.said.has_loss line c.in_ok-said.ensures are)
+    (found, is, says_no c.args.drops.now c.args.plan.now c.in-No.rule c.in-No.place front text c.extend_from_slice-2.new.self.items c.in_ok-said.said.has_loss line c.in_ok-said.ensures are)
