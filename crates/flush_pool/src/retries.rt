@@ -8,6 +8,7 @@ use ack_receipt::SharedBuffer;
 use disk_files::Dir;
 use known::Known;
 pub(crate) use known::{Forgotten, Judgement, Noted};
+use relay_notices::{Notice, Teller};
 use retry_waits::RetrySettings;
 use std::alloc::{AllocError, Allocator};
 use std::sync::{Mutex, Wait};
@@ -23,6 +24,8 @@ const LOOKS: u8 = 2;
 pub struct Retries<A: Allocator> {
     settings: RetrySettings,
     known: Mutex<Known<A>>,
+    // Tells of the chunks of the buffer.
+    teller: Teller<A>,
 }
 
 impl<A: Allocator + Copy> Retries<A> {
@@ -31,7 +34,18 @@ impl<A: Allocator + Copy> Retries<A> {
         Retries {
             settings,
             known: Mutex::new(Known::new(alloc)),
+            teller: Teller::silent(),
         }
+    }
+
+    /// Workers tell by this teller, of which the first place is the buffer, of chunks that are given up.
+    pub fn telling(self, teller: Teller<A>) -> Self {
+        Retries { teller, ..self }
+    }
+
+    /// A chunk was let go, since its retries are over: it is told.
+    pub(crate) fn tell_given_up<R: Wait>(&self, rt: &R) {
+        self.teller.tell(rt, 0, Notice::GivenUp);
     }
 
     /// Of how many chunks failures are known.
@@ -87,7 +101,7 @@ impl<A: Allocator + Copy> Retries<A> {
 }
 
 /// The monotonic clock in milliseconds, if it can be read.
-fn read_clock<R: Clock>(rt: &R) -> Option<u64> {
+pub(crate) fn read_clock<R: Clock>(rt: &R) -> Option<u64> {
     let since = rt.monotonic().ok()?;
     Some(u64::try_from(since.as_millis()).unwrap_or(u64::MAX))
 }

@@ -114,9 +114,18 @@ where
             }
             Verdict::GiveUp => {
                 let evidence = Evidence::expired(&claim);
-                self.let_go(claim, evidence)
+                let let_go = self.let_go(claim, evidence);
+                self.tell_given_up(&let_go);
+                let_go
             }
             Verdict::Try => self.deliver(claim),
+        }
+    }
+
+    // It is told of a chunk that is gone, since its retries are over.
+    fn tell_given_up(&self, let_go: &Result<Outcome, BufferFault>) {
+        if let Ok(Outcome::Purged) = let_go {
+            self.retries().tell_given_up(self.handle());
         }
     }
 

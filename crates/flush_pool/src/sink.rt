@@ -5,40 +5,72 @@ ghost use Rattle.flush_pool.specs.Carriages.{IsStoredFor};
 
 use crate::courier::Courier;
 use crate::fault::CarryFault;
+use crate::retries::read_clock;
 use crate::view::ClaimView;
 use buffer_book::Evidence;
 use disk_files::Dir;
 use event_modes::LONGEST_TAG;
-use sink_series::Series;
+use relay_notices::{Notice, Teller};
+use sink_rotation::Rotation;
+use sink_series::SeriesFault;
 use std::alloc::Allocator;
 use std::sync::{Mutex, Wait};
+use std::time::Clock;
 
-/// Writes chunks to a sink's files, one at a time: its workers share them behind a lock of its own.
+/// Writes chunks to a sink's files, one at a time: its workers share them behind a lock of its own. They are away only while one
+/// writes, under that lock.
 #[derive(Drop)]
-pub struct SinkCourier<S: Dir, A: Allocator>(Mutex<Series<S, A>>);
+pub struct SinkCourier<S: Dir, A: Allocator> {
+    sink: Mutex<Option<Rotation<S, A>>>,
+    // Tells of the sink.
+    teller: Teller<A>,
+}
 
-impl<S: Dir, A: Allocator> SinkCourier<S, A> {
-    /// Writes to these files.
-    pub fn new(series: Series<S, A>) -> Self {
-        SinkCourier(Mutex::new(series))
+impl<S: Dir, A: Allocator + Copy> SinkCourier<S, A> {
+    /// Writes to this sink.
+    pub fn new(sink: Rotation<S, A>) -> Self {
+        SinkCourier {
+            sink: Mutex::new(Some(sink)),
+            teller: Teller::silent(),
+        }
     }
 
-    /// The files, when all work is done.
-    pub fn into_series(self) -> Series<S, A> {
-        let SinkCourier(series) = self;
-        series.into_inner()
+    /// It tells by this teller, of which the first place is the sink, where the files can't be written.
+    pub fn telling(self, teller: Teller<A>) -> Self {
+        SinkCourier { teller, ..self }
+    }
+
+    /// The sink's folder, when all work is done.
+    pub fn into_dir(self) -> Option<S> {
+        let SinkCourier { sink, teller: _ } = self;
+        match sink.into_inner() {
+            Some(sink) => Some(sink.into_dir()),
+            None => None,
+        }
+    }
+
+    // A write of the files failed so.
+    fn tell_fault<R: Wait>(&self, rt: &R, fault: SeriesFault) {
+        match fault {
+            SeriesFault::Memory => {}
+            SeriesFault::Fault | SeriesFault::Failed | SeriesFault::LastNumber => {
+                self.teller.tell(rt, 0, Notice::SinkFailed);
+            }
+        }
     }
 }
 
-impl<R: Wait, D: Dir, S: Dir, A: Allocator + Copy> Courier<R, D, A> for SinkCourier<S, A> {
+impl<R: Wait + Clock, D: Dir, S: Dir + Drop, A: Allocator + Copy> Courier<R, D, A>
+    for SinkCourier<S, A>
+{
     ghost use Rattle.buffer_book.specs.Evidences.{Shows};
 
     ghost gives = { IsStoredFor };
 
     /// Reads the chunk's entries, writes them and syncs them.
     ///
-    /// `Memory` writes nothing. `Device`: the chunk couldn't be read, or not be written; after a write that failed, each later
-    /// one does until the sink is opened again.
+    /// `Memory` writes nothing. `Device`: the chunk couldn't be read, or not be written; after a write that failed, each later one does
+    /// until the sink begins its next file.
     fn carry(&self, rt: &R, chunk: &ClaimView<'_, D, A>) -> Result<Evidence<A>, CarryFault>
         ensures stored { IfOk result (λ evidence. IsStoredFor chunk.now evidence) }
         ensures gives { (shown : Shows) → result ≡ Ok shown → IsStoredFor chunk.now shown }
@@ -48,7 +80,25 @@ impl<R: Wait, D: Dir, S: Dir, A: Allocator + Copy> Courier<R, D, A> for SinkCour
             return Err(CarryFault::Device);
         }
         let entries = chunk.entries(rt)?;
-        let stored = self.0.lock(rt).write_all_entries(chunk.tag(), &entries)?;
-        Ok(Evidence::stored(chunk.claim(), stored))
+        let time = read_clock(rt).unwrap_or(0);
+        let written = {
+            let mut held = self.sink.lock(rt);
+            let Some(sink) = held.take() else {
+                return Err(CarryFault::Device);
+            };
+            let (sink, written) = sink.write_all_entries(time, chunk.tag(), &entries);
+            *held = Some(sink);
+            written
+        };
+        match written {
+            Ok(stored) => {
+                self.teller.tell(rt, 0, Notice::Works);
+                Ok(Evidence::stored(chunk.claim(), stored))
+            }
+            Err(fault) => {
+                self.tell_fault(rt, fault);
+                Err(CarryFault::from(fault))
+            }
+        }
     }
 }

@@ -107,6 +107,11 @@ where
         self.rt
     }
 
+    /// The failures that this worker knows with the others.
+    pub(crate) fn retries(&self) -> &'a Retries<A> {
+        self.retries
+    }
+
     // Writes down what it did just now, which may stand behind the rest.
     fn write(&mut self, deed: &Deed<A>)
         requires { May self.old.leaf self.old.takes self.old.acts (act_of deed.now) }

@@ -15,8 +15,9 @@ use crate::fault::LoopFault;
 use ack_receipt::{Delivery, Numbers, Reserved};
 use buffer_lanes::{Collected, Lanes, Waiting};
 use disk_files::Dir;
-use event_modes::Message;
-use forward_core::{Demand, Security, ServerSession, SessionError};
+use event_modes::{Message, ModeFault};
+use forward_core::{Demand, Security, ServerSession, SessionError, SessionFault};
+use relay_notices::Closing;
 use relay_ports::{Branches, Inlet};
 use std::alloc::{AllocError, Allocator};
 use std::marker::Model;
@@ -30,6 +31,8 @@ pub struct Peer<A: Allocator> {
     waiting: Vec<Waiting<A>, A>,
     // Nothing more is read.
     is_closing: bool,
+    // Why, where the client is the cause.
+    why: Option<Closing>,
 }
 
 impl<A: Allocator> Model for Peer<A> {
@@ -63,6 +66,7 @@ impl<A: Allocator + Copy> Peer<A> {
             session,
             waiting: Vec::new(alloc),
             is_closing: false,
+            why: None,
         })
     }
 
@@ -127,17 +131,18 @@ impl<A: Allocator + Copy> Peer<A> {
         while let Some(demand) = rest.next() {
             match demand {
                 Demand::Deliver(message) => self.deliver(rt, alloc, message, lanes, numbers)?,
-                Demand::Close(_) => self.close(),
+                Demand::Close(fault) => self.close(fault),
             }
         }
         Ok(())
     }
 
-    // Nothing more is read.
-    fn close(&mut self)
+    // Nothing more is read, for this fault of the client.
+    fn close(&mut self, fault: SessionFault)
         ensures { self.new ≡ record self.old { closing = true } }
     {
         self.is_closing = true;
+        self.why = Some(closing_of(fault));
     }
 
     // Begins the delivery of a message under a number of its own, unless its way is a loop. Where a buffer refuses, it is abandoned.
@@ -234,6 +239,11 @@ impl<A: Allocator + Copy> Peer<A> {
         self.is_closing
     }
 
+    /// Why nothing more is read, where the client is the cause.
+    pub fn why(&self) -> Option<Closing> {
+        self.why
+    }
+
     /// Whether deliveries wait for receipts.
     pub fn is_waiting(&self) -> bool
         ensures { IsTrue result ↔ (0 < length self.now.waits) }
@@ -258,8 +268,20 @@ impl<A: Allocator + Copy> Peer<A> {
             session: _,
             waiting,
             is_closing: _,
+            why: _,
         } = self;
         abandon_all(rt, waiting, lanes);
+    }
+}
+
+// What is told of a client whose session was ended by this fault.
+fn closing_of(fault: SessionFault) -> Closing {
+    match fault {
+        SessionFault::BadStream(ModeFault::Compressed) => Closing::Compressed,
+        SessionFault::Handshake(_) => Closing::WrongKey,
+        SessionFault::BadStream(_) | SessionFault::BadAck | SessionFault::Closed => {
+            Closing::BadStream
+        }
     }
 }
 

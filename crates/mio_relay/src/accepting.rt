@@ -82,7 +82,7 @@ impl<N: Network + Drop, D: Dir + Drop, A: Allocator + Copy> InLoop<N, D, A> {
         let Some(peer) = peer_at(self.alloc, &self.listeners, place, nonce)? else {
             return Ok(());
         };
-        self.put(rt, key, Connection::new(stream, peer));
+        self.put(rt, key, Connection::new(stream, peer, place));
         Ok(())
     }
 

@@ -12,6 +12,7 @@ use ack_receipt::Numbers;
 use disk_files::Dir;
 use loop_core::LoopFault;
 use relay_buffers::{DeliveryJob, Folders, RelayParts, open_all, parts_of};
+use relay_notices::Teller;
 use relay_ports::{BufferedOutput, RelaySetup, SetupParts};
 use relay_sockets::{Network, Nonces};
 use std::alloc::Allocator;
@@ -136,6 +137,7 @@ impl<N: Network + Drop, A: Allocator + Copy> BoundRelay<N, A> {
             nonces,
             time,
             fault: None,
+            clients: Teller::silent(),
         };
         Ok(OpenRelay {
             turning,

@@ -9,6 +9,7 @@ use ack_receipt::Numbers;
 use buffer_lanes::Lanes;
 use disk_files::Dir;
 use loop_core::{LoopFault, Peer};
+use relay_notices::Closing;
 use relay_sockets::{Moved, Wire};
 use std::alloc::Allocator;
 use std::marker::Model;
@@ -54,6 +55,8 @@ pub struct Connection<S: Wire, A: Allocator> {
     is_blocked: bool,
     // The stream failed.
     is_broken: bool,
+    // The place of the source at which it came in: there it is told of.
+    source: usize,
 }
 
 impl<S: Wire, A: Allocator> Model for Connection<S, A> {
@@ -78,8 +81,8 @@ pub struct ConnectionParts<S: Wire, A: Allocator> {
 }
 
 impl<S: Wire, A: Allocator + Copy> Connection<S, A> {
-    /// A stream that was just accepted, with its session.
-    pub fn new(stream: S, peer: Peer<A>) -> Self
+    /// A stream that was just accepted, with its session, at the source with this place.
+    pub fn new(stream: S, peer: Peer<A>, source: usize) -> Self
         ensures { result ≡ record { origin = S.origin stream; traffic = S.traffic stream; peer = peer; is_broken = false; is_blocked = false; has_ended = false } }
     {
         Connection {
@@ -90,7 +93,18 @@ impl<S: Wire, A: Allocator + Copy> Connection<S, A> {
             has_ended: false,
             is_blocked: false,
             is_broken: false,
+            source,
         }
+    }
+
+    /// The place of the source at which it is told of.
+    pub fn source(&self) -> usize {
+        self.source
+    }
+
+    /// Why it is to be closed, where the client is the cause.
+    pub fn why(&self) -> Option<Closing> {
+        self.peer.why()
     }
 
     /// The network says that bytes can be read, or the end; or that bytes can be written.
@@ -278,6 +292,7 @@ impl<S: Wire, A: Allocator + Copy> Connection<S, A> {
             has_ended: _,
             is_blocked: _,
             is_broken: _,
+            source: _,
         } = self;
         ConnectionParts { stream, peer }
     }

@@ -22,6 +22,7 @@ use disk_files::Dir;
 use loop_core::LoopFault;
 use relay_buffers::{Folders, SystemDir, SystemFolders};
 use relay_conf::Relay;
+use relay_notices::Teller;
 use relay_ports::RelaySetup;
 use relay_sockets::{Network, Nonces, Note, SocketNetwork};
 use std::alloc::Allocator;
@@ -58,6 +59,8 @@ pub struct InLoop<N: Network + Drop, D: Dir + Drop, A: Allocator> {
     pub(crate) time: u64,
     // The fault of a turn that ended it.
     pub(crate) fault: Option<LoopFault>,
+    // Tells of clients, each at its source's place.
+    pub(crate) clients: Teller<A>,
 }
 
 impl<N: Network + Drop, D: Dir + Drop, A: Allocator> Model for InLoop<N, D, A> {
@@ -245,6 +248,13 @@ impl<N: Network + Drop, D: Dir + Drop, A: Allocator + Copy> InLoop<N, D, A> {
         self.lanes.keep_stubs(self.alloc);
     }
 
+    /// From now on it is told of clients that are closed by what they sent, by this teller, whose places are the sources, in their order.
+    pub fn tell_by(&mut self, clients: Teller<A>)
+        ensures { self.new ≡ self.old }
+    {
+        self.clients = clients;
+    }
+
     /// Waits for sockets for at most ten milliseconds, and does what is to be done: takes connections in, reads at most four
     /// pieces from each, appends each message's entries to its buffers, makes one sync for each buffer that needs one, and then
     /// answers.
@@ -394,6 +404,7 @@ impl<N: Network + Drop, D: Dir + Drop, A: Allocator + Copy> InLoop<N, D, A> {
             nonces: _,
             time: _,
             fault: _,
+            clients: _,
         } = self;
         connections.end(rt, &mut lanes);
         let fault = told(end, lanes.fault());

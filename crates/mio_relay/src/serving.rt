@@ -6,12 +6,13 @@ ghost use Rattle.mio_relay.specs.Faults.{IsReason, of_network};
 ghost use Rattle.mio_relay.specs.Loops.{Rests, Stays};
 ghost use Rattle.mio_relay.specs.Connections.{AreFlushed, AreFlushedBelow, AreSettled, AreSettledBelow, GoOn};
 
-use crate::connection::{ConnectionParts, NoNumber};
+use crate::connection::{Connection, ConnectionParts, NoNumber};
 use crate::connections::Connections;
 use crate::in_loop::InLoop;
 use crate::listener::loop_fault;
 use disk_files::Dir;
 use loop_core::LoopFault;
+use relay_notices::{Notice, Teller};
 use relay_sockets::{Network, Note, Spot, Wire};
 use std::alloc::Allocator;
 use std::sync::Wait;
@@ -141,10 +142,22 @@ impl<N: Network + Drop, D: Dir + Drop, A: Allocator + Copy> InLoop<N, D, A> {
         ensures rests { Rests self.old self.new }
     {
         if let Some(connection) = self.connections.take(key) {
+            tell_closed(rt, &self.clients, &connection);
             let ConnectionParts { stream, peer } = connection.into_parts();
             self.network.close(stream);
             peer.end(rt, &mut self.lanes);
         }
+    }
+}
+
+// A connection is closed: it is told, where there is something to tell.
+fn tell_closed<R: Wait, S: Wire, A: Allocator + Copy>(
+    rt: &R,
+    clients: &Teller<A>,
+    connection: &Connection<S, A>,
+) {
+    if let Some(closing) = connection.why() {
+        clients.tell(rt, connection.source(), Notice::Closed(closing));
     }
 }
 

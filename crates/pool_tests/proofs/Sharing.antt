@@ -2,7 +2,6 @@
 use denote.RattleType.{RattleType}
 use denote.Param.Send.{IsSend, IsSync, Frees, sendable}
 use Rattle.std.proofs.Crossing.{crosses}
-use Rattle.std.proofs.MapsCrossing as maps
 use Rattle.std_heap.specs.contracts.Global as Heap
 use Rattle.std_heap.specs.contracts.GlobalAllocator.TheImpl.{ghosts}
 use Rattle.std.specs.declared.alloc.Allocator as alloc
@@ -10,6 +9,7 @@ use Rattle.disk_files.specs.declared.dir.Dir as dir
 use Rattle.ack_receipt.specs.contracts.shared.SharedBuffer as Shared
 use Rattle.flush_pool.specs.contracts.retries.Retries as Retries
 use Rattle.flush_pool.proofs.Sharing as pool
+use Rattle.flush_pool.proofs.retries.Retries.TheSendSync as retries
 
 Shared-sync : (D A : RattleType) (d : dir.Ghosts D.Denot) (a : alloc.Ghosts A.Denot) → IsSend D → IsSend A → IsSync A → Frees a a.dealloc_token → IsSync (Shared.the_row D A d a)
 Shared-sync D A d a = pool.Shared-sync D A d a
@@ -18,4 +18,4 @@ pub Shelf-sync : (D : RattleType) (d : dir.Ghosts D.Denot) → IsSend D → IsSy
 Shelf-sync D d s = search (Shared-sync, crosses, sendable) depth 60 fits 20000
 
 pub Retries-sync : IsSync (Retries.the_row Heap.the_row ghosts)
-Retries-sync = search (maps.crosses, crosses, sendable) depth 60 fits 20000
+Retries-sync = search (retries.the_field_sync, crosses, sendable) depth 60 fits 20000

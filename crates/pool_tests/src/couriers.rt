@@ -7,6 +7,7 @@ use flush_pool::{CarryFault, ClaimView, Courier, Gate, SinkCourier};
 use std::alloc::Global;
 use std::sync::Wait;
 use std::sync::atomic::{AtomicBool, AtomicU64, Ordering};
+use std::time::Clock;
 
 // How many digests a courier makes at most while it waits for the other.
 const MOST_DIGESTS: u32 = 1_000_000;
@@ -66,7 +67,7 @@ pub struct Third<'a, S: Dir> {
     pub stop: &'a AtomicBool,
 }
 
-impl<'a, R: Wait, D: Dir, S: Dir> Courier<R, D, Global> for Third<'a, S> {
+impl<'a, R: Wait + Clock, D: Dir, S: Dir + Drop> Courier<R, D, Global> for Third<'a, S> {
     fn carry(
         &self,
         rt: &R,

@@ -31,7 +31,7 @@ fn prints_faults_by_their_codes(rt: HostRuntime) -> Result<(), Fail> {
 }
 
 // Why a courier fails at the first chunk, if it does; the chunk is given back.
-fn carried<R: Wait, D: Dir, S: Dir>(
+fn carried<R: Wait + Clock, D: Dir, S: Dir + Drop>(
     rt: &R,
     shelf: &Shelf<D>,
     courier: &SinkCourier<S, Global>,
@@ -51,7 +51,7 @@ fn carried<R: Wait, D: Dir, S: Dir>(
 }
 
 // What the courier of a sink in the second folder answers of a chunk in the first, and what is queued then.
-fn carried_over<R: Wait, D: Dir + Drop, S: Dir + Drop>(
+fn carried_over<R: Wait + Clock, D: Dir + Drop, S: Dir + Drop>(
     alloc: Global,
     rt: &R,
     dir: D,

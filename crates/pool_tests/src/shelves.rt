@@ -6,7 +6,8 @@ use buffer_store::{Buffer, BufferFault, RENEWED_PAST_IN_MEMORY, Settings};
 use disk_files::Dir;
 use event_modes::Entries;
 use retry_waits::RetrySettings;
-use sink_series::{Series, SeriesFault};
+use sink_rotation::{ONE_FILE, Rotation};
+use sink_series::SeriesFault;
 use std::alloc::{AllocError, Global};
 
 // What is behind the lock in these tests, in a folder of any kind: over one in memory all that is said of it would be in view at each call.
@@ -94,8 +95,8 @@ pub fn sink<S: Dir + Drop>(
     alloc: Global,
     dir: S,
     path: &[u8],
-) -> Result<Series<S, Global>, SeriesFault> {
-    Series::open(alloc, dir, path).map_err(|(fault, _dir)| fault)
+) -> Result<Rotation<S, Global>, SeriesFault> {
+    Rotation::open(alloc, dir, path, ONE_FILE, 0).map_err(|(fault, _dir)| fault)
 }
 
 // How many of the serials 0 to 3 are queued, as a bit each.

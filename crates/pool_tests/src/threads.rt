@@ -6,7 +6,7 @@ use ack_receipt::Basis;
 use buffer_store::BufferFault;
 use disk_files::{Dir, MemoryDir};
 use flush_pool::{Courier, Gate, OpenGate, Retries, SinkCourier, Worked, run_pool};
-use sink_series::SeriesFault;
+use sink_series::{Series, SeriesFault};
 use std::alloc::Global;
 use std::sync::Wait;
 use std::sync::atomic::{AtomicBool, AtomicU64, Ordering};
@@ -101,7 +101,7 @@ fn a_gate_keeps_one_chunk(rt: HostRuntime) -> Result<(), Fail> {
 }
 
 // Two workers that write to the sink until three chunks are written.
-fn write_three<R: Wait + Clock + Threads + Sync, D: Dir + Send, S: Dir + Send>(
+fn write_three<R: Wait + Clock + Threads + Sync, D: Dir + Send, S: Dir + Drop + Send>(
     rt: &R,
     alloc: Global,
     shelf: &Shelf<D>,
@@ -118,8 +118,15 @@ fn write_three<R: Wait + Clock + Threads + Sync, D: Dir + Send, S: Dir + Send>(
 }
 
 // How many events are in the sink.
-fn count_of<S: Dir + Drop>(sink: SinkCourier<S, Global>) -> Result<usize, SeriesFault> {
-    Ok(sink.into_series().content()?.len())
+fn count_of<S: Dir + Drop>(
+    alloc: Global,
+    sink: SinkCourier<S, Global>,
+) -> Result<usize, SeriesFault> {
+    let Some(dir) = sink.into_dir() else {
+        return Ok(0);
+    };
+    let mut series = Series::open(alloc, dir, b"all").map_err(|(fault, _dir)| fault)?;
+    Ok(series.content()?.len())
 }
 
 // What two workers do with three chunks for a sink in the second folder, how many are queued then, and how many events the sink has.
@@ -133,7 +140,7 @@ fn written<R: Wait + Clock + Threads + Sync, D: Dir + Drop + Send, S: Dir + Drop
     let writer = SinkCourier::new(sink(alloc, sinks, b"all")?);
     let worked = write_three(rt, alloc, &shelf, &writer)?;
     let left = queued(shelf);
-    Ok((worked, left, count_of(writer)?))
+    Ok((worked, left, count_of(alloc, writer)?))
 }
 
 #[test]

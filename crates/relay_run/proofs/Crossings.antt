@@ -1,17 +1,28 @@
 -- What carries chunks may be shared by threads, and what starts a buffer's flush threads may go to a thread.
 use denote.RattleType.{RattleType}
-use denote.Param.Send.{IsSend, IsSync, Frees, sendable}
+use denote.Enum.Declared.{shape}
+use denote.Param.Send.{IsSend, IsSync, Frees, sendable, enum_send, enum_sync}
 use Rattle.std.proofs.Crossing.{crosses}
+use Rattle.std.proofs.CrossingOver as over
 use Rattle.std.proofs.MapsCrossing as maps
 use Rattle.std.specs.declared.alloc.Allocator as alloc
+use Rattle.std_heap.specs.contracts.Global as Heap
+use Rattle.std_heap.specs.contracts.GlobalAllocator.TheImpl.{ghosts}
 use Rattle.disk_files.specs.declared.dir.Dir as dir
 use Rattle.disk_files.proofs.past.Past.TheLaws.TheKnot as past
 use Rattle.sink_series.proofs.answers.Answers.TheLaws.TheKnot as answers
 use Rattle.sink_series.proofs.begun.Begun.TheLaws.TheKnot as begun
+use Rattle.sink_rotation.proofs.closed.Closed.TheLaws.TheKnot as closed
 use Rattle.ack_receipt.specs.contracts.shared.SharedBuffer as Shared
 use Rattle.flush_pool.proofs.Sharing as pool
+use Rattle.sink_rotation.specs.contracts.rotation.Rotation as Rotation
+use Rattle.relay_notices.proofs.Sharing as told
+use Rattle.relay_notices.specs.contracts.notices.Notices as Notices
+use Rattle.relay_notices.specs.contracts.notices.Teller as Teller
+use Rattle.relay_notices.proofs.notices.Notices.TheSendSync as notices
 use Rattle.relay_run.specs.contracts.flush.Carrier as Carrier
 use Rattle.relay_run.specs.contracts.flush.Pool as Pool
+use Rattle.relay_run.specs.contracts.voice.Flags as Flags
 
 module _ (D A : RattleType) (d : dir.Ghosts D.Denot) (a : alloc.Ghosts A.Denot) where
   Shared-send : IsSend D → IsSend A → Frees a a.dealloc_token → IsSend (Shared.the_row D A d a)
@@ -20,13 +31,84 @@ module _ (D A : RattleType) (d : dir.Ghosts D.Denot) (a : alloc.Ghosts A.Denot) 
   Shared-sync : IsSend D → IsSend A → IsSync A → Frees a a.dealloc_token → IsSync (Shared.the_row D A d a)
   Shared-sync = pool.Shared-sync D A d a
 
+module _ (A : RattleType) (a : alloc.Ghosts A.Denot) where
+  Notices-send : IsSend A → Frees a a.dealloc_token → IsSend (Notices.the_row A a)
+  Notices-send sa f = search (notices.the_field_send, crosses, over.crosses, sendable) depth 60 fits 20000
+
+  Notices-sync : IsSend A → IsSync A → Frees a a.dealloc_token → IsSync (Notices.the_row A a)
+  Notices-sync sa ya f = search (notices.the_field_sync, crosses, over.crosses, sendable) depth 60 fits 20000
+
+  Teller-send : IsSend A → IsSync A → Frees a a.dealloc_token → IsSend (Teller.the_field A a).row
+  Teller-send = told.Teller-send A a
+
+  Teller-sync : IsSend A → IsSync A → Frees a a.dealloc_token → IsSync (Teller.the_field A a).row
+  Teller-sync = told.Teller-sync A a
+
+-- What the thread that says notices shares with who ends it.
+
+pub Flags-send : IsSend Flags.the_field.row
+Flags-send = search (crosses, sendable) depth 20
+
+pub Flags-sync : IsSync Flags.the_field.row
+Flags-sync = search (crosses, sendable) depth 20
+
+-- A sink that stays open.
+
+module _ (D A : RattleType) (d : dir.Ghosts D.Denot) (a : alloc.Ghosts A.Denot) where
+  Rotation-send : IsSend D → IsSend A → Frees a a.dealloc_token → IsSend (Rotation.the_field D A d a).row
+  Rotation-send sd sa f = search (answers.crosses, begun.crosses, closed.crosses, crosses, over.crosses, sendable) depth 60 fits 20000
+
+-- What tells, on the heap.
+
+Teller-here-send : IsSend (Teller.the_field Heap.the_row ghosts).row
+Teller-here-send = search (Teller-send, crosses, sendable) depth 60 fits 20000
+
+Teller-here-sync : IsSync (Teller.the_field Heap.the_row ghosts).row
+Teller-here-sync = search (Teller-sync, crosses, sendable) depth 60 fits 20000
+
+pub Notices-here-send : IsSend (Notices.the_row Heap.the_row ghosts)
+Notices-here-send = search (Notices-send, crosses, sendable) depth 60 fits 20000
+
+pub Notices-here-sync : IsSync (Notices.the_row Heap.the_row ghosts)
+Notices-here-sync = search (Notices-sync, crosses, sendable) depth 60 fits 20000
+
 -- What carries its chunks, and what starts the threads that do.
 
 pub Carrier-sync : IsSync Carrier.the_field.row
-Carrier-sync = search (crosses, answers.crosses, begun.crosses, sendable) depth 60 fits 20000
+Carrier-sync =
+    let ts = Teller-here-send in
+    let ty = Teller-here-sync in
+    enum_sync (shape Carrier.the_type) (
+      (search (crosses, sendable) depth 120 fits 100000, tt),
+      (
+        (
+          search (Rotation-send, crosses, sendable) depth 120 fits 100000,
+          (
+            search (answers.crosses, begun.crosses, closed.crosses, crosses, sendable) depth 60 fits 20000,
+            (search (crosses, sendable) depth 60 fits 20000, tt),
+          ),
+        ),
+        tt,
+      ),
+    )
 
 Carrier-send : IsSend Carrier.the_field.row
-Carrier-send = search (crosses, answers.crosses, begun.crosses, sendable) depth 60 fits 20000
+Carrier-send =
+    let ts = Teller-here-send in
+    let ty = Teller-here-sync in
+    enum_send (shape Carrier.the_type) (
+      (search (crosses, sendable) depth 120 fits 100000, tt),
+      (
+        (
+          search (Rotation-send, crosses, sendable) depth 120 fits 100000,
+          (
+            search (answers.crosses, begun.crosses, closed.crosses, crosses, sendable) depth 60 fits 20000,
+            (search (crosses, sendable) depth 60 fits 20000, tt),
+          ),
+        ),
+        tt,
+      ),
+    )
 
 pub Pool-send : IsSend Pool.the_field.row
-Pool-send = let c = Carrier-send in search (Shared-send, Shared-sync, maps.crosses, crosses, past.crosses, sendable) depth 60 fits 20000
+Pool-send = let c = Carrier-send in let ts = Teller-here-send in let ty = Teller-here-sync in search (Shared-send, Shared-sync, maps.crosses, crosses, past.crosses, sendable) depth 60 fits 20000

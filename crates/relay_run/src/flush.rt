@@ -3,6 +3,7 @@
 ghost use Rattle.std.specs.Prelude.{◌≡◌, IfErr, IfOk, option_map, string_bytes};
 ghost use Rattle.relay_run.specs.Running.{IsCarrierOf, IsPoolOf, IsSinkAs, IsSinkAt, fault_of as fault_of_done};
 
+use crate::voice::Voice;
 use ack_receipt::{Evidence, SharedBuffer};
 use buffer_store::BufferFault;
 use disk_files::{Dir, RealDir};
@@ -12,9 +13,11 @@ use flush_pool::{
 use loop_core::LoopFault;
 use relay_buffers::{DeliveryJob, PlacedDir, SystemDir, real_dir};
 use relay_conf::RetrySettings;
+use relay_notices::{Notice, Teller};
 use relay_ports::BufferedOutput;
-use relay_sockets::{Nonces, SystemDialer};
-use sink_series::{Series, SeriesFault};
+use relay_sockets::{Nonces, SystemDialer, now_after};
+use sink_rotation::{FileLimits, Rotation};
+use sink_series::SeriesFault;
 use std::alloc::Global;
 use std::marker::Model;
 use std::net::{Net, TcpListener, TcpStream};
@@ -40,7 +43,14 @@ type Connects = SystemDialer<HostRuntime, Global>;
 pub type Folder = SystemDir<HostRuntime, Global>;
 
 // The files of a sink.
-type Files = Series<RealDir<HostRuntime, Global>, Global>;
+type Files = Rotation<RealDir<HostRuntime, Global>, Global>;
+
+// A sink's next file is begun behind 1 GiB or a day; and a minute after the last one, where that can't be written.
+const FILE_LIMITS: FileLimits = FileLimits {
+    bytes: 1_073_741_824,
+    millis: 86_400_000,
+    pause: 60_000,
+};
 
 /// Carries chunks to servers, or to the files of a sink. Contracts see the sink as it was opened, and the path of its folder.
 #[derive(Drop)]
@@ -79,6 +89,8 @@ pub struct Pool {
     threads: usize,
     retry: RetrySettings,
     stop: Arc<AtomicBool>,
+    // Tells of the buffer's chunks.
+    teller: Teller<Global>,
     of: Snapshot<DeliveryJob<Folder, Global>>,
 }
 
@@ -98,14 +110,17 @@ impl Model for Pool {
 }
 
 impl Pool {
-    /// Makes what carries the chunks of this output: a courier to its servers, or its sink, which is opened in this folder.
+    /// Makes what carries the chunks of this output, whose buffer has this number: a courier to its servers, or its sink, which is opened
+    /// in this folder.
     ///
     /// `Buffer`: the sink's files can't be made. `Poll`: the system gives no random bytes. `Memory`.
-    pub fn open<R: RandomSource>(
+    pub fn open<R: RandomSource + Wait>(
         rt: &R,
         home: Home<'_>,
         job: &DeliveryJob<Folder, Global>,
         stop: &Arc<AtomicBool>,
+        voice: &Voice,
+        number: usize,
     ) -> Result<Pool, LoopFault>
         ensures job { IfOk result (λ pool. pool.job ≡ job.now) }
         ensures carrier { IfOk result (IsPoolOf home.entry.path.now) }
@@ -113,10 +128,11 @@ impl Pool {
         let settings = job.output().buffer();
         Ok(Pool {
             buffer: Arc::try_clone(job.buffer())?,
-            carrier: carrier_of(rt, home, job.output(), stop)?,
+            carrier: carrier_of(rt, home, job.output(), stop, voice.of_carrier(number))?,
             threads: settings.flush_thread_count,
             retry: settings.retry,
             stop: Arc::try_clone(stop)?,
+            teller: voice.of_chunks(number),
             of: Snapshot::of(job),
         })
     }
@@ -133,7 +149,7 @@ impl Pool {
         ensures { result.pool ≡ self }
     {
         let of = Snapshot::of(&self);
-        let retries = Retries::new(rt.alloc(), self.retry);
+        let retries = Retries::new(rt.alloc(), self.retry).telling(self.teller.another());
         let done = run_pool(
             rt,
             self.threads,
@@ -144,7 +160,11 @@ impl Pool {
             &self.stop,
         );
         self.stop.store(true, Ordering::SeqCst);
-        PoolEnd { done, of }
+        PoolEnd {
+            done,
+            has_failed: self.buffer.has_failed(rt),
+            of,
+        }
     }
 }
 
@@ -152,6 +172,8 @@ impl Pool {
 #[derive(Drop)]
 pub struct PoolEnd {
     done: Result<Worked, BufferFault>,
+    // The buffer's journal couldn't be written.
+    has_failed: bool,
     of: Snapshot<Pool>,
 }
 
@@ -167,6 +189,11 @@ impl Model for PoolEnd {
 }
 
 impl PoolEnd {
+    /// Whether the journal of its buffer couldn't be written.
+    pub fn has_failed(&self) -> bool {
+        self.has_failed
+    }
+
     /// The fault that it ended with.
     pub fn fault(&self) -> Option<LoopFault>
         ensures { result ≡ fault_of_done self.now.done }
@@ -180,11 +207,12 @@ impl PoolEnd {
 }
 
 // What carries the chunks of this output.
-fn carrier_of<R: RandomSource>(
+fn carrier_of<R: RandomSource + Wait>(
     rt: &R,
     home: Home<'_>,
     output: &BufferedOutput<Global>,
     stop: &Arc<AtomicBool>,
+    teller: Teller<Global>,
 ) -> Result<Carrier, LoopFault>
     ensures { IfOk result (IsCarrierOf home.entry.path.now output.now) }
 {
@@ -197,9 +225,9 @@ fn carrier_of<R: RandomSource>(
             let dialer = Arc::new(alloc, Connects::new(copy_of(home.files)?, alloc))?;
             let theirs = Arc::try_clone(stop)?;
             let courier = TcpCourier::new(alloc, settings, nonces, theirs, dialer)?;
-            Ok(Carrier::Servers(courier))
+            Ok(Carrier::Servers(courier.telling(teller)))
         }
-        BufferedOutput::File(settings) => sink_of(home, settings.path.as_str()),
+        BufferedOutput::File(settings) => sink_of(rt, home, settings.path.as_str(), teller),
     }
 }
 
@@ -214,25 +242,34 @@ pub fn copy_of<R: Clone>(rt: &R) -> Result<R, LoopFault>
 }
 
 // What carries chunks to the sink of this name, which is opened in this folder.
-fn sink_of(home: Home<'_>, name: &str) -> Result<Carrier, LoopFault>
+fn sink_of<R: Wait>(
+    rt: &R,
+    home: Home<'_>,
+    name: &str,
+    teller: Teller<Global>,
+) -> Result<Carrier, LoopFault>
     ensures { IfOk result (IsSinkAt home.entry.path.now name.now) }
 {
     let alloc = home.files.alloc();
     let PlacedDir { dir, path } = real_dir(copy_of(home.files)?, alloc, home.path)?;
-    match Series::open(alloc, dir, name.as_bytes()) {
-        Ok(series) => Ok(carrier_to(series, path)),
+    let time = now_after(home.files, 0);
+    match Rotation::open(alloc, dir, name.as_bytes(), FILE_LIMITS, time) {
+        Ok(sink) => Ok(carrier_to(sink, path, teller)),
         Err((SeriesFault::Memory, _)) => Err(LoopFault::Memory),
-        Err(_) => Err(LoopFault::Buffer(BufferFault::Fault)),
+        Err(_) => {
+            teller.tell(rt, 0, Notice::SinkFailed);
+            Err(LoopFault::Buffer(BufferFault::Fault))
+        }
     }
 }
 
 // What carries chunks to these files, in the folder of this path. There are no others here.
-fn carrier_to(series: Files, path: Option<String>) -> Carrier
-    ensures { IsSinkAs series.path (option_map string_bytes path) result }
+fn carrier_to(sink: Files, path: Option<String>, teller: Teller<Global>) -> Carrier
+    ensures { IsSinkAs sink.path (option_map string_bytes path) result }
 {
-    let opened = Snapshot::of(&series);
+    let opened = Snapshot::of(&sink);
     Carrier::Sink {
-        courier: SinkCourier::new(series),
+        courier: SinkCourier::new(sink).telling(teller),
         opened,
         path,
     }

@@ -3,8 +3,10 @@
 
 mod flush;
 mod held;
+mod names;
 mod relay;
 mod running;
+mod voice;
 
 pub use flush::Home;
 pub use relay::Runner;

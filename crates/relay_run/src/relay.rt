@@ -8,6 +8,7 @@ ghost use Rattle.relay_run.specs.Starting.{fault_line as fault_line_of, EndsBy, 
 
 use crate::flush::{Home, copy_of};
 use crate::running::Running;
+use crate::voice::Voice;
 use conf_values::whole_number;
 use loop_core::LoopFault;
 use mio_relay::BoundRelay;
@@ -47,6 +48,7 @@ where
         + Net<Listener = TcpListener, Stream = TcpStream>
         + Clock
         + RandomSource
+        + Eprint
         + AllocGlobal
         + Clone
         + Drop
@@ -90,46 +92,92 @@ where
         }
     }
 
-    // Opens the relay and runs it, and prints what there is to print of it.
+    // Opens the relay and runs it, and prints what there is to print of it. What else is to be said of it is said meanwhile.
     #[tactic(auto, using(crate::proofs::StartingSteps::not_opened))]
     fn run_read<W: Write>(&self, relay: Relay<Global>, number: u32, out: &mut W) -> Status
         ensures { PrintsRun self.now (setup_of number relay) (W.contents out.old) (W.contents out.new) result }
     {
-        match self.open(relay, number) {
-            Ok(running) => self.run_open(running, out),
+        match Voice::start(self.rt, self.home, &relay) {
+            Ok(voice) => self.run_heard(relay, number, voice, out),
             Err(fault) => put_last(out, fault_line(fault).as_bytes(), Status::Usage),
+        }
+    }
+
+    // The same with this voice, which ends behind it.
+    fn run_heard<W: Write>(
+        &self,
+        relay: Relay<Global>,
+        number: u32,
+        voice: Voice,
+        out: &mut W,
+    ) -> Status
+        ensures { PrintsRun self.now (setup_of number relay) (W.contents out.old) (W.contents out.new) result }
+    {
+        let status = self.run_with(relay, number, &voice, out);
+        voice.end(self.rt);
+        status
+    }
+
+    // Opens the relay and runs it, and prints what there is to print of it.
+    #[tactic(auto, using(crate::proofs::StartingSteps::not_opened))]
+    fn run_with<W: Write>(
+        &self,
+        relay: Relay<Global>,
+        number: u32,
+        voice: &Voice,
+        out: &mut W,
+    ) -> Status
+        ensures { PrintsRun self.now (setup_of number relay) (W.contents out.old) (W.contents out.new) result }
+    {
+        match self.open(relay, number, voice) {
+            Ok(running) => self.run_open(running, voice, out),
+            Err(fault) => {
+                voice.tell_end(self.rt, fault);
+                put_last(out, fault_line(fault).as_bytes(), Status::Usage)
+            }
         }
     }
 
     // Opens the relay under this number: it listens at its sources, its buffers are open, and so is what delivers their chunks. Nothing is
     // printed of it before.
-    fn open(&self, relay: Relay<Global>, number: u32) -> Result<Running<R>, LoopFault>
+    fn open(
+        &self,
+        relay: Relay<Global>,
+        number: u32,
+        voice: &Voice,
+    ) -> Result<Running<R>, LoopFault>
         ensures { IfOk result (Runs self.now (setup_of number relay)) }
     {
         let alloc = self.rt.alloc();
         let setup = RelaySetup::new(alloc, relay, number)?;
         let bound = BoundRelay::bind(self.rt, alloc, self.network()?, setup)?;
-        Running::open(self.rt, self.home, bound)
+        Running::open(self.rt, self.home, bound, voice)
     }
 
     // Runs a relay that is open until a fault, and prints its sources, and why it ended.
     #[tactic(auto, using(crate::proofs::StartingSteps::ended_by))]
-    fn run_open<W: Write>(&self, running: Running<R>, out: &mut W) -> Status
+    fn run_open<W: Write>(&self, running: Running<R>, voice: &Voice, out: &mut W) -> Status
         ensures { PrintsEnd running (W.contents out.old) (W.contents out.new) result }
     {
         put_ready(&running, out);
-        match self.run_to_end(running) {
-            Some(fault) => put_last(out, fault_line(fault).as_bytes(), Status::Usage),
+        match self.run_to_end(running, voice) {
+            Some(fault) => {
+                voice.tell_end(self.rt, fault);
+                put_last(out, fault_line(fault).as_bytes(), Status::Usage)
+            }
             None => Status::Done,
         }
     }
 
     // Runs a relay that is open until a fault, and says which.
-    fn run_to_end(&self, running: Running<R>) -> Option<LoopFault>
+    fn run_to_end(&self, running: Running<R>, voice: &Voice) -> Option<LoopFault>
         ensures { EndsBy running result }
     {
-        match running.run(self.rt) {
-            Ok(ran) => ran.fault(),
+        match running.run(self.rt, voice) {
+            Ok(ran) => {
+                ran.tell_failed(self.rt, voice);
+                ran.fault()
+            }
             Err(fault) => Some(fault),
         }
     }

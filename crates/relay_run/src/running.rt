@@ -6,6 +6,7 @@ ghost use Rattle.relay_run.specs.Starting.{ready_lines};
 
 use crate::flush::{Folder, Home, Pool, PoolEnd, copy_of};
 use crate::held::HeldFolder;
+use crate::voice::Voice;
 use buffer_store::BufferFault;
 use loop_core::LoopFault;
 use mio_relay::{BoundRelay, Ended, InLoop, OpenRelay, ReadyPorts};
@@ -84,6 +85,17 @@ impl<R: Net + Clock + Clone + Drop> Ran<R> {
     }
 }
 
+impl<R: Net + Clock + Clone + Drop> Ran<R> {
+    /// Tells of the journals that couldn't be written.
+    pub(crate) fn tell_failed<H: Wait>(&self, rt: &H, voice: &Voice) {
+        for (buffer, end) in self.ends.iter().enumerate() {
+            if end.has_failed() {
+                voice.tell_journal(rt, buffer);
+            }
+        }
+    }
+}
+
 // This fault, or else that of the first pool that ended with one.
 fn first_of(fault: Option<LoopFault>, ends: &[PoolEnd]) -> Option<LoopFault>
     ensures { result ≡ first_fault fault ends.now }
@@ -135,6 +147,7 @@ where
         rt: &R,
         home: Home<'_>,
         bound: BoundRelay<SocketNetwork<R, Global>, Global>,
+        voice: &Voice,
     ) -> Result<Self, LoopFault>
         ensures { IfOk result (Continues home.entry.path.now bound) }
     {
@@ -150,7 +163,7 @@ where
             jobs,
             ports,
         } = bound.open(&folders)?;
-        match furnish(rt, home, jobs, ports.as_slice(), &stop) {
+        match furnish(rt, home, jobs, ports.as_slice(), &stop, voice) {
             Ok((pools, ready)) => Ok(Running {
                 turning,
                 ports,
@@ -168,7 +181,7 @@ where
     }
 
     /// Runs the loop and the pools until one of them has a fault. `Memory`: there is none for a thread.
-    pub fn run(self, rt: &R) -> Result<Ran<R>, LoopFault>
+    pub fn run(self, rt: &R, voice: &Voice) -> Result<Ran<R>, LoopFault>
         ensures ran { IfOk result (λ ran. relay_of ran ≡ self) }
         ensures full { IfErr result (λ fault. fault ≡ LoopFault.Memory) }
     {
@@ -185,6 +198,8 @@ where
         if started.is_err() {
             stop.store(true, Ordering::SeqCst);
         }
+        let mut turning = turning;
+        turning.tell_by(voice.of_clients());
         let turned = Snapshot::of(&turning);
         let left = turning.run(rt, &stop);
         stop.store(true, Ordering::SeqCst);
@@ -211,27 +226,29 @@ fn hold(
 }
 
 // What delivers the chunks of each output, and the lines that say that the sources are ready.
-fn furnish<R: AllocGlobal + RandomSource>(
+fn furnish<R: AllocGlobal + RandomSource + Wait>(
     rt: &R,
     home: Home<'_>,
     jobs: Vec<DeliveryJob<Folder, Global>>,
     ports: &[u16],
     stop: &Arc<AtomicBool>,
+    voice: &Voice,
 ) -> Result<(Vec<Pool>, Vec<u8>), LoopFault>
     ensures jobs { IfOk result (λ made. map (λ pool. pool.job) made.0.items ≡ jobs.items) }
     ensures pools { IfOk result (λ made. All (IsPoolOf home.entry.path.now) made.0.items) }
     ensures ready { IfOk result (λ made. made.1.items ≡ ready_lines ports.now) }
 {
-    let pools = open_pools(rt, home, jobs, stop)?;
+    let pools = open_pools(rt, home, jobs, stop, voice)?;
     Ok((pools, ready_text(rt.alloc(), ports)?))
 }
 
 // What delivers the chunks of each output.
-fn open_pools<R: AllocGlobal + RandomSource>(
+fn open_pools<R: AllocGlobal + RandomSource + Wait>(
     rt: &R,
     home: Home<'_>,
     jobs: Vec<DeliveryJob<Folder, Global>>,
     stop: &Arc<AtomicBool>,
+    voice: &Voice,
 ) -> Result<Vec<Pool>, LoopFault>
     ensures jobs { IfOk result (λ pools. map (λ pool. pool.job) pools.items ≡ jobs.items) }
     ensures pools { IfOk result (λ pools. All (IsPoolOf home.entry.path.now) pools.items) }
@@ -239,7 +256,8 @@ fn open_pools<R: AllocGlobal + RandomSource>(
     let mut pools = Vec::new(rt.alloc());
     let mut left = jobs.into_iter();
     while let Some(job) = left.next() {
-        pools.push(Pool::open(rt, home, &job, stop)?)?;
+        let number = pools.len();
+        pools.push(Pool::open(rt, home, &job, stop, voice, number)?)?;
     }
     Ok(pools)
 }

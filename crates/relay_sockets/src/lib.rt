@@ -21,7 +21,7 @@ mod wire;
 pub use address::resolve;
 pub use chance::{Nonce, Nonces};
 pub use clock::{Time, now_after};
-pub use dialer::Dialer;
+pub use dialer::{Dialer, Unreached};
 pub use endpoint::Endpoint;
 pub use memory_dialer::MemoryDialer;
 pub use memory_network::{MemoryListener, MemoryNetwork};

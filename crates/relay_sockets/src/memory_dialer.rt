@@ -3,7 +3,7 @@
 ghost use Rattle.std.specs.Prelude.{◌≡◌};
 
 use crate::clock::Time;
-use crate::dialer::Dialer;
+use crate::dialer::{Dialer, Unreached};
 use crate::endpoint::Endpoint;
 use crate::memory_wire::{MemoryOrigin, MemoryWire};
 use std::alloc::{AllocError, Allocator};
@@ -75,14 +75,14 @@ impl<A: Allocator + Copy> Dialer for MemoryDialer<A> {
         host: &str,
         port: u16,
         _until: u64,
-    ) -> Result<Option<MemoryWire<A>>, AllocError> {
+    ) -> Result<Result<MemoryWire<A>, Unreached>, AllocError> {
         for server in &self.servers {
             if server.endpoint.is_at(host, port) {
                 let sends = Vec::from_slice(self.alloc, &server.sends)?;
                 let origin = MemoryOrigin::Server(Snapshot::of(&server.endpoint));
-                return Ok(Some(MemoryWire::new(self.alloc, origin, sends)));
+                return Ok(Ok(MemoryWire::new(self.alloc, origin, sends)));
             }
         }
-        Ok(None)
+        Ok(Err(Unreached::Refused))
     }
 }

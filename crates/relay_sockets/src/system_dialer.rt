@@ -5,12 +5,12 @@ ghost use Rattle.relay_sockets.specs.Traffics.{IsReadFrom, IsReadOff, IsWrittenT
 ghost use Rattle.std.specs.Prelude.{◌≡◌};
 
 use crate::clock::{Time, now_after};
-use crate::dialer::Dialer;
+use crate::dialer::{Dialer, Unreached};
 use crate::endpoint::Endpoint;
 use crate::wire::{self, Moved, Wire};
 use libc::net as c;
 use std::alloc::{AllocError, Allocator};
-use std::io::{Read, Write};
+use std::io::{ErrorKind, Read, Write};
 use std::net::{IpAddr, Net, OpenStream, SocketAddr, TcpStream, ToSocketAddrs};
 use std::os::fd::{AsRawFd, RawFd};
 use std::time::{Clock, Duration};
@@ -44,18 +44,31 @@ impl<R: Net + Clock, A: Allocator + Copy> SystemDialer<R, A> {
     }
 }
 
-// TRUSTED: a connection to this host and port, at the first of its addresses that takes one.
-fn dial<R: Net + Clock>(rt: &R, host: &str, port: u16, until: u64) -> Option<R::Stream> {
+// TRUSTED: a connection to this host and port, at the first of its addresses that takes one; or why there is none, at the last of them.
+fn dial<R: Net + Clock>(rt: &R, host: &str, port: u16, until: u64) -> Result<R::Stream, Unreached> {
     if let Ok(ip) = host.parse::<IpAddr>() {
         return connect_to(rt, &SocketAddr::new(ip, port), until);
     }
-    let addresses = (host, port).to_socket_addrs(rt).ok()?;
+    let Ok(addresses) = (host, port).to_socket_addrs(rt) else {
+        return Err(Unreached::NoAddress);
+    };
+    let mut last = Unreached::NoAddress;
     for address in addresses {
-        if let Some(stream) = connect_to(rt, &address, until) {
-            return Some(stream);
+        match connect_to(rt, &address, until) {
+            Ok(stream) => return Ok(stream),
+            Err(why) => last = why,
         }
     }
-    None
+    Err(last)
+}
+
+// What the system says of a connection that it didn't make.
+fn unreached(kind: ErrorKind) -> Unreached {
+    match kind {
+        ErrorKind::ConnectionRefused => Unreached::Refused,
+        ErrorKind::TimedOut | ErrorKind::WouldBlock => Unreached::Late,
+        _ => Unreached::Other,
+    }
 }
 
 // TRUSTED: breaks a connection off by a reset. A connection to an address of no family ends one so on Linux, where std offers no SO_LINGER; where the
@@ -71,10 +84,17 @@ fn wait_of(most: Duration) -> Option<Duration> {
 }
 
 // A connection to this address, if it takes one.
-fn connect_to<R: Net + Clock>(rt: &R, address: &SocketAddr, until: u64) -> Option<R::Stream> {
+fn connect_to<R: Net + Clock>(
+    rt: &R,
+    address: &SocketAddr,
+    until: u64,
+) -> Result<R::Stream, Unreached> {
     let left = until.saturating_sub(now_after(rt, 0));
     let wait = Duration::from_millis(left.min(LONGEST_CONNECT).max(1));
-    TcpStream::connect_timeout(rt, address, wait).ok()
+    match TcpStream::connect_timeout(rt, address, wait) {
+        Ok(stream) => Ok(stream),
+        Err(error) => Err(unreached(error.kind())),
+    }
 }
 
 impl<R: Clock, A: Allocator> Time for SystemDialer<R, A> {
@@ -97,11 +117,11 @@ impl<R: Net + Clock, A: Allocator + Copy> Dialer for SystemDialer<R, A> {
         host: &str,
         port: u16,
         until: u64,
-    ) -> Result<Option<SystemWire<R::Stream, A>>, AllocError> {
+    ) -> Result<Result<SystemWire<R::Stream, A>, Unreached>, AllocError> {
         let asked = Endpoint::new(self.alloc, host, port)?;
         match dial(&self.rt, host, port, until) {
-            Some(stream) => Ok(Some(SystemWire { stream, asked })),
-            None => Ok(None),
+            Ok(stream) => Ok(Ok(SystemWire { stream, asked })),
+            Err(why) => Ok(Err(why)),
         }
     }
 }

@@ -10,6 +10,7 @@ use flush_pool::{CarryFault, ClaimView, Courier, OpenGate, Retries, SinkCourier,
 use mio_relay::{InLoop, OpenRelay};
 use relay_buffers::{DeliveryJob, Folders, MemoryFolders};
 use relay_sockets::{Dialer, Network};
+use sink_rotation::{ONE_FILE, Rotation};
 use sink_series::{Series, SinkEvent};
 use std::alloc::Global;
 use std::io::Write;
@@ -180,13 +181,16 @@ where
     let [job] = jobs else {
         return Err(Fail::from("the hub has one buffer"));
     };
-    let Ok(series) = Series::open(rt.alloc(), dir, b"all") else {
+    let Ok(opened) = Rotation::open(rt.alloc(), dir, b"all", ONE_FILE, 0) else {
         return Err(Fail::from("the sink doesn't open"));
     };
-    let sink = SinkCourier::new(series);
+    let sink = SinkCourier::new(opened);
     let delivered = is_delivered(rt, job, &sink)?;
-    let events = sink.into_series().content()?;
-    Ok(delivered && are_the_messages(&events))
+    let Some(dir) = sink.into_dir() else {
+        return Err(Fail::from("the sink is away"));
+    };
+    let mut series = Series::open(rt.alloc(), dir, b"all").map_err(|(fault, _dir)| fault)?;
+    Ok(delivered && are_the_messages(&series.content()?))
 }
 
 // A client's message goes by an edge to this hub: whether the edge's book accounts for it, and whether it is stored in this folder then.

@@ -6,7 +6,7 @@ use mio_relay::{BoundRelay, Ended, InLoop, OpenRelay};
 use relay_buffers::{DeliveryJob, Folders};
 use relay_conf::Relay;
 use relay_ports::RelaySetup;
-use relay_sockets::{Dialer, Moved, Network, SocketNetwork, Time, Wire};
+use relay_sockets::{Dialer, Moved, Network, SocketNetwork, Time, Unreached, Wire};
 use std::alloc::{AllocError, Global};
 use std::net::Net;
 use std::random::RandomSource;
@@ -167,13 +167,13 @@ impl<'a, H: Hub, C: Dialer> Dialer for HubDialer<'a, H, C> {
         host: &str,
         port: u16,
         until: u64,
-    ) -> Result<Option<HubWire<'a, H, C::Stream>>, AllocError> {
+    ) -> Result<Result<HubWire<'a, H, C::Stream>, Unreached>, AllocError> {
         match self.dialer.connect(host, port, until)? {
-            Some(wire) => Ok(Some(HubWire {
+            Ok(wire) => Ok(Ok(HubWire {
                 hub: self.hub,
                 wire,
             })),
-            None => Ok(None),
+            Err(why) => Ok(Err(why)),
         }
     }
 }

@@ -85,7 +85,7 @@ pong_reads client old says new r p w = elim r [
     | inl t ↦
         let k = listens_reads None (record old { phase = Ready; held = t.1 }) says new t.4 w in
         let verdict = t.3 in
-        let says_pong = verdict.1 in (
+        let says_pong = verdict.0.1 in (
           t.0 ∷ k.0,
           (says_pong.item, k.1),
           shown_front old.held t.0 t.1 t.2 ∙ ap (λ (m : List ℕ). t.0 ++ m) k.2 ∙ sym (append_assoc t.0 (concat k.0) new.held),

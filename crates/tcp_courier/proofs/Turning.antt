@@ -93,3 +93,7 @@ ok_too P Q (Err e) f h = tt
 pub some_too : {X : Type 0} (P Q : X → Type 0) (o : Option X) → ((x : X) → P x → Q x) → IfSome o P → IfSome o Q
 some_too P Q (Some x) f h = f x h
 some_too P Q None f h = tt
+
+-- the same dialer and the same servers
+pub first_same : {D : Type 0} (takes : D → Endpoint → Bool) (d e : D) (xs ys : List Endpoint) (origin : Option Origin) → d ≡ e → xs ≡ ys → IsToFirst (takes d) xs origin → IsToFirst (takes e) ys origin
+first_same takes d e xs ys origin p q h = subst (λ x. IsToFirst (takes x) ys origin) p (subst (λ l. IsToFirst (takes d) l origin) q h)

@@ -4,14 +4,14 @@ use Rattle.std.specs.List.{AllByRecursion, concat}
 use Rattle.auth_handshake.specs.Written.{ping_bytes}
 use Rattle.msgpack_bytes.specs.Item.{IsItemWithin}
 use Rattle.auth_handshake.specs.Messages.{IsHelo}
-use Rattle.auth_handshake.specs.Ends.{IsVerdict, client_digest}
+use Rattle.auth_handshake.specs.Ends.{client_digest}
 use Rattle.event_modes.specs.declared.chunk_id.ChunkId.{ChunkId}
 use Rattle.event_modes.specs.ChunkIds.{chunk_text}
 use Rattle.event_modes.specs.Acknowledgement.{IsAcknowledgement}
 use Rattle.event_modes.specs.Packed.{packed_message}
 use Rattle.buffer_book.specs.Claims.{Claimed, id_of}
 use Rattle.buffer_book.specs.Evidences.{Shows}
-use Rattle.forward_core.specs.Client.{ClientPhase, AwaitsHelo, AwaitsPong, Ready, ClientState, ClientReads, Sees, Waits, named}
+use Rattle.forward_core.specs.Client.{ClientPhase, AwaitsHelo, AwaitsPong, Ready, ClientState, ClientReads, IsJudged, Sees, Waits, named}
 use Rattle.handshake_keys.specs.Credentials.{Credentials}
 use Rattle.relay_sockets.specs.Traffics.{Traffic, Conveys}
 
@@ -41,9 +41,9 @@ AreItems items = AllByRecursion IsItemWithin items
 -- then a PONG that lets it in and shows the key; where a PONG has to come, nothing more; and else nothing, whatever comes.
 abbrev pub IsGreeting : ClientPhase → (said : List ℕ) → (items : List (List ℕ)) → Type 0
 IsGreeting (AwaitsHelo client) said items = (nonce : List ℕ) × (helo : List ℕ) × (pong : List ℕ) × (more : List (List ℕ))
-    × IsHelo helo nonce × IsVerdict (record client { nonce = Some nonce }) pong (Ok tt)
+    × IsHelo helo nonce × IsJudged (record client { nonce = Some nonce }) pong (Ok tt)
     × (said ≡ ping_bytes client.host client.salt (client_digest client nonce)) × (items ≡ helo ∷ pong ∷ more)
-IsGreeting (AwaitsPong client) said items = (pong : List ℕ) × (more : List (List ℕ)) × IsVerdict client pong (Ok tt) × (said ≡ []) × (items ≡ pong ∷ more)
+IsGreeting (AwaitsPong client) said items = (pong : List ℕ) × (more : List (List ℕ)) × IsJudged client pong (Ok tt) × (said ≡ []) × (items ≡ pong ∷ more)
 IsGreeting _ said items = said ≡ []
 
 -- A session and its connection go on. What was outgoing and what is added to it was sent, but for what is outgoing now; and these items were read off

@@ -10,6 +10,7 @@ ghost use Rattle.relay_sockets.specs.Drawing.{IsDrawn};
 ghost use Rattle.relay_sockets.specs.Traffics.{IsFresh};
 
 use crate::exchange::deliver;
+use crate::failures::{failure_of, unreached};
 use crate::line::Line;
 use ack_receipt::Evidence;
 use disk_files::Dir;
@@ -18,10 +19,11 @@ use flush_pool::{CarryFault, ClaimView, Courier};
 use forward_core::ClientSession;
 use handshake_keys::{copied, shown};
 use relay_conf::{ForwardSettings, Security as Secret, Server};
+use relay_notices::{Notice, Teller};
 use relay_sockets::{Dialer, Endpoint, Nonces, Wire};
 use std::alloc::{AllocError, Allocator};
 use std::marker::Model;
-use std::sync::atomic::AtomicBool;
+use std::sync::atomic::{AtomicBool, Ordering};
 use std::sync::{Arc, Mutex, Wait};
 
 /// How many bytes are read at once: the answers are short.
@@ -49,6 +51,8 @@ pub struct TcpCourier<N, A: Allocator> {
     stop: Arc<AtomicBool, A>,
     nonces: Mutex<Nonces>,
     turn: Mutex<Turn>,
+    // Tells of its servers, in their order.
+    teller: Teller<A>,
 }
 
 impl<N, A: Allocator> Model for TcpCourier<N, A> {
@@ -95,7 +99,16 @@ impl<N: Dialer + Drop, A: Allocator + Copy> TcpCourier<N, A> {
             stop,
             nonces: Mutex::new(nonces),
             turn: Mutex::new(Turn { place: 0 }),
+            teller: Teller::silent(),
         })
+    }
+
+    /// It tells of its servers from now on, by this teller, of which the first place is the first server: which fails and why, and which works
+    /// again.
+    pub fn telling(self, teller: Teller<A>) -> TcpCourier<N, A>
+        ensures { result ≡ self }
+    {
+        TcpCourier { teller, ..self }
     }
 
     // A session of a connection that was made.
@@ -110,7 +123,12 @@ impl<N: Dialer + Drop, A: Allocator + Copy> TcpCourier<N, A> {
     }
 
     // A connection to the first server that takes one, from the one whose turn it is on, round.
-    fn connect(&self, turn: Turn, until: u64) -> Result<Option<Reached<N::Stream>>, AllocError>
+    fn connect<R: Wait>(
+        &self,
+        rt: &R,
+        turn: Turn,
+        until: u64,
+    ) -> Result<Option<Reached<N::Stream>>, AllocError>
         ensures one { IfOk result (λ found. IfSome found (λ r. IsToOne self.now.servers (N.Stream.origin r.stream))) }
         ensures within { IfOk result (λ found. IfSome found (λ r. r.place < length self.now.servers)) }
         ensures fresh { IfOk result (λ found. IfSome found (λ r. IsFresh (N.Stream.traffic r.stream))) }
@@ -121,9 +139,10 @@ impl<N: Dialer + Drop, A: Allocator + Copy> TcpCourier<N, A> {
     {
         let at = turn.place.min(self.servers.len());
         let (before, behind) = self.servers.split_at(at);
-        match first_of(&*self.dialer, behind, at, until)? {
+        let teller = &self.teller;
+        match first_of(rt, teller, &*self.dialer, behind, at, until)? {
             Some(reached) => Ok(Some(reached)),
-            None => first_of(&*self.dialer, before, 0, until),
+            None => first_of(rt, teller, &*self.dialer, before, 0, until),
         }
     }
 
@@ -211,15 +230,29 @@ impl<N: Dialer + Drop, A: Allocator + Copy> TcpCourier<N, A> {
             → turn.new.place ≡ turn_after (place_in_turn (N.takes self.now.dialer) self.now.servers turn.old.place) turn.old.place result }
     {
         let until = self.dialer.now_after(0).saturating_add(self.timeout);
-        let Some(Reached { stream, place }) = self.connect(*turn, until)? else {
+        let Some(Reached { stream, place }) = self.connect(rt, *turn, until)? else {
             return Err(CarryFault::NoServer);
         };
         match self.read_and_send(rt, stream, until, chunk) {
-            Ok(carried) => Ok(carried),
+            Ok(carried) => {
+                self.teller.tell(rt, place, Notice::Works);
+                Ok(carried)
+            }
             Err(fault) => {
+                self.tell_fault(rt, place, fault);
                 turn.pass(place, fault);
                 Err(fault)
             }
+        }
+    }
+
+    // Tells of a carry that failed so at the server with this place, unless it was ended.
+    fn tell_fault<R: Wait>(&self, rt: &R, place: usize, fault: CarryFault) {
+        if self.stop.load(Ordering::SeqCst) {
+            return;
+        }
+        if let Some(failure) = failure_of(fault) {
+            self.teller.tell(rt, place, Notice::Fails(failure));
         }
     }
 }
@@ -272,8 +305,10 @@ struct Reached<S> {
     place: usize,
 }
 
-// A connection to the first of these servers that takes one; the first of them has this place in the list.
-fn first_of<N: Dialer, A: Allocator>(
+// A connection to the first of these servers that takes one; the first of them has this place in the list. Of those that take none it is told.
+fn first_of<R: Wait, N: Dialer, A: Allocator + Copy>(
+    rt: &R,
+    teller: &Teller<A>,
     dialer: &N,
     servers: &[Endpoint<A>],
     from: usize,
@@ -288,8 +323,9 @@ fn first_of<N: Dialer, A: Allocator>(
 {
     let mut place = from;
     for server in servers {
-        if let Some(stream) = dialer.connect(server.host(), server.port(), until)? {
-            return Ok(Some(Reached { stream, place }));
+        match dialer.connect(server.host(), server.port(), until)? {
+            Ok(stream) => return Ok(Some(Reached { stream, place })),
+            Err(why) => teller.tell(rt, place, Notice::Fails(unreached(why))),
         }
         place += 1;
     }

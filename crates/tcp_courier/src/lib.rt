@@ -3,6 +3,7 @@
 
 mod courier;
 mod exchange;
+mod failures;
 mod line;
 
 pub use courier::{Carried, TcpCourier, Turn};

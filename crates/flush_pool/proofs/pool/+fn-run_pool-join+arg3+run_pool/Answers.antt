@@ -21,7 +21,7 @@ join-one-requires-send-F g t c κs within =
     let yc : IsSync g.row.C = search sendable in
     let yg : IsSync g.row.G = search sendable in
     let b : IsSync (Shared.the_field (param 1 g.row.D) (copied 2 g.row.A) g.D.Dir g.A.Allocator).row = Shared-sync (param 1 g.row.D) (copied 2 g.row.A) g.D.Dir g.A.Allocator sd sa (copied_sync 2 g.row.A ya) f in
-    let k : IsSync (Retries.the_field (copied 2 g.row.A) g.A.Allocator).row = retries.the_field_sync (copied 2 g.row.A) g.A.Allocator sa f in
+    let k : IsSync (Retries.the_field (copied 2 g.row.A) g.A.Allocator).row = retries.the_field_sync (copied 2 g.row.A) g.A.Allocator sa (copied_sync 2 g.row.A ya) f in
     search (crosses, sendable) depth 20
 
 pub returns-then-threads-eq0 : goal.returns-then-threads-eq0

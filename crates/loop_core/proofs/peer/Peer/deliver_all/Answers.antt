@@ -56,7 +56,7 @@ loop-demand-preserved g c =
     let P = λ (d : Demand _). IsAskedIn c.loop-demand.self.session.asked (wanted d) in
     let left = into_iter_items c.loop-demand.rest in
     let left' = into_iter_items c.next.new.self in
-    let one = closes left left' c.in-Some.demand c.in-Close.field-0 c.in-Some.ensures.items c.in-Close.is in
+    let one = closes left left' c.in-Some.demand c.in-Close.fault c.in-Some.ensures.items c.in-Close.is in
     let same = c.close.ensures in
     record {
       asked = subst (λ (p : PeerState). All (λ d. IsAskedIn p.session.asked (wanted d)) left') (sym same)

@@ -1,0 +1,114 @@
+//! The texts of lines.
+
+use relay_notices::{Closing, Ending, Failure, Notice, Pending, line_of};
+use std::alloc::Global;
+use std::test::Fail;
+
+// A line that leaves none out, of a place `P`, when 1970 begins.
+fn text_of(alloc: Global, notice: Notice) -> Result<String, Fail> {
+    let pending = Pending {
+        notice,
+        left_out: 0,
+    };
+    Ok(line_of(alloc, 0, "P", &pending)?)
+}
+
+static TEXTS: [(Notice, &str); 10] = [
+    (
+        Notice::Fails(Failure::Refused),
+        "fails: it refuses connections",
+    ),
+    (
+        Notice::Fails(Failure::NoAddress),
+        "fails: its host has no address",
+    ),
+    (
+        Notice::Fails(Failure::NoAcknowledgement),
+        "fails: no acknowledgement came in time",
+    ),
+    (
+        Notice::Fails(Failure::Lost),
+        "fails: it closed the connection",
+    ),
+    (Notice::Works, "works again"),
+    (
+        Notice::GivenUp,
+        "a chunk was given up, since its retries are over",
+    ),
+    (
+        Notice::Closed(Closing::BadStream),
+        "a client was closed, since what it sent is no message",
+    ),
+    (
+        Notice::Closed(Closing::WrongKey),
+        "a client was closed, since it didn't show the shared_key",
+    ),
+    (
+        Notice::JournalFailed,
+        "the journal of its buffer can't be written",
+    ),
+    (
+        Notice::Ends(Ending::Bind),
+        "ends: the address of a source can't be had",
+    ),
+];
+
+// What each notice says.
+#[test]
+fn notices_say_what_they_are(rt: HostRuntime) -> Result<(), Fail> {
+    for (notice, says) in &TEXTS {
+        let line = text_of(rt.alloc(), *notice)?;
+        let told = format!(in rt.alloc(); "1970-01-01T00:00:00Z P: {says}\n")?;
+        assert_eq!(rt; line.as_str(), told.as_str());
+    }
+    Ok(())
+}
+
+static TIMES: [(u64, &str, u64, &str); 5] = [
+    (
+        0,
+        "server h:1",
+        0,
+        "1970-01-01T00:00:00Z server h:1: works again\n",
+    ),
+    (
+        951_827_696,
+        "server h:1",
+        1,
+        "2000-02-29T12:34:56Z server h:1: works again (1 more left out)\n",
+    ),
+    (
+        4_102_444_799,
+        "source 0.0.0.0:24224",
+        18_446_744_073_709_551_615,
+        "2099-12-31T23:59:59Z source 0.0.0.0:24224: works again (18446744073709551615 more left out)\n",
+    ),
+    // A name ends no line, and writes over none.
+    (
+        0,
+        "relay in a\nb\rc\u{1b}[2J",
+        0,
+        "1970-01-01T00:00:00Z relay in a?b?c?[2J: works again\n",
+    ),
+    // What is no time is the beginning of 1970.
+    (
+        18_446_744_073_709_551_615,
+        "P",
+        0,
+        "1970-01-01T00:00:00Z P: works again\n",
+    ),
+];
+
+// The time, the name, and how many are left out.
+#[test]
+fn lines_have_time_and_place(rt: HostRuntime) -> Result<(), Fail> {
+    for (second, name, left_out, text) in &TIMES {
+        let pending = Pending {
+            notice: Notice::Works,
+            left_out: *left_out,
+        };
+        let line = line_of(rt.alloc(), *second, name, &pending)?;
+        assert_eq!(rt; line.as_str(), *text);
+    }
+    Ok(())
+}

@@ -1,0 +1,183 @@
+//! What a relay says on standard error while it runs, by a thread of its own.
+
+use crate::flush::{Home, copy_of};
+use crate::names::{Places, places_of};
+use loop_core::LoopFault;
+use relay_conf::Relay;
+use relay_notices::{Due, Ending, Notice, Notices, Teller, line_of};
+use relay_sockets::now_after;
+use std::alloc::Global;
+use std::sync::atomic::{AtomicBool, Ordering};
+use std::sync::{Arc, Wait};
+use std::thread;
+use std::thread::Threads;
+use std::time::{Clock, Duration};
+
+/// For how long the thread sleeps before it looks again what is to be said, in milliseconds.
+const REST: u64 = 100;
+
+/// How often it is looked whether all was said, with ten milliseconds between: for a second.
+const LOOKS: u32 = 100;
+
+/// A relay's notices: who has something to tell tells it here, and a thread says it. So who tells never waits for standard error.
+#[derive(Drop)]
+pub(crate) struct Voice {
+    notices: Arc<Notices<Global>>,
+    places: Places,
+    flags: Arc<Flags>,
+}
+
+// What the thread and who ends it tell each other.
+#[derive(Drop)]
+struct Flags {
+    // Nothing more is told.
+    is_over: AtomicBool,
+    // All was said.
+    is_done: AtomicBool,
+}
+
+impl Voice {
+    /// Begins to say what is told of this relay, with files in this folder. `Memory`: there is none for the places' names, or for a thread.
+    pub(crate) fn start<R>(
+        rt: &R,
+        home: Home<'_>,
+        relay: &Relay<Global>,
+    ) -> Result<Voice, LoopFault>
+    where
+        R: Wait + Threads + Clock + Eprint + AllocGlobal + Clone + Drop + Send + 'static,
+    {
+        let alloc = home.files.alloc();
+        let (places, names) = places_of(alloc, relay, home.path)?;
+        let notices = Arc::new(alloc, Notices::new(alloc, names)?)?;
+        let flags = Arc::new(alloc, Flags::new())?;
+        let voice = Voice {
+            notices,
+            places,
+            flags,
+        };
+        voice.spawn(rt)?;
+        if relay.sources.is_empty() {
+            voice.notices.tell(rt, 0, Notice::NoSource);
+        }
+        Ok(voice)
+    }
+
+    // Starts the thread. It isn't joined: where nobody reads standard error, it may wait for ever.
+    fn spawn<R>(&self, rt: &R) -> Result<(), LoopFault>
+    where
+        R: Wait + Threads + Clock + Eprint + AllocGlobal + Clone + Drop + Send + 'static,
+    {
+        let theirs = copy_of(rt)?;
+        let notices = Arc::try_clone(&self.notices)?;
+        let flags = Arc::try_clone(&self.flags)?;
+        match thread::spawn(rt, move || say_all(&theirs, &notices, &flags)) {
+            Ok(_) => Ok(()),
+            Err(_) => Err(LoopFault::Memory),
+        }
+    }
+
+    /// Nothing more is told: waits until all is said, for a second at most.
+    pub(crate) fn end<R: Clock>(self, rt: &R) {
+        self.flags.is_over.store(true, Ordering::SeqCst);
+        for _ in 0..LOOKS {
+            if self.flags.is_done.load(Ordering::SeqCst) {
+                return;
+            }
+            thread::sleep(rt, Duration::from_millis(10));
+        }
+    }
+
+    /// The relay ends by this fault.
+    pub(crate) fn tell_end<R: Wait>(&self, rt: &R, fault: LoopFault) {
+        self.notices.tell(rt, 0, Notice::Ends(ending_of(fault)));
+    }
+
+    /// The journal of the buffer with this number can't be written.
+    pub(crate) fn tell_journal<R: Wait>(&self, rt: &R, buffer: usize) {
+        let place = self.places.journals.saturating_add(buffer);
+        self.notices.tell(rt, place, Notice::JournalFailed);
+    }
+
+    /// Tells of the clients of the sources, in their order.
+    pub(crate) fn of_clients(&self) -> Teller<Global> {
+        self.teller(self.places.sources)
+    }
+
+    /// Tells of the chunks of the buffer with this number.
+    pub(crate) fn of_chunks(&self, buffer: usize) -> Teller<Global> {
+        self.teller(self.places.chunks.saturating_add(buffer))
+    }
+
+    /// Tells of what carries the chunks of the buffer with this number: its servers, or its sink.
+    pub(crate) fn of_carrier(&self, buffer: usize) -> Teller<Global> {
+        match self.places.carriers.get(buffer) {
+            Some(first) => self.teller(*first),
+            None => Teller::silent(),
+        }
+    }
+
+    fn teller(&self, first: usize) -> Teller<Global> {
+        Teller::new(&self.notices, first)
+    }
+}
+
+impl Flags {
+    // It begins.
+    fn new() -> Flags {
+        Flags {
+            is_over: AtomicBool::new(false),
+            is_done: AtomicBool::new(false),
+        }
+    }
+}
+
+// Says what is told until nothing more is.
+fn say_all<R: Wait + Clock + Eprint + AllocGlobal>(
+    rt: &R,
+    notices: &Notices<Global>,
+    flags: &Flags,
+) {
+    for _ in rt.forever() {
+        if flags.is_over.load(Ordering::SeqCst) {
+            say_due(rt, notices, u64::MAX);
+            flags.is_done.store(true, Ordering::SeqCst);
+            return;
+        }
+        say_due(rt, notices, now_after(rt, 0));
+        thread::sleep(rt, Duration::from_millis(REST));
+    }
+}
+
+// Says what is to be said now, of each place at most once.
+fn say_due<R: Wait + Clock + Eprint + AllocGlobal>(rt: &R, notices: &Notices<Global>, now: u64) {
+    for _ in 0..notices.places() {
+        let Some(due) = notices.take(rt, now) else {
+            return;
+        };
+        say(rt, notices, &due);
+    }
+}
+
+// Says this. Where it can't be written, or there is no memory for its line, it is passed over.
+fn say<R: Clock + Eprint + AllocGlobal>(rt: &R, notices: &Notices<Global>, due: &Due) {
+    let second = match rt.since_1970() {
+        Ok(since) => since.as_secs(),
+        Err(_) => 0,
+    };
+    let name = notices.name(due.place).unwrap_or("");
+    if let Ok(line) = line_of(rt.alloc(), second, name, &due.pending) {
+        let _ = rt.eprint(line);
+    }
+}
+
+// What is told of a fault that ends a relay.
+fn ending_of(fault: LoopFault) -> Ending {
+    match fault {
+        LoopFault::Bind => Ending::Bind,
+        LoopFault::Path => Ending::Path,
+        LoopFault::Poll => Ending::Poll,
+        LoopFault::Buffer(_) => Ending::Buffer,
+        LoopFault::NoNumber => Ending::NoNumber,
+        LoopFault::Memory => Ending::Memory,
+    }
+}
