@@ -1,0 +1,10 @@
+pub mod Scalars
+pub mod Steps
+pub mod Integers
+pub mod Instants
+pub mod Naming
+pub mod Wholes
+pub mod Deeper
+pub mod Members
+pub mod Stored
+pub mod Eventful
