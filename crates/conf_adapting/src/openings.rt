@@ -69,10 +69,27 @@ fn source(kind: Option<&[u8]>) -> Becomes {
     match kind {
         None => Becomes::Is(Place::Passed),
         Some(b"forward") => Becomes::Is(Place::Source),
-        Some(b"monitor_agent" | b"debug_agent" | b"prometheus") => Becomes::Harmless,
-        Some(b"prometheus_monitor" | b"prometheus_output_monitor") => Becomes::Harmless,
+        Some(kind) if is_watcher(kind) => Becomes::Harmless,
         Some(_) => Becomes::Decided(Decision::SourceType),
     }
+}
+
+// Types of sources that show what Fluentd does, and take no events in.
+static WATCHERS: [&str; 5] = [
+    "monitor_agent",
+    "debug_agent",
+    "prometheus",
+    "prometheus_monitor",
+    "prometheus_output_monitor",
+];
+
+fn is_watcher(kind: &[u8]) -> bool {
+    for watcher in &WATCHERS {
+        if kind == watcher.as_bytes() {
+            return true;
+        }
+    }
+    false
 }
 
 // A match. One without a type is left for the reader to refuse.
