@@ -75,7 +75,10 @@ fn next_files(rt: HostRuntime) -> Result<(), Fail> {
     // Two items of five bytes have six of entries.
     assert_eq!(rt; lengths(alloc, &[0, 1, 2])?, [Some(10), Some(5), None]);
     assert_eq!(rt; lengths(alloc, &[0, 999])?, [Some(10), None, None]);
-    assert_eq!(rt; lengths(alloc, &[0, 1_000, 1_001])?, [Some(5), Some(10), None]);
+    assert_eq!(rt;
+        lengths(alloc, &[0, 1_000, 1_001])?,
+        [Some(5), Some(10), None]
+    );
     assert_eq!(rt; lengths(alloc, &[5_000, 5_001])?, [Some(5), Some(5), None]);
     Ok(())
 }
@@ -84,7 +87,8 @@ fn next_files(rt: HostRuntime) -> Result<(), Fail> {
 // where it can't be opened.
 fn recovers(alloc: Global, passes: u64) -> Result<bool, SeriesFault> {
     let folder = Fuse::once(MemoryDir::new(alloc), passes);
-    let Ok((taken, is_last_taken, dir)) = written(alloc, folder, &[0, 1, 2, 49, 60, 120, 180]) else {
+    let Ok((taken, is_last_taken, dir)) = written(alloc, folder, &[0, 1, 2, 49, 60, 120, 180])
+    else {
         return Ok(true);
     };
     let mut series = Series::open(alloc, dir.into_inner(), b"out").map_err(|(fault, _)| fault)?;

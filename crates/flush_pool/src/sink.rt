@@ -61,8 +61,7 @@ impl<S: Dir, A: Allocator + Copy> SinkCourier<S, A> {
 }
 
 impl<R: Wait + Clock, D: Dir, S: Dir + Drop, A: Allocator + Copy> Courier<R, D, A>
-    for SinkCourier<S, A>
-{
+    for SinkCourier<S, A> {
     ghost use Rattle.buffer_book.specs.Evidences.{Shows};
 
     ghost gives = { IsStoredFor };

@@ -24,8 +24,8 @@ returns-in-Some-clause-first g c known =
     let behind = c.split_at.ensures.back ∙ ap (drop c.min-at.result) its ∙ ap (λ n. drop n servers) at in
     let found = c.in_ok-reached.ensures.first (subst g.N.Dialer.is_known (sym dialer) known) in
     let first =
-        subst (λ o. IsToFirst takes (drop (min c.args.turn.place (length servers)) servers) (option_map (λ r. g.N.Stream.Wire.origin r.stream) o)) c.in-Some.is
-        (first_same g.N.Dialer.takes _ _ _ _ _ dialer behind found) in
+    subst (λ o. IsToFirst takes (drop (min c.args.turn.place (length servers)) servers) (option_map (λ r. g.N.Stream.Wire.origin r.stream) o)) c.in-Some.is
+    (first_same g.N.Dialer.takes _ _ _ _ _ dialer behind found) in
     first_behind takes c.args.turn.place servers origin first
 
 pub returns-in-None-clause-one : goal.returns-in-None-clause-one
@@ -34,7 +34,7 @@ returns-in-None-clause-one g c =
     let its = c.deref.ensures.value ∙ ap (λ (s : Sender _). s.servers) c.self.view_is in
     let before = c.split_at.ensures.front ∙ ap (take c.min-at.result) its in
     let one : IfOk c.first_of-in-None.result (λ found. IfSome found (λ r. IsToOne (take c.min-at.result servers) (g.N.Stream.Wire.origin r.stream))) =
-        subst (λ l. IfOk c.first_of-in-None.result (λ found. IfSome found (λ r. IsToOne l (g.N.Stream.Wire.origin r.stream)))) before c.first_of-in-None.ensures.one in
+    subst (λ l. IfOk c.first_of-in-None.result (λ found. IfSome found (λ r. IsToOne l (g.N.Stream.Wire.origin r.stream)))) before c.first_of-in-None.ensures.one in
     ok_too (λ found. IfSome found (λ r. IsToOne (take c.min-at.result servers) (g.N.Stream.Wire.origin r.stream)))
     (λ found. IfSome found (λ r. IsToOne servers (g.N.Stream.Wire.origin r.stream))) c.first_of-in-None.result
     (λ found. some_too (λ r. IsToOne (take c.min-at.result servers) (g.N.Stream.Wire.origin r.stream)) (λ r. IsToOne servers (g.N.Stream.Wire.origin r.stream)) found
@@ -54,14 +54,14 @@ returns-in-None-clause-first g c known =
     let before = c.split_at.ensures.front ∙ ap (take c.min-at.result) its ∙ ap (λ n. take n servers) at in
     let missed = c.in_ok-reached.ensures.first (subst g.N.Dialer.is_known (sym dialer) known) in
     let none : IsToFirst takes (drop (min turn (length servers)) servers) None =
-        subst (λ o. IsToFirst takes (drop (min turn (length servers)) servers) (option_map (λ r. g.N.Stream.Wire.origin r.stream) o)) c.in-None.is
-        (first_same g.N.Dialer.takes _ _ _ _ _ dialer behind missed) in
+    subst (λ o. IsToFirst takes (drop (min turn (length servers)) servers) (option_map (λ r. g.N.Stream.Wire.origin r.stream) o)) c.in-None.is
+    (first_same g.N.Dialer.takes _ _ _ _ _ dialer behind missed) in
     let found = c.first_of-in-None.ensures.first (subst g.N.Dialer.is_known (sym again) known) in
     let first : IfOk c.first_of-in-None.result (λ found. IsToFirst takes (take (min turn (length servers)) servers) (option_map (λ r. g.N.Stream.Wire.origin r.stream) found)) =
-        ok_too (λ found. IsToFirst (g.N.Dialer.takes c.deref-in-None.result.now) c.split_at.result.0.now (option_map (λ r. g.N.Stream.Wire.origin r.stream) found))
-        (λ found. IsToFirst takes (take (min turn (length servers)) servers) (option_map (λ r. g.N.Stream.Wire.origin r.stream) found)) c.first_of-in-None.result
-        (λ found. first_same g.N.Dialer.takes _ _ _ _ _ again before)
-        found in
+    ok_too (λ found. IsToFirst (g.N.Dialer.takes c.deref-in-None.result.now) c.split_at.result.0.now (option_map (λ r. g.N.Stream.Wire.origin r.stream) found))
+    (λ found. IsToFirst takes (take (min turn (length servers)) servers) (option_map (λ r. g.N.Stream.Wire.origin r.stream) found)) c.first_of-in-None.result
+    (λ found. first_same g.N.Dialer.takes _ _ _ _ _ again before)
+    found in
     ok_too (λ found. IsToFirst takes (take (min turn (length servers)) servers) (option_map (λ r. g.N.Stream.Wire.origin r.stream) found))
     (λ found. IsToFirst takes (in_turn turn servers) (option_map (λ r. g.N.Stream.Wire.origin r.stream) found)) c.first_of-in-None.result
     (λ found. first_before takes turn servers (option_map (λ r. g.N.Stream.Wire.origin r.stream) found) none)
