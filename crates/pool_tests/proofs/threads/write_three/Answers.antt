@@ -1,0 +1,11 @@
+use denote.Param.Send.{sendable}
+use Rattle.std.proofs.Crossing.{crosses}
+use Rattle.pool_tests.proofs.Sharing.{Rotation-send, Teller-here-send, Teller-here-sync}
+use Rattle.pool_tests.proofs.threads.write_three.Goals as goal
+
+pub run_two-requires-sync-C : goal.run_two-requires-sync-C
+run_two-requires-sync-C g c κs within =
+    let ts = Teller-here-send in
+    let ty = Teller-here-sync in
+    let s = c.type_bounds.send-S in
+    search (Rotation-send, crosses, sendable) depth 120 fits 100000
