@@ -15,16 +15,14 @@ use Rattle.journal_files.specs.JournalLogs.{JournalLog, IsJournalLog, OpensWithi
 use Rattle.journal_files.specs.Views.{OpenJournal, IsReady}
 use Rattle.journal_files.specs.Disks.{Recovers, HasNoGap}
 use Rattle.journal_files.specs.Faults.{HasReason}
-use Rattle.journal_files.specs.declared.error.OpenError.{OpenError}
-use Rattle.journal_files.specs.declared.error.OpenError.TheVariants as opening
-use Rattle.journal_files.specs.declared.error.ReadError.{ReadError}
-use Rattle.journal_files.specs.declared.error.ReadError.TheVariants as read
+use Rattle.journal_files.specs.declared.error.JournalError.{JournalError}
+use Rattle.journal_files.specs.declared.error.JournalError.TheVariants as refusal
 use Rattle.journal_files.proofs.Recovery.{recovers}
 use Rattle.journal_files.proofs.Strays.{kept_no_gap}
 use Rattle.journal_files.proofs.Steps.{more_steps, log_begun}
 use Rattle.journal_files.proofs.OpeningMoments.{quiet}
 use Rattle.buffer_store.specs.Logs.{Logged, KeepsNow, Reads, Writes, Syncs, is_append}
-use Rattle.buffer_store.specs.Refusals.{of_opening, of_read}
+use Rattle.buffer_store.specs.Refusals.{of_journal}
 use Rattle.buffer_store.specs.declared.fault.BufferFault.{BufferFault}
 use Rattle.buffer_store.specs.declared.fault.BufferFault.TheVariants as fault
 
@@ -91,21 +89,21 @@ pub reason_ok : {T : Type 0} (before after : ℕ) (x : T) → after ≡ before �
 reason_ok before after x same = record { later = omega (arith, same); passed = same; failed = λ q. absurd (cc q); others = λ _. same }
 
 -- so it is of an opening that is refused
-pub reason_opening : {T U : Type 0} (before after : ℕ) (e : OpenError) (f : BufferFault) → f ≡ of_opening e → HasReason {T = T} before after (Err e) opening.Fault → HasReason {T = U} before after (Err f) fault.Fault
+pub reason_opening : {T U : Type 0} (before after : ℕ) (e : JournalError) (f : BufferFault) → f ≡ of_journal e → HasReason {T = T} before after (Err e) refusal.Fault → HasReason {T = U} before after (Err f) fault.Fault
 reason_opening {T} {U} before after e f is cause = subst (λ (x : BufferFault). HasReason {T = U} before after (Err x) fault.Fault) (sym is) (by e cause)
   where
-    by : (e : OpenError) → HasReason {T = T} before after (Err e) opening.Fault → HasReason {T = U} before after (Err (of_opening e)) fault.Fault
-    by opening.Memory cause = reason_none before after fault.Memory (λ q. cc q) (cause.others (λ q. cc q))
-    by opening.Fault cause = reason_fault before after cause.later (cause.failed refl)
-    by opening.Damaged cause = reason_none before after fault.Damaged (λ q. cc q) (cause.others (λ q. cc q))
-    by opening.LastGeneration cause = reason_none before after fault.LastSerial (λ q. cc q) (cause.others (λ q. cc q))
+    by : (e : JournalError) → HasReason {T = T} before after (Err e) refusal.Fault → HasReason {T = U} before after (Err (of_journal e)) fault.Fault
+    by refusal.Memory cause = reason_none before after fault.Memory (λ q. cc q) (cause.others (λ q. cc q))
+    by refusal.Fault cause = reason_fault before after cause.later (cause.failed refl)
+    by refusal.Damaged cause = reason_none before after fault.Damaged (λ q. cc q) (cause.others (λ q. cc q))
+    by refusal.LastGeneration cause = reason_none before after fault.LastSerial (λ q. cc q) (cause.others (λ q. cc q))
 
 -- a read that was refused
 module _ {D A : Type 0} (is_honest : D → Type 0) (history : D → History) (fault_count : D → ℕ) (old new : Logged D) (serial : ℕ) (rest : new ≡ record old { dir = new.dir }) (honest : is_honest old.dir → is_honest new.dir)
     (time : is_honest old.dir → Elapses (history old.dir) (history new.dir)) (same : is_honest old.dir → SameDisk (now (history new.dir)) (now (history old.dir))) where
-  refused_so : (e : ReadError) → HasReason {T = Vec ℕ A} (fault_count old.dir) (fault_count new.dir) (Err e) read.Fault
-      → (is_honest old.dir → (t : JournalLog) → KeepsNow history old t → e ≢ read.Short) → Reads {A = A} is_honest history fault_count old new serial (Err (of_read e))
-  refused_so read.Memory cause whole = record {
+  refused_so : (e : JournalError) → HasReason {T = Vec ℕ A} (fault_count old.dir) (fault_count new.dir) (Err e) refusal.Fault
+      → e ≢ refusal.LastGeneration → (is_honest old.dir → (t : JournalLog) → KeepsNow history old t → e ≢ refusal.Damaged) → Reads {A = A} is_honest history fault_count old new serial (Err (of_journal e))
+  refused_so refusal.Memory cause numbered whole = record {
     rest = rest;
     only = inl refl;
     honest = honest;
@@ -115,7 +113,7 @@ module _ {D A : Type 0} (is_honest : D → Type 0) (history : D → History) (fa
     bytes = λ h t keeps. tt;
     whole = λ h t keeps q. absurd (cc q);
   }
-  refused_so read.Fault cause whole = record {
+  refused_so refusal.Fault cause numbered whole = record {
     rest = rest;
     only = inr (inl refl);
     honest = honest;
@@ -125,7 +123,7 @@ module _ {D A : Type 0} (is_honest : D → Type 0) (history : D → History) (fa
     bytes = λ h t keeps. tt;
     whole = λ h t keeps q. absurd (cc q);
   }
-  refused_so read.Short cause whole = record {
+  refused_so refusal.Damaged cause numbered whole = record {
     rest = rest;
     only = inr (inr refl);
     honest = honest;
@@ -135,11 +133,12 @@ module _ {D A : Type 0} (is_honest : D → Type 0) (history : D → History) (fa
     bytes = λ h t keeps. tt;
     whole = λ h t keeps q. whole h t keeps refl;
   }
+  refused_so refusal.LastGeneration cause numbered whole = absurd (numbered refl)
 
-  pub reads_refused : (r : Result (Vec ℕ A) ReadError) (e : ReadError) → r ≡ Err e → HasReason (fault_count old.dir) (fault_count new.dir) r read.Fault
-      → (is_honest old.dir → (t : JournalLog) → KeepsNow history old t → r ≢ Err read.Short) → (result : Result (Vec ℕ A) BufferFault) → result ≡ Err (of_read e) → Reads is_honest history fault_count old new serial result
-  reads_refused r e is cause whole result answer = subst (Reads is_honest history fault_count old new serial) (sym answer)
-      (refused_so e (subst (λ (x : Result (Vec ℕ A) ReadError). HasReason (fault_count old.dir) (fault_count new.dir) x read.Fault) is cause) (λ h t keeps q. whole h t keeps (is ∙ ap (λ (f : ReadError). Err f) q)))
+  pub reads_refused : (r : Result (Vec ℕ A) JournalError) (e : JournalError) → r ≡ Err e → HasReason (fault_count old.dir) (fault_count new.dir) r refusal.Fault → r ≢ Err refusal.LastGeneration
+      → (is_honest old.dir → (t : JournalLog) → KeepsNow history old t → r ≢ Err refusal.Damaged) → (result : Result (Vec ℕ A) BufferFault) → result ≡ Err (of_journal e) → Reads is_honest history fault_count old new serial result
+  reads_refused r e is cause numbered whole result answer = subst (Reads is_honest history fault_count old new serial) (sym answer)
+      (refused_so e (subst (λ (x : Result (Vec ℕ A) JournalError). HasReason (fault_count old.dir) (fault_count new.dir) x refusal.Fault) is cause) (λ q. numbered (is ∙ ap (λ (f : JournalError). Err f) q)) (λ h t keeps q. whole h t keeps (is ∙ ap (λ (f : JournalError). Err f) q)))
 
 module _ {D : Type 0} (is_honest : D → Type 0) (history : D → History) (fault_count : D → ℕ) (old mid : Logged D) (ready : IsReadied is_honest history fault_count old mid) (item : Record) where
   quiet_mid : is_honest old.dir → (t : JournalLog) → KeepsNow history old t → LeavesOnly (history old.dir) (history mid.dir) (OpensWithin old.journal.path t)

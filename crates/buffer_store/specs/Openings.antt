@@ -2,9 +2,9 @@
 use Rattle.std.specs.Prelude.{ℕ, ◌≡◌, false, List, Result, Ok, Err}
 use Rattle.disk_files.specs.Disk.{Disk}
 use Rattle.journal_files.specs.Openings.{IsRefused}
-use Rattle.journal_files.specs.declared.error.OpenError.{OpenError}
+use Rattle.journal_files.specs.declared.error.JournalError.{JournalError}
 use Rattle.buffer_store.specs.Buffers.{Held}
-use Rattle.buffer_store.specs.Refusals.{of_opening}
+use Rattle.buffer_store.specs.Refusals.{of_journal}
 use Rattle.buffer_store.specs.declared.fault.BufferFault.{BufferFault}
 use Rattle.buffer_store.specs.declared.settings.Settings.{Settings}
 
@@ -32,6 +32,6 @@ answer_of (Err refused) = Err refused.0
 -- that one's reasons, and leaves what that one leaves.
 pub record RefusesOpening (honest : Type 0) (path : List ℕ) (faults new_faults : ℕ)
     (old new : Disk) (refused : BufferFault) : Type 0 where
-  pub of_journal : OpenError
-  pub named : refused ≡ of_opening of_journal
-  pub why : honest → IsRefused path faults new_faults old new of_journal
+  pub its : JournalError
+  pub named : refused ≡ of_journal its
+  pub why : honest → IsRefused path faults new_faults old new its

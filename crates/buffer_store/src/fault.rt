@@ -1,8 +1,7 @@
 //! Why a buffer refuses a call.
 
 use buffer_state::AppendFault;
-use disk_files::DirError;
-use journal_files::{OpenError, ReadError};
+use journal_files::JournalError;
 use std::alloc::AllocError;
 use thiserror::Error;
 
@@ -61,47 +60,18 @@ impl From<AppendFault> for BufferFault {
     }
 }
 
-impl From<DirError> for BufferFault {
+impl From<JournalError> for BufferFault {
     ghost use Rattle.std.specs.Prelude.{◌≡◌};
-    ghost use Rattle.buffer_store.specs.Refusals.{of_dir};
+    ghost use Rattle.buffer_store.specs.Refusals.{of_journal};
 
-    ghost from_gives = { λ refused e. e ≡ of_dir refused };
+    ghost from_gives = { λ refused e. e ≡ of_journal refused };
 
-    fn from(refused: DirError) -> BufferFault {
+    fn from(refused: JournalError) -> BufferFault {
         match refused {
-            DirError::Memory => BufferFault::Memory,
-            _ => BufferFault::Fault,
-        }
-    }
-}
-
-impl From<OpenError> for BufferFault {
-    ghost use Rattle.std.specs.Prelude.{◌≡◌};
-    ghost use Rattle.buffer_store.specs.Refusals.{of_opening};
-
-    ghost from_gives = { λ refused e. e ≡ of_opening refused };
-
-    fn from(refused: OpenError) -> BufferFault {
-        match refused {
-            OpenError::Memory => BufferFault::Memory,
-            OpenError::Fault => BufferFault::Fault,
-            OpenError::Damaged => BufferFault::Damaged,
-            OpenError::LastGeneration => BufferFault::LastSerial,
-        }
-    }
-}
-
-impl From<ReadError> for BufferFault {
-    ghost use Rattle.std.specs.Prelude.{◌≡◌};
-    ghost use Rattle.buffer_store.specs.Refusals.{of_read};
-
-    ghost from_gives = { λ refused e. e ≡ of_read refused };
-
-    fn from(refused: ReadError) -> BufferFault {
-        match refused {
-            ReadError::Memory => BufferFault::Memory,
-            ReadError::Fault => BufferFault::Fault,
-            ReadError::Short => BufferFault::Damaged,
+            JournalError::Memory => BufferFault::Memory,
+            JournalError::Fault => BufferFault::Fault,
+            JournalError::Damaged => BufferFault::Damaged,
+            JournalError::LastGeneration => BufferFault::LastSerial,
         }
     }
 }

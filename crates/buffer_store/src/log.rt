@@ -10,7 +10,7 @@ use crate::fault::BufferFault;
 use buffer_state::Chunks;
 use chunk_journal::Record;
 use disk_files::Dir;
-use journal_files::{Journal, RenewError};
+use journal_files::{Journal, JournalError};
 use std::alloc::Allocator;
 use std::marker::Model;
 use std::snapshot::Snapshot;
@@ -130,10 +130,10 @@ impl<D: Dir, A: Allocator + Copy> Log<D, A> {
                 self.staged = false;
                 Ok(())
             }
-            Err(RenewError::Memory) => Err(BufferFault::Memory),
-            Err(RenewError::LastGeneration) => Err(BufferFault::LastSerial),
-            Err(RenewError::Short) => Err(BufferFault::Damaged),
-            Err(RenewError::Fault) => {
+            Err(JournalError::Memory) => Err(BufferFault::Memory),
+            Err(JournalError::Damaged) => Err(BufferFault::Damaged),
+            Err(JournalError::LastGeneration) => Err(BufferFault::LastSerial),
+            Err(JournalError::Fault) => {
                 self.failed = true;
                 Err(BufferFault::Fault)
             }

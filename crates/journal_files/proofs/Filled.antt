@@ -1,23 +1,17 @@
 -- A new file is filled with pieces.
-use Rattle.std.proofs.Common.{◌≡◌, ⊎_elim, ℕ, ◌+◌, ◌≤◌, List, [], Option, Some, None, Result, Ok, Err, OnOk, refl, sym, ap, subst, ◌∙◌, arith}
+use Rattle.std.proofs.Common.{◌≡◌, ℕ, ◌+◌, ◌≤◌, List, [], Option, Some, None, Result, Ok, Err, OnOk, sym, ap, subst, ◌∙◌, arith}
 use Rattle.std.specs.Prelude.{IsSome, IsOk, IsErrOf}
 use Rattle.disk_files.specs.Disk.{Disk, Makes, new_file, with_bytes, read_of}
 use Rattle.disk_files.specs.Moments.{History, now, LeavesOnly}
-use Rattle.disk_files.specs.Faults.{HasCause}
 use Rattle.disk_files.specs.declared.dir.FileNo.{FileNo}
-use Rattle.disk_files.specs.declared.dir.DirError.{DirError}
-use Rattle.disk_files.specs.declared.dir.DirError.TheVariants as dir
 use Rattle.disk_files.proofs.Moments.{elsewhere, follows, joined, weaker}
 use Rattle.file_pieces.specs.Adding.{Copies, HasPieceCause, IsLeftOf, Partly}
 use Rattle.file_pieces.specs.Pieces.{pieces_bytes, total_room}
 use Rattle.file_pieces.specs.declared.error.PieceError.{PieceError}
 use Rattle.file_pieces.specs.declared.error.PieceError.TheVariants as piece
 use Rattle.file_pieces.specs.declared.piece.Piece.{Piece}
-use Rattle.journal_files.specs.Faults.{HasReason, begin_error, copy_error}
 use Rattle.journal_files.specs.Pieces.{HasNew, IsUnfinished}
 use Rattle.journal_files.specs.Sources.{CanGive, Fills, HasAnyNew, IsOther}
-use Rattle.journal_files.specs.declared.error.BeginError.{BeginError}
-use Rattle.journal_files.specs.declared.error.BeginError.TheVariants as beginning
 use Rattle.journal_files.proofs.Names.{apart}
 use Rattle.journal_files.proofs.Renewing.{is_some_name}
 use Rattle.journal_files.proofs.Steps.{on_ok}
@@ -26,37 +20,6 @@ use Rattle.journal_files.proofs.Written.{begun_so_far}
 any_ok : {T E : Type 0} {A : Type 0} (result : Result T E) → A → OnOk result A
 any_ok (Ok x) a = a
 any_ok (Err x) a = tt
-
--- ---- why it fails
-
-refused : {T U : Type 0} (a b : ℕ) (e : DirError) → HasCause {T = T} a b (Err e) → HasReason {T = U} a b (Err (begin_error e)) beginning.Fault
-refused a b dir.Memory c = record { later = c.later; passed = tt; failed = λ yes. absurd (cc yes); others = λ no. c.memory refl }
-refused a b dir.Fault c = record { later = c.later; passed = tt; failed = λ yes. ⊎_elim (λ memory. absurd (cc memory)) (λ rises. rises) c.refused; others = λ no. absurd (no refl) }
-refused a b dir.NoSuchFile c = record { later = c.later; passed = tt; failed = λ yes. ⊎_elim (λ memory. absurd (cc memory)) (λ rises. rises) c.refused; others = λ no. absurd (no refl) }
-refused a b dir.NameTaken c = record { later = c.later; passed = tt; failed = λ yes. ⊎_elim (λ memory. absurd (cc memory)) (λ rises. rises) c.refused; others = λ no. absurd (no refl) }
-
--- a refusal of the folder, behind calls that passed
-pub reason_dir : {T U : Type 0} (a m b : ℕ) (e : DirError) (r : Result U BeginError) → m ≡ a → HasCause {T = T} m b (Err e) → r ≡ Err (begin_error e) → HasReason a b r beginning.Fault
-reason_dir {U = U} a m b e r passed c answer =
-    subst (λ (n : ℕ). HasReason n b r beginning.Fault) passed (subst (λ (q : Result U BeginError). HasReason m b q beginning.Fault) (sym answer) (refused m b e c))
-
-copied : {T U : Type 0} (a b : ℕ) (e : PieceError) → HasPieceCause {T = T} a b (Err e) → HasReason {T = U} a b (Err (copy_error e)) beginning.Fault
-copied a b piece.Fault c = record { later = c.later; passed = tt; failed = λ yes. c.failed refl; others = λ no. absurd (no refl) }
-copied a b piece.Short c = record { later = c.later; passed = tt; failed = λ yes. absurd (cc yes); others = λ no. c.short refl }
-
--- a refusal of a copy, behind calls that passed
-pub reason_copy : {T U : Type 0} (a m b : ℕ) (e : PieceError) (r : Result U BeginError) → m ≡ a → HasPieceCause {T = T} m b (Err e) → r ≡ Err (copy_error e) → HasReason a b r beginning.Fault
-reason_copy {U = U} a m b e r passed c answer =
-    subst (λ (n : ℕ). HasReason n b r beginning.Fault) passed (subst (λ (q : Result U BeginError). HasReason m b q beginning.Fault) (sym answer) (copied m b e c))
-
--- what an answer came from
-pub was_short : {T U : Type 0} (e : PieceError) (r : Result U BeginError) → r ≡ Err (copy_error e) → IsErrOf r beginning.Short → IsErrOf {T = T} (Err e) piece.Short
-was_short piece.Fault r answer short = absurd (let z = sym answer ∙ short in cc z)
-was_short piece.Short r answer short = refl
-
-pub not_memory : {U : Type 0} (e : PieceError) (r : Result U BeginError) → r ≡ Err (copy_error e) → IsErrOf r beginning.Memory → ⊥
-not_memory piece.Fault r answer memory = let z = sym answer ∙ memory in cc z
-not_memory piece.Short r answer memory = let z = sym answer ∙ memory in cc z
 
 -- ---- what is there of the file
 

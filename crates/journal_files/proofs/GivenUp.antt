@@ -14,12 +14,12 @@ use Rattle.disk_files.proofs.Moments.{here, elsewhere, follows, goes_on, rests}
 use Rattle.file_pieces.specs.Adding.{HasPieceCause}
 use Rattle.file_pieces.specs.declared.error.PieceError.{PieceError}
 use Rattle.file_pieces.specs.declared.error.PieceError.TheVariants as piece
-use Rattle.journal_files.specs.Faults.{HasReason, FailsAgain, begin_error}
+use Rattle.journal_files.specs.Faults.{HasReason, FailsAgain, dir_error}
 use Rattle.journal_files.specs.Leftovers.{ReadsAs, IsGivenUp, LeavesNext}
 use Rattle.journal_files.specs.Folders.{journal_name, IsNext}
 use Rattle.journal_files.specs.Pieces.{HasNew, IsTakenAway, AnswersFor}
-use Rattle.journal_files.specs.declared.error.BeginError.{BeginError}
-use Rattle.journal_files.specs.declared.error.BeginError.TheVariants as beginning
+use Rattle.journal_files.specs.declared.error.JournalError.{JournalError}
+use Rattle.journal_files.specs.declared.error.JournalError.TheVariants as refusal
 use Rattle.journal_files.proofs.Names.{apart}
 
 -- ---- what a stop leaves of it
@@ -107,16 +107,16 @@ later_rises : (a b c : ℕ) → a ≤ b → Rises b c → Rises a c
 later_rises a b c first (inl second) = inl (omega (arith, first, second))
 later_rises a b c first (inr greatest) = inr greatest
 
-pub reason_given : {T U : Type 0} (a b c : ℕ) (refused answer : BeginError) → HasReason {T = T} a b (Err refused) beginning.Fault → AnswersFor b c refused answer → HasReason {T = U} a c (Err answer) beginning.Fault
+pub reason_given : {T U : Type 0} (a b c : ℕ) (refused answer : JournalError) → HasReason {T = T} a b (Err refused) refusal.Fault → AnswersFor b c refused answer → HasReason {T = U} a c (Err answer) refusal.Fault
 reason_given {U = U} a b c refused answer is given =
     ⊎_elim
-    (λ same. subst (λ (e : BeginError). HasReason {T = U} a c (Err e) beginning.Fault) (sym same.0) (subst (λ (n : ℕ). HasReason {T = U} a n (Err refused) beginning.Fault) (sym same.1) (record {
+    (λ same. subst (λ (e : JournalError). HasReason {T = U} a c (Err e) refusal.Fault) (sym same.0) (subst (λ (n : ℕ). HasReason {T = U} a n (Err refused) refusal.Fault) (sym same.1) (record {
       later = is.later;
       passed = tt;
       failed = λ yes. is.failed (ap Err (cc yes));
       others = λ no. is.others (λ yes. no (ap Err (cc yes)));
     })))
-    (λ failed. subst (λ (e : BeginError). HasReason {T = U} a c (Err e) beginning.Fault) (sym failed.0) (record {
+    (λ failed. subst (λ (e : JournalError). HasReason {T = U} a c (Err e) refusal.Fault) (sym failed.0) (record {
       later = omega (arith, is.later, given.later);
       passed = tt;
       failed = λ yes. later_rises a b c is.later failed.1;
@@ -124,7 +124,7 @@ reason_given {U = U} a b c refused answer is given =
     })) given.so
 
 -- the answer is the refusal, unless it is a fault
-pub given_as : (a b : ℕ) (refused answer e : BeginError) → AnswersFor a b refused answer → answer ≡ e → (e ≡ beginning.Fault → ⊥) → refused ≡ e
+pub given_as : (a b : ℕ) (refused answer e : JournalError) → AnswersFor a b refused answer → answer ≡ e → (e ≡ refusal.Fault → ⊥) → refused ≡ e
 given_as a b refused answer e given is other = ⊎_elim (λ same. sym same.0 ∙ is) (λ failed. absurd (other (sym is ∙ failed.0))) given.so
 
 pub rises_so : {T : Type 0} (a b : ℕ) (e : DirError) → e ≡ dir.Fault → HasCause {T = T} a b (Err e) → Rises a b
@@ -134,8 +134,8 @@ rises_so a b dir.NoSuchFile only c = absurd (cc only)
 rises_so a b dir.NameTaken only c = absurd (cc only)
 
 -- any refusal here is a fault
-pub fault_so : (e : DirError) (refused : BeginError) → e ≡ dir.Fault → refused ≡ begin_error e → refused ≡ beginning.Fault
-fault_so e refused only is = is ∙ ap begin_error only
+pub fault_so : (e : DirError) (refused : JournalError) → e ≡ dir.Fault → refused ≡ dir_error e → refused ≡ refusal.Fault
+fault_so e refused only is = is ∙ ap dir_error only
 
 pub copy_rises : {T : Type 0} (a m b : ℕ) (e : PieceError) → m ≡ a → HasPieceCause {T = T} m b (Err e) → (IsErrOf {T = T} (Err e) piece.Short → ⊥) → Rises a b
 copy_rises a m b piece.Fault passed c whole = subst (λ (n : ℕ). Rises n b) passed (c.failed refl)

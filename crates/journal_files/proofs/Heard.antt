@@ -1,14 +1,9 @@
 -- A file is fed to an outline, one part after another.
-use Rattle.std.proofs.Common.{◌≡◌, ℕ, zero, suc, ◌+◌, ◌<◌, ◌≤◌, ◌^◌, Bool, true, false, cond, ltb, List, [], ◌∷◌, ◌++◌, length, take, drop, Option, Some, refl, sym, ap, subst, ◌∙◌, append-nil, append_assoc, ⊎_elim, Result, Ok, Err, arith, inl, inr}
-use Rattle.std.specs.Prelude.{IsSome, IsErrOf}
-use Rattle.std.specs.Result.{IsErrAnd}
-use Rattle.std.proofs.lemmas.Result.{err_from_is_err_and}
+use Rattle.std.proofs.Common.{◌≡◌, ℕ, zero, suc, ◌+◌, ◌<◌, ◌≤◌, ◌^◌, Bool, true, false, cond, ltb, List, [], ◌∷◌, ◌++◌, length, take, drop, Option, Some, refl, sym, ap, subst, ◌∙◌, append-nil, append_assoc, ⊎_elim, arith, inl, inr}
+use Rattle.std.specs.Prelude.{IsSome}
 use Rattle.std.proofs.lemmas.Bool.{cases_lt, ltb-false}
 use Rattle.std.proofs.lemmas.List.{take_all, take-append-le, take-append-drop}
 use Rattle.disk_files.specs.Disk.{SameDisk, reads, read_of}
-use Rattle.disk_files.specs.Faults.{HasCause}
-use Rattle.disk_files.specs.declared.dir.DirError.{DirError}
-use Rattle.disk_files.specs.declared.dir.DirError.TheVariants as dir
 use Rattle.disk_files.specs.Moments.{History, now, Elapses}
 use Rattle.disk_files.specs.declared.dir.FileNo.{FileNo}
 use Rattle.chunk_journal.specs.Feeding.{Heard, IsAfter}
@@ -19,10 +14,7 @@ use Rattle.chunk_journal.proofs.Cuts.{cut_whole}
 use Rattle.file_pieces.specs.Pieces.{HasPart, part_of}
 use Rattle.file_pieces.proofs.ReadOn.{elapsed}
 use Rattle.file_pieces.proofs.Sums.{parts_joined}
-use Rattle.journal_files.specs.Faults.{HasReason, open_error}
 use Rattle.journal_files.specs.Found.{HasHeard}
-use Rattle.journal_files.specs.declared.error.OpenError.{OpenError}
-use Rattle.journal_files.specs.declared.error.OpenError.TheVariants as opening
 
 -- nothing of the disk changed, nothing was refused, and the first bytes of the file were fed
 pub record Feeds {D : Type 0} (honest : D → Type 0) (history : D → History) (opened : D → FileNo → Option (List ℕ)) (faults : D → ℕ) (file : FileNo) (len done : ℕ) (outline : Heard) (first dir : D) : Type 0 where
@@ -82,35 +74,6 @@ damaged_more l m d = record {
 -- a damaged beginning
 pub damaged_front : (n : ℕ) (l : List ℕ) → IsDamaged (take n l) → IsDamaged l
 damaged_front n l d = subst IsDamaged (take-append-drop n l) (damaged_more (take n l) (drop n l) d)
-
--- ---- why it ends
-
--- what a `?` answers
-pub answered : {T E : Type 0} (e : E) (r : Result T E) → IsErrAnd r (λ y. y ≡ e) → r ≡ Err e
-answered e r is = let p = err_from_is_err_and r is in p.1 ∙ ap Err p.2
-
-err_as : {T U E : Type 0} {e f : E} → IsErrOf {T = T} (Err e) f → IsErrOf {T = U} (Err e) f
-err_as is = ap Err (cc is)
-
-pub reason_ok : {T E : Type 0} (a b : ℕ) (x : T) (fault : E) → b ≡ a → HasReason a b (Ok x) fault
-reason_ok a b x fault same = record { later = omega (arith, same); passed = same; failed = λ no. absurd (cc no); others = λ no. same }
-
-pub reason_err : {T U E : Type 0} (a b c : ℕ) (e fault : E) (r : Result U E) → b ≡ a → HasReason {T = T} b c (Err e) fault → r ≡ Err e → HasReason a c r fault
-reason_err {U = U} {E = E} a b c e fault r same is answer = subst (λ (q : Result U E). HasReason a c q fault) (sym answer) (subst (λ (n : ℕ). HasReason {T = U} n c (Err e) fault) same (record {
-  later = is.later;
-  passed = tt;
-  failed = λ yes. is.failed (err_as yes);
-  others = λ no. is.others (λ yes. no (err_as yes));
-}))
-
-refused : {T U : Type 0} (a b : ℕ) (e : DirError) → e ≡ dir.Fault → HasCause {T = T} a b (Err e) → HasReason {T = U} a b (Err (open_error e)) opening.Fault
-refused a b dir.Memory only c = absurd (cc only)
-refused a b dir.Fault only c = record { later = c.later; passed = tt; failed = λ yes. ⊎_elim (λ memory. absurd (cc memory)) (λ rises. rises) c.refused; others = λ no. absurd (no refl) }
-refused a b dir.NoSuchFile only c = absurd (cc only)
-refused a b dir.NameTaken only c = absurd (cc only)
-
-pub reason_dir : {T U : Type 0} (a b : ℕ) (e : DirError) (r : Result U OpenError) → IsErrOf {T = T} (Err e) dir.Fault → HasCause {T = T} a b (Err e) → r ≡ Err (open_error e) → HasReason a b r opening.Fault
-reason_dir {U = U} a b e r only c answer = subst (λ (q : Result U OpenError). HasReason a b q opening.Fault) (sym answer) (refused a b e (cc only) c)
 
 -- ---- another part
 

@@ -22,6 +22,7 @@ pub mod Renewal
 pub mod Fresh
 pub mod Strays
 pub mod OpeningMoments
+pub mod Reasons
 pub mod Heard
 pub mod Sourced
 pub mod Afresh

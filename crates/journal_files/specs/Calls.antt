@@ -15,8 +15,8 @@ use Rattle.journal_files.specs.Views.{OpenJournal, IsOpenIn}
 use Rattle.journal_files.specs.Disks.{Keeps, Recovers}
 use Rattle.journal_files.specs.Faults.{HasReason}
 use Rattle.journal_files.specs.Leftovers.{LeavesAtMost}
-use Rattle.journal_files.specs.declared.error.RenewError.{RenewError}
-use Rattle.journal_files.specs.declared.error.RenewError.TheVariants as renewing
+use Rattle.journal_files.specs.declared.error.JournalError.{JournalError}
+use Rattle.journal_files.specs.declared.error.JournalError.TheVariants as refusal
 
 -- The call writes to the generation's own file alone: files of other names stay as they are, and each open file stays open. It is refused only where the device fails.
 pub record WritesOwn {D T : Type 0} (is_honest : D → Type 0) (history : D → History) (opened : D → FileNo → Option (List ℕ)) (fault_count : D → ℕ)
@@ -33,12 +33,12 @@ pub record BeginsStep {T E : Type 0} (old new : OpenJournal) (before after : His
   pub err : OnErr result (Recovers old.path (now after) (begun item t))
   pub moments : LeavesOnly before after (OpensWithin old.path (begun item t))
 
--- What a renewal with the chunks that the journal means makes of it. It doesn't find the older file too short. Where it is refused the folder reads as before, but for what
+-- What a renewal with the chunks that the journal means makes of it. It finds no damage. Where it is refused the folder reads as before, but for what
 -- the device's failures leave; and at each moment a stop leaves a folder that opens as before.
-pub record Renews {T : Type 0} (old new : OpenJournal) (chunks : State) (first last : ℕ) (before after : History) (t : JournalLog) (result : Result T RenewError) : Type 0 where
+pub record Renews {T : Type 0} (old new : OpenJournal) (chunks : State) (first last : ℕ) (before after : History) (t : JournalLog) (result : Result T JournalError) : Type 0 where
   pub ok : OnOk result (Keeps new (now after) (new_generation chunks))
-  pub whole : result ≢ Err renewing.Short
-  pub fault : result ≡ Err renewing.Fault → Recovers old.path (now after) t
+  pub whole : result ≢ Err refusal.Damaged
+  pub fault : result ≡ Err refusal.Fault → Recovers old.path (now after) t
   pub left : OnErr result (LeavesAtMost old.path (old.number + 1) first last (now before) (now after))
   pub moments : LeavesOnly before after (OpensWithin old.path t)
 
@@ -48,18 +48,18 @@ pub record IsNextOf (old new : OpenJournal) (chunks : State) : Type 0 where
   pub state : settled (state_of (new_generation chunks)) ≡ reopened chunks
 
 -- What a refused renewal leaves as it was: the journal, and where the generation is the last one, or memory is refused, the disk.
-pub record RefusesRenewal {D T : Type 0} (is_honest : D → Type 0) (history : D → History) (journal new_journal : OpenJournal) (old new : D) (result : Result T RenewError) : Type 0 where
+pub record RefusesRenewal {D T : Type 0} (is_honest : D → Type 0) (history : D → History) (journal new_journal : OpenJournal) (old new : D) (result : Result T JournalError) : Type 0 where
   pub journal_is : OnErr result (new_journal ≡ journal)
-  pub last : (result ≡ Err renewing.LastGeneration) ↔ (2 ^ 32 ≤ journal.number + 1)
-  pub unchanged : is_honest old → result ≡ Err renewing.LastGeneration → SameDisk (now (history new)) (now (history old))
-  pub memory_same : is_honest old → result ≡ Err renewing.Memory → SameDisk (now (history new)) (now (history old))
+  pub last : (result ≡ Err refusal.LastGeneration) ↔ (2 ^ 32 ≤ journal.number + 1)
+  pub unchanged : is_honest old → result ≡ Err refusal.LastGeneration → SameDisk (now (history new)) (now (history old))
+  pub memory_same : is_honest old → result ≡ Err refusal.Memory → SameDisk (now (history new)) (now (history old))
 
 -- What a renewal leaves, whatever it answers: files of other names stay as they are, and but for a `Fault` the journal's file is open.
 pub record LeavesOthers {D T : Type 0} (is_honest : D → Type 0) (history : D → History) (opened : D → FileNo → Option (List ℕ)) (fault_count : D → ℕ)
-    (journal new_journal : OpenJournal) (old new : D) (result : Result T RenewError) : Type 0 where
+    (journal new_journal : OpenJournal) (old new : D) (result : Result T JournalError) : Type 0 where
   pub honest : is_honest old → is_honest new
   pub elsewhere : is_honest old → (name : List ℕ) → name ≢ journal_name journal.path journal.number → name ≢ journal_name journal.path (journal.number + 1)
       → now (history new) name ≡ now (history old) name
   pub path_is : new_journal.path ≡ journal.path
-  pub open_in : result ≢ Err renewing.Fault → IsOpenIn new_journal (opened new)
-  pub cause : HasReason (fault_count old) (fault_count new) result renewing.Fault
+  pub open_in : result ≢ Err refusal.Fault → IsOpenIn new_journal (opened new)
+  pub cause : HasReason (fault_count old) (fault_count new) result refusal.Fault

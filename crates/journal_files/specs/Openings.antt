@@ -10,8 +10,8 @@ use Rattle.journal_files.specs.JournalLogs.{JournalLog, OpensWithin, new_generat
 use Rattle.journal_files.specs.Views.{OpenJournal, IsOpenIn, HasShortTags}
 use Rattle.journal_files.specs.Disks.{Keeps, Recovers, HasNoGap, HasNoneBelow}
 use Rattle.journal_files.specs.Leftovers.{ReadsAs, LeavesNext}
-use Rattle.journal_files.specs.declared.error.OpenError.{OpenError}
-use Rattle.journal_files.specs.declared.error.OpenError.TheVariants.{Fault, Damaged, LastGeneration}
+use Rattle.journal_files.specs.declared.error.JournalError.{JournalError}
+use Rattle.journal_files.specs.declared.error.JournalError.TheVariants.{Fault, Damaged, LastGeneration}
 
 -- The folder means these chunks. The journal goes on with them in the next generation, and none below it reads.
 pub record OpensNext (path : List ℕ) (old new : Disk) (journal : OpenJournal) (chunks : State) : Type 0 where
@@ -30,7 +30,7 @@ pub record IsFresh (path : List ℕ) (opened : FileNo → Option (List ℕ)) (jo
 
 -- Why an opening is refused, and what it leaves to be read then. A folder that recovers is never damaged; and where the last generation is there, none is read.
 -- Only after a `Fault` may anything have changed.
-pub record IsRefused (path : List ℕ) (faults new_faults : ℕ) (old new : Disk) (refused : OpenError) : Type 0 where
+pub record IsRefused (path : List ℕ) (faults new_faults : ℕ) (old new : Disk) (refused : JournalError) : Type 0 where
   pub damaged : refused ≡ Damaged → IsDamagedFolder path (reads old)
   pub undamaged : (t : JournalLog) → Recovers path old t → refused ≢ Damaged
   pub last : refused ≡ LastGeneration → IsSome (reads old (journal_name path (2 ^ 32 - 1)))

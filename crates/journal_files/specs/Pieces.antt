@@ -7,8 +7,8 @@ use Rattle.disk_files.specs.declared.dir.FileNo.{FileNo}
 use Rattle.disk_files.specs.Faults.{Rises}
 use Rattle.file_pieces.specs.Adding.{Partly}
 use Rattle.journal_files.specs.Folders.{journal_name}
-use Rattle.journal_files.specs.declared.error.BeginError.{BeginError}
-use Rattle.journal_files.specs.declared.error.BeginError.TheVariants.{Fault}
+use Rattle.journal_files.specs.declared.error.JournalError.{JournalError}
+use Rattle.journal_files.specs.declared.error.JournalError.TheVariants.{Fault}
 
 -- a new file of this name has these bytes, of which nothing is certainly on the disk
 pub record HasNew (name bytes : List ℕ) (before after : Disk) : Type 0 where
@@ -37,7 +37,7 @@ abbrev pub IsTakenAway : ℕ → ℕ → List ℕ → Disk → Disk → Type 0
 IsTakenAway first last name before after = Changes name unlinked before after ⊎ (SameDisk after before × Rises first last)
 
 -- the answer is the refusal, or `Fault` where the device failed
-pub record AnswersFor (first last : ℕ) (refused answer : BeginError) : Type 0 where
+pub record AnswersFor (first last : ℕ) (refused answer : JournalError) : Type 0 where
   pub later : first ≤ last
   pub so : ((answer ≡ refused) × (last ≡ first)) ⊎ ((answer ≡ Fault) × Rises first last)
 

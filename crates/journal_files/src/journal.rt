@@ -17,11 +17,10 @@ ghost use Rattle.journal_files.specs.Disks.{Keeps, Recovers, HasNoStray, HasNoGa
 ghost use Rattle.journal_files.specs.Calls.{WritesOwn, BeginsStep, Renews, IsNextOf, RefusesRenewal, LeavesOthers};
 ghost use Rattle.journal_files.specs.Faults.{HasReason};
 ghost use Rattle.disk_files.specs.Calls.{LeavesAlone};
-ghost use Rattle.journal_files.specs.declared.error.ReadError.{ReadError};
-ghost use Rattle.journal_files.specs.declared.error.RenewError.{RenewError};
+ghost use Rattle.journal_files.specs.declared.error.JournalError.{JournalError};
 ghost use Rattle.journal_files.specs.declared.placing.Placing.TheVariants.{Stays};
 
-use crate::error::{ReadError, RenewError};
+use crate::error::JournalError;
 use crate::pieces::begin;
 use crate::placing::Placing;
 use crate::reading::read_extents;
@@ -164,8 +163,13 @@ impl<A: Allocator + Copy> Journal<A> {
 
     /// The entries of a live chunk, one after another, as the file has them; none where there is no such chunk. The disk stays as it is.
     ///
-    /// `Short`: the file has fewer bytes than were told.
-    pub fn body<D: Dir>(&self, alloc: A, dir: &mut D, serial: u64) -> Result<Vec<u8, A>, ReadError>
+    /// `Memory`, `Fault`, or `Damaged` where the file has fewer bytes than were told.
+    pub fn body<D: Dir>(
+        &self,
+        alloc: A,
+        dir: &mut D,
+        serial: u64,
+    ) -> Result<Vec<u8, A>, JournalError>
         requires open { IsOpenIn self.now (D.opened dir.old) }
         ensures honest { D.is_honest dir.old → D.is_honest dir.new }
         ensures time { D.is_honest dir.old → Elapses (D.history dir.old) (D.history dir.new) }
@@ -173,8 +177,9 @@ impl<A: Allocator + Copy> Journal<A> {
         ensures opened { (other : FileNo) → D.opened dir.new other ≡ D.opened dir.old other }
         ensures bytes { D.is_honest dir.old → (t : JournalLog) → Keeps self.now (now (D.history dir.old)) t
             → IfOk result (λ bytes. bytes.items ≡ entries_at (state_of t) serial) }
-        ensures whole { D.is_honest dir.old → (t : JournalLog) → Keeps self.now (now (D.history dir.old)) t → result ≢ Err ReadError.Short }
-        ensures cause { HasReason (D.fault_count dir.old) (D.fault_count dir.new) result ReadError.Fault }
+        ensures whole { D.is_honest dir.old → (t : JournalLog) → Keeps self.now (now (D.history dir.old)) t → result ≢ Err JournalError.Damaged }
+        ensures not_last { result ≢ Err JournalError.LastGeneration }
+        ensures cause { HasReason (D.fault_count dir.old) (D.fault_count dir.new) result JournalError.Fault }
     {
         read_extents(alloc, dir, self.file, self.places.at(serial))
     }
@@ -182,11 +187,11 @@ impl<A: Allocator + Copy> Journal<A> {
     /// Goes on in the next generation, which begins with these chunks, claimed ones told as queued. Asks that no chunk's tag
     /// has more than 1,024 bytes. The older file is removed once the new one is synced.
     ///
-    /// The chunks' entries are copied from the older file. `Short`: that has fewer bytes than were told.
+    /// The chunks' entries are copied from the older file. `Damaged`: that has fewer bytes than were told.
     /// `LastGeneration` comes first, and it and `Memory` change nothing. After `Fault` every stop leaves a folder
     /// that opens as before; the journal is not to be used again. The new file is removed again where it isn't whole, but where the device
     /// failed in making it or fails in removing it.
-    pub fn renew<D: Dir>(&mut self, dir: &mut D, chunks: &Chunks<A>) -> Result<(), RenewError>
+    pub fn renew<D: Dir>(&mut self, dir: &mut D, chunks: &Chunks<A>) -> Result<(), JournalError>
         requires open { IsOpenIn self.old (D.opened dir.old) }
         requires tags { HasShortTags chunks.now }
         // A stop at any moment of the call leaves a folder that opens so.
@@ -197,7 +202,7 @@ impl<A: Allocator + Copy> Journal<A> {
         ensures gap { D.is_honest dir.old → (t : JournalLog) → Keeps self.old (now (D.history dir.old)) t
             → HasNoGap self.old.path (now (D.history dir.new)) }
         ensures memory { D.is_honest dir.old → (t : JournalLog) → Keeps self.old (now (D.history dir.old)) t
-            → (result ≡ Err RenewError.Memory) → Keeps self.new (now (D.history dir.new)) t }
+            → (result ≡ Err JournalError.Memory) → Keeps self.new (now (D.history dir.new)) t }
         ensures next { OnOk result (IsNextOf self.old self.new chunks.now) }
         ensures gone { D.is_honest dir.old
             → OnOk result (reads (now (D.history dir.new)) (journal_name self.old.path self.old.number) ≡ None) }
@@ -205,7 +210,7 @@ impl<A: Allocator + Copy> Journal<A> {
         ensures others { LeavesOthers D.is_honest D.history D.opened D.fault_count self.old self.new dir.old dir.new result }
     {
         if self.number == u32::MAX {
-            return Err(RenewError::LastGeneration);
+            return Err(JournalError::LastGeneration);
         }
         let alloc = *self.path.allocator();
         let from = Some(self.file);

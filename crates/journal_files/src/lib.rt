@@ -12,7 +12,7 @@ mod placing;
 mod reading;
 mod spelling;
 
-pub use error::{OpenError, ReadError, RenewError};
+pub use error::JournalError;
 pub use journal::Journal;
 pub use laws::{has_no_stray, opens_one_way, recovers_all};
 pub use opening::Opened;

@@ -12,9 +12,9 @@ ghost use Rattle.journal_files.specs.Faults.{HasReason};
 ghost use Rattle.chunk_journal.specs.Meaning.{EndsUnsealed, IsDamaged};
 ghost use Rattle.journal_files.specs.Found.{FindsSource, IsFound, IsLastTaken, IsMeant, IsSo};
 ghost use Rattle.journal_files.specs.Openings.{OpensNext, IsFresh, IsRefused, LeavesFolder};
-ghost use Rattle.journal_files.specs.declared.error.OpenError.{OpenError};
+ghost use Rattle.journal_files.specs.declared.error.JournalError.{JournalError};
 
-use crate::error::OpenError;
+use crate::error::JournalError;
 use crate::journal::Journal;
 use crate::older::Older;
 use crate::outlining::{feed_file, meaning};
@@ -45,7 +45,7 @@ impl<A: Allocator + Copy> Journal<A> {
     /// These two and `Memory` change nothing.
     /// After `Fault` the folder opens to what it opened to. It reads as before, since the new file is removed again, but where the device
     /// failed in making it or in removing it; or the new file is whole, and the device failed as older ones were removed.
-    pub fn open<D: Dir>(alloc: A, dir: &mut D, path: &[u8]) -> Result<Opened<A>, OpenError>
+    pub fn open<D: Dir>(alloc: A, dir: &mut D, path: &[u8]) -> Result<Opened<A>, JournalError>
         ensures opens { D.is_honest dir.old → IfOk result (λ opened.
             OpensNext path.now (now (D.history dir.old)) (now (D.history dir.new)) opened.journal opened.chunks) }
         ensures fresh { IfOk result (λ opened. IsFresh path.now (D.opened dir.new) opened.journal opened.chunks) }
@@ -53,7 +53,7 @@ impl<A: Allocator + Copy> Journal<A> {
             (D.fault_count dir.old) (D.fault_count dir.new) (now (D.history dir.old)) (now (D.history dir.new))) }
         // A stop at any moment of the call, whatever it answers, leaves a folder that opens to what one before the call could open to.
         ensures leaves { D.is_honest dir.old → LeavesFolder D.is_honest D.history path.now dir.old dir.new }
-        ensures cause { HasReason (D.fault_count dir.old) (D.fault_count dir.new) result OpenError.Fault }
+        ensures cause { HasReason (D.fault_count dir.old) (D.fault_count dir.new) result JournalError.Fault }
     {
         // Called for its law alone.
         answers_one_way();
@@ -98,7 +98,7 @@ fn find<A: Allocator + Copy, D: Dir>(
     alloc: A,
     dir: &mut D,
     path: &[u8],
-) -> Result<Found<A>, OpenError>
+) -> Result<Found<A>, JournalError>
     ensures honest { D.is_honest dir.old → D.is_honest dir.new }
     ensures time { D.is_honest dir.old → Elapses (D.history dir.old) (D.history dir.new) }
     ensures same { D.is_honest dir.old → SameDisk (now (D.history dir.new)) (now (D.history dir.old)) }
@@ -111,14 +111,14 @@ fn find<A: Allocator + Copy, D: Dir>(
     ensures open { IfOk result (λ found. IfSome found.file (λ file. IsSome (D.opened dir.new file))) }
     ensures tags { IfOk result (λ found. HasShortTags found.chunks) }
     ensures unclaimed { IfOk result (λ found. reopened found.chunks ≡ found.chunks) }
-    ensures damaged { D.is_honest dir.old → (result ≡ Err OpenError.Damaged)
+    ensures damaged { D.is_honest dir.old → (result ≡ Err JournalError.Damaged)
         → IsDamagedFolder path.now (reads (now (D.history dir.old))) }
-    ensures last { D.is_honest dir.old → (result ≡ Err OpenError.LastGeneration)
+    ensures last { D.is_honest dir.old → (result ≡ Err JournalError.LastGeneration)
         → IsSome (reads (now (D.history dir.old)) (journal_name path.now (2 ^ 32 - 1))) }
     ensures unread { D.is_honest dir.old → IsSome (reads (now (D.history dir.old)) (journal_name path.now (2 ^ 32 - 1)))
-        → result ≢ Err OpenError.Damaged }
+        → result ≢ Err JournalError.Damaged }
     ensures below { IfOk result (λ found. found.greatest < 2 ^ 32 - 1) }
-    ensures cause { HasReason (D.fault_count dir.old) (D.fault_count dir.new) result OpenError.Fault }
+    ensures cause { HasReason (D.fault_count dir.old) (D.fault_count dir.new) result JournalError.Fault }
 {
     let mut found = search_folder(alloc, dir, path)?;
     let taken = last_taken(alloc, dir, path, found.greatest)?;
@@ -131,7 +131,7 @@ fn search_folder<A: Allocator + Copy, D: Dir>(
     alloc: A,
     dir: &mut D,
     path: &[u8],
-) -> Result<Found<A>, OpenError>
+) -> Result<Found<A>, JournalError>
     ensures honest { D.is_honest dir.old → D.is_honest dir.new }
     ensures time { D.is_honest dir.old → Elapses (D.history dir.old) (D.history dir.new) }
     ensures same { D.is_honest dir.old → SameDisk (now (D.history dir.new)) (now (D.history dir.old)) }
@@ -144,19 +144,19 @@ fn search_folder<A: Allocator + Copy, D: Dir>(
     ensures open { IfOk result (λ found. IfSome found.file (λ file. IsSome (D.opened dir.new file))) }
     ensures tags { IfOk result (λ found. HasShortTags found.chunks) }
     ensures unclaimed { IfOk result (λ found. reopened found.chunks ≡ found.chunks) }
-    ensures damaged { D.is_honest dir.old → (result ≡ Err OpenError.Damaged)
+    ensures damaged { D.is_honest dir.old → (result ≡ Err JournalError.Damaged)
         → IsDamagedFolder path.now (reads (now (D.history dir.old))) }
-    ensures last { D.is_honest dir.old → (result ≡ Err OpenError.LastGeneration)
+    ensures last { D.is_honest dir.old → (result ≡ Err JournalError.LastGeneration)
         → IsSome (reads (now (D.history dir.old)) (journal_name path.now (2 ^ 32 - 1))) }
     ensures unread { D.is_honest dir.old → IsSome (reads (now (D.history dir.old)) (journal_name path.now (2 ^ 32 - 1)))
-        → result ≢ Err OpenError.Damaged }
+        → result ≢ Err JournalError.Damaged }
     ensures below { IfOk result (λ found. found.greatest < 2 ^ 32 - 1) }
-    ensures cause { HasReason (D.fault_count dir.old) (D.fault_count dir.new) result OpenError.Fault }
+    ensures cause { HasReason (D.fault_count dir.old) (D.fault_count dir.new) result JournalError.Fault }
 {
     let mut rest = numbers(alloc, dir, generations(path))?;
     let greatest = greatest_of(&rest);
     if greatest == u32::MAX {
-        return Err(OpenError::LastGeneration);
+        return Err(JournalError::LastGeneration);
     }
     while let Some(number) = rest.pop_last() {
         if let Some(meant) = read_generation(alloc, dir, path, number)? {
@@ -247,19 +247,19 @@ fn read_generation<A: Allocator + Copy, D: Dir>(
     dir: &mut D,
     path: &[u8],
     number: u32,
-) -> Result<Option<Meant<A>>, OpenError>
+) -> Result<Option<Meant<A>>, JournalError>
     ensures honest { D.is_honest dir.old → D.is_honest dir.new }
     ensures time { D.is_honest dir.old → Elapses (D.history dir.old) (D.history dir.new) }
     ensures same { D.is_honest dir.old → SameDisk (now (D.history dir.new)) (now (D.history dir.old)) }
     ensures meant { D.is_honest dir.old → IfOk result (λ found. IfSome found (λ meant.
         IsMeant (reads (now (D.history dir.old)) (journal_name path.now number)) meant.outlined.chunks meant.outlined.places)) }
     ensures unsealed { D.is_honest dir.old → result ≡ Ok None → IsSo (reads (now (D.history dir.old)) (journal_name path.now number)) EndsUnsealed }
-    ensures damaged { D.is_honest dir.old → result ≡ Err OpenError.Damaged → IsSo (reads (now (D.history dir.old)) (journal_name path.now number)) IsDamaged }
+    ensures damaged { D.is_honest dir.old → result ≡ Err JournalError.Damaged → IsSo (reads (now (D.history dir.old)) (journal_name path.now number)) IsDamaged }
     ensures open { IfOk result (λ found. IfSome found (λ meant. D.opened dir.new meant.file ≡ Some (journal_name path.now number))) }
     ensures tags { IfOk result (λ found. IfSome found (λ meant. HasShortTags meant.outlined.chunks)) }
     ensures unclaimed { IfOk result (λ found. IfSome found (λ meant. reopened meant.outlined.chunks ≡ meant.outlined.chunks)) }
-    ensures not_last { result ≢ Err OpenError.LastGeneration }
-    ensures cause { HasReason (D.fault_count dir.old) (D.fault_count dir.new) result OpenError.Fault }
+    ensures not_last { result ≢ Err JournalError.LastGeneration }
+    ensures cause { HasReason (D.fault_count dir.old) (D.fault_count dir.new) result JournalError.Fault }
 {
     let name = generations(path).name(alloc, number)?;
     let file = dir.open(&name)?;

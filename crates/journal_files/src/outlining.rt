@@ -10,9 +10,9 @@ ghost use Rattle.chunk_journal.specs.Outlines.{IsOutlined};
 ghost use Rattle.file_pieces.specs.Pieces.{HasPart, part_of};
 ghost use Rattle.journal_files.specs.Faults.{HasReason};
 ghost use Rattle.journal_files.specs.Found.{HasHeard};
-ghost use Rattle.journal_files.specs.declared.error.OpenError.{OpenError};
+ghost use Rattle.journal_files.specs.declared.error.JournalError.{JournalError};
 
-use crate::error::OpenError;
+use crate::error::JournalError;
 use crate::pieces::PIECE;
 use chunk_journal::{Outline, Outlined, ReplayError};
 use disk_files::{Dir, FileNo};
@@ -24,7 +24,7 @@ pub(crate) fn feed_file<A: Allocator + Copy, D: Dir>(
     alloc: A,
     dir: &mut D,
     file: FileNo,
-) -> Result<Outline<A>, OpenError>
+) -> Result<Outline<A>, JournalError>
     requires { IsSome (D.opened dir.old file) }
     ensures honest { D.is_honest dir.old → D.is_honest dir.new }
     ensures time { D.is_honest dir.old → Elapses (D.history dir.old) (D.history dir.new) }
@@ -36,9 +36,9 @@ pub(crate) fn feed_file<A: Allocator + Copy, D: Dir>(
     ensures small { D.is_honest dir.old → (name bytes : List ℕ) → D.opened dir.old file ≡ Some name
         → reads (now (D.history dir.old)) name ≡ Some bytes → OnOk result (length bytes < 2 ^ 64) }
     ensures damaged { D.is_honest dir.old → (name bytes : List ℕ) → D.opened dir.old file ≡ Some name
-        → reads (now (D.history dir.old)) name ≡ Some bytes → result ≡ Err OpenError.Damaged → IsDamaged bytes }
-    ensures not_last { result ≢ Err OpenError.LastGeneration }
-    ensures cause { HasReason (D.fault_count dir.old) (D.fault_count dir.new) result OpenError.Fault }
+        → reads (now (D.history dir.old)) name ≡ Some bytes → result ≡ Err JournalError.Damaged → IsDamaged bytes }
+    ensures not_last { result ≢ Err JournalError.LastGeneration }
+    ensures cause { HasReason (D.fault_count dir.old) (D.fault_count dir.new) result JournalError.Fault }
 {
     let mut outline = Outline::new(alloc);
     let len = dir.length(file)? as u64;
@@ -61,7 +61,7 @@ fn feed_part<A: Allocator + Copy, D: Dir>(
     at: u64,
     outline: &mut Outline<A>,
     part: &mut [u8],
-) -> Result<(), OpenError>
+) -> Result<(), JournalError>
     requires open { IsSome (D.opened dir.old file) }
     requires few { outline.old.fed + length part.old < 2 ^ 64 }
     ensures honest { D.is_honest dir.old → D.is_honest dir.new }
@@ -76,33 +76,33 @@ fn feed_part<A: Allocator + Copy, D: Dir>(
         → OnOk result (IsAfter outline.new (seen ++ part_of bytes at (length part.old))) }
     ensures damaged { D.is_honest dir.old → (name bytes seen : List ℕ) → D.opened dir.old file ≡ Some name
         → reads (now (D.history dir.old)) name ≡ Some bytes → HasPart bytes at (length part.old) → IsAfter outline.old seen
-        → result ≡ Err OpenError.Damaged → IsDamaged seen }
-    ensures not_last { result ≢ Err OpenError.LastGeneration }
-    ensures cause { HasReason (D.fault_count dir.old) (D.fault_count dir.new) result OpenError.Fault }
+        → result ≡ Err JournalError.Damaged → IsDamaged seen }
+    ensures not_last { result ≢ Err JournalError.LastGeneration }
+    ensures cause { HasReason (D.fault_count dir.old) (D.fault_count dir.new) result JournalError.Fault }
 {
     read_exact(dir, file, at, part)?;
     match outline.feed(part) {
         Ok(()) => Ok(()),
-        Err(ReplayError::BadRecord) => Err(OpenError::Damaged),
-        Err(ReplayError::Memory | ReplayError::NotSealed) => Err(OpenError::Memory),
+        Err(ReplayError::BadRecord) => Err(JournalError::Damaged),
+        Err(ReplayError::Memory | ReplayError::NotSealed) => Err(JournalError::Memory),
     }
 }
 
 /// What was fed means: nothing where it ends before a Seal.
 pub(crate) fn meaning<A: Allocator + Copy>(
     outline: Outline<A>,
-) -> Result<Option<Outlined<A>>, OpenError>
+) -> Result<Option<Outlined<A>>, JournalError>
     ensures outlined { (seen : List ℕ) → IsAfter outline seen
         → IfOk result (λ found. IfSome found (λ outlined. IsOutlined seen outlined.chunks outlined.places outlined.used)) }
     ensures unsealed { (seen : List ℕ) → IsAfter outline seen → result ≡ Ok None → EndsUnsealed seen }
-    ensures damaged { (seen : List ℕ) → IsAfter outline seen → result ≡ Err OpenError.Damaged → IsDamaged seen }
-    ensures no_fault { result ≢ Err OpenError.Fault }
-    ensures not_last { result ≢ Err OpenError.LastGeneration }
+    ensures damaged { (seen : List ℕ) → IsAfter outline seen → result ≡ Err JournalError.Damaged → IsDamaged seen }
+    ensures no_fault { result ≢ Err JournalError.Fault }
+    ensures not_last { result ≢ Err JournalError.LastGeneration }
 {
     match outline.finish() {
         Ok(outlined) => Ok(Some(outlined)),
         Err((ReplayError::NotSealed, _)) => Ok(None),
-        Err((ReplayError::BadRecord, _)) => Err(OpenError::Damaged),
-        Err((ReplayError::Memory, _)) => Err(OpenError::Memory),
+        Err((ReplayError::BadRecord, _)) => Err(JournalError::Damaged),
+        Err((ReplayError::Memory, _)) => Err(JournalError::Memory),
     }
 }

@@ -16,10 +16,10 @@ ghost use Rattle.file_pieces.specs.Adding.{IsLeftOf, Partly};
 ghost use Rattle.file_pieces.specs.Pieces.{total_room};
 ghost use Rattle.journal_files.specs.Sources.{CanGive, Fills, HasAnyNew, HasSource};
 ghost use Rattle.journal_files.specs.Faults.{HasReason};
-ghost use Rattle.journal_files.specs.declared.error.BeginError.{BeginError};
+ghost use Rattle.journal_files.specs.declared.error.JournalError.{JournalError};
 ghost use Rattle.journal_files.specs.Pieces.{AnswersFor, HasNew, IsTakenAway, IsUnfinished, IsSealing, sealed};
 
-use crate::error::BeginError;
+use crate::error::JournalError;
 use crate::journal::Journal;
 use crate::placing::Placing;
 use crate::spelling::{Told, tell_chunks};
@@ -44,7 +44,7 @@ pub(crate) fn generations(path: &[u8]) -> Family<'_>
 /// at these places. All memory is asked for before the folder is changed.
 ///
 /// After an error the new file is removed again: it stays where the device failed in making it, or fails in removing it too. After `Memory`
-/// nothing changed. `Short`: the file has fewer bytes than that.
+/// nothing changed. `Damaged`: the file has fewer bytes than that.
 pub(crate) fn begin<A: Allocator + Copy, D: Dir>(
     alloc: A,
     dir: &mut D,
@@ -53,7 +53,7 @@ pub(crate) fn begin<A: Allocator + Copy, D: Dir>(
     chunks: &Chunks<A>,
     from: Option<FileNo>,
     places: &Places<A>,
-) -> Result<Journal<A>, BeginError>
+) -> Result<Journal<A>, JournalError>
     requires tags { HasShortTags chunks.now }
     requires first { 1 ≤ number }
     requires source { IfSome from (λ file. IsSome (D.opened dir.old file)) }
@@ -73,10 +73,11 @@ pub(crate) fn begin<A: Allocator + Copy, D: Dir>(
         → OnErr result (IsGivenUp (D.fault_count dir.old) (D.fault_count dir.new) (journal_name path.now number) (now (D.history dir.old)) (now (D.history dir.new))) }
     ensures whole { D.is_honest dir.old
         → HasSource (D.opened dir.old) (now (D.history dir.old)) (journal_name path.now number) from places.now chunks.now
-        → IsErrOf result BeginError.Short → ⊥ }
+        → IsErrOf result JournalError.Damaged → ⊥ }
+    ensures not_last { IsErrOf result JournalError.LastGeneration → ⊥ }
     ensures there { D.is_honest dir.old → OnOk result (IsSome (reads (now (D.history dir.new)) (journal_name path.now number))) }
     ensures state { OnOk result (settled (state_of (new_generation chunks.now)) ≡ reopened chunks.now) }
-    ensures memory { D.is_honest dir.old → IsErrOf result BeginError.Memory
+    ensures memory { D.is_honest dir.old → IsErrOf result JournalError.Memory
         → SameDisk (now (D.history dir.new)) (now (D.history dir.old)) }
     ensures elsewhere { D.is_honest dir.old → (name : List ℕ) → name ≢ journal_name path.now number
         → now (D.history dir.new) name ≡ now (D.history dir.old) name }
@@ -87,7 +88,7 @@ pub(crate) fn begin<A: Allocator + Copy, D: Dir>(
         → D.opened dir.new other ≡ D.opened dir.old other) }
     ensures kept { (other : FileNo) (name : List ℕ) → D.opened dir.old other ≡ Some name → name ≢ journal_name path.now number
         → D.opened dir.new other ≡ Some name }
-    ensures cause { HasReason (D.fault_count dir.old) (D.fault_count dir.new) result BeginError.Fault }
+    ensures cause { HasReason (D.fault_count dir.old) (D.fault_count dir.new) result JournalError.Fault }
 {
     let told = tell_chunks(alloc, chunks, places)?;
     let kept = Vec::from_slice(alloc, path)?;
@@ -105,12 +106,12 @@ pub(crate) fn begin<A: Allocator + Copy, D: Dir>(
             places: told.places,
             placing: Placing::Stays,
         }),
-        Err(refused) => Err(give_up(dir, file, BeginError::from(refused))),
+        Err(refused) => Err(give_up(dir, file, JournalError::from(refused))),
     }
 }
 
 // Removes a file that isn't whole. What is answered is the refusal, or `Fault` where the device fails here.
-fn give_up<D: Dir>(dir: &mut D, file: FileNo, refused: BeginError) -> BeginError
+fn give_up<D: Dir>(dir: &mut D, file: FileNo, refused: JournalError) -> JournalError
     requires open { IsSome (D.opened dir.old file) }
     ensures honest { D.is_honest dir.old → D.is_honest dir.new }
     ensures time { D.is_honest dir.old → Elapses (D.history dir.old) (D.history dir.new) }
@@ -121,7 +122,7 @@ fn give_up<D: Dir>(dir: &mut D, file: FileNo, refused: BeginError) -> BeginError
 {
     match dir.remove(file) {
         Ok(()) => refused,
-        Err(_) => BeginError::Fault,
+        Err(_) => JournalError::Fault,
     }
 }
 
@@ -155,7 +156,7 @@ fn make<A: Allocator, D: Dir>(
     pieces: &[Piece<'_, A>],
     more: usize,
     buffer: &mut [u8],
-) -> Result<FileNo, BeginError>
+) -> Result<FileNo, JournalError>
     requires source { IfSome from (λ file. IsSome (D.opened dir.old file)) }
     requires some { 0 < length buffer.old }
     ensures honest { D.is_honest dir.old → D.is_honest dir.new }
@@ -166,11 +167,12 @@ fn make<A: Allocator, D: Dir>(
     ensures moments { D.is_honest dir.old → (bytes : List ℕ) → CanGive (D.opened dir.old) (now (D.history dir.old)) name.now from pieces.now bytes
         → LeavesOnly (D.history dir.old) (D.history dir.new) (IsLeftOf (IsUnfinished name.now bytes (now (D.history dir.old)))) }
     ensures whole { D.is_honest dir.old → (bytes : List ℕ) → CanGive (D.opened dir.old) (now (D.history dir.old)) name.now from pieces.now bytes
-        → IsErrOf result BeginError.Short → ⊥ }
+        → IsErrOf result JournalError.Damaged → ⊥ }
+    ensures not_last { IsErrOf result JournalError.LastGeneration → ⊥ }
     ensures any { D.is_honest dir.old → OnOk result (HasAnyNew name.now (now (D.history dir.old)) (now (D.history dir.new))) }
     ensures elsewhere { D.is_honest dir.old → (other : List ℕ) → other ≢ name.now
         → now (D.history dir.new) other ≡ now (D.history dir.old) other }
-    ensures memory { D.is_honest dir.old → IsErrOf result BeginError.Memory
+    ensures memory { D.is_honest dir.old → IsErrOf result JournalError.Memory
         → SameDisk (now (D.history dir.new)) (now (D.history dir.old)) }
     ensures opened { IfOk result (λ file. D.opened dir.new file ≡ Some name.now) }
     ensures others { OnOk result ((other : FileNo) → IsSome (D.opened dir.old other)
@@ -178,13 +180,13 @@ fn make<A: Allocator, D: Dir>(
     ensures kept { (other : FileNo) (own : List ℕ) → D.opened dir.old other ≡ Some own → own ≢ name.now
         → D.opened dir.new other ≡ Some own }
     ensures room { IfOk result (λ file. more ≤ D.bytes_left dir.new file) }
-    ensures cause { HasReason (D.fault_count dir.old) (D.fault_count dir.new) result BeginError.Fault }
+    ensures cause { HasReason (D.fault_count dir.old) (D.fault_count dir.new) result JournalError.Fault }
 {
     let room = room_with(pieces, more)?;
     let file = dir.create(name, room)?;
     match fill(dir, from, file, pieces, buffer) {
         Ok(()) => Ok(file),
-        Err(refused) => Err(give_up(dir, file, BeginError::from(refused))),
+        Err(refused) => Err(give_up(dir, file, JournalError::from(refused))),
     }
 }
 

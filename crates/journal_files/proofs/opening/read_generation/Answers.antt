@@ -3,10 +3,10 @@ use Rattle.disk_files.specs.Disk.{reads}
 use Rattle.disk_files.specs.Moments.{now}
 use Rattle.chunk_journal.specs.Meaning.{EndsUnsealed, IsDamaged}
 use Rattle.journal_files.specs.Found.{IsMeant, IsSo}
-use Rattle.journal_files.specs.declared.error.OpenError.TheVariants as opening
+use Rattle.journal_files.specs.declared.error.JournalError.TheVariants as refusal
 use Rattle.journal_files.proofs.AllRead.{so_of, meant_of}
 use Rattle.file_pieces.proofs.ReadOn.{elapsed}
-use Rattle.journal_files.proofs.Heard.{answered}
+use Rattle.journal_files.proofs.Reasons.{answered}
 use Rattle.journal_files.proofs.Tags.{replayed_short, replayed_unclaimed}
 use Rattle.journal_files.proofs.opening.read_generation.Goals as goal
 
@@ -62,7 +62,7 @@ returns-in_err-outline-clause-damaged g c = λ honest damaged.
     let name = c.deref.ensures.value ∙ c.in_ok-name.ensures ∙ c.generations.ensures c.args.number in
     let there = c.in_ok-file.ensures.device.honest honest in
     let answer = answered c.in_err-outline.field-0.0 c.from_residual-in_err-outline.result c.from_residual-in_err-outline.ensures.1 in
-    let e : c.in_err-outline.field-0.0 ≡ opening.Damaged = cc (answer, damaged) in
+    let e : c.in_err-outline.field-0.0 ≡ refusal.Damaged = cc (answer, damaged) in
     subst (λ (n : List ℕ). IsSo (reads old n) IsDamaged) name
     (so_of old mid c.deref.result.now (c.in_ok-file.ensures.same honest) (c.in_ok-file.ensures.ok honest) IsDamaged
     (λ bytes is. c.in_err-outline.ensures.damaged there c.deref.result.now bytes c.in_ok-file.ensures.opened is (cc e)))
@@ -74,7 +74,7 @@ returns-in_err-outlined-clause-damaged g c = λ honest damaged.
     let name = c.deref.ensures.value ∙ c.in_ok-name.ensures ∙ c.generations.ensures c.args.number in
     let there = c.in_ok-file.ensures.device.honest honest in
     let answer = answered c.in_err-outlined.field-0.0 c.from_residual-in_err-outlined.result c.from_residual-in_err-outlined.ensures.1 in
-    let e : c.in_err-outlined.field-0.0 ≡ opening.Damaged = cc (answer, damaged) in
+    let e : c.in_err-outlined.field-0.0 ≡ refusal.Damaged = cc (answer, damaged) in
     subst (λ (n : List ℕ). IsSo (reads old n) IsDamaged) name
     (so_of old mid c.deref.result.now (c.in_ok-file.ensures.same honest) (c.in_ok-file.ensures.ok honest) IsDamaged
     (λ bytes is. c.in_err-outlined.ensures.damaged bytes (c.in_ok-outline.ensures.all there c.deref.result.now bytes c.in_ok-file.ensures.opened is) (cc e)))

@@ -1,14 +1,15 @@
-use Rattle.std.proofs.Common.{rules, ℕ, ◌≡◌, ◌+◌, ◌≤◌, ◌<◌, ◌^◌, ◌++◌, length, drop, subst, arith}
-use Rattle.journal_files.specs.Faults.{open_error}
-use Rattle.journal_files.specs.declared.error.OpenError.TheVariants as opening
+use Rattle.std.proofs.Common.{rules, ℕ, ◌≡◌, ◌+◌, ◌≤◌, ◌<◌, ◌^◌, ◌++◌, length, drop, subst, refl, arith}
+use Rattle.journal_files.specs.Faults.{dir_error}
+use Rattle.journal_files.specs.declared.error.JournalError.TheVariants as refusal
 use Rattle.file_pieces.proofs.ReadOn.{elapsed}
-use Rattle.journal_files.proofs.Heard.{Feeds, answered, reason_ok, reason_err, reason_dir, stays_some, damaged_there, same_on, feeds_on, all_fed, some_left}
+use Rattle.journal_files.proofs.Heard.{Feeds, stays_some, damaged_there, same_on, feeds_on, all_fed, some_left}
+use Rattle.journal_files.proofs.Reasons.{answered, reason_ok, reason_err, reason_dir}
 use Rattle.journal_files.proofs.outlining.feed_file.Goals as goal
 
 pub returns-in_err-len-clause-cause : goal.returns-in_err-len-clause-cause
 returns-in_err-len-clause-cause g c =
-    reason_dir (g.D.Dir.fault_count c.args.dir.now) (g.D.Dir.fault_count c.length.new.self) c.in_err-len.field-0.0 c.from_residual.result c.in_err-len.ensures.only c.in_err-len.ensures.device.cause
-    (answered (open_error c.in_err-len.field-0.0) c.from_residual.result c.from_residual.ensures.1)
+    reason_dir (g.D.Dir.fault_count c.args.dir.now) (g.D.Dir.fault_count c.args.dir.now) (g.D.Dir.fault_count c.length.new.self) c.in_err-len.field-0.0 c.from_residual.result refl c.in_err-len.ensures.device.cause
+    (answered (dir_error c.in_err-len.field-0.0) c.from_residual.result c.from_residual.ensures.1)
 
 pub feed_part-requires-clause-open : goal.feed_part-requires-clause-open
 feed_part-requires-clause-open g c =
@@ -33,13 +34,13 @@ returns-in_err-feed_part-clause-damaged g c = λ h name bytes named there is.
     let within : c.loop-done.done + next ≤ c.in_ok-len.len = omega (arith, c.split_at_mut-part.ensures.front_len, c.min-next.ensures, c.loop-done-test.true) in
     let small : c.in_ok-len.len < 2 ^ 64 = search rules in
     let answer = answered c.in_err-feed_part.field-0.0 c.from_residual-in_err-feed_part.result c.from_residual-in_err-feed_part.ensures.1 in
-    let e : c.in_err-feed_part.field-0.0 ≡ opening.Damaged = cc (answer, is) in
+    let e : c.in_err-feed_part.field-0.0 ≡ refusal.Damaged = cc (answer, is) in
     damaged_there g.D.Dir.is_honest g.D.Dir.history g.D.Dir.opened g.D.Dir.fault_count c.args.file c.in_ok-len.len c.loop-done.done c.loop-done.outline c.args.dir.now c.loop-done.dir c.loop-done.invariant.2 next within small
     (λ still other seen all there_named there_reads has after. c.in_err-feed_part.ensures.damaged still other seen all there_named there_reads has after (cc e)) h name bytes named there
 
 pub returns-in_err-feed_part-clause-cause : goal.returns-in_err-feed_part-clause-cause
 returns-in_err-feed_part-clause-cause g c =
-    reason_err (g.D.Dir.fault_count c.args.dir.now) (g.D.Dir.fault_count c.loop-done.dir) (g.D.Dir.fault_count c.feed_part.new.dir) c.in_err-feed_part.field-0.0 opening.Fault c.from_residual-in_err-feed_part.result c.loop-done.invariant.2.quiet c.in_err-feed_part.ensures.cause
+    reason_err (g.D.Dir.fault_count c.args.dir.now) (g.D.Dir.fault_count c.loop-done.dir) (g.D.Dir.fault_count c.feed_part.new.dir) c.in_err-feed_part.field-0.0 refusal.Fault c.from_residual-in_err-feed_part.result c.loop-done.invariant.2.quiet c.in_err-feed_part.ensures.cause
     (answered c.in_err-feed_part.field-0.0 c.from_residual-in_err-feed_part.result c.from_residual-in_err-feed_part.ensures.1)
 
 pub loop-done-preserved : goal.loop-done-preserved
@@ -71,4 +72,4 @@ returns-clause-small g c = λ h name bytes named there.
     omega (arith, small, c.loop-done.invariant.2.all h name bytes named there)
 
 pub returns-clause-cause : goal.returns-clause-cause
-returns-clause-cause g c = reason_ok (g.D.Dir.fault_count c.args.dir.now) (g.D.Dir.fault_count c.loop-done.dir) c.loop-done.outline opening.Fault c.loop-done.invariant.2.quiet
+returns-clause-cause g c = reason_ok (g.D.Dir.fault_count c.args.dir.now) (g.D.Dir.fault_count c.loop-done.dir) c.loop-done.outline refusal.Fault c.loop-done.invariant.2.quiet

@@ -7,11 +7,10 @@ use Rattle.chunk_journal.specs.Meaning.{chunk_records}
 use Rattle.disk_files.specs.Faults.{Rises}
 use Rattle.journal_files.specs.JournalLogs.{OpensWithin}
 use Rattle.journal_files.specs.Leftovers.{IsGivenUp}
-use Rattle.journal_files.specs.declared.error.BeginError.TheVariants as beginning
+use Rattle.journal_files.specs.declared.error.JournalError.TheVariants as refusal
 use Rattle.journal_files.proofs.Beginning.{can_open, making, sealing, ends, new_more, others_whole}
 use Rattle.journal_files.proofs.Begun.{gives, new_reads}
-use Rattle.journal_files.proofs.Filled.{reason_dir}
-use Rattle.journal_files.proofs.Heard.{answered, reason_err}
+use Rattle.journal_files.proofs.Reasons.{answered, reason_err, reason_dir}
 use Rattle.journal_files.proofs.GivenUp.{given_up, new_young, new_given_up, others_stay, new_elsewhere, other_file, reason_given, given_as, rises_so, fault_so}
 use Rattle.journal_files.proofs.Renewing.{is_some_name}
 use Rattle.journal_files.proofs.Steps.{any_err}
@@ -56,9 +55,14 @@ returns-in_err-file-clause-memory g c = λ honest memory.
     let answer = answered c.in_err-file.field-0.0 c.from_residual-in_err-file.result c.from_residual-in_err-file.ensures.1 in
     c.in_err-file.ensures.memory honest (let z = sym answer ∙ memory in ap Err (cc z))
 
+pub returns-in_err-file-clause-not_last : goal.returns-in_err-file-clause-not_last
+returns-in_err-file-clause-not_last g c = λ last.
+    let answer = answered c.in_err-file.field-0.0 c.from_residual-in_err-file.result c.from_residual-in_err-file.ensures.1 in
+    c.in_err-file.ensures.not_last (let z = sym answer ∙ last in ap Err (cc z))
+
 pub returns-in_err-file-clause-cause : goal.returns-in_err-file-clause-cause
 returns-in_err-file-clause-cause g c =
-    reason_err (g.D.Dir.fault_count c.args.dir.now) (g.D.Dir.fault_count c.args.dir.now) (g.D.Dir.fault_count c.make.new.dir) c.in_err-file.field-0.0 beginning.Fault c.from_residual-in_err-file.result refl c.in_err-file.ensures.cause
+    reason_err (g.D.Dir.fault_count c.args.dir.now) (g.D.Dir.fault_count c.args.dir.now) (g.D.Dir.fault_count c.make.new.dir) c.in_err-file.field-0.0 refusal.Fault c.from_residual-in_err-file.result refl c.in_err-file.ensures.cause
     (answered c.in_err-file.field-0.0 c.from_residual-in_err-file.result c.from_residual-in_err-file.ensures.1)
 
 pub returns-in_err-told-clause-gap : goal.returns-in_err-told-clause-gap
@@ -182,13 +186,19 @@ returns-in-Err-clause-cause g c =
 
 pub returns-in-Err-clause-memory : goal.returns-in-Err-clause-memory
 returns-in-Err-clause-memory g c = λ honest memory.
-    let was = given_as (g.D.Dir.fault_count c.seal_with.new.dir) (g.D.Dir.fault_count c.give_up.new.dir) c.from.result c.give_up.result beginning.Memory c.give_up.ensures.answer (cc memory) (λ e. cc e) in
+    let was = given_as (g.D.Dir.fault_count c.seal_with.new.dir) (g.D.Dir.fault_count c.give_up.new.dir) c.from.result c.give_up.result refusal.Memory c.give_up.ensures.answer (cc memory) (λ e. cc e) in
     let fault = fault_so c.in-Err.refused c.from.result (cc c.in-Err.ensures.only) c.from.ensures in
     absurd (cc (was, fault))
 
 pub returns-in-Err-clause-whole : goal.returns-in-Err-clause-whole
 returns-in-Err-clause-whole g c = λ honest source short.
-    let was = given_as (g.D.Dir.fault_count c.seal_with.new.dir) (g.D.Dir.fault_count c.give_up.new.dir) c.from.result c.give_up.result beginning.Short c.give_up.ensures.answer (cc short) (λ e. cc e) in
+    let was = given_as (g.D.Dir.fault_count c.seal_with.new.dir) (g.D.Dir.fault_count c.give_up.new.dir) c.from.result c.give_up.result refusal.Damaged c.give_up.ensures.answer (cc short) (λ e. cc e) in
+    let fault = fault_so c.in-Err.refused c.from.result (cc c.in-Err.ensures.only) c.from.ensures in
+    absurd (cc (was, fault))
+
+pub returns-in-Err-clause-not_last : goal.returns-in-Err-clause-not_last
+returns-in-Err-clause-not_last g c = λ last.
+    let was = given_as (g.D.Dir.fault_count c.seal_with.new.dir) (g.D.Dir.fault_count c.give_up.new.dir) c.from.result c.give_up.result refusal.LastGeneration c.give_up.ensures.answer (cc last) (λ e. cc e) in
     let fault = fault_so c.in-Err.refused c.from.result (cc c.in-Err.ensures.only) c.from.ensures in
     absurd (cc (was, fault))
 

@@ -1,15 +1,15 @@
-use Rattle.std.proofs.Common.{Ok, Err, [], ap, refl, ◌∙◌, arith, inl}
+use Rattle.std.proofs.Common.{Ok, Err, [], ap, refl, sym, ◌∙◌, arith, inl}
 use Rattle.disk_files.specs.Moments.{now}
 use Rattle.disk_files.proofs.Moments.{started}
-use Rattle.journal_files.specs.Faults.{begin_error}
+use Rattle.journal_files.specs.Faults.{dir_error}
 use Rattle.file_pieces.specs.Adding.{IsLeftOf}
 use Rattle.journal_files.specs.Pieces.{IsUnfinished}
-use Rattle.journal_files.specs.declared.error.BeginError.TheVariants as beginning
+use Rattle.journal_files.specs.declared.error.JournalError.TheVariants as refusal
 use Rattle.journal_files.proofs.Beginning.{others_first}
 use Rattle.journal_files.proofs.GivenUp.{given_up, new_young, new_given_up, not_made, others_stay, new_elsewhere, other_file, reason_given, given_as, copy_rises}
-use Rattle.journal_files.proofs.Heard.{answered}
+use Rattle.journal_files.proofs.Reasons.{answered, reason_dir, reason_copy, was_short, copy_remembered, copy_numbered, dir_numbered}
 use Rattle.journal_files.proofs.Steps.{any_err}
-use Rattle.journal_files.proofs.Filled.{reason_dir, reason_copy, was_short, not_memory, fill_honest, fill_opened, fill_room, fill_cause, fill_any, fill_ok, fill_whole, fill_moments}
+use Rattle.journal_files.proofs.Filled.{fill_honest, fill_opened, fill_room, fill_cause, fill_any, fill_ok, fill_whole, fill_moments}
 use Rattle.journal_files.proofs.Renewing.{is_some_name}
 use Rattle.journal_files.proofs.Written.{make_first, left_now, not_begun}
 use Rattle.journal_files.proofs.pieces.make.Goals as goal
@@ -38,7 +38,12 @@ returns-in_err-file-clause-kept g c = λ other own is differ. c.create.ensures.o
 pub returns-in_err-file-clause-cause : goal.returns-in_err-file-clause-cause
 returns-in_err-file-clause-cause g c =
     reason_dir (g.D.Dir.fault_count c.args.dir.now) (g.D.Dir.fault_count c.args.dir.now) (g.D.Dir.fault_count c.create.new.self) c.in_err-file.field-0.0 c.from_residual-in_err-file.result refl c.in_err-file.ensures.device.cause
-    (answered (begin_error c.in_err-file.field-0.0) c.from_residual-in_err-file.result c.from_residual-in_err-file.ensures.1)
+    (answered (dir_error c.in_err-file.field-0.0) c.from_residual-in_err-file.result c.from_residual-in_err-file.ensures.1)
+
+pub returns-in_err-file-clause-not_last : goal.returns-in_err-file-clause-not_last
+returns-in_err-file-clause-not_last g c = λ last.
+    let answer = answered (dir_error c.in_err-file.field-0.0) c.from_residual-in_err-file.result c.from_residual-in_err-file.ensures.1 in
+    dir_numbered c.in_err-file.field-0.0 (let z = sym answer ∙ last in cc z)
 
 pub give_up-requires : goal.give_up-requires
 give_up-requires g c = record { «open» = is_some_name _ _ (fill_opened g.D.Dir.is_honest g.D.Dir.history g.D.Dir.opened g.D.Dir.bytes_left g.D.Dir.fault_count c.in_ok-file.file c.args.pieces.now c.args.name.now c.args.dir.now c.create.new.self c.fill.new.dir (Err c.in-Err.refused) c.args.from c.in-Err.ensures c.in_ok-file.file ∙ c.in_ok-file.ensures.opened) }
@@ -91,14 +96,19 @@ returns-in-Err-clause-cause g c =
 pub returns-in-Err-clause-whole : goal.returns-in-Err-clause-whole
 returns-in-Err-clause-whole g c = λ honest bytes gives short.
     let made = c.in_ok-file.ensures.device.honest honest in
-    let was = given_as (g.D.Dir.fault_count c.fill.new.dir) (g.D.Dir.fault_count c.give_up.new.dir) c.from.result c.give_up.result beginning.Short c.give_up.ensures.answer (cc short) (λ e. cc e) in
+    let was = given_as (g.D.Dir.fault_count c.fill.new.dir) (g.D.Dir.fault_count c.give_up.new.dir) c.from.result c.give_up.result refusal.Damaged c.give_up.ensures.answer (cc short) (λ e. cc e) in
     fill_whole g.D.Dir.is_honest g.D.Dir.history g.D.Dir.opened g.D.Dir.bytes_left g.D.Dir.fault_count c.in_ok-file.file c.args.pieces.now c.args.name.now c.args.dir.now c.create.new.self c.fill.new.dir (Err c.in-Err.refused) made c.in_ok-file.ensures.opened (c.in_ok-file.ensures.ok honest) c.in_ok-file.ensures.others bytes c.args.from c.in-Err.ensures gives
-    (was_short {U = Unit {0}} c.in-Err.refused (Err c.from.result) (ap Err c.from.ensures) (ap Err was))
+    (was_short c.in-Err.refused (sym c.from.ensures ∙ was))
 
 pub returns-in-Err-clause-memory : goal.returns-in-Err-clause-memory
 returns-in-Err-clause-memory g c = λ honest memory.
-    let was = given_as (g.D.Dir.fault_count c.fill.new.dir) (g.D.Dir.fault_count c.give_up.new.dir) c.from.result c.give_up.result beginning.Memory c.give_up.ensures.answer (cc memory) (λ e. cc e) in
-    absurd (not_memory {U = Unit {0}} c.in-Err.refused (Err c.from.result) (ap Err c.from.ensures) (ap Err was))
+    let was = given_as (g.D.Dir.fault_count c.fill.new.dir) (g.D.Dir.fault_count c.give_up.new.dir) c.from.result c.give_up.result refusal.Memory c.give_up.ensures.answer (cc memory) (λ e. cc e) in
+    absurd (copy_remembered c.in-Err.refused (sym c.from.ensures ∙ was))
+
+pub returns-in-Err-clause-not_last : goal.returns-in-Err-clause-not_last
+returns-in-Err-clause-not_last g c = λ last.
+    let was = given_as (g.D.Dir.fault_count c.fill.new.dir) (g.D.Dir.fault_count c.give_up.new.dir) c.from.result c.give_up.result refusal.LastGeneration c.give_up.ensures.answer (cc last) (λ e. cc e) in
+    absurd (copy_numbered c.in-Err.refused (sym c.from.ensures ∙ was))
 
 pub returns-in-Ok-clause-elsewhere : goal.returns-in-Ok-clause-elsewhere
 returns-in-Ok-clause-elsewhere g c = λ honest other differ.

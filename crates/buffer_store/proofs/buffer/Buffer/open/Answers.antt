@@ -48,7 +48,7 @@ returns-in-Ok-clause-cause g c =
     reason_ok (g.D.Dir.fault_count c.args.dir) (g.D.Dir.fault_count c.opened.result.dir) c.opened.result (ap (λ (b : Held g.row.D.Denot). g.D.Dir.fault_count b.dir) c.opened.ensures ∙ c.in-Ok.ensures.cause.passed)
 
 pub returns-in-Err-clause-refused : goal.returns-in-Err-clause-refused
-returns-in-Err-clause-refused g c = record { of_journal = c.in-Err.refused; named = c.from.ensures; why = c.in-Err.ensures.refused }
+returns-in-Err-clause-refused g c = record { its = c.in-Err.refused; named = c.from.ensures; why = c.in-Err.ensures.refused }
 
 pub returns-in-Err-clause-leaves : goal.returns-in-Err-clause-leaves
 returns-in-Err-clause-leaves g c = c.open.ensures.leaves

@@ -97,9 +97,9 @@ returns-in-Err-Fault g c =
       left = λ honest t keeps means. at_err c.renew.result _ is (c.renew.ensures.renews honest t keeps means).left;
     })
 
-pub returns-in-Err-Short : goal.returns-in-Err-Short
-returns-in-Err-Short g c =
-    let is = c.in-Err-Short.is ∙ ap Err c.in-Err-Short.field-0-is in
+pub returns-in-Err-Damaged : goal.returns-in-Err-Damaged
+returns-in-Err-Damaged g c =
+    let is = c.in-Err-Damaged.is ∙ ap Err c.in-Err-Damaged.field-0-is in
     subst (λ (b : Logged g.row.D.Denot). Renews g.D.Dir.is_honest g.D.Dir.history g.D.Dir.fault_count b
     (record { dir = c.renew.new.dir; journal = c.renew.new.self; failed = c.self.inside.failed; staged = c.self.inside.staged; start = c.self.inside.start.value }) c.args.chunks.now (Err BufferFault.Damaged)) c.self.view_is
     (record {

@@ -1,8 +1,7 @@
 use Rattle.std.proofs.Common.{◌≡◌, inl, inr, None, ℕ, ◌+◌, ◌<◌, ◌^◌, List, Err, refl, ap, arith, subst, sym, ◌∙◌}
-use Rattle.journal_files.specs.declared.error.BeginError.{BeginError}
-use Rattle.journal_files.specs.declared.error.OpenError.TheVariants as opening
-use Rattle.journal_files.specs.Faults.{HasReason, open_error, opening_error}
-use Rattle.journal_files.proofs.Heard.{answered, reason_dir}
+use Rattle.journal_files.specs.declared.error.JournalError.TheVariants as refusal
+use Rattle.journal_files.specs.Faults.{dir_error}
+use Rattle.journal_files.proofs.Reasons.{answered, reason_dir, reason_err, fault_only}
 use Rattle.disk_files.specs.Disk.{reads, read_of}
 use Rattle.disk_files.specs.Moments.{LeavesOnly, now}
 use Rattle.journal_files.specs.Folders.{journal_name}
@@ -18,7 +17,7 @@ use Rattle.journal_files.proofs.OneWay.{one_way}
 use Rattle.journal_files.proofs.OpeningMoments.{quiet, looked as looked_twice, keeps_still, no_gap_still, whole_still, removed_so}
 use Rattle.journal_files.proofs.Sourced.{still_open}
 use Rattle.journal_files.proofs.Strays.{same_gap}
-use Rattle.journal_files.proofs.Unopened.{if_err, fault_only, search_refused, call_refused, begin_refused, reason_begun}
+use Rattle.journal_files.proofs.Unopened.{if_err, search_refused, call_refused, begin_refused}
 use Rattle.journal_files.proofs.journal.Journal.open.Goals as goal
 
 -- the folder was searched in vain
@@ -59,7 +58,7 @@ returns-in_err-older-clause-refused g c = λ honest.
     let mid = c.in_ok-found.ensures.honest honest in
     let e = c.in_err-older.field-0.0 in
     let same = λ (name : List ℕ). c.open.ensures.same mid name ∙ c.in_ok-found.ensures.same honest name in
-    if_err _ (open_error e) c.from_residual-in_err-older.result (answered (open_error e) c.from_residual-in_err-older.result c.from_residual-in_err-older.ensures.1)
+    if_err _ (dir_error e) c.from_residual-in_err-older.result (answered (dir_error e) c.from_residual-in_err-older.result c.from_residual-in_err-older.ensures.1)
     (call_refused c.args.path.now _ _ _ _ e (λ _. same) (λ stray. inl (λ q. ap read_of (same q))))
 
 -- the next generation isn't begun
@@ -110,9 +109,10 @@ returns-in_err-journal-clause-refused g c = λ honest.
     (found.source honest) in
     let e = c.in_err-journal.field-0.0 in
     let next = is_next path (now first) greatest (greatest + 1) refl (found.greatest honest) in
-    let answer = answered (opening_error e) c.from_residual-in_err-journal.result c.from_residual-in_err-journal.ensures.1 in
-    if_err _ (opening_error e) c.from_residual-in_err-journal.result answer
-    (begin_refused path _ _ _ _ e (λ (short : e ≡ BeginError.Short). c.begin.ensures.whole ready on.source (c.in_err-journal.was ∙ ap Err short))
+    let answer = answered e c.from_residual-in_err-journal.result c.from_residual-in_err-journal.ensures.1 in
+    if_err _ e c.from_residual-in_err-journal.result answer
+    (begin_refused path _ _ _ _ e (λ short. c.begin.ensures.whole ready on.source (c.in_err-journal.was ∙ ap Err short))
+    (λ last. c.begin.ensures.not_last (c.in_err-journal.was ∙ ap Err last))
     (λ memory name. c.begin.ensures.memory ready (c.in_err-journal.was ∙ ap Err memory) name ∙ on.same name)
     (λ stray. left_next path (greatest + 1) _ _ (now first) (now begun) next
     (given_up_behind (g.D.Dir.fault_count c.args.dir.now) (g.D.Dir.fault_count c.open.new.dir) (g.D.Dir.fault_count c.begin.new.dir) _ (now first) (now looked) (now begun)
@@ -120,8 +120,8 @@ returns-in_err-journal-clause-refused g c = λ honest.
 
 pub returns-in_err-journal-clause-cause : goal.returns-in_err-journal-clause-cause
 returns-in_err-journal-clause-cause g c =
-    let answer = answered (opening_error c.in_err-journal.field-0.0) c.from_residual-in_err-journal.result c.from_residual-in_err-journal.ensures.1 in
-    reason_begun (g.D.Dir.fault_count c.args.dir.now) (g.D.Dir.fault_count c.open.new.dir) (g.D.Dir.fault_count c.begin.new.dir) c.in_err-journal.field-0.0 c.from_residual-in_err-journal.result
+    let answer = answered c.in_err-journal.field-0.0 c.from_residual-in_err-journal.result c.from_residual-in_err-journal.ensures.1 in
+    reason_err (g.D.Dir.fault_count c.args.dir.now) (g.D.Dir.fault_count c.open.new.dir) (g.D.Dir.fault_count c.begin.new.dir) c.in_err-journal.field-0.0 refusal.Fault c.from_residual-in_err-journal.result
     (c.in_ok-older.ensures.cause.passed ∙ c.in_ok-found.ensures.cause.passed) c.in_err-journal.ensures.cause answer
 
 -- the older generations aren't removed
@@ -189,7 +189,7 @@ returns-in_err-remove-clause-refused g c = λ honest.
     let end = now (g.D.Dir.history c.remove.new.dir) in
     let below = said_of (λ (p : List ℕ) (k : ℕ). ChangesBelow p k (now begun) end) older.path older.number (c.remove.ensures.elsewhere whole) in
     let e = c.in_err-remove.field-0.0 in
-    if_err _ (open_error e) c.from_residual-in_err-remove.result (answered (open_error e) c.from_residual-in_err-remove.result c.from_residual-in_err-remove.ensures.1)
+    if_err _ (dir_error e) c.from_residual-in_err-remove.result (answered (dir_error e) c.from_residual-in_err-remove.result c.from_residual-in_err-remove.ensures.1)
     (call_refused path _ _ _ _ e (λ not. absurd (not (fault_only e c.in_err-remove.ensures.only)))
     (λ stray. inr (record {
       number = greatest + 1;
@@ -200,10 +200,9 @@ returns-in_err-remove-clause-refused g c = λ honest.
 pub returns-in_err-remove-clause-cause : goal.returns-in_err-remove-clause-cause
 returns-in_err-remove-clause-cause g c =
     let e = c.in_err-remove.field-0.0 in
-    let answer = answered (open_error e) c.from_residual-in_err-remove.result c.from_residual-in_err-remove.ensures.1 in
+    let answer = answered (dir_error e) c.from_residual-in_err-remove.result c.from_residual-in_err-remove.ensures.1 in
     let so_far : g.D.Dir.fault_count c.begin.new.dir ≡ g.D.Dir.fault_count c.args.dir.now = c.in_ok-journal.ensures.cause.passed ∙ c.in_ok-older.ensures.cause.passed ∙ c.in_ok-found.ensures.cause.passed in
-    subst (λ (n : ℕ). HasReason n (g.D.Dir.fault_count c.remove.new.dir) c.from_residual-in_err-remove.result opening.Fault) so_far
-    (reason_dir (g.D.Dir.fault_count c.begin.new.dir) (g.D.Dir.fault_count c.remove.new.dir) e c.from_residual-in_err-remove.result c.in_err-remove.ensures.only c.in_err-remove.ensures.cause answer)
+    reason_dir (g.D.Dir.fault_count c.args.dir.now) (g.D.Dir.fault_count c.begin.new.dir) (g.D.Dir.fault_count c.remove.new.dir) e c.from_residual-in_err-remove.result so_far c.in_err-remove.ensures.cause answer
 
 -- it is opened
 

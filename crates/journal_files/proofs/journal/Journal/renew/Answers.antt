@@ -2,7 +2,8 @@ use Rattle.std.proofs.Common.{rules, refl, inl, ◌≡◌, ◌≢◌, ◌+◌, �
 use Rattle.disk_files.specs.Disk.{Disk}
 use Rattle.disk_files.specs.Moments.{now}
 use Rattle.journal_files.specs.Calls.{Renews, LeavesOthers}
-use Rattle.journal_files.specs.Faults.{renew_error, renewal_error}
+use Rattle.journal_files.specs.Faults.{dir_error}
+use Rattle.journal_files.specs.declared.error.JournalError.TheVariants as refusal
 use Rattle.journal_files.specs.Folders.{journal_name}
 use Rattle.journal_files.specs.Views.{OpenJournal}
 use Rattle.journal_files.specs.Disks.{HasNoGap}
@@ -11,10 +12,10 @@ use Rattle.journal_files.proofs.Beginning.{of_all}
 use Rattle.journal_files.proofs.Begun.{next_no_stray}
 use Rattle.journal_files.specs.Leftovers.{IsGivenUp}
 use Rattle.journal_files.proofs.Afresh.{said_of}
-use Rattle.journal_files.proofs.Heard.{answered}
+use Rattle.journal_files.proofs.Reasons.{answered, reason_err, reason_dir, dir_undamaged, dir_numbered, fault_only}
 use Rattle.journal_files.proofs.Onward.{onward, own_differs, still, none, all, source, beginning}
 use Rattle.journal_files.proofs.Recovery.{recovers}
-use Rattle.journal_files.proofs.Renewal.{reason_begun, reason_removed, begun_whole, begun_memory, begun_numbered, removal_whole, removal_fault, removal_memory, removal_numbered, renews_not, refuses_not}
+use Rattle.journal_files.proofs.Renewal.{removal_memory, renews_not, refuses_not}
 use Rattle.journal_files.proofs.Renewing.{still_keeps, still_recovers, removing, removed_gone, two_files, is_some_name, others_beyond}
 use Rattle.journal_files.proofs.Strays.{kept_no_gap, no_gap_of}
 use Rattle.journal_files.proofs.journal.Journal.renew.Goals as goal
@@ -45,8 +46,8 @@ returns-in_err-next-clause-renews g c = λ honest t keeps means.
     let on = onward (g.D.Dir.opened c.args.dir.now) _ old c.deref.result.now c.deref.ensures.value c.self.view_is c.requires.open small (omega (arith, c.if-self.false, c.self.inside.number)) in
     let e = c.in_err-next.field-0.0 in
     let so_far = beginning on keeps c.args.chunks.now means first begun (c.begin.ensures.moments honest t) in
-    renews_not old c.args.self.now c.args.chunks.now _ _ first begun t (renewal_error e) c.from_residual.result (answered (renewal_error e) c.from_residual.result c.from_residual.ensures.1)
-    (begun_whole e (λ short. c.in_err-next.ensures.whole honest (source on keeps c.args.chunks.now means) (ap Err short)))
+    renews_not old c.args.self.now c.args.chunks.now _ _ first begun t e c.from_residual.result (answered e c.from_residual.result c.from_residual.ensures.1)
+    (λ short. c.in_err-next.ensures.whole honest (source on keeps c.args.chunks.now means) (ap Err short))
     (λ fault folder leaves. so_far.each begun.moment so_far.later (omega arith) folder leaves)
     (inl (said_of (λ (p : List ℕ) (k : ℕ). IsGivenUp (g.D.Dir.fault_count c.args.dir.now) (g.D.Dir.fault_count c.begin.new.dir) (journal_name p k) (now first) (now begun)) on.path_is on.number_is
     (c.in_err-next.ensures.left honest (source on keeps c.args.chunks.now means)))) so_far
@@ -60,9 +61,9 @@ returns-in_err-next-clause-gap g c = λ honest t keeps.
 pub returns-in_err-next-clause-refused : goal.returns-in_err-next-clause-refused
 returns-in_err-next-clause-refused g c =
     let e = c.in_err-next.field-0.0 in
-    refuses_not g.D.Dir.is_honest g.D.Dir.history c.args.self.now c.args.dir.now c.begin.new.dir (renewal_error e) c.from_residual.result (answered (renewal_error e) c.from_residual.result c.from_residual.ensures.1)
-    (begun_numbered e) (omega (arith, c.if-self.false, c.self.inside.number, ap (λ (j : OpenJournal). j.number) c.self.view_is))
-    (λ honest is. c.in_err-next.ensures.memory honest (ap Err (begun_memory e is)))
+    refuses_not g.D.Dir.is_honest g.D.Dir.history c.args.self.now c.args.dir.now c.begin.new.dir e c.from_residual.result (answered e c.from_residual.result c.from_residual.ensures.1)
+    (λ last. c.in_err-next.ensures.not_last (ap Err last)) (omega (arith, c.if-self.false, c.self.inside.number, ap (λ (j : OpenJournal). j.number) c.self.view_is))
+    (λ honest is. c.in_err-next.ensures.memory honest (ap Err is))
 
 pub returns-in_err-next-clause-others : goal.returns-in_err-next-clause-others
 returns-in_err-next-clause-others g c =
@@ -75,7 +76,7 @@ returns-in_err-next-clause-others g c =
       elsewhere = λ honest name own next. c.begin.ensures.elsewhere honest name (said_of (λ (p : List ℕ) (k : ℕ). name ≢ journal_name p k) (sym on.path_is) (sym on.number_is) next);
       path_is = refl;
       open_in = λ _. c.begin.ensures.kept old.file _ c.requires.open (own_differs on);
-      cause = reason_begun (g.D.Dir.fault_count c.args.dir.now) (g.D.Dir.fault_count c.begin.new.dir) e c.from_residual.result c.in_err-next.ensures.cause (answered (renewal_error e) c.from_residual.result c.from_residual.ensures.1);
+      cause = reason_err (g.D.Dir.fault_count c.args.dir.now) (g.D.Dir.fault_count c.args.dir.now) (g.D.Dir.fault_count c.begin.new.dir) e refusal.Fault c.from_residual.result refl c.in_err-next.ensures.cause (answered e c.from_residual.result c.from_residual.ensures.1);
     }
 
 -- the older one isn't removed
@@ -98,8 +99,8 @@ returns-in_err-remove-clause-renews g c = λ honest t keeps means.
     let path_is = c.in_ok-next.ensures.path ∙ on.path_is in
     let number_is = c.in_ok-next.ensures.number ∙ on.number_is in
     let held = λ (disk : Disk). still_recovers old c.in_ok-next.next (now begun) disk path_is number_is keeps.last t c.args.chunks.now c.in_ok-next.ensures.state (of_all t c.args.chunks.now keeps.logged means) anew in
-    renews_not old c.args.self.now c.args.chunks.now _ _ first end t (renew_error e) r (answered (renew_error e) r c.from_residual-in_err-remove.ensures.1)
-    (removal_whole e) (λ fault. held (now end) left)
+    renews_not old c.args.self.now c.args.chunks.now _ _ first end t (dir_error e) r (answered (dir_error e) r c.from_residual-in_err-remove.ensures.1)
+    (dir_undamaged e) (λ fault. held (now end) left)
     (inr (record {
       journal = c.in_ok-next.next;
       chunks = c.args.chunks.now;
@@ -121,8 +122,8 @@ pub returns-in_err-remove-clause-refused : goal.returns-in_err-remove-clause-ref
 returns-in_err-remove-clause-refused g c =
     let e = c.in_err-remove.field-0.0 in
     let r = c.from_residual-in_err-remove.result in
-    refuses_not g.D.Dir.is_honest g.D.Dir.history c.args.self.now c.args.dir.now c.remove.new.self (renew_error e) r (answered (renew_error e) r c.from_residual-in_err-remove.ensures.1)
-    (removal_numbered e) (omega (arith, c.if-self.false, c.self.inside.number, ap (λ (j : OpenJournal). j.number) c.self.view_is))
+    refuses_not g.D.Dir.is_honest g.D.Dir.history c.args.self.now c.args.dir.now c.remove.new.self (dir_error e) r (answered (dir_error e) r c.from_residual-in_err-remove.ensures.1)
+    (dir_numbered e) (omega (arith, c.if-self.false, c.self.inside.number, ap (λ (j : OpenJournal). j.number) c.self.view_is))
     (λ honest is. absurd (removal_memory e c.in_err-remove.ensures.only is))
 
 pub returns-in_err-remove-clause-others : goal.returns-in_err-remove-clause-others
@@ -137,9 +138,9 @@ returns-in_err-remove-clause-others g c =
           (c.in_ok-next.ensures.elsewhere honest) (c.in_err-remove.ensures.err (c.begin.ensures.honest honest) _ (still on (g.D.Dir.opened c.begin.new.dir) c.in_ok-next.ensures.others)) own
           (said_of (λ (p : List ℕ) (k : ℕ). name ≢ journal_name p k) (sym on.path_is) (sym on.number_is) next);
       path_is = refl;
-      open_in = λ not. absurd (not (answered (renew_error e) r c.from_residual-in_err-remove.ensures.1 ∙ ap Err (removal_fault e c.in_err-remove.ensures.only)));
-      cause = reason_removed (g.D.Dir.fault_count c.args.dir.now) (g.D.Dir.fault_count c.begin.new.dir) (g.D.Dir.fault_count c.remove.new.self) e r c.in_ok-next.ensures.cause.passed c.in_err-remove.ensures.device.cause
-          (answered (renew_error e) r c.from_residual-in_err-remove.ensures.1);
+      open_in = λ not. absurd (not (answered (dir_error e) r c.from_residual-in_err-remove.ensures.1 ∙ ap Err (fault_only e c.in_err-remove.ensures.only)));
+      cause = reason_dir (g.D.Dir.fault_count c.args.dir.now) (g.D.Dir.fault_count c.begin.new.dir) (g.D.Dir.fault_count c.remove.new.self) e r c.in_ok-next.ensures.cause.passed c.in_err-remove.ensures.device.cause
+          (answered (dir_error e) r c.from_residual-in_err-remove.ensures.1);
     }
 
 -- it is renewed
