@@ -39,17 +39,21 @@ where
     R::A: Clone,
     A: Allocator + Copy,
 {
-    /// The folder of this path, which is made, with those above it, where it isn't there. `Fault`: it couldn't be made or
-    /// synced, and some of those above it may be there.
-    pub fn make(rt: R, alloc: A, path: &str) -> Result<RealDir<R, A>, DirError>
+    /// The folder of this path, which is made, with those above it, where it isn't there. A refusal has the runtime again.
+    ///
+    /// `Memory` comes first, and makes nothing. `Fault`: it couldn't be made or synced, and some of those above it may be there.
+    pub fn make(rt: R, alloc: A, path: &str) -> Result<RealDir<R, A>, (DirError, R)>
         ensures count { IfOk result (λ d. ⟦<RealDir<R, A> as Dir>⟧.fault_count d ≡ 0) }
-        ensures only { OnErr result ((result ≡ Err DirError.Memory) ⊎ (result ≡ Err DirError.Fault)) }
+        ensures value_returned { IfErr result (λ refused. refused.1 ≡ rt) }
+        ensures only { IfErr result (λ refused. (refused.0 ≡ DirError.Memory) ⊎ (refused.0 ≡ DirError.Fault)) }
     {
-        let dir = RealDir::new(rt, alloc, path)?;
-        if make_folder(&dir.rt, path).is_err() {
-            return Err(DirError::Fault);
+        let Ok(kept) = String::from_str(alloc, path) else {
+            return Err((DirError::Memory, rt));
+        };
+        if make_folder(&rt, path).is_err() {
+            return Err((DirError::Fault, rt));
         }
-        Ok(dir)
+        Ok(RealDir::at(rt, alloc, kept))
     }
 
     /// The folder of this path, which has to be there by the first call. The error is want of memory, and has the runtime
@@ -59,14 +63,21 @@ where
         ensures value_returned { IfErr result (λ failed. failed.value ≡ rt) }
     {
         match String::from_str(alloc, path) {
-            Ok(path) => Ok(RealDir {
-                rt,
-                alloc,
-                path,
-                files: Vec::new(alloc),
-                faults: 0,
-            }),
+            Ok(path) => Ok(RealDir::at(rt, alloc, path)),
             Err(AllocError) => Err(AllocFailed { value: rt }),
+        }
+    }
+
+    // The folder of this path, in which no file is open.
+    fn at(rt: R, alloc: A, path: String<A>) -> RealDir<R, A>
+        ensures { ⟦<RealDir<R, A> as Dir>⟧.fault_count result ≡ 0 }
+    {
+        RealDir {
+            rt,
+            alloc,
+            path,
+            files: Vec::new(alloc),
+            faults: 0,
         }
     }
 

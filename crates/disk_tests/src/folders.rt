@@ -377,9 +377,22 @@ fn is_missing<D: Dir + Drop>(alloc: Global, dir: D) -> bool {
     answers(&mut dir, &MISSING) && listed(alloc, &mut dir).is_err() && faults_of(&dir) == 2
 }
 
-// A folder that can't be made.
-fn is_refused<D: Drop>(made: Result<D, DirError>) -> bool {
-    made.is_err()
+// The folder of the system with this path, which is made.
+pub fn made(rt: HostRuntime, path: &str) -> Result<RealDir<HostRuntime, Global>, Fail> {
+    let alloc = rt.alloc();
+    match RealDir::make(rt, alloc, path) {
+        Ok(dir) => Ok(dir),
+        Err((error, _)) => Err(Fail::from(error)),
+    }
+}
+
+// A folder that can't be made there; what it was to have comes back.
+fn refused(rt: HostRuntime, path: &str) -> Result<HostRuntime, Fail> {
+    let alloc = rt.alloc();
+    match RealDir::make(rt, alloc, path) {
+        Err((DirError::Fault, theirs)) => Ok(theirs),
+        _ => Err(Fail::from("a folder that can't be made")),
+    }
 }
 
 #[test]
@@ -388,13 +401,12 @@ fn real_files(rt: HostRuntime) -> Result<(), Fail> {
     no_folder(&rt, "disk_files_test");
     let none = RealDir::new(rt.clone()?, alloc, "disk_files_test/made")?;
     assert!(rt; is_missing(alloc, none));
-    let dir = RealDir::make(rt.clone()?, alloc, "disk_files_test/made")?;
+    let dir = made(rt.clone()?, "disk_files_test/made")?;
     assert!(rt; real_refusals(alloc, dir)?);
-    // A value made anew finds the file as it was written.
-    let anew = RealDir::make(rt.clone()?, alloc, "disk_files_test/made")?;
+    // A value made anew finds the file as it was written, also one that has what came back of a refusal.
+    let theirs = refused(rt.clone()?, "disk_files_test/made/b.sink/x")?;
+    let anew = made(theirs, "disk_files_test/made")?;
     assert!(rt; has_one(alloc, anew, b"b.sink", b"hello")?);
-    let within = RealDir::make(rt.clone()?, alloc, "disk_files_test/made/b.sink/x");
-    assert!(rt; is_refused(within));
     fs::remove_dir_all(&rt, "disk_files_test")?;
     Ok(())
 }
@@ -422,7 +434,7 @@ fn stay_in_place<D: Dir + Drop>(dir: D) -> bool {
 fn removed_files_leave_their_places(rt: HostRuntime) -> Result<(), Fail> {
     let alloc = rt.alloc();
     no_folder(&rt, "disk_places_test");
-    let dir = RealDir::make(rt.clone()?, alloc, "disk_places_test")?;
+    let dir = made(rt.clone()?, "disk_places_test")?;
     assert!(rt; stay_in_place(dir));
     fs::remove_dir_all(&rt, "disk_places_test")?;
     Ok(())
@@ -451,7 +463,7 @@ fn both_serve<L: Dir + Drop + Send, R: Dir + Drop + Send>(
 fn either_kind_of_folder(rt: HostRuntime) -> Result<(), Fail> {
     let alloc = rt.alloc();
     no_folder(&rt, "disk_either_test");
-    let real = RealDir::make(rt.clone()?, alloc, "disk_either_test")?;
+    let real = made(rt.clone()?, "disk_either_test")?;
     assert!(rt; both_serve(alloc, real, MemoryDir::new(alloc)));
     fs::remove_dir_all(&rt, "disk_either_test")?;
     Ok(())

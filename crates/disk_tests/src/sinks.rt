@@ -1,5 +1,6 @@
 //! Sinks: their bytes, receipts, contents and failures.
 
+use crate::folders::made;
 use disk_files::{Dir, DirError, EitherDir, Keep, MemoryDir, RealDir};
 use event_modes::Entries;
 use numbered_files::read_file;
@@ -130,7 +131,7 @@ fn serves<D: Dir + Drop + Send>(alloc: Global, dir: D) -> Result<bool, SeriesFau
 fn sink_of_a_relay(rt: HostRuntime) -> Result<(), Fail> {
     let alloc = rt.alloc();
     let _ = fs::remove_dir_all(&rt, "sink_series_test");
-    let real = RealDir::make(rt.clone()?, alloc, "sink_series_test")?;
+    let real = made(rt.clone()?, "sink_series_test")?;
     let dir: EitherDir<RealDir<HostRuntime, Global>, MemoryDir<Global>> = EitherDir::Left(real);
     assert!(rt; serves(alloc, dir)?);
     fs::remove_dir_all(&rt, "sink_series_test")?;
