@@ -12,6 +12,7 @@ ghost use Rattle.relay_sockets.specs.Traffics.{IsFresh};
 use crate::exchange::deliver;
 use crate::failures::{failure_of, unreached};
 use crate::line::Line;
+use crate::parts::{CourierParts, refused};
 use ack_receipt::Evidence;
 use disk_files::Dir;
 use event_modes::{Entries, LONGEST_TAG};
@@ -21,7 +22,7 @@ use handshake_keys::{copied, shown};
 use relay_conf::{ForwardSettings, Security as Secret, Server};
 use relay_notices::{Notice, Teller};
 use relay_sockets::{Dialer, Endpoint, Nonces, Wire};
-use std::alloc::{AllocError, Allocator};
+use std::alloc::{AllocError, AllocFailed, Allocator};
 use std::marker::Model;
 use std::sync::atomic::{AtomicBool, Ordering};
 use std::sync::{Arc, Mutex, Wait};
@@ -79,21 +80,28 @@ pub struct Carried<S, A: Allocator> {
 
 impl<N: Dialer + Drop, A: Allocator + Copy> TcpCourier<N, A> {
     /// Sends as this output's settings say, over connections of this dialer, with salts from these. A carry that waits ends soon
-    /// after `stop` is raised. The error is want of memory.
+    /// after `stop` is raised. The error is want of memory, and has again what was given.
     pub fn new<B: Allocator>(
         alloc: A,
         settings: &ForwardSettings<B>,
         nonces: Nonces,
         stop: Arc<AtomicBool, A>,
         dialer: Arc<N, A>,
-    ) -> Result<TcpCourier<N, A>, AllocError>
-        ensures { IfOk result (λ courier. courier ≡ sender_of settings.now (arc_value dialer)) }
+    ) -> Result<TcpCourier<N, A>, AllocFailed<CourierParts<N, A>>>
+        ensures sends { IfOk result (λ courier. courier ≡ sender_of settings.now (arc_value dialer)) }
+        ensures value_returned { IfErr result (λ failed. failed.value ≡ record { nonces = nonces; stop = stop; dialer = dialer }) }
     {
+        let Ok(servers) = endpoints_of(alloc, &settings.servers) else {
+            return Err(refused(nonces, stop, dialer));
+        };
+        let Ok(secret) = copied(alloc, &settings.security) else {
+            return Err(refused(nonces, stop, dialer));
+        };
         Ok(TcpCourier {
             alloc,
             dialer,
-            servers: endpoints_of(alloc, &settings.servers)?,
-            secret: copied(alloc, &settings.security)?,
+            servers,
+            secret,
             asks: settings.require_ack_response,
             timeout: settings.ack_response_timeout.saturating_mul(1_000),
             stop,

@@ -5,7 +5,9 @@ mod courier;
 mod exchange;
 mod failures;
 mod line;
+mod parts;
 
 pub use courier::{Carried, TcpCourier, Turn};
 pub use exchange::deliver;
 pub use line::Line;
+pub use parts::CourierParts;
