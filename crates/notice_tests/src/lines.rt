@@ -13,7 +13,7 @@ fn text_of(alloc: Global, notice: Notice) -> Result<String, Fail> {
     Ok(line_of(alloc, 0, "P", &pending)?)
 }
 
-static TEXTS: [(Notice, &str); 10] = [
+static TEXTS: [(Notice, &str); 12] = [
     (
         Notice::Fails(Failure::Refused),
         "fails: it refuses connections",
@@ -42,6 +42,14 @@ static TEXTS: [(Notice, &str); 10] = [
     (
         Notice::Closed(Closing::WrongKey),
         "a client was closed, since it didn't show the shared_key",
+    ),
+    (
+        Notice::Closed(Closing::LateKey),
+        "a client was closed, since it didn't show the shared_key within ten seconds",
+    ),
+    (
+        Notice::Closed(Closing::HeldMost),
+        "a client was closed, since messages that aren't whole take too much memory, and its own the most",
     ),
     (
         Notice::JournalFailed,

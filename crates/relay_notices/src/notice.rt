@@ -54,6 +54,10 @@ pub enum Closing {
     Compressed,
     /// It didn't show the key.
     WrongKey,
+    /// It didn't show the key in time.
+    LateKey,
+    /// It held most of what isn't whole, of which there was too much.
+    HeldMost,
 }
 
 /// Why a relay ends.
@@ -117,6 +121,12 @@ impl Closing {
             Closing::BadStream => "a client was closed, since what it sent is no message",
             Closing::Compressed => "a client was closed, since what it sent is compressed",
             Closing::WrongKey => "a client was closed, since it didn't show the shared_key",
+            Closing::LateKey => {
+                "a client was closed, since it didn't show the shared_key within ten seconds"
+            }
+            Closing::HeldMost => {
+                "a client was closed, since messages that aren't whole take too much memory, and its own the most"
+            }
         }
     }
 }
