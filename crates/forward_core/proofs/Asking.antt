@@ -30,7 +30,10 @@ asks_on before sends bytes out r = subst (AsksEach before) (sym r.is) (asks_each
 pub asks_all : (before : List Asked) (phase : ServerPhase) (bytes : List ℕ) (out : Outcome) → ServerReads phase bytes out → AsksEach before out
 asks_all before (Awaiting server) bytes out r = elim r [
   | inl w ↦ subst (AsksEach before) (sym w.is) tt
-  | inr s ↦ elim s [ inl l ↦ asks_on before l.pong l.more out l.reads | inr x ↦ subst (AsksEach before) (sym x.is) (tt, tt) ]
+  | inr s ↦ elim s [
+    | inl l ↦ asks_on before l.pong l.more out l.reads
+    | inr x ↦ elim x [ inl y ↦ subst (AsksEach before) (sym y.is) (tt, tt) | inr z ↦ subst (AsksEach before) (sym z.is) (tt, tt) ]
+  ]
 ]
 asks_all before Opened bytes out r = asks_on before [] bytes out r
 asks_all before Over bytes out r = absurd r

@@ -1,5 +1,6 @@
 -- A step of a server's session.
-use Rattle.std.proofs.Common.{ℕ, ◌≡◌, ◌+◌, List, [], ◌++◌, take, drop, refl, ap, sym, ◌∙◌, subst, inl, inr, add_comm, None}
+use Rattle.std.proofs.Common.{ℕ, ◌≡◌, ◌+◌, List, [], ◌++◌, take, drop, refl, ap, sym, ◌∙◌, subst, inl, inr, add_comm, None, Result, Ok, Err}
+use Rattle.std.specs.Prelude.{IfOk}
 use Rattle.std.proofs.lemmas.List.{drop-drop, append-nil}
 use Rattle.msgpack_bytes.specs.Item.{IsOpen}
 use Rattle.auth_handshake.specs.declared.answers.Ping.TheVariants.{Passed}
@@ -7,7 +8,7 @@ use Rattle.auth_handshake.specs.Ends.{ServerEnd, IsAnswer}
 use Rattle.ack_receipt.specs.Reservations.{Asked, Reservation}
 use Rattle.forward_core.specs.Demands.{Wanted, asked_in}
 use Rattle.forward_core.specs.Handshakes.{IsShown}
-use Rattle.forward_core.specs.Server.{ServerPhase, Awaiting, Opened, Over, Outcome, ServerState, ReadsOn, ServerReads, Greets, after}
+use Rattle.forward_core.specs.Server.{ServerPhase, Awaiting, Opened, Over, Outcome, ServerState, ReadsOn, ServerReads, Greets, MayWait, after}
 
 -- what bytes behind the first item come to
 abbrev pub outcome : ServerPhase → List ℕ → List ℕ → List Wanted → Outcome
@@ -38,24 +39,29 @@ pub state_after : (old : ServerState) (phase : ServerPhase) (held outgoing : Lis
 state_after old phase held outgoing asked taken out p h o a t = rw (p, h, o, a, t)
 
 -- bytes that only begin an item come to nothing yet
-reads_begun : (phase : ServerPhase) (bytes : List ℕ) → (phase ≡ Over → ⊥) → IsOpen bytes → ServerReads phase bytes (outcome phase bytes [] [])
-reads_begun (Awaiting server) bytes o b = inl (record { begun = b; is = refl })
-reads_begun Opened bytes o b = record {
+reads_begun : (phase : ServerPhase) (bytes : List ℕ) → (phase ≡ Over → ⊥) → MayWait phase bytes → IsOpen bytes → ServerReads phase bytes (outcome phase bytes [] [])
+reads_begun (Awaiting server) bytes o m b = inl (record { begun = b; within = m; is = refl })
+reads_begun Opened bytes o m b = record {
   messages = [];
   rest = bytes;
   fault = None;
   stream = record { arrivals = []; splits = refl; are = refl; ends = b };
   is = refl;
 }
-reads_begun Over bytes o b = absurd (o refl)
+reads_begun Over bytes o m b = absurd (o refl)
 
 -- and the session stays as it is
-pub stays : (session : ServerState) → (session.phase ≡ Over → ⊥) → IsOpen session.held
+pub stays : (session : ServerState) → (session.phase ≡ Over → ⊥) → MayWait session.phase session.held → IsOpen session.held
     → (out : Outcome) × ServerReads session.phase session.held out × (session ≡ after session out) × ([] ≡ out.wants)
-stays session o b = (
+stays session o m b = (
   outcome session.phase session.held [] [],
-  reads_begun session.phase session.held o b,
+  reads_begun session.phase session.held o m b,
   state_after session session.phase session.held session.outgoing session.asked session.taken (outcome session.phase session.held [] [])
       refl refl (sym (append-nil session.outgoing)) (sym (append-nil session.asked)) refl,
   refl,
 )
+
+-- what holds of each server holds of this one
+pub of_this : {S T E : Type 0} (r : Result T E) (P : S → T → Type 0) (server : S) → IfOk r (λ taken. (s : S) → P s taken) → IfOk r (P server)
+of_this (Ok _) P server all = all server
+of_this (Err _) P server all = tt

@@ -1,8 +1,9 @@
 -- The end of a connection that listens (Forward Protocol Specification v1, "Connection Phases").
-use Rattle.std.specs.Prelude.{ℕ, ◌≡◌, ◌⊎◌, List, [], ◌∷◌, ◌++◌, map, drop, Option, Some, None, Contains}
+use Rattle.std.specs.Prelude.{ℕ, ◌≡◌, ◌≤◌, ◌<◌, ◌⊎◌, Bool, true, false, List, [], ◌∷◌, ◌++◌, length, map, drop, Option, Some, None, Contains}
 use Rattle.msgpack_bytes.specs.Item.{IsOpen}
 use Rattle.ack_receipt.specs.Reservations.{Asked, asked_of, Reservation}
 use Rattle.auth_handshake.specs.declared.answers.HandshakeFault.{HandshakeFault}
+use Rattle.auth_handshake.specs.declared.answers.HandshakeFault.TheVariants.{NotPing}
 use Rattle.auth_handshake.specs.declared.answers.Ping.TheVariants.{Passed, Refused}
 use Rattle.auth_handshake.specs.Ends.{ServerEnd, IsAnswer}
 use Rattle.auth_handshake.specs.Written.{helo_bytes}
@@ -57,9 +58,14 @@ pub record ReadsOn (sends bytes : List ℕ) (out : Outcome) : Type 0 where
     wants = map Delivers messages ++ close_by fault;
   }
 
--- too little has come of the first item
+-- how many bytes may come at most before the PING is whole
+abbrev pub most_before_ping : ℕ
+most_before_ping = 65536
+
+-- too little has come of the first item, and not too much
 pub record Waits (server : ServerEnd) (bytes : List ℕ) (out : Outcome) : Type 0 where
   pub begun : IsOpen bytes
+  pub within : length bytes ≤ most_before_ping
   pub is : out ≡ record { phase = Awaiting server; rest = bytes; sends = []; wants = [] }
 
 -- the first item is a PING that shows the key: the PONG is sent, and what is behind the PING is read as messages
@@ -81,9 +87,27 @@ pub record ShutsOut (server : ServerEnd) (bytes : List ℕ) (out : Outcome) : Ty
   pub refused : IsAnswer server item (Refused fault) pong
   pub is : out ≡ record { phase = Over; rest = bytes; sends = pong; wants = Closes (Handshake fault) ∷ [] }
 
+-- The first item isn't whole, and more has come of it than may: nothing is sent, none of it is kept, and the connection is to be closed.
+pub record Overruns (bytes : List ℕ) (out : Outcome) : Type 0 where
+  pub begun : IsOpen bytes
+  pub past : most_before_ping < length bytes
+  pub is : out ≡ record { phase = Over; rest = []; sends = []; wants = Closes (Handshake NotPing) ∷ [] }
+
 -- what the bytes come to while a PING has to come first
 abbrev pub Greets : ServerEnd → List ℕ → Outcome → Type 0
-Greets server bytes out = Waits server bytes out ⊎ (LetsIn server bytes out ⊎ ShutsOut server bytes out)
+Greets server bytes out = Waits server bytes out ⊎ (LetsIn server bytes out ⊎ (ShutsOut server bytes out ⊎ Overruns bytes out))
+
+-- A session that stands so may wait for more behind these bytes, which only begin an item.
+abbrev pub MayWait : ServerPhase → List ℕ → Type 0
+MayWait (Awaiting server) bytes = length bytes ≤ most_before_ping
+MayWait Opened bytes = Unit {0}
+MayWait Over bytes = Unit {0}
+
+-- whether a PING has to come first
+abbrev pub awaits_ping : ServerPhase → Bool
+awaits_ping (Awaiting server) = true
+awaits_ping Opened = false
+awaits_ping Over = false
 
 -- what all bytes that a session holds unread come to; one that is over reads nothing
 abbrev pub ServerReads : ServerPhase → List ℕ → Outcome → Type 0

@@ -1,11 +1,11 @@
 //! The session of the end that listens.
 
-ghost use Rattle.std.specs.Prelude.{◌≡◌, ◌≤◌, ◌↔◌, ◌⊎◌, ◌++◌, ◌∷◌, [], length, drop, map, Some, IsSome, IfOk, IfErr, OnOk, OnErr, IsErrOf, All, Contains};
+ghost use Rattle.std.specs.Prelude.{◌≡◌, ◌≤◌, ◌↔◌, ◌⊎◌, ◌++◌, ◌∷◌, [], true, length, drop, map, Some, IsSome, IfOk, IfErr, OnOk, OnErr, IsErrOf, All, Contains};
 ghost use Rattle.msgpack_bytes.specs.Item.{IsOpen};
 ghost use Rattle.ack_receipt.specs.Reservations.{Answer};
 ghost use Rattle.forward_core.specs.Demands.{wanted};
 ghost use Rattle.forward_core.specs.Handshakes.{IsHosted};
-ghost use Rattle.forward_core.specs.Server.{IsAskedIn, Opened, Outcome, Over, ReadsOn, ServerReads, after, idle_server, initial_server, outcome_of, phase_at, phase_of};
+ghost use Rattle.forward_core.specs.Server.{IsAskedIn, MayWait, Opened, Outcome, Over, ReadsOn, ServerReads, after, awaits_ping, idle_server, initial_server, outcome_of, phase_at, phase_of};
 
 use crate::demand::Demand;
 use crate::fault::{SessionError, SessionFault};
@@ -13,7 +13,7 @@ use crate::messages::{take_both, take_messages};
 use crate::outbox::Outbox;
 use crate::past::{AskedSoFar, TakenSoFar};
 use crate::security::Security;
-use crate::server_handshake::take_ping;
+use crate::server_handshake::{MOST_BEFORE_PING, take_ping};
 use crate::taken::{Standing, TakenItem};
 use crate::unread::Unread;
 use ack_receipt::Reserved;
@@ -47,8 +47,8 @@ impl<A: Allocator> Phase<A> {
 /// The server's end of one connection. Contracts see where it stands, the bytes that it holds unread, those that are
 /// to be sent, what each message asked for that it demanded to be delivered, and the answers that it took.
 ///
-/// It holds what came and is not whole yet: at most one item, and one piece while it is fed. What the messages asked for
-/// and their answers are there for contracts alone, and take no memory.
+/// It holds what came and is not whole yet: at most one item, and one piece while it is fed; while a PING has to come first, at most 65,536
+/// bytes. What the messages asked for and their answers are there for contracts alone, and take no memory.
 #[derive(Drop)]
 pub struct ServerSession<A: Allocator> {
     phase: Phase<A>,
@@ -122,8 +122,8 @@ impl<A: Allocator + Copy> ServerSession<A> {
     /// Takes a piece of what the client sent, and says what is to be done for it, in order.
     ///
     /// Each message that is whole now is to be delivered; heartbeats are passed over. Where the client's PING isn't one
-    /// or doesn't show the key (`Handshake`), and where what comes is no message (`BadStream`), the connection is to be
-    /// closed, and nothing is read any more.
+    /// or doesn't show the key, or isn't whole behind 65,536 bytes (`Handshake`), and where what comes is no message
+    /// (`BadStream`), the connection is to be closed, and nothing is read any more.
     ///
     /// A session that met a fault refuses with `Closed`. The only other error is want of memory.
     /// Each error leaves the session as it was.
@@ -155,7 +155,7 @@ impl<A: Allocator + Copy> ServerSession<A> {
         ensures err { OnErr result (self.new ≡ self.old) }
     {
         let before = self.held.len();
-        if self.held.take(piece)? {
+        if self.held.take(piece)? && self.may_wait() {
             return Ok(self.wait());
         }
         match self.take_all() {
@@ -226,9 +226,20 @@ impl<A: Allocator + Copy> ServerSession<A> {
         Ok(taken.demands)
     }
 
+    // Whether more may be waited for, where what is held only begins an item.
+    fn may_wait(&self) -> bool
+        ensures { result ≡ true → MayWait self.now.phase self.now.held }
+    {
+        match &self.phase {
+            Phase::Awaiting(_) => self.held.len() <= MOST_BEFORE_PING,
+            Phase::Open | Phase::Closed => true,
+        }
+    }
+
     // What is held only begins an item, so nothing is to be done yet.
     fn wait(&self) -> Vec<Demand<A>, A>
         requires over { self.now.phase ≡ Over → ⊥ }
+        requires may { MayWait self.now.phase self.now.held }
         requires begins { IsOpen self.now.held }
         ensures reads { (out : Outcome) × ServerReads self.now.phase self.now.held out
             × (self.now ≡ after self.now out) × (map wanted result.items ≡ out.wants) }
@@ -299,6 +310,20 @@ impl<A: Allocator + Copy> ServerSession<A> {
         ensures { self.new ≡ record self.old { outgoing = drop n self.old.outgoing } }
     {
         self.outgoing.sent(n);
+    }
+
+    /// Whether a PING has to come first: the client hasn't shown the key.
+    pub fn awaits_ping(&self) -> bool
+        ensures { result ≡ awaits_ping self.now.phase }
+    {
+        matches!(&self.phase, Phase::Awaiting(_))
+    }
+
+    /// How many bytes it holds of what isn't whole.
+    pub fn held_len(&self) -> usize
+        ensures { result ≡ length self.now.held }
+    {
+        self.held.len()
     }
 
     /// What each message asked for that was demanded to be delivered, in order: for contracts alone.

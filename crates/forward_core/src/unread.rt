@@ -9,9 +9,13 @@ use msgpack_bytes::{PieceScan, Scanner};
 use std::alloc::{AllocError, Allocator};
 use std::marker::Model;
 
+/// How many bytes of memory are kept for those to come, where fewer are held.
+const MOST_SPARE: usize = 262_144;
+
 /// Bytes that are held unread, in order. Contracts see their list.
 ///
-/// How far they were scanned is kept beside them: while an item comes in pieces, each of its bytes is looked at once.
+/// How far they were scanned is kept beside them: while an item comes in pieces, each of its bytes is looked at once. Once a long item was read,
+/// its memory is given back but for a quarter of a MiB.
 #[derive(Drop)]
 pub struct Unread<A: Allocator> {
     bytes: Vec<u8, A>,
@@ -116,7 +120,9 @@ impl<A: Allocator> Unread<A> {
         self.scanner = Scanner::new();
         self.given = 0;
         self.bytes.clear();
-        self.bytes.extend_from_slice(bytes)
+        let answer = self.bytes.extend_from_slice(bytes);
+        self.bytes.shrink_to(MOST_SPARE);
+        answer
     }
 
     /// What is held.

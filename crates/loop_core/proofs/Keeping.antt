@@ -182,7 +182,8 @@ over_reading sends bytes out r over = by r.fault (ap (λ (o : Outcome). o.phase)
 pub over_closes : (phase : ServerPhase) (bytes : List ℕ) (out : Outcome) → ServerReads phase bytes out → out.phase ≡ Over → wants_close out.wants ≡ true
 over_closes (Awaiting server) bytes out (inl w) over = let no : Awaiting server ≡ Over = sym (ap (λ (o : Outcome). o.phase) w.is) ∙ over in cc
 over_closes (Awaiting server) bytes out (inr (inl l)) over = over_reading l.pong l.more out l.reads over
-over_closes (Awaiting server) bytes out (inr (inr s)) over = ap (λ (o : Outcome). wants_close o.wants) s.is
+over_closes (Awaiting server) bytes out (inr (inr (inl s))) over = ap (λ (o : Outcome). wants_close o.wants) s.is
+over_closes (Awaiting server) bytes out (inr (inr (inr s))) over = ap (λ (o : Outcome). wants_close o.wants) s.is
 over_closes Opened bytes out r over = over_reading [] bytes out r over
 over_closes Over bytes out r over = absurd r
 
