@@ -9,7 +9,7 @@ ghost use Rattle.loop_core.specs.Peers.{AreAmong, BecomeInOrder, Becomes, GoOnWa
 ghost use Rattle.std.specs.Arc.{arc_value};
 ghost use Rattle.forward_core.specs.Handshakes.{IsHosted};
 ghost use Rattle.forward_core.specs.Demands.{asked_in, wanted};
-ghost use Rattle.forward_core.specs.Server.{IsAskedIn, Over, initial_server};
+ghost use Rattle.forward_core.specs.Server.{IsAskedIn, Over, awaits_ping, initial_server};
 
 use crate::fault::LoopFault;
 use ack_receipt::{Delivery, Numbers, Reserved};
@@ -242,6 +242,20 @@ impl<A: Allocator + Copy> Peer<A> {
     /// Why nothing more is read, where the client is the cause.
     pub fn why(&self) -> Option<Closing> {
         self.why
+    }
+
+    /// Whether its client hasn't shown the key that it has to show.
+    pub fn awaits_ping(&self) -> bool
+        ensures { result ≡ awaits_ping self.now.session.phase }
+    {
+        self.session.awaits_ping()
+    }
+
+    /// How many bytes it holds of what isn't whole.
+    pub fn held_len(&self) -> usize
+        ensures { result ≡ length self.now.session.held }
+    {
+        self.session.held_len()
     }
 
     /// Whether deliveries wait for receipts.
