@@ -17,6 +17,6 @@ pub use fault::SeriesFault;
 pub use laws::{
     answers_stand, cuts_whole, holds_one, made_adds_nothing, safe_is_content, safe_over_stop,
 };
-pub use reading::{EventCount, count_events};
+pub use reading::{EventCount, count_events, next_event};
 pub use series::Series;
 pub use stored::Stored;

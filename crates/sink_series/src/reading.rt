@@ -53,8 +53,9 @@ pub(crate) fn read_events<A: Allocator + Copy>(
     Ok(events)
 }
 
-// The event whose item the bytes begin with, and what is behind it. What is read counts where it would be written so.
-fn next_event<'a, A: Allocator + Copy>(
+/// The event whose item the bytes begin with, and what is behind it; none where no event's item is whole there. What is read counts where it
+/// would be written so. The error is want of memory.
+pub fn next_event<'a, A: Allocator + Copy>(
     alloc: A,
     bytes: &'a [u8],
 ) -> Result<Option<(SinkEvent<A>, &'a [u8])>, AllocError>
