@@ -1,10 +1,10 @@
 //! A folder, and which one of the system it is.
 
-ghost use Rattle.std.specs.Prelude.{◌≡◌, IfOk, None, Some, option_map, string_bytes};
+ghost use Rattle.std.specs.Prelude.{◌≡◌, IfErr, IfOk, None, Some, option_map, string_bytes};
 ghost use Rattle.relay_buffers.specs.Folders.{IsEmptyFolder};
 
 use disk_files::{MemoryDir, RealDir};
-use std::alloc::{AllocError, Allocator};
+use std::alloc::{AllocFailed, Allocator};
 use std::os::unix::fs::FileExt;
 use std::rt::Files;
 
@@ -15,26 +15,33 @@ pub struct PlacedDir<D, A: Allocator> {
     pub path: Option<String<A>>,
 }
 
-/// The folder of the system with this path, which has to be there by the first call. The error is want of memory.
+/// The folder of the system with this path, which has to be there by the first call. The error is want of memory, and has the
+/// runtime again.
 ///
 /// What the system does can't be stated: this is trusted to hand it the path that is noted.
 pub fn real_dir<R, A>(
     rt: R,
     alloc: A,
     path: &str,
-) -> Result<PlacedDir<RealDir<R, A>, A>, AllocError>
+) -> Result<PlacedDir<RealDir<R, A>, A>, AllocFailed<R>>
 where
     R: Files + Alloc + Clone + Drop,
     R::File: FileExt + Drop,
     R::A: Clone,
     A: Allocator + Copy,
-    ensures { IfOk result (λ placed. option_map string_bytes placed.path ≡ Some path.now) }
+    ensures placed { IfOk result (λ placed. option_map string_bytes placed.path ≡ Some path.now) }
+    ensures value_returned { IfErr result (λ failed. failed.value ≡ rt) }
 {
-    let Ok(dir) = RealDir::new(rt, alloc, path) else {
-        return Err(AllocError);
+    let Ok(noted) = String::from_str(alloc, path) else {
+        return Err(AllocFailed { value: rt });
     };
-    let path = Some(String::from_str(alloc, path)?);
-    Ok(PlacedDir { dir, path })
+    match RealDir::new(rt, alloc, path) {
+        Ok(dir) => Ok(PlacedDir {
+            dir,
+            path: Some(noted),
+        }),
+        Err(failed) => Err(failed),
+    }
 }
 
 /// An empty folder in memory.
