@@ -51,12 +51,13 @@ impl<'a> DataFolder<'a> {
             Ok(entries) => entries,
             Err(e) => {
                 let _ = eprintln!(self.rt; "{}: {e}", self.path);
-                return Err(ReadFault::Read);
+                return Err(ReadFault::of(&e));
             }
         };
         for entry in entries {
-            let Ok(entry) = entry else {
-                return Err(ReadFault::Read);
+            let entry = match entry {
+                Ok(entry) => entry,
+                Err(e) => return Err(ReadFault::of(&e)),
             };
             if let Ok(name) = str::from_utf8(entry.file_name().as_bytes())
                 && name.ends_with(ending)
