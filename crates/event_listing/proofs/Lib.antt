@@ -1,0 +1,5 @@
+mod Held
+mod Listed
+mod Pieces
+mod Printed
+mod Sequence

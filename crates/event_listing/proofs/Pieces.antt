@@ -1,0 +1,280 @@
+-- A sink's file, read on piece by piece.
+use Rattle.std.proofs.Common.{ℕ, List, [], ◌++◌, ◌≡◌, ◌<◌, ◌≤◌, ◌+◌, ◌-◌, length, take, drop, refl, sym, ap, ◌∙◌, subst, arith, inl, inr, append_assoc, append-nil, Option, Some, None, Result, Ok, Err}
+use Rattle.std.specs.Prelude.{IfSome}
+use Rattle.std.specs.Io.KnownBytes.{Appends, Consumes, IsAtEnd}
+use Rattle.std.proofs.KnownBytes.{Appends-nil, Appends-trans, Consumes-trans, Consumes-whole}
+use Rattle.std.proofs.Math.Seq.{take-append_seam}
+use Rattle.std.proofs.lemmas.Bool.{lt-ltb, le-ltb, cases_lt}
+use Rattle.std.proofs.lemmas.List.{length-append, length-take-le, take-append-le, take-append-drop}
+use Rattle.std.proofs.lemmas.Grind.{flat_map-append}
+use Rattle.msgpack_bytes.specs.Spelling.{str_header_of, str_of}
+use Rattle.sink_series.specs.Events.{Event, IsEvent, item_of, run_of, BeginsNone}
+use Rattle.event_listing.specs.Choices.{Chosen}
+use Rattle.event_listing.specs.Lines.{PrintsAll, PrintsSome, IsPrintedOf}
+use Rattle.event_listing.specs.Reading.{longest_item, IsEnd, IsTaken, PrintsFile, PrintsPiece}
+use Rattle.event_listing.specs.declared.sink.End.TheVariants.{Ended, Damaged}
+use Rattle.event_listing.specs.declared.sink.Stop.{Stop}
+use Rattle.program_text.specs.Output.{TakesPart}
+use Rattle.event_listing.proofs.Listed.{listed_append, each_append}
+
+-- ---- the longest item
+
+header_length : (n : ℕ) → length (str_header_of n) ≤ 5
+header_length n = elim (cases_lt n 32) [
+  | inl short ↦ rw (lt-ltb n 32 short) (omega arith)
+  | inr long ↦ elim (cases_lt n 256) [
+    | inl one ↦ rw (le-ltb n 32 long, lt-ltb n 256 one) (omega arith)
+    | inr more ↦ elim (cases_lt n 65536) [
+      | inl two ↦ rw (le-ltb n 32 long, le-ltb n 256 more, lt-ltb n 65536 two) (omega arith)
+      | inr four ↦ rw (le-ltb n 32 long, le-ltb n 256 more, le-ltb n 65536 four) (omega arith)
+    ]
+  ]
+]
+
+item_length : (event : Event) → IsEvent event → length (item_of event) ≤ longest_item
+unfolding item_of
+item_length event is =
+    let tag = length-append (str_header_of (length event.tag)) event.tag in
+    let both = length-append (str_of event.tag) (drop 1 event.entry) in
+    let entry = ap length (take-append-drop 1 event.entry) in
+    let cut = length-append (take 1 event.entry) (drop 1 event.entry) in
+    omega (arith, is.short, is.stored.item.short, header_length (length event.tag), tag, both, entry, cut)
+
+-- behind more bytes than an item has, where none is whole, none ever will be
+none_further : (held more : List ℕ) → longest_item < length held → BeginsNone held → BeginsNone (held ++ more)
+none_further held more long none event rest is same =
+    let n = length (item_of event) in
+    let le : n ≤ length held = omega (arith, long, item_length event is) in
+    let front : take n held ≡ item_of event = sym (take-append-le n held more le) ∙ ap (take n) same ∙ take-append_seam (item_of event) rest in
+    none event (drop n held) is (sym (take-append-drop n held) ∙ ap (λ z. z ++ drop n held) front)
+
+-- ---- what is printed
+
+run_append : (events more : List Event) (rest : List ℕ) → run_of events ++ (run_of more ++ rest) ≡ run_of (events ++ more) ++ rest
+run_append events more rest = sym (append_assoc (run_of events) (run_of more) rest) ∙ ap (λ z. z ++ rest) (sym (flat_map-append item_of events more))
+
+nothing_begins : BeginsNone []
+unfolding item_of
+nothing_begins event rest is same = absurd (cc same)
+
+-- of no bytes nothing
+pub prints_none : (chosen : Chosen) (held : List ℕ) → held ≡ [] → PrintsAll chosen [] [] held
+prints_none chosen held e = record {
+  events = [];
+  holds = record { each = tt; rest = []; whole = refl; torn = nothing_begins };
+  rest_is = e;
+  printed = record { listings = []; each = tt; text_is = refl };
+}
+
+-- of a piece more
+prints_more : (chosen : Chosen) (read piece text held behind left : List ℕ) → PrintsAll chosen read text held → PrintsAll chosen (held ++ piece) behind left
+    → PrintsAll chosen (read ++ piece) (text ++ behind) left
+prints_more chosen read piece text held behind left first more = record {
+  events = first.events ++ more.events;
+  holds = record {
+    each = each_append IsEvent first.events more.events first.holds.each more.holds.each;
+    rest = more.holds.rest;
+    whole = ap (λ z. z ++ piece) first.holds.whole ∙ append_assoc (run_of first.events) first.holds.rest piece
+        ∙ ap (λ z. run_of first.events ++ (z ++ piece)) (sym first.rest_is) ∙ ap (λ z. run_of first.events ++ z) more.holds.whole
+        ∙ run_append first.events more.events more.holds.rest;
+    torn = more.holds.torn;
+  };
+  rest_is = more.rest_is;
+  printed = listed_append (IsPrintedOf chosen) first.events more.events text behind first.printed more.printed;
+}
+
+-- where some of a piece more is printed
+pub some_more : (chosen : Chosen) (read piece text held behind more : List ℕ) → PrintsAll chosen read text held → PrintsSome chosen (held ++ piece) behind
+    → PrintsSome chosen ((read ++ piece) ++ more) (text ++ behind)
+some_more chosen read piece text held behind more first some = record {
+  events = first.events ++ some.events;
+  each = each_append IsEvent first.events some.events first.holds.each some.each;
+  rest = some.rest ++ more;
+  whole = ap (λ z. (z ++ piece) ++ more) first.holds.whole ∙ ap (λ z. z ++ more) (append_assoc (run_of first.events) first.holds.rest piece)
+      ∙ ap (λ z. (run_of first.events ++ (z ++ piece)) ++ more) (sym first.rest_is) ∙ ap (λ z. (run_of first.events ++ z) ++ more) some.whole
+      ∙ ap (λ z. z ++ more) (run_append first.events some.events some.rest) ∙ append_assoc (run_of (first.events ++ some.events)) some.rest more;
+  printed = listed_append (IsPrintedOf chosen) first.events some.events text behind first.printed some.printed;
+}
+
+-- what is printed of a beginning of the bytes
+pub some_of_all : (chosen : Chosen) (read text held more : List ℕ) → PrintsAll chosen read text held → PrintsSome chosen (read ++ more) text
+some_of_all chosen read text held more all = record {
+  events = all.events;
+  each = all.holds.each;
+  rest = all.holds.rest ++ more;
+  whole = ap (λ z. z ++ more) all.holds.whole ∙ append_assoc (run_of all.events) all.holds.rest more;
+  printed = all.printed;
+}
+
+-- none is printed
+pub some_of_none : (chosen : Chosen) (bytes : List ℕ) → PrintsSome chosen bytes []
+some_of_none chosen bytes = record { events = []; each = tt; rest = bytes; whole = refl; printed = record { listings = []; each = tt; text_is = refl } }
+
+-- all that the bytes hold is printed, where more is held than an item has
+pub all_of_long : (chosen : Chosen) (read text held more : List ℕ) → longest_item < length held → PrintsAll chosen read text held → PrintsAll chosen (read ++ more) text (held ++ more)
+all_of_long chosen read text held more long all = record {
+  events = all.events;
+  holds = record {
+    each = all.holds.each;
+    rest = held ++ more;
+    whole = ap (λ z. z ++ more) all.holds.whole ∙ append_assoc (run_of all.events) all.holds.rest more ∙ ap (λ z. run_of all.events ++ (z ++ more)) (sym all.rest_is);
+    torn = none_further held more long (subst BeginsNone (sym all.rest_is) all.holds.torn);
+  };
+  rest_is = refl;
+  printed = all.printed;
+}
+
+-- ---- the bytes of a file
+
+-- what holds of what was read, whatever follows, holds of the bytes where they are known
+pub known_is : (known now : Option (List ℕ)) (read : List ℕ) (P : List ℕ → Type 0) → Consumes known now read → ((more : List ℕ) → P (read ++ more)) → IfSome known P
+known_is None now read P consumed holds = tt
+known_is (Some bytes) None read P consumed holds = absurd consumed
+known_is (Some bytes) (Some more) read P consumed holds = subst P (sym consumed) (holds more)
+
+-- ---- a file
+
+-- all of the text is taken
+taken : (old new : Option (List ℕ)) (text : List ℕ) → Appends old new text → TakesPart old new text []
+taken old new text appends = record { written = text; appends = appends; whole = append-nil text }
+
+-- what is taken of a text behind another
+pub taken_behind : (old mid new : Option (List ℕ)) (text behind unseen : List ℕ) → Appends old mid text → TakesPart mid new behind unseen → TakesPart old new (text ++ behind) unseen
+taken_behind old mid new text behind unseen first more = record {
+  written = text ++ more.written;
+  appends = Appends-trans old mid new text more.written first more.appends;
+  whole = append_assoc text more.written unseen ∙ ap (λ z. text ++ z) more.whole;
+}
+
+-- all is taken that is printed of a piece
+pub all_taken : (old mid new : Option (List ℕ)) (text behind unseen : List ℕ) → unseen ≡ [] → Appends old mid text → TakesPart mid new behind unseen → Appends old new (text ++ behind)
+all_taken old mid new text behind unseen none first more =
+    let whole : more.written ≡ behind = sym (append-nil more.written) ∙ ap (λ z. more.written ++ z) (sym none) ∙ more.whole in
+    subst (λ z. Appends old new (text ++ z)) whole (Appends-trans old mid new text more.written first more.appends)
+
+-- reading stops between two pieces
+pub file_stopped : (chosen : Chosen) (known now old new : Option (List ℕ)) (read text held : List ℕ) (stop : Stop) → Consumes known now read → Appends old new text → PrintsAll chosen read text held
+    → PrintsFile chosen known old new (Err stop)
+file_stopped chosen known now old new read text held stop consumed appends all = record {
+  text = text;
+  unseen = [];
+  printed = taken old new text appends;
+  ends = (inl refl, known_is known now read (λ bytes. PrintsSome chosen bytes text) consumed (λ more. some_of_all chosen read text held more all));
+}
+
+-- reading stops in a piece
+pub file_cut : (chosen : Chosen) (known now old mid new : Option (List ℕ)) (read piece text held : List ℕ) (at : ℕ) (left : ℕ × List ℕ) (stop : Stop) → Consumes known now (read ++ piece) → Appends old mid text
+    → PrintsAll chosen read text held → PrintsPiece chosen (at, held ++ piece) left mid new (Err stop) → PrintsFile chosen known old new (Err stop)
+file_cut chosen known now old mid new read piece text held at left stop consumed appends all off = record {
+  text = text ++ off.text;
+  unseen = off.unseen;
+  printed = taken_behind old mid new text off.text off.unseen appends off.printed;
+  ends = (off.ends.0, known_is known now (read ++ piece) (λ bytes. PrintsSome chosen bytes (text ++ off.text)) consumed (λ more. some_more chosen read piece text held off.text more all off.ends.1));
+}
+
+-- nothing of a piece is printed
+pub piece_lost : (chosen : Chosen) (held left : ℕ × List ℕ) (old : Option (List ℕ)) (stop : Stop) → PrintsPiece chosen held left old old (Err stop)
+piece_lost chosen held left old stop = record { text = []; unseen = []; printed = taken old old [] (Appends-nil old); ends = (inl refl, some_of_none chosen held.1) }
+
+-- what the bytes hold is printed, and they are not taken off
+pub piece_cut : (chosen : Chosen) (held left : ℕ × List ℕ) (old new : Option (List ℕ)) (text unseen rest : List ℕ) (stop : Stop) → PrintsAll chosen held.1 text rest → TakesPart old new text unseen → IsTaken unseen stop
+    → PrintsPiece chosen held left old new (Err stop)
+piece_cut chosen held left old new text unseen rest stop all takes is = record {
+  text = text;
+  unseen = unseen;
+  printed = takes;
+  ends = (is, subst (λ z. PrintsSome chosen z text) (append-nil held.1) (some_of_all chosen held.1 text rest [] all));
+}
+
+-- they are taken off
+pub piece_whole : (chosen : Chosen) (at used next : ℕ) (bytes left text : List ℕ) (old new : Option (List ℕ)) → PrintsAll chosen bytes text (drop used bytes) → used ≤ length bytes → left ≡ drop used bytes → next ≡ at + used
+    → TakesPart old new text [] → PrintsPiece chosen (at, bytes) (next, left) old new (Ok tt)
+piece_whole chosen at used next bytes left text old new all fits same place takes = record {
+  text = text;
+  unseen = [];
+  printed = takes;
+  ends = (
+    refl,
+    subst (λ z. PrintsAll chosen bytes text z) (sym same) all,
+    omega (arith, fits, place, ap length same, ap length (take-append-drop used bytes), length-append (take used bytes) (drop used bytes), length-take-le used bytes fits),
+  );
+}
+
+-- the place where the events end
+place : (bytes rest at : ℕ) → at + rest ≡ bytes → at ≡ bytes - rest
+place bytes rest at e = omega (arith, e)
+
+-- nothing is left to read
+pub file_ended : (chosen : Chosen) (known now old new : Option (List ℕ)) (read text held : List ℕ) (at behind : ℕ) → Consumes known now read → IsAtEnd now → Appends old new text
+    → PrintsAll chosen read text held → at + length held ≡ length read → behind ≡ length held → PrintsFile chosen known old new (Ok (Ended at behind))
+file_ended chosen known now old new read text held at behind consumed none appends all at_is behind_is = record {
+  text = text;
+  unseen = [];
+  printed = taken old new text appends;
+  ends = (
+    refl,
+    Consumes-whole known now read (λ bytes. (rest : List ℕ) × PrintsAll chosen bytes text rest × IsEnd bytes rest (Ended at behind)) consumed none (
+      held,
+      all,
+      (place (length read) (length held) at at_is, behind_is),
+    ),
+  );
+}
+
+-- more is held than an item has
+file_long : (chosen : Chosen) (known now old new : Option (List ℕ)) (read text held : List ℕ) (at : ℕ) → Consumes known now read → longest_item < length held → Appends old new text
+    → PrintsAll chosen read text held → at + length held ≡ length read → PrintsFile chosen known old new (Ok (Damaged at))
+file_long chosen known now old new read text held at consumed long appends all at_is = record {
+  text = text;
+  unseen = [];
+  printed = taken old new text appends;
+  ends = (
+    refl,
+    known_is known now read (λ bytes. (rest : List ℕ) × PrintsAll chosen bytes text rest × IsEnd bytes rest (Damaged at)) consumed (λ more. (
+      held ++ more,
+      all_of_long chosen read text held more long all,
+      (omega (arith, at_is, length-append read more, length-append held more), omega (arith, long, length-append held more)),
+    )),
+  );
+}
+
+none_of : (chosen : Chosen) (known : Option (List ℕ)) → IfSome known (λ bytes. PrintsSome chosen bytes [])
+none_of chosen None = tt
+none_of chosen (Some bytes) = some_of_none chosen bytes
+
+-- the place, a piece further
+place_more : (read piece held left : List ℕ) (at next : ℕ) → at + length held ≡ length read → next + length left ≡ at + length (held ++ piece) → next + length left ≡ length (read ++ piece)
+place_more read piece held left at next before after = omega (arith, before, after, length-append read piece, length-append held piece)
+
+-- no file is read
+pub file_unread : (chosen : Chosen) (known old : Option (List ℕ)) (stop : Stop) → PrintsFile chosen known old old (Err stop)
+file_unread chosen known old stop = record { text = []; unseen = []; printed = taken old old [] (Appends-nil old); ends = (inl refl, none_of chosen known) }
+
+-- ---- the pieces of a file, one behind another
+
+-- what is printed of the pieces so far, of which these bytes are held, from this place of the file on
+pub record FileOn (chosen : Chosen) (known now old new : Option (List ℕ)) (held : List ℕ) (at : ℕ) : Type 0 where
+  pub read : List ℕ
+  pub text : List ℕ
+  pub consumed : Consumes known now read
+  pub written : Appends old new text
+  pub printed : PrintsAll chosen read text held
+  pub at_is : at + length held ≡ length read
+
+-- a piece more
+pub piece_more : (chosen : Chosen) (known now later old mid new : Option (List ℕ)) (held piece left : List ℕ) (at next : ℕ) (result : Result (Unit {0}) Stop) (u : Unit {0}) → FileOn chosen known now old mid held at
+    → Consumes now later piece → PrintsPiece chosen (at, held ++ piece) (next, left) mid new result → result ≡ Ok u → FileOn chosen known later old new left next
+piece_more chosen known now later old mid new held piece left at next result u on consumes prints is =
+    let whole : PrintsPiece chosen (at, held ++ piece) (next, left) mid new (Ok u) = subst (λ r. PrintsPiece chosen (at, held ++ piece) (next, left) mid new r) is prints in
+    record {
+      read = on.read ++ piece;
+      text = on.text ++ whole.text;
+      consumed = Consumes-trans known now later on.read piece on.consumed consumes;
+      written = all_taken old mid new on.text whole.text whole.unseen whole.ends.0 on.written whole.printed;
+      printed = prints_more chosen on.read piece on.text held whole.text left on.printed whole.ends.1;
+      at_is = place_more on.read piece held left at next on.at_is whole.ends.2;
+    }
+
+-- more is held behind it than an item has
+pub piece_long : (chosen : Chosen) (known now old new : Option (List ℕ)) (held : List ℕ) (at : ℕ) → FileOn chosen known now old new held at → longest_item < length held → PrintsFile chosen known old new (Ok (Damaged at))
+piece_long chosen known now old new held at on long = file_long chosen known now old new on.read on.text held at on.consumed long on.written on.printed on.at_is

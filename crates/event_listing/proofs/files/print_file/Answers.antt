@@ -1,0 +1,5 @@
+use Rattle.event_listing.proofs.Pieces.{file_unread}
+use Rattle.event_listing.proofs.files.print_file.Goals as goal
+
+pub returns-in-Err : goal.returns-in-Err
+returns-in-Err g c = file_unread c.args.choice.now (g.O.Open.text_of c.args.files.now c.args.name.now) (g.W.Write.contents c.args.out.now) c.of_reader.result

@@ -1,0 +1,44 @@
+-- What reading a sink's file in pieces prints.
+use Rattle.std.specs.Prelude.{ℕ, ◌≡◌, ◌+◌, ◌<◌, ◌⊎◌, ◌-◌, Bool, true, false, List, [], length, Option, IfSome, Result, MatchResult}
+use Rattle.program_text.specs.Output.{TakesPart}
+use Rattle.event_listing.specs.Choices.{Chosen}
+use Rattle.event_listing.specs.Lines.{PrintsAll, PrintsSome}
+use Rattle.event_listing.specs.declared.sink.End.{End}
+use Rattle.event_listing.specs.declared.sink.End.TheVariants.{Ended, Damaged}
+use Rattle.event_listing.specs.declared.sink.Stop.{Stop}
+use Rattle.event_listing.specs.declared.sink.Stop.TheVariants.{Output}
+
+-- what the items of events have no more bytes than
+abbrev pub longest_item : ℕ
+longest_item = 16779264
+
+-- a file of these bytes, of which this rest stands behind the events, is read to its end; or it is damaged, since more stands there than an event has
+abbrev pub IsEnd : List ℕ → List ℕ → End → Type 0
+IsEnd bytes rest (Ended at behind) = (at ≡ length bytes - length rest) × (behind ≡ length rest)
+IsEnd bytes rest (Damaged at) = (at ≡ length bytes - length rest) × (longest_item < length rest)
+
+abbrev pub is_ended : End → Bool
+is_ended (Ended at behind) = true
+is_ended (Damaged at) = false
+
+-- the writer took all of it, or it failed
+abbrev pub IsTaken : List ℕ → Stop → Type 0
+IsTaken unseen stop = (unseen ≡ []) ⊎ (stop ≡ Output)
+
+-- How the file is read, where it is known what it has: to the end of its events, all of which are printed; or some are.
+pub record PrintsFile (chosen : Chosen) (known old new : Option (List ℕ)) (result : Result End Stop) : Type 0 where
+  pub text : List ℕ
+  pub unseen : List ℕ
+  pub printed : TakesPart old new text unseen
+  pub ends :
+      MatchResult result (λ end. (unseen ≡ []) × IfSome known (λ bytes. (rest : List ℕ) × PrintsAll chosen bytes text rest × IsEnd bytes rest end))
+      (λ stop. IsTaken unseen stop × IfSome known (λ bytes. PrintsSome chosen bytes text))
+
+-- Of the bytes that are held with a piece, from this place of the file on, all events are printed and taken off; or some are printed.
+pub record PrintsPiece (chosen : Chosen) (held left : ℕ × List ℕ) (old new : Option (List ℕ)) (result : Result (Unit {0}) Stop) : Type 0 where
+  pub text : List ℕ
+  pub unseen : List ℕ
+  pub printed : TakesPart old new text unseen
+  pub ends :
+      MatchResult result (λ _. (unseen ≡ []) × PrintsAll chosen held.1 text left.1 × (left.0 + length left.1 ≡ held.0 + length held.1))
+      (λ stop. IsTaken unseen stop × PrintsSome chosen held.1 text)
