@@ -6,3 +6,4 @@ pub mod Ports
 pub mod Writing
 pub mod Reading
 pub mod Refusing
+pub mod Heaviest

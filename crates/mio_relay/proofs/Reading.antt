@@ -37,7 +37,7 @@ is_received old between new came front before after received result brings same 
 
 -- the same connection goes on over two calls
 pub same_more : (old between new : ConnectionState) → IsSameConnection old between → IsSameConnection between new → IsSameConnection old new
-same_more old between new first next = record { origin = next.origin ∙ first.origin; entry = next.entry ∙ first.entry }
+same_more old between new first next = record { origin = next.origin ∙ first.origin; came = next.came ∙ first.came; entry = next.entry ∙ first.entry }
 
 -- and its lanes
 pub lanes_more : {A : Type 0} (old between new : LanesState A) → KeepsLanes old between → KeepsLanes between new → KeepsLanes old new

@@ -7,7 +7,7 @@ use Rattle.std.proofs.lemmas.List.Elements.{All-nil, All-set}
 use Rattle.std.proofs.lemmas.Option.{slice_get-map}
 use Rattle.buffer_lanes.specs.Waits.{Waits}
 use Rattle.relay_sockets.specs.Endpoints.{CameAt, Origin}
-use Rattle.mio_relay.specs.Connections.{AllBelow, AreFlushed, AreFlushedBelow, AreListening, AreServed, AreSettled, AreSettledBelow, BeginsAt, ConnectionState, HoldsFlushed, HoldsNone, GoesOn, GoOn, Hosted, IsSameConnection, IsServed, Served, sources_in}
+use Rattle.mio_relay.specs.Connections.{AllBelow, AreFlushed, AreFlushedBelow, AreInTime, AreInTimeBelow, AreListening, AreServed, AreSettled, AreSettledBelow, BeginsAt, ConnectionState, HoldsFlushed, HoldsInTime, HoldsNone, GoesOn, GoOn, Hosted, IsSameConnection, IsServed, Served, sources_in}
 use Rattle.relay_sockets.specs.Endpoints.{Endpoint}
 use Rattle.relay_sockets.specs.declared.network.Accepted.{Accepted}
 use Rattle.relay_sockets.specs.declared.network.Accepted.TheVariants.{Stream, Again, Empty, Refused}
@@ -100,7 +100,7 @@ holds_past P slots key len is past below k d lt within = by (eq-or-lt_of_le {n =
     by (inr l) = below k d l within
 
 -- what changes at a key leaves it so there
-holds_still : (P : Option ConnectionState → Type 0) (slots : List (Option ConnectionState)) (key : ℕ) (old new : Option ConnectionState) → key < length slots
+pub holds_still : (P : Option ConnectionState → Type 0) (slots : List (Option ConnectionState)) (key : ℕ) (old new : Option ConnectionState) → key < length slots
     → old ≡ slice_index_or slots key old → (P old → P new) → All P slots → All P (slice_set slots key new)
 holds_still P slots key old new within at still all = All-set P slots key new (still (subst P (sym at) (all key old within))) all
 
@@ -129,6 +129,14 @@ all_settled slots end past below k d within = below k d (omega arith) within
 -- nor is anything outgoing there that its stream would take
 pub all_flushed : (slots : List (Option ConnectionState)) (end : ℕ) → length slots ≤ end → AreFlushedBelow end slots → AreFlushed slots
 all_flushed slots end past below k d within = below k d (omega arith) within
+
+-- there is no key below the first
+pub none_below : (P : Option ConnectionState → Type 0) (slots : List (Option ConnectionState)) → AllBelow P 0 slots
+none_below P slots k none lt within = absurd (omega (arith, lt))
+
+-- nor is what is there late
+pub all_in_time : (time : ℕ) (slots : List (Option ConnectionState)) (end : ℕ) → length slots ≤ end → AreInTimeBelow time end slots → AreInTime time slots
+all_in_time time slots end past below k d within = below k d (omega arith) within
 
 -- where not one delivery waits, none does
 pub none_waits : (waits : List Waits) → (0 < length waits → ⊥) → waits ≡ []

@@ -1,5 +1,5 @@
 -- What stays of a loop, where its connections or its network alone change.
-use Rattle.std.proofs.Common.{◌≡◌, ◌∙◌, Bool, List, [], ap, map, subst, sym}
+use Rattle.std.proofs.Common.{◌≡◌, ◌∙◌, Bool, List, [], ap, map, refl, subst, sym}
 use Rattle.ack_receipt.specs.Deliveries.{Pended}
 use Rattle.relay_conf.specs.declared.output.BufferNo.{BufferNo}
 use Rattle.buffer_lanes.specs.Lanes.{AreRedeemed, AreRedeemedAt, LanesState, later_at, listed_at}
@@ -60,3 +60,11 @@ rests_more old between new first next = record {
   settled = λ all. next.settled (first.settled all);
   flushed = λ all. next.flushed (first.flushed all);
 }
+
+-- where nothing is done, all stays
+pub stays_same : {A : Type 0} (l : LoopState A) → Stays l l
+stays_same l = record { bound = refl; sources = refl; buffers = refl; lanes = record { terms = refl; timings = refl; fault = λ fault was. was } }
+
+-- and rests
+pub rests_same : {A : Type 0} (l : LoopState A) → Rests l l
+rests_same l = record { waiting = refl; later = refl; settled = λ all. all; flushed = λ all. all }

@@ -1,11 +1,11 @@
 -- The connections of a relay's loop, and the sources that they came in at.
-use Rattle.std.specs.Prelude.{ℕ, zero, suc, ◌≡◌, ◌<◌, ◌≤◌, ◌⊎◌, ◌++◌, Bool, false, true, List, [], length, map, Option, Some, IfSome, slice_get, slice_index_or, string_bytes}
+use Rattle.std.specs.Prelude.{ℕ, zero, suc, ◌≡◌, ◌<◌, ◌≤◌, ◌+◌, ◌⊎◌, ◌++◌, Bool, false, true, List, [], length, map, Option, Some, IfSome, slice_get, slice_index_or, string_bytes}
 use Rattle.std.specs.List.{All, AllZip}
 use Rattle.relay_conf.specs.declared.relay.Relay.{Relay}
 use Rattle.relay_conf.specs.declared.relay.Source.{Source}
 use Rattle.route_graph.specs.Table.{Table, table_of}
 use Rattle.forward_core.specs.declared.security.Security.{Security}
-use Rattle.forward_core.specs.Server.{Over, ServerState, initial_server}
+use Rattle.forward_core.specs.Server.{Over, ServerState, awaits_ping, initial_server}
 use Rattle.handshake_keys.specs.Credentials.{Credentials, credentials_in, credentials_of}
 use Rattle.relay_ports.specs.Leaves.{Entry}
 use Rattle.relay_sockets.specs.Endpoints.{Endpoint, Origin, CameAt, IsPortOf}
@@ -56,19 +56,21 @@ pub record AreListening (bound : List Endpoint) (hosted : List Hosted) : Type 0 
 abbrev pub ArePortsOf : List Served → List ℕ → Type 0
 ArePortsOf sources ports = AllZip (λ source port. IsPortOf port source.endpoint) sources ports
 
--- a connection: where it came in, what went over it, as far as that is known, and its session; whether its stream failed, whether it takes no bytes for now,
--- and whether its client has ended its sending, and all of that was read
+-- a connection: where it came in, and when, by the time of the loop in milliseconds; what went over it, as far as that is known, and its session; whether its
+-- stream failed, whether it takes no bytes for now, and whether its client has ended its sending, and all of that was read
 pub record ConnectionState : Type 0 where
   pub origin : Origin
+  pub came : ℕ
   pub traffic : Traffic
   pub peer : PeerState
   pub is_broken : Bool
   pub is_blocked : Bool
   pub has_ended : Bool
 
--- a connection goes on: it came in where it did, and its messages go where they went
+-- a connection goes on: it came in where and when it did, and its messages go where they went
 pub record IsSameConnection (old new : ConnectionState) : Type 0 where
   pub origin : new.origin ≡ old.origin
+  pub came : new.came ≡ old.came
   pub entry : new.peer.entry ≡ old.peer.entry
 
 -- What was outgoing was written from its beginning on, and is outgoing still but for that.
@@ -78,6 +80,7 @@ IsWrittenOn old new = (sent : List ℕ) × (old.peer.session.outgoing ≡ sent +
 -- These bytes came over a connection, whose session doesn't know of them yet.
 pub record Brings (old new : ConnectionState) (came : List ℕ) : Type 0 where
   pub origin : new.origin ≡ old.origin
+  pub since : new.came ≡ old.came
   pub peer : new.peer ≡ old.peer
   pub conveys : Conveys old.traffic new.traffic [] came
 
@@ -118,12 +121,25 @@ IsFlushed connection = (connection.peer.session.outgoing ≡ []) ⊎ ((connectio
 abbrev pub IsSettled : ConnectionState → Type 0
 IsSettled connection = connection.peer.waits ≡ []
 
--- A connection may be closed: no delivery of it waits; nothing more is read, since its stream failed, its session wants no more or its client has ended its
+-- A connection is done: no delivery of it waits; nothing more is read, since its stream failed, its session wants no more or its client has ended its
 -- sending; and what is outgoing was written, or is of a session that wants no more and whose client takes none for now.
-pub record MayClose (connection : ConnectionState) : Type 0 where
+pub record IsDone (connection : ConnectionState) : Type 0 where
   pub settled : IsSettled connection
   pub over : (connection.is_broken ≡ true) ⊎ ((connection.peer.closing ≡ true) ⊎ (connection.has_ended ≡ true))
   pub written : (connection.peer.session.outgoing ≡ []) ⊎ ((connection.is_broken ≡ true) ⊎ ((connection.peer.closing ≡ true) × (connection.is_blocked ≡ true)))
+
+-- how long a client has to show the key, in milliseconds
+abbrev pub time_for_ping : ℕ
+time_for_ping = 10000
+
+-- A connection is late at this time: its client hasn't shown the key that it has to show, and the time for that is over.
+pub record IsLate (time : ℕ) (connection : ConnectionState) : Type 0 where
+  pub awaits : awaits_ping connection.peer.session.phase ≡ true
+  pub past : connection.came + time_for_ping < time
+
+-- A connection may be closed at this time: it is done, or late.
+abbrev pub MayClose : ℕ → ConnectionState → Type 0
+MayClose time connection = IsDone connection ⊎ IsLate time connection
 
 -- A connection is served as one of the source at whose listener it came in.
 pub record IsServed (sources : List Served) (connection : ConnectionState) : Type 0 where
@@ -172,6 +188,18 @@ AreFlushed slots = All HoldsFlushed slots
 -- and at each that is below this
 abbrev pub AreFlushedBelow : ℕ → List (Option ConnectionState) → Type 0
 AreFlushedBelow end slots = AllBelow HoldsFlushed end slots
+
+-- what is at a key isn't late at this time
+abbrev pub HoldsInTime : ℕ → Option ConnectionState → Type 0
+HoldsInTime time slot = IfSome slot (λ connection. IsLate time connection → ⊥)
+
+-- so it is at each of these keys
+abbrev pub AreInTime : ℕ → List (Option ConnectionState) → Type 0
+AreInTime time slots = All (HoldsInTime time) slots
+
+-- and at each that is below this
+abbrev pub AreInTimeBelow : ℕ → ℕ → List (Option ConnectionState) → Type 0
+AreInTimeBelow time end slots = AllBelow (HoldsInTime time) end slots
 
 -- A session that begins: its messages go where the source's do, and its client has to prove the source's key, if it has one.
 pub record BeginsAt (source : Served) (nonce : List ℕ) (peer : PeerState) : Type 0 where

@@ -1,3 +1,5 @@
 pub mod Connections
 pub mod Faults
+pub mod Holding
+pub mod Limits
 pub mod Loops

@@ -14,9 +14,6 @@ use relay_sockets::{Accepted, Network};
 use std::alloc::{AllocError, Allocator};
 use std::sync::Wait;
 
-/// How many connections a loop has at most.
-const MOST_CONNECTIONS: usize = 1_024;
-
 impl<N: Network + Drop, D: Dir + Drop, A: Allocator + Copy> InLoop<N, D, A> {
     // Takes in the connections that wait.
     pub(crate) fn accept_all<R: Wait>(&mut self, rt: &R)
@@ -31,20 +28,24 @@ impl<N: Network + Drop, D: Dir + Drop, A: Allocator + Copy> InLoop<N, D, A> {
     fn accept_at<R: Wait>(&mut self, rt: &R, place: usize)
         ensures { Stays self.old self.new }
     {
-        for _ in 0..MOST_CONNECTIONS {
+        for _ in 0..self.most {
             if !self.accept_one(rt, place) {
                 return;
             }
         }
     }
 
-    // Takes the next connection in that waits at one source; whether there may be more.
+    // Takes the next connection in that waits at one source; whether there may be more. Where the loop has as many as it may, they wait there
+    // until one closes.
     fn accept_one<R: Wait>(&mut self, rt: &R, place: usize) -> bool
         ensures { Stays self.old self.new }
     {
+        if self.connections.count() >= self.most {
+            return false;
+        }
         match self.next_at(place) {
             Accepted::Stream(stream) => {
-                // Without memory, and past the limit, the connection is closed at once.
+                // Without memory the connection is closed at once.
                 let _ = self.admit(rt, place, stream);
                 true
             }
@@ -68,9 +69,6 @@ impl<N: Network + Drop, D: Dir + Drop, A: Allocator + Copy> InLoop<N, D, A> {
         requires { N.Stream.origin stream ≡ CameAt place }
         ensures { Stays self.old self.new }
     {
-        if self.connections.count() >= MOST_CONNECTIONS {
-            return Ok(());
-        }
         let Some(key) = self.connections.make_room()? else {
             return Ok(());
         };
@@ -78,11 +76,12 @@ impl<N: Network + Drop, D: Dir + Drop, A: Allocator + Copy> InLoop<N, D, A> {
         if self.network.watch(&mut stream, key).is_err() {
             return Ok(());
         }
+        let time = self.time;
         let nonce = self.nonces.draw();
         let Some(peer) = peer_at(self.alloc, &self.listeners, place, nonce)? else {
             return Ok(());
         };
-        self.put(rt, key, Connection::new(stream, peer, place));
+        self.put(rt, key, Connection::new(stream, peer, place, time));
         Ok(())
     }
 

@@ -6,6 +6,7 @@ ghost use Rattle.mio_relay.specs.Connections.{ArePortsOf, served_as};
 
 use crate::connections::Connections;
 use crate::in_loop::{InLoop, PIECE};
+use crate::limits::{descriptor_limit, most_connections};
 use crate::listener::{Listener, listen};
 use crate::ready::ReadyPorts;
 use ack_receipt::Numbers;
@@ -130,6 +131,7 @@ impl<N: Network + Drop, A: Allocator + Copy> BoundRelay<N, A> {
             ready,
             notes: Vec::new(alloc),
             connections: Connections::new(alloc),
+            most: most_connections(descriptor_limit()),
             piece,
             lanes,
             buffers,

@@ -1,9 +1,10 @@
 //! A client's connection: its stream, its session, and what is known of the stream.
 
-ghost use Rattle.std.specs.Prelude.{ℕ, ◌≡◌, ◌≤◌, ◌+◌, ◌⊎◌, Err, IsErr, Ok, OnErr, OnOk, false, true, length, take};
+ghost use Rattle.std.specs.Prelude.{ℕ, ◌≡◌, ◌≤◌, ◌+◌, ◌⊎◌, ◌↔◌, Err, IsErr, IsTrue, Ok, OnErr, OnOk, false, true, length, take};
 ghost use Rattle.buffer_lanes.specs.Lanes.{KeepsLanes, NoneLater};
 ghost use Rattle.loop_core.specs.declared.fault.LoopFault.TheVariants as ends;
-ghost use Rattle.mio_relay.specs.Connections.{AreReceived, Brings, ConnectionState, IsFlushed, IsReceived, IsSameConnection, IsSettled, IsWrittenOn, MayClose, MayRead, most_pieces};
+ghost use Rattle.mio_relay.specs.Holding.{held_by};
+ghost use Rattle.mio_relay.specs.Connections.{AreReceived, Brings, ConnectionState, IsDone, IsFlushed, IsLate, IsReceived, IsSameConnection, IsSettled, IsWrittenOn, MayClose, MayRead, most_pieces};
 
 use ack_receipt::Numbers;
 use buffer_lanes::Lanes;
@@ -38,8 +39,11 @@ const MOST_OUTGOING: usize = 1_048_576;
 /// How many pieces a turn reads from a connection; then the others have their turn.
 const MOST_PIECES: usize = 4;
 
-/// A client's stream with its session. Contracts see where the stream came in and what went over it, the session, and whether the stream
-/// failed or takes no bytes for now.
+/// How long a client has to show the key, in milliseconds.
+const TIME_FOR_PING: u64 = 10_000;
+
+/// A client's stream with its session. Contracts see where and when the stream came in and what went over it, the session, and whether the
+/// stream failed or takes no bytes for now.
 ///
 /// It is no `Drop`, as its session isn't: `into_parts` ends it.
 pub struct Connection<S: Wire, A: Allocator> {
@@ -57,6 +61,10 @@ pub struct Connection<S: Wire, A: Allocator> {
     is_broken: bool,
     // The place of the source at which it came in: there it is told of.
     source: usize,
+    // When it came in, by the time of the loop, in milliseconds.
+    came: u64,
+    // It held most of what isn't whole, of which there was too much.
+    is_shed: bool,
 }
 
 impl<S: Wire, A: Allocator> Model for Connection<S, A> {
@@ -66,6 +74,7 @@ impl<S: Wire, A: Allocator> Model for Connection<S, A> {
 
     ghost view = { λ c. record {
       origin = S.origin c.stream;
+      came = c.came;
       traffic = S.traffic c.stream;
       peer = c.peer;
       is_broken = c.is_broken;
@@ -81,9 +90,9 @@ pub struct ConnectionParts<S: Wire, A: Allocator> {
 }
 
 impl<S: Wire, A: Allocator + Copy> Connection<S, A> {
-    /// A stream that was just accepted, with its session, at the source with this place.
-    pub fn new(stream: S, peer: Peer<A>, source: usize) -> Self
-        ensures { result ≡ record { origin = S.origin stream; traffic = S.traffic stream; peer = peer; is_broken = false; is_blocked = false; has_ended = false } }
+    /// A stream that was just accepted, with its session, at the source with this place, and at this time in milliseconds.
+    pub fn new(stream: S, peer: Peer<A>, source: usize, time: u64) -> Self
+        ensures { result ≡ record { origin = S.origin stream; came = time; traffic = S.traffic stream; peer = peer; is_broken = false; is_blocked = false; has_ended = false } }
     {
         Connection {
             stream,
@@ -94,6 +103,8 @@ impl<S: Wire, A: Allocator + Copy> Connection<S, A> {
             is_blocked: false,
             is_broken: false,
             source,
+            came: time,
+            is_shed: false,
         }
     }
 
@@ -102,9 +113,14 @@ impl<S: Wire, A: Allocator + Copy> Connection<S, A> {
         self.source
     }
 
-    /// Why it is to be closed, where the client is the cause.
-    pub fn why(&self) -> Option<Closing> {
-        self.peer.why()
+    /// Why it is closed at this time, where the client is the cause.
+    pub fn why(&self, time: u64) -> Option<Closing> {
+        match self.peer.why() {
+            Some(closing) => Some(closing),
+            None if self.is_shed => Some(Closing::HeldMost),
+            None if self.is_late(time) => Some(Closing::LateKey),
+            None => None,
+        }
     }
 
     /// The network says that bytes can be read, or the end; or that bytes can be written.
@@ -224,6 +240,24 @@ impl<S: Wire, A: Allocator + Copy> Connection<S, A> {
         0
     }
 
+    /// How many bytes of what isn't whole it holds; none where it is broken, since it is to be closed.
+    pub fn held_len(&self) -> usize
+        ensures { result ≡ held_by self.now }
+    {
+        if self.is_broken {
+            return 0;
+        }
+        self.peer.held_len()
+    }
+
+    /// It is broken off, since it holds most of what isn't whole, of which there is too much.
+    pub fn shed(&mut self)
+        ensures { self.new ≡ record self.old { is_broken = true } }
+    {
+        self.is_broken = true;
+        self.is_shed = true;
+    }
+
     /// Ends the deliveries that have what they wait for.
     pub fn settle<R: Wait, D: Dir + Drop>(&mut self, rt: &R, alloc: A, lanes: &mut Lanes<D, A>)
         ensures same { IsSameConnection self.old self.new }
@@ -262,10 +296,26 @@ impl<S: Wire, A: Allocator + Copy> Connection<S, A> {
         }
     }
 
-    /// Whether the connection is to be closed now: the stream failed; or nothing more is read, and all was written that
-    /// the client takes. A client that ended its own sending is waited for, for as long as it takes.
-    pub fn is_over(&self) -> bool
-        ensures { result ≡ true → MayClose self.now }
+    /// Whether the connection is to be closed at this time, in milliseconds: it is done, or its client hasn't shown the key that it had ten
+    /// seconds to show.
+    pub fn is_over(&self, time: u64) -> bool
+        ensures may { result ≡ true → MayClose time self.now }
+        ensures late { result ≡ false → IsLate time self.now → ⊥ }
+    {
+        self.is_late(time) || self.is_done()
+    }
+
+    // Whether its client hasn't shown the key that it has to show, and the time for that is over.
+    fn is_late(&self, time: u64) -> bool
+        ensures { IsTrue result ↔ IsLate time self.now }
+    {
+        self.peer.awaits_ping() && time.saturating_sub(self.came) > TIME_FOR_PING
+    }
+
+    // Whether the stream failed; or nothing more is read, and all was written that the client takes. A client that ended its own sending is
+    // waited for, for as long as it takes.
+    fn is_done(&self) -> bool
+        ensures { result ≡ true → IsDone self.now }
     {
         if self.peer.is_waiting() {
             return false;
@@ -293,6 +343,8 @@ impl<S: Wire, A: Allocator + Copy> Connection<S, A> {
             is_blocked: _,
             is_broken: _,
             source: _,
+            came: _,
+            is_shed: _,
         } = self;
         ConnectionParts { stream, peer }
     }

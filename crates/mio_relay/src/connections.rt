@@ -1,10 +1,12 @@
 //! The connections of a loop, by their keys.
 
-ghost use Rattle.std.specs.Prelude.{◌≡◌, ◌+◌, [], List, true, length, IfSome, IsSomeAnd};
+ghost use Rattle.std.specs.Prelude.{ℕ, ◌≡◌, ◌≤◌, ◌+◌, [], List, Option, false, true, length, slice_index_or, IfSome, IsSomeAnd};
 ghost use Rattle.buffer_lanes.specs.Lanes.{KeepsLanes, NoneLater};
-ghost use Rattle.mio_relay.specs.Connections.{AreFlushed, AreFlushedBelow, AreServed, AreSettled, AreSettledBelow, GoOn, GoesOn, HoldsFlushed, HoldsNone, IsServed, MayClose, Served};
+ghost use Rattle.mio_relay.specs.Holding.{HoldsMost, held_in, most_held};
+ghost use Rattle.mio_relay.specs.Connections.{AreFlushed, AreFlushedBelow, AreInTime, AreInTimeBelow, AreServed, AreSettled, AreSettledBelow, GoOn, GoesOn, ConnectionState, HoldsFlushed, HoldsInTime, HoldsNone, IsServed, MayClose, Served};
 
 use crate::connection::{Connection, ConnectionParts, NoNumber};
+use crate::holding::{heaviest_of, held_in};
 use ack_receipt::Numbers;
 use buffer_lanes::Lanes;
 use disk_files::Dir;
@@ -84,19 +86,52 @@ impl<S: Wire + Drop, A: Allocator + Copy> Connections<S, A> {
         slot.replace(connection)
     }
 
-    /// Takes the connection at this key, if there is one that is to be closed now.
-    pub fn take(&mut self, key: usize) -> Option<Connection<S, A>>
+    /// Takes the connection at this key, if there is one that is to be closed at this time.
+    pub fn take(&mut self, key: usize, time: u64) -> Option<Connection<S, A>>
         ensures goes { GoOn self.old self.new }
+        ensures keys { length self.new ≡ length self.old }
         ensures settled { AreSettled self.old → AreSettled self.new }
         ensures flushed { AreFlushed self.old → AreFlushed self.new }
-        ensures over { IfSome result MayClose }
+        ensures over { IfSome result (MayClose time) }
+        ensures in_time { AreInTimeBelow time key self.old → AreInTimeBelow time (key + 1) self.new }
     {
         let Some(slot) = self.slots.get_mut(key) else {
             return None;
         };
-        let taken = take_slot(slot)?;
-        let _ = self.keys.try_remove(key);
-        Some(taken)
+        let taken = take_slot(slot, time);
+        if taken.is_some() {
+            let _ = self.keys.try_remove(key);
+        }
+        taken
+    }
+
+    /// How many bytes of what isn't whole they hold together; or some number past what they may hold, where it is more.
+    pub fn held(&self) -> usize
+        ensures { result ≤ most_held → held_in self.now ≤ most_held }
+    {
+        held_in(&self.slots)
+    }
+
+    /// The key of one that holds no less of what isn't whole than any other.
+    pub fn heaviest(&self) -> usize
+        ensures { HoldsMost result self.now }
+    {
+        heaviest_of(&self.slots)
+    }
+
+    /// The connection at this key is broken off, since it holds most of what isn't whole.
+    pub fn shed(&mut self, key: usize)
+        ensures goes { GoOn self.old self.new }
+        ensures keys { length self.new ≡ length self.old }
+        ensures settled { AreSettled self.old → AreSettled self.new }
+        ensures flushed { AreFlushed self.old → AreFlushed self.new }
+        ensures in_time { (time : ℕ) → AreInTime time self.old → AreInTime time self.new }
+        ensures others { (k : ℕ) (none : Option ConnectionState) → (k ≡ key → ⊥) → slice_index_or self.new k none ≡ slice_index_or self.old k none }
+    {
+        let Some(slot) = self.slots.get_mut(key) else {
+            return;
+        };
+        shed_slot(slot);
     }
 
     /// The network says this of the connection at this key.
@@ -184,25 +219,43 @@ impl<S: Wire + Drop, A: Allocator + Copy> Connections<S, A> {
     }
 }
 
-// Takes the connection, if there is one that is to be closed now.
+// Takes the connection, if there is one that is to be closed at this time.
 fn take_slot<S: Wire, A: Allocator + Copy>(
     slot: &mut Option<Connection<S, A>>,
+    time: u64,
 ) -> Option<Connection<S, A>>
     ensures goes { GoesOn slot.old slot.new }
     ensures settled { HoldsNone slot.old → HoldsNone slot.new }
     ensures flushed { HoldsFlushed slot.old → HoldsFlushed slot.new }
-    ensures over { IfSome result MayClose }
+    ensures over { IfSome result (MayClose time) }
+    ensures in_time { HoldsInTime time slot.new }
 {
-    if is_over_at(slot) { slot.take() } else { None }
+    if is_over_at(slot, time) {
+        slot.take()
+    } else {
+        None
+    }
 }
 
-// Whether there is a connection that is to be closed now.
-fn is_over_at<S: Wire, A: Allocator + Copy>(slot: &Option<Connection<S, A>>) -> bool
-    ensures { result ≡ true → IsSomeAnd slot.now MayClose }
+// Whether there is a connection that is to be closed at this time.
+fn is_over_at<S: Wire, A: Allocator + Copy>(slot: &Option<Connection<S, A>>, time: u64) -> bool
+    ensures over { result ≡ true → IsSomeAnd slot.now (MayClose time) }
+    ensures in_time { result ≡ false → HoldsInTime time slot.now }
 {
     match slot {
-        Some(connection) => connection.is_over(),
+        Some(connection) => connection.is_over(time),
         None => false,
+    }
+}
+
+fn shed_slot<S: Wire, A: Allocator + Copy>(slot: &mut Option<Connection<S, A>>)
+    ensures goes { GoesOn slot.old slot.new }
+    ensures settled { HoldsNone slot.old → HoldsNone slot.new }
+    ensures flushed { HoldsFlushed slot.old → HoldsFlushed slot.new }
+    ensures in_time { (time : ℕ) → HoldsInTime time slot.old → HoldsInTime time slot.new }
+{
+    if let Some(connection) = slot {
+        connection.shed();
     }
 }
 

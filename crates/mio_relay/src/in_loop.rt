@@ -1,12 +1,13 @@
 //! The loop that takes messages in.
 
-ghost use Rattle.std.specs.Prelude.{◌≡◌, [], Err, None, Ok, map, IfErr, IfOk, IfSome, OnOk};
+ghost use Rattle.std.specs.Prelude.{◌≡◌, ◌≤◌, [], Err, None, Ok, map, IfErr, IfOk, IfSome, OnOk};
 ghost use Rattle.std.specs.Arc.{arc_value};
 ghost use Rattle.relay_buffers.specs.Buffers.{AreBuffersOf};
 ghost use Rattle.relay_ports.specs.Outputs.{outputs_in};
 ghost use Rattle.relay_ports.specs.Setups.{CanRun};
 ghost use Rattle.buffer_lanes.specs.Lanes.{AppendsWait, NoneLater};
-ghost use Rattle.mio_relay.specs.Connections.{AreFlushed, AreServed, AreSettled, sources_of};
+ghost use Rattle.mio_relay.specs.Connections.{AreFlushed, AreInTime, AreServed, AreSettled, sources_of};
+ghost use Rattle.mio_relay.specs.Holding.{held_in, most_held};
 ghost use Rattle.mio_relay.specs.Loops.{OnlyLaterWait, Rests, Stays};
 ghost use Rattle.mio_relay.specs.Faults.{IsReason, IsTold, fault_in, of_network, told_of};
 
@@ -50,6 +51,8 @@ pub struct InLoop<N: Network + Drop, D: Dir + Drop, A: Allocator> {
     // What the network said last.
     pub(crate) notes: Vec<Note, A>,
     pub(crate) connections: Connections<N::Stream, A>,
+    // How many connections it has at most.
+    pub(crate) most: usize,
     pub(crate) piece: Vec<u8, A>,
     pub(crate) lanes: Lanes<D, A>,
     pub(crate) buffers: Vec<Arc<SharedBuffer<D, A>, A>, A>,
@@ -273,6 +276,10 @@ impl<N: Network + Drop, D: Dir + Drop, A: Allocator + Copy> InLoop<N, D, A> {
         ensures redeemed { OnOk result (OnlyLaterWait self.new.lanes) }
         // What is outgoing was written, as far as the clients take it.
         ensures flushed { OnOk result (AreFlushed self.new.connections) }
+        // No connection stands whose client should have shown the key before this time.
+        ensures in_time { OnOk result (AreInTime self.new.time self.new.connections) }
+        // Connections that aren't to be closed hold no more of what isn't whole than they may.
+        ensures held { OnOk result (held_in self.new.connections ≤ most_held) }
         // Where the network refuses to wait, that is the error.
         ensures refused { IfSome self.old.refusal (λ fault. result ≡ Err (of_network fault)) }
     {
@@ -291,6 +298,8 @@ impl<N: Network + Drop, D: Dir + Drop, A: Allocator + Copy> InLoop<N, D, A> {
         ensures came { IfErr result (IsReason self.new.lanes.fault) }
         ensures redeemed { OnOk result (OnlyLaterWait self.new.lanes) }
         ensures flushed { OnOk result (AreFlushed self.new.connections) }
+        ensures in_time { OnOk result (AreInTime self.new.time self.new.connections) }
+        ensures held { OnOk result (held_in self.new.connections ≤ most_held) }
         ensures refused { IfSome self.old.refusal (λ fault. result ≡ Err (of_network fault)) }
     {
         self.wait()?;
@@ -302,6 +311,7 @@ impl<N: Network + Drop, D: Dir + Drop, A: Allocator + Copy> InLoop<N, D, A> {
         self.renew(rt);
         self.write_all(rt);
         self.close_all(rt);
+        self.shed(rt);
         read?;
         match self.lanes.fault() {
             Some(fault) => Err(LoopFault::Buffer(fault)),
@@ -397,6 +407,7 @@ impl<N: Network + Drop, D: Dir + Drop, A: Allocator + Copy> InLoop<N, D, A> {
             ready: _,
             notes: _,
             connections,
+            most: _,
             piece: _,
             mut lanes,
             buffers: _,

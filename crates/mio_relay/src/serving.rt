@@ -1,13 +1,15 @@
 //! The connections of a loop: what is ready, read, answered, written and closed.
 
-ghost use Rattle.std.specs.Prelude.{◌≡◌, ◌+◌, Err, length, IfErr, IfSome};
+ghost use Rattle.std.specs.Prelude.{◌≡◌, ◌≤◌, ◌+◌, Err, length, IfErr, IfSome};
 ghost use Rattle.buffer_lanes.specs.Lanes.{NoneLater};
 ghost use Rattle.mio_relay.specs.Faults.{IsReason, of_network};
+ghost use Rattle.mio_relay.specs.Holding.{ShedsMost, held_in, most_held};
 ghost use Rattle.mio_relay.specs.Loops.{Rests, Stays};
-ghost use Rattle.mio_relay.specs.Connections.{AreFlushed, AreFlushedBelow, AreSettled, AreSettledBelow, GoOn};
+ghost use Rattle.mio_relay.specs.Connections.{AreFlushed, AreFlushedBelow, AreInTime, AreInTimeBelow, AreSettled, AreSettledBelow, GoOn};
 
 use crate::connection::{Connection, ConnectionParts, NoNumber};
 use crate::connections::Connections;
+use crate::holding::MOST_HELD;
 use crate::in_loop::InLoop;
 use crate::listener::loop_fault;
 use disk_files::Dir;
@@ -127,10 +129,12 @@ impl<N: Network + Drop, D: Dir + Drop, A: Allocator + Copy> InLoop<N, D, A> {
         self.connections.write(key, rt);
     }
 
-    // Closes the connections that are over.
+    // Closes the connections that are over at this time.
     pub(crate) fn close_all<R: Wait>(&mut self, rt: &R)
         ensures stays { Stays self.old self.new }
         ensures rests { Rests self.old self.new }
+        ensures time { self.new.time ≡ self.old.time }
+        ensures in_time { AreInTime self.old.time self.new.connections }
     {
         for key in 0..self.connections.key_end() {
             self.close(rt, key);
@@ -140,23 +144,54 @@ impl<N: Network + Drop, D: Dir + Drop, A: Allocator + Copy> InLoop<N, D, A> {
     fn close<R: Wait>(&mut self, rt: &R, key: usize)
         ensures stays { Stays self.old self.new }
         ensures rests { Rests self.old self.new }
+        ensures time { self.new.time ≡ self.old.time }
+        ensures keys { length self.new.connections ≡ length self.old.connections }
+        ensures in_time { AreInTimeBelow self.old.time key self.old.connections → AreInTimeBelow self.old.time (key + 1) self.new.connections }
     {
-        if let Some(connection) = self.connections.take(key) {
-            tell_closed(rt, &self.clients, &connection);
+        if let Some(connection) = self.connections.take(key, self.time) {
+            tell_closed(rt, &self.clients, &connection, self.time);
             let ConnectionParts { stream, peer } = connection.into_parts();
             self.network.close(stream);
             peer.end(rt, &mut self.lanes);
         }
     }
+
+    // While connections hold too much of what isn't whole, breaks off the one that holds most of it: the next turn closes it.
+    pub(crate) fn shed<R: Wait>(&mut self, rt: &R)
+        ensures stays { Stays self.old self.new }
+        ensures rests { Rests self.old self.new }
+        ensures in_time { AreInTime self.old.time self.old.connections → AreInTime self.new.time self.new.connections }
+        ensures held { held_in self.new.connections ≤ most_held }
+    {
+        for _ in rt.forever() {
+            if self.connections.held() <= MOST_HELD {
+                return;
+            }
+            self.shed_one();
+        }
+        unreachable!()
+    }
+
+    // Breaks off a connection that holds no less of what isn't whole than any other.
+    fn shed_one(&mut self)
+        ensures stays { Stays self.old self.new }
+        ensures rests { Rests self.old self.new }
+        ensures in_time { AreInTime self.old.time self.old.connections → AreInTime self.new.time self.new.connections }
+        ensures most { ShedsMost self.old.connections self.new.connections }
+    {
+        let key = self.connections.heaviest();
+        self.connections.shed(key);
+    }
 }
 
-// A connection is closed: it is told, where there is something to tell.
+// A connection is closed at this time: it is told, where there is something to tell.
 fn tell_closed<R: Wait, S: Wire, A: Allocator + Copy>(
     rt: &R,
     clients: &Teller<A>,
     connection: &Connection<S, A>,
+    time: u64,
 ) {
-    if let Some(closing) = connection.why() {
+    if let Some(closing) = connection.why(time) {
         clients.tell(rt, connection.source(), Notice::Closed(closing));
     }
 }

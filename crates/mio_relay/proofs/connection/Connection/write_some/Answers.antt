@@ -9,7 +9,7 @@ returns-in-Some-clause-written g c =
     let all : c.outgoing.result.now ≡ c.self.inside.peer.session.outgoing = c.outgoing.ensures in
     rw (← c.self.view_is)
     (written_some
-    (record { origin = g.S.Wire.origin c.self.inside.stream; traffic = g.S.Wire.traffic c.self.inside.stream; peer = c.self.inside.peer; is_broken = c.self.inside.is_broken; is_blocked = c.self.inside.is_blocked; has_ended = c.self.inside.has_ended })
-    (record { origin = g.S.Wire.origin c.put.new.self; traffic = g.S.Wire.traffic c.put.new.self; peer = c.sent.new.self; is_broken = c.self.inside.is_broken; is_blocked = c.self.inside.is_blocked; has_ended = c.self.inside.has_ended })
+    (record { origin = g.S.Wire.origin c.self.inside.stream; came = c.self.inside.came; traffic = g.S.Wire.traffic c.self.inside.stream; peer = c.self.inside.peer; is_broken = c.self.inside.is_broken; is_blocked = c.self.inside.is_blocked; has_ended = c.self.inside.has_ended })
+    (record { origin = g.S.Wire.origin c.put.new.self; came = c.self.inside.came; traffic = g.S.Wire.traffic c.put.new.self; peer = c.sent.new.self; is_broken = c.self.inside.is_broken; is_blocked = c.self.inside.is_blocked; has_ended = c.self.inside.has_ended })
     c.in-Some.n (ap (λ p. p.session.outgoing) c.sent.ensures)
     (subst (λ (l : List ℕ). Conveys (g.S.Wire.traffic c.self.inside.stream) (g.S.Wire.traffic c.put.new.self) (take c.in-Some.n l) []) all c.in-Some.ensures.bytes.1))

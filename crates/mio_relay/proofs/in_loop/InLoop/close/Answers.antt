@@ -1,7 +1,8 @@
-use Rattle.std.proofs.Common.{◌∙◌, List, ap, refl, sym, subst}
+use Rattle.std.proofs.Common.{◌∙◌, ◌+◌, List, ap, refl, sym, subst}
 use Rattle.buffer_lanes.specs.Lanes.{LanesState}
 use Rattle.relay_sockets.specs.Endpoints.{Endpoint}
-use Rattle.mio_relay.specs.Connections.{AreListening}
+use Rattle.mio_relay.specs.Connections.{AreInTimeBelow, AreListening}
+use Rattle.mio_relay.specs.Loops.{LoopState}
 use Rattle.mio_relay.proofs.Staying.{rests_on, stays_on}
 use Rattle.mio_relay.proofs.in_loop.InLoop.close.Goals as goal
 
@@ -24,3 +25,11 @@ returns-in-Some-clause-rests g c =
 
 pub returns-in_default-clause-rests : goal.returns-in_default-clause-rests
 returns-in_default-clause-rests g c = rests_on _ _ _ c.self.view_is refl refl c.take.ensures.settled c.take.ensures.flushed
+
+pub returns-in-Some-clause-in_time : goal.returns-in-Some-clause-in_time
+returns-in-Some-clause-in_time g c =
+    subst (λ (l : LoopState _). AreInTimeBelow l.time c.args.key l.connections → AreInTimeBelow l.time (c.args.key + 1) c.take.new.self) c.self.view_is c.take.ensures.in_time
+
+pub returns-in_default-clause-in_time : goal.returns-in_default-clause-in_time
+returns-in_default-clause-in_time g c =
+    subst (λ (l : LoopState _). AreInTimeBelow l.time c.args.key l.connections → AreInTimeBelow l.time (c.args.key + 1) c.take.new.self) c.self.view_is c.take.ensures.in_time

@@ -1,7 +1,34 @@
-use Rattle.mio_relay.proofs.Staying.{rests_more, stays_more}
+use Rattle.std.proofs.Common.{◌∙◌, ◌+◌, ℕ, ap, arith, length, refl, subst}
+use Rattle.mio_relay.specs.Connections.{AreInTimeBelow, HoldsInTime}
+use Rattle.mio_relay.specs.Loops.{LoopState}
+use Rattle.mio_relay.proofs.Slots.{all_in_time, none_below}
+use Rattle.mio_relay.proofs.Staying.{rests_more, rests_same, stays_more, stays_same}
 use Rattle.mio_relay.proofs.in_loop.InLoop.close_all.Goals as goal
 
 pub loop-key-preserved : goal.loop-key-preserved
 loop-key-preserved g c =
     let was = c.loop-key.invariant in
-    (stays_more c.args.self.now c.loop-key.self c.close.new.self was.0 c.close.ensures.stays, rests_more c.args.self.now c.loop-key.self c.close.new.self was.1 c.close.ensures.rests)
+    record {
+      stays = stays_more c.args.self.now c.loop-key.self c.close.new.self was.stays c.close.ensures.stays;
+      rests = rests_more c.args.self.now c.loop-key.self c.close.new.self was.rests c.close.ensures.rests;
+      time = c.close.ensures.time ∙ was.time;
+      keys = c.close.ensures.keys ∙ was.keys;
+      in_time =
+          subst (λ (t : ℕ). AreInTimeBelow t c.loop-key.key c.loop-key.self.connections → AreInTimeBelow t (c.loop-key.key + 1) c.close.new.self.connections) was.time
+          c.close.ensures.in_time was.in_time;
+    }
+
+pub loop-key-init : goal.loop-key-init
+loop-key-init g c = record {
+  stays = stays_same c.args.self.now;
+  rests = rests_same c.args.self.now;
+  time = refl;
+  keys = refl;
+  in_time = none_below (HoldsInTime c.args.self.now.time) c.args.self.now.connections;
+}
+
+pub returns-clause-in_time : goal.returns-clause-in_time
+returns-clause-in_time g c =
+    all_in_time c.args.self.now.time c.loop-key.self.connections c.loop-key.key
+    (omega (arith, c.loop-key.invariant.keys, c.key_end-key-end.ensures, ap (λ (l : LoopState _). length l.connections) c.self.view_is, c.loop-key-test.false))
+    c.loop-key.invariant.in_time

@@ -1,7 +1,8 @@
-use Rattle.std.proofs.Common.{subst, sym}
+use Rattle.std.proofs.Common.{◌≤◌, subst, sym}
 use Rattle.std.specs.Prelude.{OnOk}
 use Rattle.buffer_lanes.specs.Lanes.{NoneLater}
-use Rattle.mio_relay.specs.Connections.{AreFlushed, AreSettled}
+use Rattle.mio_relay.specs.Connections.{AreFlushed, AreInTime, AreSettled}
+use Rattle.mio_relay.specs.Holding.{held_in, most_held}
 use Rattle.mio_relay.specs.Loops.{LoopState, OnlyLaterWait}
 use Rattle.mio_relay.proofs.in_loop.InLoop.turn.Goals as goal
 
@@ -16,3 +17,11 @@ returns-clause-redeemed g c =
 pub returns-clause-flushed : goal.returns-clause-flushed
 returns-clause-flushed g c =
     subst (λ (l : LoopState _). OnOk c.turn_once-turned.result (AreFlushed l.connections)) (sym c.self.view_is) c.turn_once-turned.ensures.flushed
+
+pub returns-clause-in_time : goal.returns-clause-in_time
+returns-clause-in_time g c =
+    subst (λ (l : LoopState _). OnOk c.turn_once-turned.result (AreInTime l.time l.connections)) (sym c.self.view_is) c.turn_once-turned.ensures.in_time
+
+pub returns-clause-held : goal.returns-clause-held
+returns-clause-held g c =
+    subst (λ (l : LoopState _). OnOk c.turn_once-turned.result (held_in l.connections ≤ most_held)) (sym c.self.view_is) c.turn_once-turned.ensures.held

@@ -1,7 +1,8 @@
-use Rattle.std.proofs.Common.{◌∙◌, ap, subst}
+use Rattle.std.proofs.Common.{◌∙◌, ℕ, ap, subst, sym}
 use Rattle.buffer_lanes.specs.Lanes.{LanesState, NoneLater}
+use Rattle.mio_relay.specs.Connections.{AreInTime}
 use Rattle.mio_relay.proofs.Slots.{on_ok}
-use Rattle.mio_relay.proofs.Staying.{only_later_still, stays_more}
+use Rattle.mio_relay.proofs.Staying.{only_later_still, rests_more, stays_more}
 use Rattle.mio_relay.proofs.in_loop.InLoop.turn_once.Goals as goal
 
 pub returns-clause-stays : goal.returns-clause-stays
@@ -14,25 +15,36 @@ returns-clause-stays g c =
     let ended = stays_more old c.store.new.self c.settle_all.new.self stored c.settle_all.ensures.stays in
     let renewed = stays_more old c.settle_all.new.self c.renew.new.self ended c.renew.ensures.stays in
     let written = stays_more old c.renew.new.self c.write_all.new.self renewed c.write_all.ensures.stays in
-    stays_more old c.write_all.new.self c.close_all.new.self written c.close_all.ensures.stays
+    let closed = stays_more old c.write_all.new.self c.close_all.new.self written c.close_all.ensures.stays in
+    stays_more old c.close_all.new.self c.shed.new.self closed c.shed.ensures.stays
 
 pub returns-clause-settled : goal.returns-clause-settled
 returns-clause-settled g c =
+    let rests = rests_more c.write_all.new.self c.close_all.new.self c.shed.new.self c.close_all.ensures.rests c.shed.ensures.rests in
     let same =
-    c.close_all.ensures.rests.later ∙ ap (λ (l : LanesState _). l.later) c.write_all.ensures.lanes ∙ c.renew.ensures.rests.later
+    rests.later ∙ ap (λ (l : LanesState _). l.later) c.write_all.ensures.lanes ∙ c.renew.ensures.rests.later
     ∙ ap (λ (l : LanesState _). l.later) c.settle_all.ensures.lanes in
     on_ok c.match-fault.result _
-    (λ none. c.close_all.ensures.rests.settled (c.write_all.ensures.settled (c.renew.ensures.rests.settled (c.settle_all.ensures.settled (subst NoneLater same none)))))
+    (λ none. rests.settled (c.write_all.ensures.settled (c.renew.ensures.rests.settled (c.settle_all.ensures.settled (subst NoneLater same none)))))
 
 pub returns-clause-redeemed : goal.returns-clause-redeemed
 returns-clause-redeemed g c =
+    let rests = rests_more c.write_all.new.self c.close_all.new.self c.shed.new.self c.close_all.ensures.rests c.shed.ensures.rests in
     let waiting =
-    c.close_all.ensures.rests.waiting ∙ ap (λ (l : LanesState _). l.waiting) c.write_all.ensures.lanes ∙ c.renew.ensures.rests.waiting
+    rests.waiting ∙ ap (λ (l : LanesState _). l.waiting) c.write_all.ensures.lanes ∙ c.renew.ensures.rests.waiting
     ∙ ap (λ (l : LanesState _). l.waiting) c.settle_all.ensures.lanes in
     let later =
-    c.close_all.ensures.rests.later ∙ ap (λ (l : LanesState _). l.later) c.write_all.ensures.lanes ∙ c.renew.ensures.rests.later
+    rests.later ∙ ap (λ (l : LanesState _). l.later) c.write_all.ensures.lanes ∙ c.renew.ensures.rests.later
     ∙ ap (λ (l : LanesState _). l.later) c.settle_all.ensures.lanes in
-    on_ok c.match-fault.result _ (only_later_still c.store.new.self.lanes c.close_all.new.self.lanes waiting later c.store.ensures.redeemed)
+    on_ok c.match-fault.result _ (only_later_still c.store.new.self.lanes c.shed.new.self.lanes waiting later c.store.ensures.redeemed)
 
 pub returns-clause-flushed : goal.returns-clause-flushed
-returns-clause-flushed g c = on_ok c.match-fault.result _ (c.close_all.ensures.rests.flushed c.write_all.ensures.flushed)
+returns-clause-flushed g c = on_ok c.match-fault.result _ (c.shed.ensures.rests.flushed (c.close_all.ensures.rests.flushed c.write_all.ensures.flushed))
+
+pub returns-clause-in_time : goal.returns-clause-in_time
+returns-clause-in_time g c =
+    on_ok c.match-fault.result _
+    (c.shed.ensures.in_time (subst (λ (t : ℕ). AreInTime t c.close_all.new.self.connections) (sym c.close_all.ensures.time) c.close_all.ensures.in_time))
+
+pub returns-clause-held : goal.returns-clause-held
+returns-clause-held g c = on_ok c.match-fault.result _ c.shed.ensures.held
