@@ -1,10 +1,11 @@
-//! Steps that come without an end.
+//! Texts that come without an end.
 
-use plan_answers::run_replay;
+use plan_answers::{run_check, run_replay};
 use program_text::{Open, Status};
 use std::io;
 use std::io::{ErrorKind, Read};
 use std::test::Fail;
+use stream_listing::run_decode;
 
 const PLAN: &str = "relay 1 127.0.0.1 one one.conf
 client 1 24224 **
@@ -75,6 +76,53 @@ impl Read for Endless {
             None => Ok(0),
         }
     }
+}
+
+// Configurations that don't end.
+struct EndlessTexts;
+
+impl Open for EndlessTexts {
+    ghost use Rattle.std.specs.Prelude.{None};
+
+    ghost text_of = { λ _ _. None };
+
+    type Reader = Endless;
+
+    fn open(&self, _name: &str) -> io::Result<Endless> {
+        Ok(Endless { calls: 0 })
+    }
+}
+
+#[test]
+fn a_plan_without_an_end_is_not_read(rt: HostRuntime) -> Result<(), Fail> {
+    let mut out = Vec::new(rt.alloc());
+    let mut plan = Endless { calls: 0 };
+    let status = run_check(rt.alloc(), &mut plan, &OneText, &mut out);
+    assert_eq!(rt; out.as_slice(), b"fault read\n".as_slice());
+    assert_eq!(rt; status, Status::Usage);
+    assert_eq!(rt; plan.calls, 16_777_216);
+    Ok(())
+}
+
+#[test]
+fn a_configuration_without_an_end_is_not_read(rt: HostRuntime) -> Result<(), Fail> {
+    let mut out = Vec::new(rt.alloc());
+    let status = run_check(rt.alloc(), &mut PLAN.as_bytes(), &EndlessTexts, &mut out);
+    assert_eq!(rt; out.as_slice(), b"fault read\n".as_slice());
+    assert_eq!(rt; status, Status::Usage);
+    Ok(())
+}
+
+// White space alone is no byte: it is passed over for as long as it is read.
+#[test]
+fn white_space_without_an_end_is_not_read(rt: HostRuntime) -> Result<(), Fail> {
+    let mut out = Vec::new(rt.alloc());
+    let mut text = Endless { calls: 0 };
+    let status = run_decode(rt.alloc(), &mut text, &mut out);
+    assert_eq!(rt; out.as_slice(), b"fault read\n".as_slice());
+    assert_eq!(rt; status, Status::Usage);
+    assert_eq!(rt; text.calls, 16_777_216);
+    Ok(())
 }
 
 #[test]
