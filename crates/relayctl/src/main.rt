@@ -5,6 +5,7 @@ mod blanks;
 mod check;
 mod draw;
 mod drops;
+mod events;
 mod explain;
 mod faults;
 mod label;
@@ -16,6 +17,7 @@ use conf_listing::run_adapt;
 use deliberate_drops::DropName;
 use draw::run_draw;
 use drops::{DropNames, add_listed, print_misspelt, read_names};
+use events::print_events;
 use explain::run_explain;
 use folder_listing::{DataFolder, run_show};
 use label::{run_fresh_label, run_label};
@@ -30,10 +32,10 @@ use std::{env, io};
 use words::{CheckWords, Word, read_word};
 
 const USAGE: &str =
-    "usage: relayctl check NET [--drop MATCH].. [--drops FILE].. | check --adapt NET [--accept NAME].. [--drop MATCH].. [--drops FILE].. | label [--fresh] NET | explain NET [--drop MATCH].. [--drops FILE].. | draw NET [--dot] | ways CONF TAG.. | ways --plan NET TAG.. | adapt CONF [--accept NAME].. | show DIR | --help | --version";
+    "usage: relayctl check NET [--drop MATCH].. [--drops FILE].. | check --adapt NET [--accept NAME].. [--drop MATCH].. [--drops FILE].. | label [--fresh] NET | explain NET [--drop MATCH].. [--drops FILE].. | draw NET [--dot] | ways CONF TAG.. | ways --plan NET TAG.. | adapt CONF [--accept NAME].. | show DIR | events PATH.. [--tag PATTERN].. [--since TIME] [--until TIME] | --help | --version";
 
 const HELP: &str =
-    "usage: relayctl check NET [--drop MATCH].. [--drops FILE].. | check --adapt NET [--accept NAME].. [--drop MATCH].. [--drops FILE].. | label [--fresh] NET | explain NET [--drop MATCH].. [--drops FILE].. | draw NET [--dot] | ways CONF TAG.. | ways --plan NET TAG.. | adapt CONF [--accept NAME].. | show DIR | --help | --version
+    "usage: relayctl check NET [--drop MATCH].. [--drops FILE].. | check --adapt NET [--accept NAME].. [--drop MATCH].. [--drops FILE].. | label [--fresh] NET | explain NET [--drop MATCH].. [--drops FILE].. | draw NET [--dot] | ways CONF TAG.. | ways --plan NET TAG.. | adapt CONF [--accept NAME].. | show DIR | events PATH.. [--tag PATTERN].. [--since TIME] [--until TIME] | --help | --version
 
 check NET        labels the plan NET, and prints `yes`, with warnings of what may keep events from
                  arriving, or every rule that is broken then, each with what it means, what mends
@@ -57,6 +59,9 @@ adapt CONF       prints the configuration CONF, as it runs in Fluentd, in the fo
                  reads, or what of it changes what the relay does; --accept NAME accepts that
 show DIR         prints which chunks the journals in a relay's data folder DIR hold,
                  and how many events its sinks hold
+events PATH..    prints the events that sinks hold, each as a line of JSON; PATH is a file of a
+                 sink, as all.0000000001.sink, or a relay's data folder; --tag PATTERN: those
+                 whose tag matches; --since TIME: not those before; --until TIME: those before
 --help           prints this
 --version        prints the version
 
@@ -106,6 +111,7 @@ fn run<A: Allocator>(rt: &HostRuntime, word: Option<Word<'_, A>>) -> Status {
             run_adapt(rt.alloc(), &mut folder.text(conf), accepted, out)
         }
         Some(Word::Show(path)) => show_folder(rt, path, out),
+        Some(Word::Events(asked)) => print_events(rt, &asked, out),
         None => usage(rt),
     }
 }

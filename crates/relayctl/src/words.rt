@@ -1,6 +1,7 @@
 //! What the words of the command line ask for.
 
 use crate::draw::Drawing;
+use crate::events::{EventWords, event_words};
 use std::alloc::{AllocError, Allocator};
 
 /// What the program is asked to do; a path is taken from the working folder.
@@ -28,6 +29,8 @@ pub enum Word<'a, A: Allocator> {
     Adapt(&'a str, &'a [String]),
     /// Show what the journals in the data folder at this path hold.
     Show(&'a str),
+    /// Print events that sinks hold.
+    Events(EventWords<'a, A>),
 }
 
 /// Which plan is checked or explained, and how.
@@ -54,11 +57,14 @@ pub fn read_word<A: Allocator + Copy>(
     match words {
         [_, first, behind @ ..] if first.as_str() == "check" => check_word(alloc, behind),
         [_, first, behind @ ..] if first.as_str() == "explain" => explain_word(alloc, behind),
+        [_, first, behind @ ..] if first.as_str() == "events" => {
+            Ok(event_words(alloc, behind)?.map(|asked| Word::Events(asked)))
+        }
         _ => Ok(other_word(words)),
     }
 }
 
-// The same of words that ask for neither a check nor an explanation.
+// The same of words that ask for neither a check, an explanation nor events.
 fn other_word<A: Allocator>(words: &[String]) -> Option<Word<'_, A>> {
     if words.len() < 2 {
         return None;

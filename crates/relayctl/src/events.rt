@@ -1,0 +1,238 @@
+//! The word `events`: which files are read, and which of their events are printed.
+
+use event_listing::{Choice, run_events};
+use folder_listing::{DataFile, DataFolder, Kind};
+use jiff::Timestamp;
+use program_text::{Folder, ReadFault, Status};
+use std::alloc::{AllocError, AllocFailed, Allocator, Global};
+use std::io::Write;
+use tag_pattern::{Pattern, PatternError};
+
+/// What stands behind `events`.
+#[derive(Drop)]
+pub struct EventWords<'a, A: Allocator> {
+    /// The paths of sinks' files, or one of a data folder.
+    pub paths: Vec<&'a str, A>,
+    /// The patterns of tags: what stands behind each `--tag`.
+    pub tags: Vec<&'a str, A>,
+    /// The first time: what stands behind `--since`.
+    pub since: Option<&'a str>,
+    /// The time before which they are: what stands behind `--until`.
+    pub until: Option<&'a str>,
+}
+
+// What an option waits for.
+#[derive(Clone, Copy, Debug, PartialEq, Eq)]
+enum Awaited {
+    // Nothing: none stands in front.
+    Nothing,
+    // A pattern of tags.
+    Tag,
+    // The first time.
+    Since,
+    // The time before which they are.
+    Until,
+}
+
+/// Reads what stands behind `events`, in any order: one path or more, `--tag` and a pattern as often as wanted, and once each `--since` and `--until`
+/// and a time. `None` where something is missing or can't stand there. The only error is want of memory.
+pub fn event_words<A: Allocator + Copy>(
+    alloc: A,
+    words: &[String],
+) -> Result<Option<EventWords<'_, A>>, AllocError> {
+    let mut asked = EventWords {
+        paths: Vec::new(alloc),
+        tags: Vec::new(alloc),
+        since: None,
+        until: None,
+    };
+    let mut awaited = Awaited::Nothing;
+    for word in words {
+        match asked.take(awaited, word)? {
+            Some(next) => awaited = next,
+            None => return Ok(None),
+        }
+    }
+    if awaited != Awaited::Nothing || asked.paths.is_empty() {
+        return Ok(None);
+    }
+    Ok(Some(asked))
+}
+
+impl<'a, A: Allocator> EventWords<'a, A> {
+    // Takes the next word, for which an option may wait. It answers what is waited for then; none where the word can't stand here.
+    fn take(&mut self, awaited: Awaited, word: &'a str) -> Result<Option<Awaited>, AllocError> {
+        match awaited {
+            Awaited::Nothing => return self.begin(word),
+            Awaited::Tag => self.tags.push(word)?,
+            Awaited::Since => self.since = Some(word),
+            Awaited::Until => self.until = Some(word),
+        }
+        Ok(Some(Awaited::Nothing))
+    }
+
+    // Takes a word behind none that waits for one.
+    fn begin(&mut self, word: &'a str) -> Result<Option<Awaited>, AllocError> {
+        Ok(match word {
+            "--tag" => Some(Awaited::Tag),
+            "--since" if self.since.is_none() => Some(Awaited::Since),
+            "--until" if self.until.is_none() => Some(Awaited::Until),
+            path if !path.as_bytes().starts_with(b"--") => {
+                self.paths.push(path)?;
+                Some(Awaited::Nothing)
+            }
+            _ => None,
+        })
+    }
+}
+
+// Why nothing is printed.
+#[derive(Drop)]
+enum Fault<'a> {
+    // A text is no pattern.
+    Tag(&'a str, PatternError),
+    // A text is no time as RFC 3339 writes it.
+    Time(&'a str),
+    // A path is neither that of a sink's file nor the only one.
+    Path(&'a str),
+    // Memory ran out, or the folder can't be read.
+    Unread(ReadFault),
+}
+
+impl From<ReadFault> for Fault<'_> {
+    fn from(fault: ReadFault) -> Self {
+        Fault::Unread(fault)
+    }
+}
+
+impl From<AllocError> for Fault<'_> {
+    fn from(_: AllocError) -> Self {
+        Fault::Unread(ReadFault::Memory)
+    }
+}
+
+impl<T: Drop> From<AllocFailed<T>> for Fault<'_> {
+    fn from(_: AllocFailed<T>) -> Self {
+        Fault::Unread(ReadFault::Memory)
+    }
+}
+
+/// Prints the events that are asked for, of sinks' files or of those in a data folder. What is found beside them stands on standard error.
+pub fn print_events<'a, A: Allocator, W: Write>(
+    rt: &'a HostRuntime,
+    asked: &EventWords<'a, A>,
+    out: &mut W,
+) -> Status {
+    match print_chosen(rt, asked, out) {
+        Ok(status) => status,
+        Err(fault) => {
+            say(rt, fault);
+            Status::Usage
+        }
+    }
+}
+
+// The same; or why nothing is printed.
+fn print_chosen<'a, A: Allocator, W: Write>(
+    rt: &'a HostRuntime,
+    asked: &EventWords<'a, A>,
+    out: &mut W,
+) -> Result<Status, Fault<'a>> {
+    let choice = choice_of(rt, asked)?;
+    match asked.paths.as_slice() {
+        [path] if !is_sink(path) => print_folder(rt, path, &choice, out),
+        paths => print_files(rt, paths, &choice, out),
+    }
+}
+
+// Which events are asked for.
+fn choice_of<'a, A: Allocator>(
+    rt: &HostRuntime,
+    asked: &EventWords<'a, A>,
+) -> Result<Choice<Global>, Fault<'a>> {
+    let mut patterns = Vec::new(rt.alloc());
+    for text in &asked.tags {
+        match Pattern::read(rt.alloc(), text) {
+            Ok(plains) => {
+                for plain in plains {
+                    patterns.push(plain)?;
+                }
+            }
+            Err(PatternError::Memory) => return Err(Fault::Unread(ReadFault::Memory)),
+            Err(fault) => return Err(Fault::Tag(text, fault)),
+        }
+    }
+    Ok(Choice {
+        patterns,
+        since: time_of(asked.since)?,
+        until: time_of(asked.until)?,
+    })
+}
+
+// The time that a text says, in nanoseconds since the beginning of 1970.
+fn time_of(text: Option<&str>) -> Result<Option<i128>, Fault<'_>> {
+    match text {
+        None => Ok(None),
+        Some(text) => match text.parse::<Timestamp>() {
+            Ok(time) => Ok(Some(time.as_nanosecond())),
+            Err(_) => Err(Fault::Time(text)),
+        },
+    }
+}
+
+// Whether a path is that of a sink's file.
+fn is_sink(path: &str) -> bool {
+    path.ends_with(".sink")
+}
+
+// Prints the events of the sinks' files in a data folder. Where there are none, that is said on standard error.
+fn print_folder<'a, W: Write>(
+    rt: &'a HostRuntime,
+    path: &'a str,
+    choice: &Choice<Global>,
+    out: &mut W,
+) -> Result<Status, Fault<'a>> {
+    let folder = DataFolder::new(rt, path);
+    let mut names = Vec::new(rt.alloc());
+    for file in folder.files(rt.alloc())? {
+        let DataFile { name, kind } = file;
+        if kind == Kind::Sink {
+            names.push(name)?;
+        }
+    }
+    if names.is_empty() {
+        let _ = eprintln!(rt; "{path}: no sinks are there");
+    }
+    Ok(run_events(rt.alloc(), choice, &names, &folder, out, &mut rt.stderr()))
+}
+
+// Prints the events of sinks' files.
+fn print_files<'a, W: Write>(
+    rt: &'a HostRuntime,
+    paths: &[&'a str],
+    choice: &Choice<Global>,
+    out: &mut W,
+) -> Result<Status, Fault<'a>> {
+    let mut names = Vec::new(rt.alloc());
+    for path in paths {
+        if !is_sink(path) {
+            return Err(Fault::Path(path));
+        }
+        names.push(String::from_str(rt.alloc(), path)?)?;
+    }
+    let folder = Folder::saying(rt);
+    Ok(run_events(rt.alloc(), choice, &names, &folder, out, &mut rt.stderr()))
+}
+
+// Says on standard error why nothing is printed.
+fn say(rt: &HostRuntime, fault: Fault<'_>) {
+    let _ = match fault {
+        Fault::Tag(text, why) => eprintln!(rt; "fault tag {text}: {why}"),
+        Fault::Time(text) => eprintln!(rt; "fault time {text}: not as RFC 3339 writes one"),
+        Fault::Path(path) => eprintln!(rt;
+            "fault path {path}: no file of a sink, and not the only path"
+        ),
+        Fault::Unread(ReadFault::Memory) => eprintln!(rt; "fault memory"),
+        Fault::Unread(ReadFault::Read) => eprintln!(rt; "fault read"),
+    };
+}
