@@ -6,6 +6,10 @@
 //                                                               be answered once, by its own name
 //   relay reach PORT BYTES MESSAGES FILE    sends so many messages of one event of so many bytes, each once the one before stands in the
 //                                           sink's file, and prints the middle one of the times that this took, in milliseconds
+//   relay waits PORT SECONDS  sends a message of one event of 200 bytes each two milliseconds for so long, each once the one before was
+//                             answered, and prints how long an answer took in milliseconds, 99 of 100 at most and the worst, and how
+//                             many were sent
+//   relay huge PORT ENTRIES   sends one message of so many entries of three bytes, and prints how long its answer took, in seconds
 //   relay each PORT FILE      receives: appends each message to the file, syncs, and answers
 //   relay batch PORT FILE     the same with one sync for all that a poll brought
 #include <arpa/inet.h>
@@ -317,6 +321,44 @@ static void reach(int port, unsigned size, unsigned long messages, const char *p
   printf("%.1f\n", took[messages / 2]);
 }
 
+// Sends a message, and says how long its answer took, in milliseconds.
+static double asked(uint8_t *bytes, size_t length) {
+  uint8_t awaited = 1;
+  double began = now();
+  send_one(&all[0], bytes, length, 0);
+  while (all[0].under_way > 0) {
+    check(fill(&all[0]), "the connection is lost");
+    take_answers(&all[0], &awaited, 1);
+  }
+  return 1000 * (now() - began);
+}
+
+static void waits(int port, unsigned seconds) {
+  static uint8_t bytes[ROOM];
+  size_t length = message(bytes, 1, 200), most = 500 * seconds, done = 0;
+  double *took = malloc(most * sizeof *took), began = now();
+  connect_to(port);
+  while (done < most && (done == 0 || now() - began < seconds)) {
+    struct timespec pause = {.tv_nsec = 2000000};
+    took[done++] = asked(bytes, length);
+    nanosleep(&pause, 0);
+  }
+  qsort(took, done, sizeof *took, is_later);
+  printf("%.1f %.1f %zu\n", took[done - 1 - done / 100], took[done - 1], done);
+}
+
+static void huge(int port, unsigned long entries) {
+  uint8_t *bytes = malloc(3 * entries + 64), *at = bytes;
+  memcpy(at, "\x93\xa5" "app.x\xc6", 8);
+  at += 8;
+  for (unsigned i = 0; i < 4; i++) *at++ = 3 * entries >> (24 - 8 * i);
+  for (unsigned long i = 0; i < entries; i++, at += 3) memcpy(at, "\x92\x00\x80", 3);
+  memcpy(at, "\x81\xa5" "chunk", 7);
+  at[7] = 0xa0 | ID;
+  connect_to(port);
+  printf("%.2f\n", asked(bytes, at + 8 + ID - bytes) / 1000);
+}
+
 int main(int n, char **words) {
   if (n == 8 && strcmp(words[1], "load") == 0) {
     load(atoi(words[2]), atoi(words[3]), atoi(words[4]), atoi(words[5]), atoi(words[6]), atol(words[7]));
@@ -324,6 +366,14 @@ int main(int n, char **words) {
   }
   if (n == 6 && strcmp(words[1], "reach") == 0) {
     reach(atoi(words[2]), atoi(words[3]), atol(words[4]), words[5]);
+    return 0;
+  }
+  if (n == 4 && strcmp(words[1], "waits") == 0) {
+    waits(atoi(words[2]), atoi(words[3]));
+    return 0;
+  }
+  if (n == 4 && strcmp(words[1], "huge") == 0) {
+    huge(atoi(words[2]), atol(words[3]));
     return 0;
   }
   if (n == 4) receive(atoi(words[2]), words[3], strcmp(words[1], "each") == 0);
