@@ -1,0 +1,138 @@
+//! The bytes of a message reach a relay piece by piece, and what the relay makes of it is told.
+
+use crate::judge::Judge;
+use crate::run::Run;
+use event_modes::{Message, Read, read};
+use loop_core::Peer;
+use relay_ports::Branches;
+use simulated_relays::{Appended, Disk, Link, OpenSite, Site};
+use std::alloc::{AllocError, Global};
+use std::sync::Wait;
+
+impl<'n, D: Disk + Drop> Run<'n, D> {
+    /// Some bytes of a connection reach the relay.
+    pub fn reach<R: Wait>(&mut self, rt: &R, at: usize) -> Result<(), AllocError> {
+        let alloc = self.alloc;
+        let Some(link) = self.links.get_mut(at) else {
+            return Ok(());
+        };
+        let Some(site) = self.sites.get_mut(link.to) else {
+            return Ok(());
+        };
+        let len = link.client.outgoing().len();
+        if link.is_over || len == 0 {
+            return Ok(());
+        }
+        let some = self.dice.below(len);
+        let count = if self.dice.once_in(2) { len } else { some };
+        if let Some(open) = &mut site.open
+            && !take_in(rt, alloc, open, link, count)?
+        {
+            self.judge.fail(format!(in alloc; "message {} isn't taken in", link.message)?);
+        }
+        if link.client.outgoing().is_empty() {
+            note_delivery(rt, alloc, site, link, &mut self.judge)?;
+        }
+        Ok(())
+    }
+}
+
+// Some bytes reach the relay; `false` where it can't take them.
+fn take_in<R: Wait, D: Disk + Drop>(
+    rt: &R,
+    alloc: Global,
+    open: &mut OpenSite<D>,
+    link: &mut Link,
+    count: usize,
+) -> Result<bool, AllocError> {
+    let outgoing = link.client.outgoing();
+    let piece = Vec::from_slice(alloc, outgoing.split_at(count.min(outgoing.len())).0)?;
+    let mut peer = match link.peer.take() {
+        Some(peer) => peer,
+        None => {
+            let Some(inlet) = open.inlets.get(link.source) else {
+                return Ok(false);
+            };
+            Peer::open(alloc, inlet, None, [0; 16])?
+        }
+    };
+    let taken = peer.receive(rt, alloc, &piece, &mut open.lanes, &mut open.numbers);
+    if let Some(other) = link.peer.replace(peer) {
+        other.end(rt, &mut open.lanes);
+    }
+    if piece.len() <= link.client.outgoing().len() {
+        link.client.sent(piece.len());
+    }
+    Ok(taken.is_ok())
+}
+
+// The whole message is there: what the relay makes of it is told. Where a buffer refused it, each append of it may be there or not.
+fn note_delivery<R: Wait, D: Disk + Drop>(
+    rt: &R,
+    alloc: Global,
+    site: &mut Site<D>,
+    link: &mut Link,
+    judge: &mut Judge<'_>,
+) -> Result<(), AllocError> {
+    let Read::Message(message, _) = read(alloc, &link.bytes)? else {
+        judge.fail(format!(in alloc; "message {} isn't one", link.message)?);
+        return Ok(());
+    };
+    let Some(branches) = branches(alloc, site, link.source, &message)? else {
+        return Ok(());
+    };
+    judge.tell(format!(in alloc; "begin {}", link.message)?)?;
+    let delivery = judge.next_delivery();
+    link.delivery = Some(delivery);
+    if !link.peer.as_ref().is_some_and(|peer| peer.is_waiting()) {
+        site.refuse(format!(in alloc; "message {} is refused", link.message)?);
+    }
+    for buffer in &branches.buffers {
+        let tag = branches.tag.as_bytes();
+        note_append(rt, alloc, site, judge, delivery, buffer.0, tag, &message)?;
+    }
+    Ok(())
+}
+
+// Where the relay's matches send the message.
+fn branches<D: Disk + Drop>(
+    alloc: Global,
+    site: &Site<D>,
+    source: usize,
+    message: &Message<Global>,
+) -> Result<Option<Branches<Global>>, AllocError> {
+    let Some(open) = &site.open else {
+        return Ok(None);
+    };
+    match open.inlets.get(source) {
+        Some(inlet) => inlet.branches(alloc, message),
+        None => Ok(None),
+    }
+}
+
+// The delivery was appended to this buffer: to its next chunk where that is there now, and else to the one that grows.
+fn note_append<R: Wait, D: Disk + Drop>(
+    rt: &R,
+    alloc: Global,
+    site: &mut Site<D>,
+    judge: &mut Judge<'_>,
+    delivery: u64,
+    buffer: usize,
+    tag: &[u8],
+    message: &Message<Global>,
+) -> Result<(), AllocError> {
+    let next = site.chunks.next_of(buffer);
+    let serial = if site.is_live(rt, buffer, next) {
+        next
+    } else {
+        site.chunks.staged(buffer, tag).unwrap_or(next)
+    };
+    let line = judge.tell(format!(in alloc; "append {delivery} {buffer} {serial}")?)?;
+    let append = Appended {
+        delivery,
+        line,
+        bytes: Vec::from_slice(alloc, message.entries.as_bytes())?,
+        is_synced: false,
+    };
+    site.chunks.append(alloc, buffer, serial, tag, append)
+}

@@ -1,0 +1,229 @@
+//! A run of a network: what happens is drawn, and at the end each relay is stopped and looked at.
+
+use crate::dice::Dice;
+use crate::judge::Judge;
+use crate::run::Run;
+use crate::stock::give_all_back;
+use buffer_lanes::Lanes;
+use custody_core::is_kept_as;
+use loss_checker::{Answer, Plan};
+use simulated_relays::{Disk, Link, Site};
+use std::alloc::{AllocError, Global};
+use std::sync::Wait;
+use std::time::Clock;
+
+/// The port of a network's first source; those of the relay behind it are ten higher.
+pub const FIRST_PORT: u16 = 24_000;
+
+/// Runs the network of this plan, whose relays have these configurations and the numbers from the first on, and says what is wrong, with the
+/// steps so far; `None` where nothing is. The checker's answer to the plan says whether each event has to be kept.
+pub fn play<R: Wait + Clock, D: Disk + Drop>(
+    rt: &R,
+    alloc: Global,
+    first: u32,
+    confs: &[Vec<u8>],
+    plan: &Plan<Global>,
+    answer: Answer,
+    dice: Dice,
+) -> Result<Option<String>, AllocError> {
+    let spare = Lanes::with_capacity(alloc, 0)?;
+    let mut run: Run<'_, D> = Run {
+        alloc,
+        dice,
+        judge: Judge::new(alloc, plan.net()),
+        sites: Vec::new(alloc),
+        links: Vec::new(alloc),
+        held: Vec::new(alloc),
+        spare,
+        events: 0,
+    };
+    let played = run.play(rt, first, confs, plan, answer);
+    let said = run.end(rt);
+    played?;
+    said
+}
+
+impl<'n, D: Disk + Drop> Run<'n, D> {
+    fn play<R: Wait + Clock>(
+        &mut self,
+        rt: &R,
+        first: u32,
+        confs: &[Vec<u8>],
+        plan: &Plan<Global>,
+        answer: Answer,
+    ) -> Result<(), AllocError> {
+        let mut number = first;
+        for conf in confs {
+            self.add_site(rt, number, conf.as_slice())?;
+            number = number.saturating_add(1);
+        }
+        let acts = self.dice.below(200).saturating_add(20);
+        for _ in 0..acts {
+            if self.judge.wrong().is_some() {
+                return Ok(());
+            }
+            self.act(rt)?;
+            self.restart_where(rt, true)?;
+        }
+        self.restart_where(rt, false)?;
+        if answer == Answer::Yes {
+            self.ask_for_all(plan)?;
+        }
+        Ok(())
+    }
+
+    // A relay that opens.
+    fn add_site<R: Wait>(&mut self, rt: &R, number: u32, conf: &[u8]) -> Result<(), AllocError> {
+        let at = self.sites.len();
+        self.sites.reserve(1)?;
+        self.sites
+            .push_reserved(Site::new(self.alloc, number, conf)?);
+        let Some(site) = self.sites.get_mut(at) else {
+            return Ok(());
+        };
+        if !site.open(rt, self.alloc, None)? {
+            self.judge
+                .fail(format!(in self.alloc; "relay {number} doesn't open")?);
+        }
+        Ok(())
+    }
+
+    // One part moves.
+    fn act<R: Wait + Clock>(&mut self, rt: &R) -> Result<(), AllocError> {
+        let (sites, links) = (self.sites.len(), self.links.len());
+        let site = self.dice.below(sites);
+        let buffers = self.buffers_of(site);
+        let buffer = self.dice.below(buffers);
+        let link = self.dice.below(links);
+        match self.dice.below(24) {
+            0..=2 => self.send(),
+            3..=7 => self.reach(rt, link),
+            8..=10 => self.store(rt, site),
+            11..=13 => self.hear(rt, link),
+            14..=17 => self.claim(rt, site, buffer),
+            18..=21 => self.work_on(rt),
+            22 => self.drop_oldest_or_cut(rt, site, buffer, link),
+            _ => self.restart_at_times(rt, site),
+        }
+    }
+
+    // Each relay that refuses, or each, stops and opens again.
+    fn restart_where<R: Wait>(&mut self, rt: &R, refuses: bool) -> Result<(), AllocError> {
+        for at in 0..self.sites.len() {
+            let is_refusing = self.sites.get(at).is_some_and(|site| site.is_refusing());
+            if is_refusing || !refuses {
+                let keep = self.keep();
+                self.restart(rt, at, keep, None)?;
+            }
+        }
+        Ok(())
+    }
+
+    // How many buffers a relay has.
+    fn buffers_of(&self, site: usize) -> usize {
+        match self.sites.get(site) {
+            Some(site) => site.count_buffers(),
+            None => 0,
+        }
+    }
+
+    // A worker goes on, if there is one.
+    fn work_on<R: Wait + Clock>(&mut self, rt: &R) -> Result<(), AllocError> {
+        let count = self.held.len();
+        let at = self.dice.below(count);
+        let name = self.held.get(at).map(|held| held.name());
+        match name {
+            Some(name) => self.work(rt, name),
+            None => Ok(()),
+        }
+    }
+
+    fn drop_oldest_or_cut<R: Wait>(
+        &mut self,
+        rt: &R,
+        site: usize,
+        buffer: usize,
+        link: usize,
+    ) -> Result<(), AllocError> {
+        if self.dice.once_in(2) {
+            return self.drop_oldest(rt, site, buffer);
+        }
+        if let Some(link) = self.links.get_mut(link)
+            && let Some(site) = self.sites.get_mut(link.to)
+            && let Some(open) = &mut site.open
+        {
+            link.hang_up(rt, &mut open.lanes);
+        }
+        Ok(())
+    }
+
+    fn restart_at_times<R: Wait>(&mut self, rt: &R, site: usize) -> Result<(), AllocError> {
+        if self.dice.once_in(2) {
+            let keep = self.keep();
+            let passes = self.passes();
+            return self.restart(rt, site, keep, passes);
+        }
+        Ok(())
+    }
+
+    // Each event that was acknowledged to a client is kept as the plan asks.
+    fn ask_for_all(&mut self, plan: &Plan<Global>) -> Result<(), AllocError> {
+        for number in 0..self.judge.world.acknowledged().len() {
+            if !is_kept_as(&self.judge.world, plan.duty(), number)? {
+                self.judge
+                    .fail(format!(in self.alloc; "event {number} isn't kept")?);
+            }
+        }
+        Ok(())
+    }
+
+    // Ends all that runs, and says what is wrong.
+    fn end<R: Wait>(self, rt: &R) -> Result<Option<String>, AllocError> {
+        let Run {
+            alloc,
+            dice: _,
+            judge,
+            sites,
+            links,
+            held,
+            mut spare,
+            events: _,
+        } = self;
+        end_links(rt, links, &mut spare);
+        give_all_back(rt, held);
+        let _ = spare.end(rt);
+        end_sites(rt, sites);
+        said(alloc, &judge)
+    }
+}
+
+// What is wrong, with the steps so far.
+fn said(alloc: Global, judge: &Judge<'_>) -> Result<Option<String>, AllocError> {
+    let Some(what) = judge.wrong() else {
+        return Ok(None);
+    };
+    let mut text = format!(in alloc; "# {what}\n")?;
+    for line in &judge.lines {
+        if !line.is_empty() {
+            text.push_str(line.as_str())?;
+            text.push_str("\n")?;
+        }
+    }
+    Ok(Some(text))
+}
+
+fn end_links<R: Wait, D: Disk + Drop>(rt: &R, links: Vec<Link>, spare: &mut Lanes<D, Global>) {
+    let mut rest = links.into_iter();
+    while let Some(link) = rest.next() {
+        link.end(rt, spare);
+    }
+    rest.destroy_empty();
+}
+
+fn end_sites<R: Wait, D: Disk + Drop>(rt: &R, sites: Vec<Site<D>>) {
+    let mut rest = sites.into_iter();
+    while let Some(site) = rest.next() {
+        site.end(rt);
+    }
+    rest.destroy_empty();
+}

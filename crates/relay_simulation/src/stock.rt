@@ -1,0 +1,193 @@
+//! The chunks of a relay that was opened again are held against what was told.
+
+use crate::judge::Judge;
+use ack_receipt::SharedBuffer;
+use simulated_relays::{Chunk, Disk, Found, Held, Site, Stage};
+use std::alloc::{AllocError, Global};
+use std::mem;
+use std::sync::{Arc, Wait};
+
+/// Goes through the chunks of a relay that was opened, and takes steps out that the stop lost: whether there were any.
+pub fn take_stock<R: Wait, D: Disk + Drop>(
+    rt: &R,
+    alloc: Global,
+    site: &mut Site<D>,
+    judge: &mut Judge<'_>,
+) -> Result<bool, AllocError> {
+    let mut undone = false;
+    let all = mem::replace(&mut site.chunks.all, Vec::new(alloc));
+    for chunk in all {
+        if let Some(chunk) = kept(rt, alloc, site, judge, chunk, &mut undone)? {
+            site.chunks.all.push(chunk)?;
+        }
+    }
+    let buffers = match &mut site.open {
+        Some(open) => {
+            open.lanes.queue_due(rt);
+            open.buffers.len()
+        }
+        None => 0,
+    };
+    for buffer in 0..buffers {
+        if look_into(rt, alloc, site, judge, buffer)? {
+            undone = true;
+        }
+    }
+    Ok(undone)
+}
+
+// What is known of a chunk behind the stop; nothing where it is lost as it may be.
+fn kept<R: Wait, D: Disk + Drop>(
+    rt: &R,
+    alloc: Global,
+    site: &mut Site<D>,
+    judge: &mut Judge<'_>,
+    chunk: Chunk,
+    undone: &mut bool,
+) -> Result<Option<Chunk>, AllocError> {
+    let mut chunk = chunk;
+    let (buffer, serial) = (chunk.buffer, chunk.serial);
+    if site.is_in_memory(buffer) {
+        site.chunks.restart_at(buffer, 0);
+        return Ok(None);
+    }
+    match (chunk.stage, site.is_live(rt, buffer, serial)) {
+        (Stage::Gone, true) => {
+            judge.take_out(chunk.went);
+            chunk.stage = Stage::Queued;
+            *undone = true;
+        }
+        (Stage::Gone, false) => {}
+        (Stage::Claimed, true) => chunk.stage = Stage::Queued,
+        (_, true) => {}
+        (_, false) => {
+            if !chunk.may_be_lost() {
+                judge.fail(format!(in alloc; "chunk {}/{buffer}/{serial} is lost", site.number)?);
+            }
+            take_out_from(judge, &chunk, 0);
+            *undone = true;
+            site.chunks.restart_at(buffer, serial);
+            return Ok(None);
+        }
+    }
+    Ok(Some(chunk))
+}
+
+// Takes out the appends of the chunk from this one on.
+fn take_out_from(judge: &mut Judge<'_>, chunk: &Chunk, from: usize) {
+    for append in chunk.appends.iter().skip(from) {
+        judge.take_out(append.line);
+    }
+}
+
+// Reads each chunk of a buffer, and gives it back: whether some of its appends are lost.
+fn look_into<R: Wait, D: Disk + Drop>(
+    rt: &R,
+    alloc: Global,
+    site: &mut Site<D>,
+    judge: &mut Judge<'_>,
+    buffer: usize,
+) -> Result<bool, AllocError> {
+    let all = match &site.open {
+        Some(open) => match open.buffers.get(buffer) {
+            Some(shared) => claim_all(rt, alloc, buffer, shared),
+            None => Vec::new(alloc),
+        },
+        None => Vec::new(alloc),
+    };
+    let looked = look_at_all(rt, alloc, site, judge, buffer, &all);
+    give_all_back(rt, all);
+    looked
+}
+
+// Claims all that is queued.
+fn claim_all<R: Wait, D: Disk + Drop>(
+    rt: &R,
+    alloc: Global,
+    buffer: usize,
+    shared: &Arc<SharedBuffer<D, Global>>,
+) -> Vec<Held<D>> {
+    let mut all = Vec::new(alloc);
+    for _ in 0..10_000u32 {
+        if all.reserve(1).is_err() {
+            return all;
+        }
+        match Held::claim(rt, 0, buffer, shared) {
+            Some(held) => all.push_reserved(held),
+            None => return all,
+        }
+    }
+    all
+}
+
+/// Gives these claims back.
+pub fn give_all_back<R: Wait, D: Disk + Drop>(rt: &R, all: Vec<Held<D>>) {
+    let mut rest = all.into_iter();
+    while let Some(held) = rest.next() {
+        held.give_back(rt);
+    }
+    rest.destroy_empty();
+}
+
+fn look_at_all<R: Wait, D: Disk + Drop>(
+    rt: &R,
+    alloc: Global,
+    site: &mut Site<D>,
+    judge: &mut Judge<'_>,
+    buffer: usize,
+    all: &[Held<D>],
+) -> Result<bool, AllocError> {
+    let mut undone = false;
+    for held in all {
+        let claim = held.as_claim();
+        let bytes = body(rt, alloc, held)?;
+        let number = site.number;
+        match site.chunks.find(buffer, claim.serial()) {
+            Some(chunk) if chunk.tag.as_slice() == claim.tag() => {
+                undone = look_at(alloc, number, judge, chunk, &bytes)? || undone;
+            }
+            _ => judge.fail(format!(in alloc;
+                "chunk {number}/{buffer}/{} was never told",
+                claim.serial()
+            )?),
+        }
+    }
+    Ok(undone)
+}
+
+// The bytes of a claimed chunk's entries; none where they can't be read.
+fn body<R: Wait, D: Disk + Drop>(
+    rt: &R,
+    alloc: Global,
+    held: &Held<D>,
+) -> Result<Vec<u8>, AllocError> {
+    match held.body(rt) {
+        Some(entries) => Vec::from_slice(alloc, entries.as_bytes()),
+        None => Ok(Vec::new(alloc)),
+    }
+}
+
+// Holds what was found of a chunk against what was told: whether a stop lost some of it.
+fn look_at(
+    alloc: Global,
+    number: u32,
+    judge: &mut Judge<'_>,
+    chunk: &mut Chunk,
+    bytes: &[u8],
+) -> Result<bool, AllocError> {
+    match chunk.found(bytes) {
+        Found::First(count) if chunk.stage != Stage::Gone => {
+            let is_whole = count >= chunk.appends.len();
+            take_out_from(judge, chunk, count);
+            chunk.appends.truncate(count);
+            Ok(!is_whole)
+        }
+        _ => {
+            judge.fail(format!(in alloc;
+                "chunk {number}/{}/{} holds something else",
+                chunk.buffer, chunk.serial
+            )?);
+            Ok(false)
+        }
+    }
+}

@@ -1,0 +1,149 @@
+//! A network, drawn: a plan and the configuration of each of its relays, as texts.
+
+use relay_simulation::{Dice, FIRST_PORT};
+use std::alloc::{AllocError, Global};
+
+/// A network's texts, and the number of its first relay: those of the others follow.
+#[derive(Drop)]
+pub struct Drawing {
+    pub first: u32,
+    pub plan: String,
+    pub confs: Vec<Vec<u8>>,
+}
+
+// Where a text is being drawn: the relay's place, how many relays there are, and how many outputs it has so far.
+#[derive(Drop)]
+struct Place {
+    at: usize,
+    count: usize,
+    outputs: usize,
+}
+
+/// Draws a network of one to three relays, each of which sends to those behind it, with two clients.
+pub fn draw(alloc: Global, dice: &mut Dice) -> Result<Drawing, AllocError> {
+    let count = dice.below(3).saturating_add(1);
+    let first = dice.below(100) as u32 + 1;
+    let mut plan = String::new(alloc);
+    let mut confs = Vec::new(alloc);
+    for at in 0..count {
+        let number = at.saturating_add(first as usize);
+        plan.push_str(format!(in alloc;
+            "relay {number} 127.0.0.1 {number} {number}.conf\n"
+        )?.as_str())?;
+        confs.push(relay(alloc, dice, at, count)?.into_bytes())?;
+    }
+    for source in 0..2usize {
+        let port = port_of(0, source);
+        plan.push_str(format!(in alloc; "client {first} {port} a.** b\n")?.as_str())?;
+    }
+    Ok(Drawing { first, plan, confs })
+}
+
+// A relay with two sources, and with matches of which the last takes every tag.
+fn relay(alloc: Global, dice: &mut Dice, at: usize, count: usize) -> Result<String, AllocError> {
+    let mut text = sources(alloc, dice, at)?;
+    let mut place = Place {
+        at,
+        count,
+        outputs: 0,
+    };
+    let labelled = dice.once_in(4);
+    for pattern in &["a.*", "*.a.*", "{b,p.b}", "**"] {
+        if *pattern != "**" && dice.once_in(2) {
+            continue;
+        }
+        let rule = rule(alloc, dice, &mut place, pattern, labelled)?;
+        text.push_str(rule.as_str())?;
+    }
+    if labelled {
+        let rule = rule(alloc, dice, &mut place, "**", false)?;
+        text.push_str("<label @ON>\n")?;
+        text.push_str(rule.as_str())?;
+        text.push_str("</label>\n")?;
+    }
+    Ok(text)
+}
+
+// The port of a source of the relay at this place.
+fn port_of(at: usize, source: usize) -> usize {
+    at.saturating_mul(10)
+        .saturating_add(source)
+        .saturating_add(FIRST_PORT as usize)
+}
+
+// Its sources, of which the second may put a prefix in front of tags.
+fn sources(alloc: Global, dice: &mut Dice, at: usize) -> Result<String, AllocError> {
+    let port = port_of(at, 0);
+    let prefix = if dice.once_in(2) {
+        "  add_tag_prefix p\n"
+    } else {
+        ""
+    };
+    let next = port_of(at, 1);
+    format!(in alloc;
+        "<source>\n  @type forward\n  port {port}\n</source>\n<source>\n  @type forward\n  port {next}\n{prefix}</source>\n"
+    )
+}
+
+// A match with one output, or with two.
+fn rule(
+    alloc: Global,
+    dice: &mut Dice,
+    place: &mut Place,
+    pattern: &str,
+    labelled: bool,
+) -> Result<String, AllocError> {
+    if labelled && dice.once_in(3) {
+        return format!(in alloc; "<match {pattern}>\n  @type relabel\n  @label @ON\n</match>\n");
+    }
+    let one = output(alloc, dice, place)?;
+    if !dice.once_in(3) {
+        return format!(in alloc; "<match {pattern}>\n{one}</match>\n");
+    }
+    let other = output(alloc, dice, place)?;
+    format!(in alloc;
+        "<match {pattern}>\n  @type copy\n  <store>\n{one}  </store>\n  <store>\n{other}  </store>\n</match>\n"
+    )
+}
+
+// An output to a relay behind this one, or to a sink.
+fn output(alloc: Global, dice: &mut Dice, place: &mut Place) -> Result<String, AllocError> {
+    let number = place.outputs;
+    place.outputs = number.saturating_add(1);
+    let buffer = buffer(alloc, dice, number)?;
+    let behind = place.count.saturating_sub(place.at).saturating_sub(1);
+    if behind == 0 || dice.once_in(3) {
+        return format!(in alloc; "  @type file\n  path sink{number}\n{buffer}");
+    }
+    let to = place
+        .at
+        .saturating_add(1)
+        .saturating_add(dice.below(behind));
+    let port = port_of(to, dice.below(2));
+    let asks = !dice.once_in(6);
+    format!(in alloc;
+        "  @type forward\n  require_ack_response {asks}\n  <server>\n    host 127.0.0.1\n    port {port}\n  </server>\n{buffer}"
+    )
+}
+
+// The output's buffer.
+fn buffer(alloc: Global, dice: &mut Dice, number: usize) -> Result<String, AllocError> {
+    let kind = if dice.once_in(6) {
+        String::new(alloc)
+    } else {
+        format!(in alloc; "    @type file\n    path buf{number}\n")?
+    };
+    let retries = if dice.once_in(8) {
+        "retry_max_times 1"
+    } else {
+        "retry_forever true"
+    };
+    let overflow = if dice.once_in(8) {
+        "    overflow_action drop_oldest_chunk\n"
+    } else {
+        ""
+    };
+    format!(in alloc;
+        "  <buffer>\n{kind}    {retries}\n{overflow}    flush_mode immediate\n  </buffer>\n"
+    )
+}

@@ -1,0 +1,181 @@
+//! What the chunks of a relay hold by the steps that were told.
+
+use std::alloc::{AllocError, Global};
+
+/// No relay has more buffers.
+pub const BUFFERS: usize = 16;
+
+/// How far a chunk is.
+#[derive(Clone, Copy, PartialEq, Eq)]
+pub enum Stage {
+    Staged,
+    Queued,
+    Claimed,
+    Gone,
+}
+
+/// An append: its delivery, where its step is told, its entries, and whether a stop can't lose it.
+#[derive(Drop)]
+pub struct Appended {
+    pub delivery: u64,
+    pub line: usize,
+    pub bytes: Vec<u8>,
+    pub is_synced: bool,
+}
+
+/// A chunk of a buffer. The line is that of the step by which it went.
+#[derive(Drop)]
+pub struct Chunk {
+    pub buffer: usize,
+    pub serial: u64,
+    pub tag: Vec<u8>,
+    pub appends: Vec<Appended>,
+    pub stage: Stage,
+    pub went: usize,
+}
+
+/// How what was found of a chunk differs from what was told.
+#[derive(Clone, Copy)]
+pub enum Found {
+    /// So many of its appends are there, and no others were synced.
+    First(usize),
+    Wrong,
+}
+
+impl Chunk {
+    /// How many of its appends these bytes are.
+    pub fn found(&self, bytes: &[u8]) -> Found {
+        let mut rest = bytes;
+        for (at, append) in self.appends.iter().enumerate() {
+            if rest.is_empty() && !append.is_synced {
+                return Found::First(at);
+            }
+            match rest.strip_prefix(append.bytes.as_slice()) {
+                Some(behind) => rest = behind,
+                None => return Found::Wrong,
+            }
+        }
+        if rest.is_empty() {
+            Found::First(self.appends.len())
+        } else {
+            Found::Wrong
+        }
+    }
+
+    /// Whether a stop may lose the whole chunk.
+    pub fn may_be_lost(&self) -> bool {
+        self.appends.iter().all(|append| !append.is_synced)
+    }
+}
+
+/// The chunks of a relay, live ones and those that went, and the next serial of each buffer.
+#[derive(Drop)]
+pub struct Chunks {
+    pub all: Vec<Chunk>,
+    pub next: [u64; BUFFERS],
+}
+
+impl Chunks {
+    /// No chunks.
+    pub fn new(alloc: Global) -> Chunks {
+        Chunks {
+            all: Vec::new(alloc),
+            next: [0; BUFFERS],
+        }
+    }
+
+    /// The next serial of a buffer.
+    pub fn next_of(&self, buffer: usize) -> u64 {
+        self.next.get(buffer).copied().unwrap_or(0)
+    }
+
+    /// The last staged chunk of a buffer with this tag.
+    pub fn staged(&self, buffer: usize, tag: &[u8]) -> Option<u64> {
+        let mut last = None;
+        for chunk in &self.all {
+            if chunk.buffer == buffer
+                && chunk.stage == Stage::Staged
+                && chunk.tag.as_slice() == tag
+            {
+                last = Some(chunk.serial);
+            }
+        }
+        last
+    }
+
+    /// The chunk of this name.
+    pub fn find(&mut self, buffer: usize, serial: u64) -> Option<&mut Chunk> {
+        for chunk in self.all.iter_mut() {
+            if chunk.buffer == buffer && chunk.serial == serial {
+                return Some(chunk);
+            }
+        }
+        None
+    }
+
+    /// An append to the chunk of this serial, which may be the next one.
+    pub fn append(
+        &mut self,
+        alloc: Global,
+        buffer: usize,
+        serial: u64,
+        tag: &[u8],
+        append: Appended,
+    ) -> Result<(), AllocError> {
+        if let Some(chunk) = self.find(buffer, serial) {
+            chunk.appends.push(append)?;
+            return Ok(());
+        }
+        let mut appends = Vec::new(alloc);
+        appends.push(append)?;
+        self.all.push(Chunk {
+            buffer,
+            serial,
+            tag: Vec::from_slice(alloc, tag)?,
+            appends,
+            stage: Stage::Staged,
+            went: 0,
+        })?;
+        if let Some(next) = self.next.get_mut(buffer) {
+            *next = serial.saturating_add(1);
+        }
+        Ok(())
+    }
+
+    /// The chunk comes to this stage.
+    pub fn restage(&mut self, buffer: usize, serial: u64, stage: Stage, line: usize) {
+        if let Some(chunk) = self.find(buffer, serial) {
+            chunk.stage = stage;
+            chunk.went = line;
+        }
+    }
+
+    /// The next serial of a buffer is this one, or a lower one that it was set to before.
+    pub fn restart_at(&mut self, buffer: usize, serial: u64) {
+        if let Some(next) = self.next.get_mut(buffer)
+            && serial < *next
+        {
+            *next = serial;
+        }
+    }
+
+    /// What the buffers hold is synced.
+    pub fn sync(&mut self) {
+        for chunk in self.all.iter_mut() {
+            for append in chunk.appends.iter_mut() {
+                append.is_synced = true;
+            }
+        }
+    }
+
+    /// What they hold of this delivery is synced, since it was acknowledged.
+    pub fn sync_delivery(&mut self, delivery: u64) {
+        for chunk in self.all.iter_mut() {
+            for append in chunk.appends.iter_mut() {
+                if append.delivery == delivery {
+                    append.is_synced = true;
+                }
+            }
+        }
+    }
+}

@@ -1,0 +1,225 @@
+//! A relay of the network: its folders, what was told of its chunks, and its parts while it is open.
+
+use crate::chunks::Chunks;
+use crate::closing::{SinkContent, close_buffers, close_sinks, names_of, paths_of};
+use crate::disk::{Disk, NO_END};
+use crate::opening::open_site;
+use crate::shelf::Shelf;
+use ack_receipt::{Numbers, SharedBuffer};
+use buffer_lanes::Lanes;
+use disk_files::Keep;
+use flush_pool::SinkCourier;
+use relay_buffers::DeliveryJob;
+use relay_conf::BufferKind;
+use relay_ports::{BufferedOutput, Inlet};
+use std::alloc::{AllocError, Global};
+use std::sync::{Arc, Wait};
+
+/// A relay. Its file buffers are on one shelf, its sinks on another.
+pub struct Site<D: Disk + Drop> {
+    pub number: u32,
+    conf: Vec<u8>,
+    shelf: Shelf<D>,
+    sinks: Shelf<D>,
+    pub chunks: Chunks,
+    pub open: Option<OpenSite<D>>,
+    // A call failed behind which it has to be opened again, and what that means where no device did fail.
+    refusal: Option<String>,
+    is_failing: bool,
+    /// The chunk whose write to a sink failed last: its buffer and its serial.
+    pub torn: Option<(usize, u64)>,
+}
+
+/// The parts of a relay that is open.
+pub struct OpenSite<D: Disk + Drop> {
+    pub lanes: Lanes<D, Global>,
+    pub buffers: Vec<Arc<SharedBuffer<D, Global>>>,
+    pub jobs: Vec<DeliveryJob<D, Global>>,
+    pub inlets: Vec<Arc<Inlet<Global>>>,
+    pub sinks: Vec<Option<SinkCourier<D, Global>>>,
+    pub numbers: Numbers,
+}
+
+impl<D: Disk + Drop> OpenSite<D> {
+    // Ends it.
+    fn end<R: Wait>(self, rt: &R) {
+        let OpenSite {
+            lanes,
+            buffers: _,
+            jobs: _,
+            inlets: _,
+            sinks: _,
+            numbers: _,
+        } = self;
+        let _ = lanes.end(rt);
+    }
+}
+
+impl<D: Disk + Drop> Site<D> {
+    /// A relay with this configuration that was never open.
+    pub fn new(alloc: Global, number: u32, conf: &[u8]) -> Result<Self, AllocError> {
+        Ok(Site {
+            number,
+            conf: Vec::from_slice(alloc, conf)?,
+            shelf: Shelf::new(alloc),
+            sinks: Shelf::new(alloc),
+            chunks: Chunks::new(alloc),
+            open: None,
+            refusal: None,
+            is_failing: false,
+            torn: None,
+        })
+    }
+
+    /// The buffer with this number, if the relay is open.
+    pub fn buffer(&self, buffer: usize) -> Option<&Arc<SharedBuffer<D, Global>>> {
+        self.open.as_ref()?.buffers.get(buffer)
+    }
+
+    /// How many buffers it has.
+    pub fn count_buffers(&self) -> usize {
+        match &self.open {
+            Some(open) => open.buffers.len(),
+            None => 0,
+        }
+    }
+
+    /// What the output with this number says, if the relay is open.
+    pub fn output(&self, buffer: usize) -> Option<&BufferedOutput<Global>> {
+        Some(self.open.as_ref()?.jobs.get(buffer)?.output())
+    }
+
+    /// Whether a buffer has a chunk of this serial.
+    pub fn is_live<R: Wait>(&self, rt: &R, buffer: usize, serial: u64) -> bool {
+        match self.buffer(buffer) {
+            Some(buffer) => buffer.is_live(rt, serial),
+            None => false,
+        }
+    }
+
+    /// Whether a buffer is in memory.
+    pub fn is_in_memory(&self, buffer: usize) -> bool {
+        match self.output(buffer) {
+            Some(output) => matches!(&output.buffer().kind, BufferKind::Memory),
+            None => false,
+        }
+    }
+
+    /// Whether a device of it may fail.
+    pub fn is_failing(&self) -> bool {
+        self.is_failing
+    }
+
+    /// A call was refused. Where no device has failed, this is wrong.
+    pub fn refuse(&mut self, what: String) {
+        if self.refusal.is_none() {
+            self.refusal = Some(what);
+        }
+    }
+
+    /// Whether it has to be opened again: a call was refused, or a device or a journal failed.
+    pub fn is_refusing(&self) -> bool {
+        match &self.open {
+            Some(open) => self.refusal.is_some() || open.lanes.fault().is_some(),
+            None => self.refusal.is_some(),
+        }
+    }
+
+    /// Opens it, over devices that fail each call behind so many, where there is a number, and the others never;
+    /// `false` where it doesn't open.
+    pub fn open<R: Wait>(
+        &mut self,
+        rt: &R,
+        alloc: Global,
+        passes: Option<u64>,
+    ) -> Result<bool, AllocError> {
+        self.is_failing = passes.is_some();
+        if self.open_over(rt, alloc, passes.unwrap_or(NO_END))? {
+            return Ok(true);
+        }
+        if !self.is_failing {
+            return Ok(false);
+        }
+        self.is_failing = false;
+        self.shelf.restore()?;
+        self.sinks.restore()?;
+        self.open_over(rt, alloc, NO_END)
+    }
+
+    fn open_over<R: Wait>(
+        &mut self,
+        rt: &R,
+        alloc: Global,
+        passes: u64,
+    ) -> Result<bool, AllocError> {
+        self.shelf.set_passes(passes);
+        self.sinks.set_passes(passes);
+        let opened = open_site(alloc, self.number, &self.conf, &self.shelf, &self.sinks)?;
+        let Some(open) = opened else {
+            return Ok(false);
+        };
+        if let Some(other) = self.open.replace(open) {
+            other.end(rt);
+        }
+        Ok(true)
+    }
+
+    /// Ends it.
+    pub fn end<R: Wait>(self, rt: &R) {
+        let Site {
+            number: _,
+            conf: _,
+            shelf: _,
+            sinks: _,
+            chunks: _,
+            open,
+            refusal: _,
+            is_failing: _,
+            torn: _,
+        } = self;
+        if let Some(open) = open {
+            open.end(rt);
+        }
+    }
+
+    /// Stops it, so that its folders keep so much, and says what its sinks hold then; `None` where one can't be read.
+    pub fn stop<R: Wait>(
+        &mut self,
+        rt: &R,
+        alloc: Global,
+        keep: Keep,
+    ) -> Result<Option<Vec<SinkContent>>, AllocError> {
+        let Some(open) = self.open.take() else {
+            return Ok(None);
+        };
+        let OpenSite {
+            lanes,
+            buffers,
+            jobs,
+            inlets: _,
+            sinks,
+            numbers: _,
+        } = open;
+        let have_failed = lanes.fault().is_some();
+        let _ = lanes.end(rt);
+        if have_failed {
+            self.refuse(String::from_str(alloc, "a buffer fails")?);
+        }
+        let names = names_of(alloc, &jobs)?;
+        let paths = paths_of(alloc, &jobs)?;
+        drop(jobs);
+        if close_buffers(&self.shelf, buffers, names, keep)? {
+            self.refusal = None;
+        }
+        let (content, have_failed) = close_sinks(alloc, &self.sinks, sinks, paths, keep)?;
+        if have_failed {
+            self.refusal = None;
+        }
+        Ok(content)
+    }
+
+    /// What was refused before the last stop without a failure of a device, if anything was.
+    pub fn take_refusal(&mut self) -> Option<String> {
+        self.refusal.take()
+    }
+}
