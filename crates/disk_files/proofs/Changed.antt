@@ -8,7 +8,7 @@ use Rattle.std.proofs.lemmas.Iterator.Adapters.{position_from-zero}
 use Rattle.std.proofs.lemmas.Bool.Decides.{eqb_tells}
 use Rattle.disk_files.specs.Disk.{File, Disk, new_file, SameDisk, Makes, Changes, reads, read_of, WasRemoved}
 use Rattle.disk_files.specs.Entry.{Entry}
-use Rattle.disk_files.specs.Table.{disk_of, IsSound, name_of, room_of, ChangesAt}
+use Rattle.disk_files.specs.Table.{disk_of, IsSound, name_of, is_open_of, opened_of, room_of, ChangesAt, SameOpen, SetsOpen}
 use Rattle.disk_files.specs.Past.{disk_then, history_of}
 use Rattle.disk_files.specs.Moments.{Elapses, now}
 use Rattle.disk_files.specs.declared.dir.FileNo.{FileNo}
@@ -37,9 +37,42 @@ own_name (Some e) f name got opened = ap (λ x. x.name) (sym (same_entry e f got
     by true is = absurd (cc is)
     by false is = ap name_or is
 
+-- An open file is there
+
+pub opened_name : (o : Option Entry) (name : List ℕ) → opened_of o ≡ Some name → name_of o ≡ Some name
+opened_name o name = by (is_open_of o)
+  where
+    by : (b : Bool) → cond b (name_of o) None ≡ Some name → name_of o ≡ Some name
+    by true is = is
+    by false is = absurd (cc is)
+
+pub opened_there : (o : Option Entry) → IsSome (opened_of o) → IsSome (name_of o)
+opened_there o = by (is_open_of o)
+  where
+    by : (b : Bool) → IsSome (cond b (name_of o) None) → IsSome (name_of o)
+    by true some = some
+    by false some = absurd (cc some)
+
+pub opened_is : (o : Option Entry) → IsSome (opened_of o) → is_open_of o ≡ true
+opened_is o = by (is_open_of o)
+  where
+    by : (b : Bool) → IsSome (cond b (name_of o) None) → b ≡ true
+    by true some = refl
+    by false some = absurd (cc some)
+
+-- the file of this name, where it is there, is open
+pub open_as : (o : Option Entry) (name : List ℕ) → name_of o ≡ Some name → is_open_of o ≡ true → opened_of o ≡ Some name
+open_as o name there is = ap (λ b. cond b (name_of o) None) is ∙ there
+
+pub shut_as : (o : Option Entry) → is_open_of o ≡ false → opened_of o ≡ None
+shut_as o is = ap (λ b. cond b (name_of o) None) is
+
+pub same_as : (o new : Option Entry) → is_open_of new ≡ is_open_of o → name_of new ≡ name_of o → opened_of new ≡ opened_of o
+same_as o new is name = ap (λ b. cond b (name_of new) None) is ∙ ap (λ n. cond (is_open_of o) n None) name
+
 module _ (files new : List Entry) (at : ℕ) (how : File → File) (c : ChangesAt at how files new) where
   g : Entry
-  g = record { name = c.entry.name; state = how c.entry.state; room = c.room }
+  g = record { name = c.entry.name; state = how c.entry.state; room = c.room; is_open = c.is_open }
 
   pub sound_changed : ((f : File) → f.synced ≤ length f.written → (how f).synced ≤ length (how f).written) → IsSound files → IsSound new
   unfolding g
@@ -55,9 +88,10 @@ module _ (files new : List Entry) (at : ℕ) (how : File → File) (c : ChangesA
       ∙ ap (λ n. cond (bytes_eq n q) (Some (how c.entry.state)) (disk_of files q)) own
       ∙ sym (ap (λ s. cond (bytes_eq name q) (option_map how s) (disk_of files q)) here)
 
-  pub now_changed : (past past' : List (List Entry)) → IsSound files → (name : List ℕ) → name_of (slice_get files at) ≡ Some name
+  pub now_changed : (past past' : List (List Entry)) → IsSound files → (name : List ℕ) → opened_of (slice_get files at) ≡ Some name
       → Changes name how (now (history_of files past)) (now (history_of new past'))
-  now_changed past past' sound name opened = changes_same _ _ _ _ name how (now_is files past) (now_is new past') (disk_changed sound name opened)
+  now_changed past past' sound name opened =
+      changes_same _ _ _ _ name how (now_is files past) (now_is new past') (disk_changed sound name (opened_name (slice_get files at) name opened))
 
   other_at : (j : ℕ) → j ≢ at → slice_get new j ≡ slice_get files j
   unfolding g
@@ -67,21 +101,42 @@ module _ (files new : List Entry) (at : ℕ) (how : File → File) (c : ChangesA
   unfolding g
   own_at = ap (λ fs. slice_get fs at) c.set ∙ get_set files at c.entry g c.found
 
-  pub opened_other : (j : ℕ) → j ≢ at → name_of (slice_get new j) ≡ name_of (slice_get files j)
-  opened_other j other = ap name_of (other_at j other)
+  name_other : (j : ℕ) → j ≢ at → name_of (slice_get new j) ≡ name_of (slice_get files j)
+  name_other j other = ap name_of (other_at j other)
 
-  pub closed_at : ((f : File) → (how f).is_removed ≡ true) → name_of (slice_get new at) ≡ None
+  pub opened_other : (j : ℕ) → j ≢ at → opened_of (slice_get new j) ≡ opened_of (slice_get files j)
+  opened_other j other = ap opened_of (other_at j other)
+
+  pub closed_at : ((f : File) → (how f).is_removed ≡ true) → opened_of (slice_get new at) ≡ None
   unfolding g
-  closed_at gone = ap name_of own_at ∙ ap (λ b. cond b None (Some c.entry.name)) (gone c.entry.state)
+  closed_at gone =
+      no_name (slice_get new at) (ap name_of own_at ∙ ap (λ b. cond b None (Some c.entry.name)) (gone c.entry.state))
+    where
+      no_name : (o : Option Entry) → name_of o ≡ None → opened_of o ≡ None
+      no_name o none = by (is_open_of o)
+        where
+          by : (b : Bool) → cond b (name_of o) None ≡ None
+          by true = none
+          by false = refl
 
   pub room_other : (j : ℕ) → j ≢ at → room_of (slice_get files j) ≤ room_of (slice_get new j)
   room_other j other = subst (λ o. room_of (slice_get files j) ≤ room_of o) (sym (other_at j other)) (omega arith)
 
-  pub opened_same : ((f : File) → (how f).is_removed ≡ f.is_removed) → (j : ℕ) → name_of (slice_get new j) ≡ name_of (slice_get files j)
+  pub name_same : ((f : File) → (how f).is_removed ≡ f.is_removed) → (j : ℕ) → name_of (slice_get new j) ≡ name_of (slice_get files j)
   unfolding g
-  opened_same keeps j = ⊎_elim
+  name_same keeps j = ⊎_elim
       (λ own. subst (λ k. name_of (slice_get new k) ≡ name_of (slice_get files k)) (sym own.1)
       (ap name_of own_at ∙ ap (λ b. cond b None (Some c.entry.name)) (keeps c.entry.state) ∙ ap name_of (sym c.found)))
+      (λ other. name_other j other.1)
+      (eqb_tells j at)
+
+  pub opened_same : SameOpen files new → ((f : File) → (how f).is_removed ≡ f.is_removed) → (j : ℕ) → opened_of (slice_get new j) ≡ opened_of (slice_get files j)
+  opened_same same keeps j = same_as (slice_get files j) (slice_get new j) (same j) (name_same keeps j)
+
+  -- after this file was opened, what was open is open
+  pub opened_more : SetsOpen at true files new → ((f : File) → (how f).is_removed ≡ f.is_removed) → (j : ℕ) → IsSome (opened_of (slice_get files j)) → opened_of (slice_get new j) ≡ opened_of (slice_get files j)
+  opened_more sets keeps j some = ⊎_elim
+      (λ own. same_as (slice_get files j) (slice_get new j) (ap (λ k. is_open_of (slice_get new k)) own.1 ∙ sets.own ∙ sym (opened_is (slice_get files j) some)) (name_same keeps j))
       (λ other. opened_other j other.1)
       (eqb_tells j at)
 
@@ -112,7 +167,7 @@ unchanged_at false s x same = refl
 pub same_disk : (files new : List Entry) (at : ℕ) → ChangesAt at (λ f. f) files new → IsSound files → SameDisk (disk_of new) (disk_of files)
 same_disk files new at change sound name =
     let f = change.entry in
-    let g : Entry = record { name = f.name; state = f.state; room = change.room } in
+    let g : Entry = record { name = f.name; state = f.state; room = change.room; is_open = change.is_open } in
     ap (λ fs. disk_of fs name) change.set ∙ disk_set files at f g sound change.found refl name
     ∙ unchanged_at (bytes_eq f.name name) (Some f.state) (disk_of files name) (λ own. sym (ap (disk_of files) (same_name f.name name own)) ∙ found files at f sound change.found)
 
@@ -138,12 +193,13 @@ written_or None = []
 written_or (Some bytes) = bytes
 
 pub bytes_of : (files : List Entry) (past : List (List Entry)) (at : ℕ) (e : Entry) (name bytes : List ℕ) → IsSound files → e ≡ get_or files at e
-    → name_of (slice_get files at) ≡ Some name → reads (now (history_of files past)) name ≡ Some bytes → e.state.written ≡ bytes
+    → opened_of (slice_get files at) ≡ Some name → reads (now (history_of files past)) name ≡ Some bytes → e.state.written ≡ bytes
 unfolding written_or
 bytes_of files past at e name bytes sound read opened holds =
-    let some : IsSome (name_of (slice_get files at)) = subst IsSome (sym opened) refl in
+    let named = opened_name (slice_get files at) name opened in
+    let some : IsSome (name_of (slice_get files at)) = subst IsSome (sym named) refl in
     let got = entry_read files at e some read in
-    let here : disk_of files name ≡ Some e.state = sym (ap (disk_of files) (own_name (slice_get files at) e name got opened)) ∙ found files at e sound got in
+    let here : disk_of files name ≡ Some e.state = sym (ap (disk_of files) (own_name (slice_get files at) e name got named)) ∙ found files at e sound got in
     let left = there files at e some read in
     ap written_or (sym (ap (λ b. cond b None (Some e.state.written)) left) ∙ sym (ap read_of here) ∙ sym (ap read_of (now_is files past name)) ∙ holds)
 

@@ -3,7 +3,7 @@ use Rattle.std.proofs.Common.{◌≡◌, inl, inr, ℕ, zero, suc, ◌≤◌, co
 use Rattle.std.specs.Str.{bytes_eq}
 use Rattle.disk_files.specs.Disk.{File, kept_file, unlinked, after_stop, SameDisk, MayStay, StopLeaves, reads, read_of}
 use Rattle.disk_files.specs.Entry.{Entry}
-use Rattle.disk_files.specs.Table.{disk_of, IsSound, name_of, ChangesAt}
+use Rattle.disk_files.specs.Table.{disk_of, IsSound, name_of, is_open_of, ChangesAt}
 use Rattle.disk_files.specs.Stopped.{stopped, cut_to, left_state, StoppedTo, those_there}
 use Rattle.disk_files.specs.Stop.{left_by, left_bytes, left_of, is_named, name_at}
 use Rattle.disk_files.specs.Past.{history_of}
@@ -35,16 +35,27 @@ take_own xs n = ap (λ k. take k xs) (length-take n xs) ∙ take_min n xs
 
 -- one file more is stopped
 pub stopped_more : (least : Bool) (k : ℕ) (before after : List Entry) (f g : Entry) → StoppedTo least k before after → slice_get after k ≡ Some f
-    → g.name ≡ f.name → g.state ≡ stopped least f.state → StoppedTo least (suc k) before (slice_set after k g)
-stopped_more least zero [] after f g so_far got name state = absurd (cc (sym (ap (λ fs. slice_get fs zero) so_far) ∙ got))
-stopped_more least zero (e ∷ es) [] f g so_far got name state = absurd (cc got)
-stopped_more least zero (e ∷ es) (a ∷ after) f g so_far got name state =
+    → g.name ≡ f.name → g.state ≡ stopped least f.state → g.is_open ≡ false → StoppedTo least (suc k) before (slice_set after k g)
+stopped_more least zero [] after f g so_far got name state shut = absurd (cc (sym (ap (λ fs. slice_get fs zero) so_far) ∙ got))
+stopped_more least zero (e ∷ es) [] f g so_far got name state shut = absurd (cc got)
+stopped_more least zero (e ∷ es) (a ∷ after) f g so_far got name state shut =
     let first : a ≡ e = same_head a e after es so_far in
     let own : f ≡ e = sym (same_entry a f got) ∙ first in
-    (name ∙ ap (λ x. x.name) own, state ∙ ap (λ x. stopped least x.state) own, same_tail a e after es so_far)
-stopped_more least (suc k) [] after f g so_far got name state = absurd (cc (sym (ap (λ fs. slice_get fs (suc k)) so_far) ∙ got))
-stopped_more least (suc k) (e ∷ es) [] f g so_far got name state = absurd so_far
-stopped_more least (suc k) (e ∷ es) (a ∷ after) f g so_far got name state = (so_far.0, so_far.1, stopped_more least k es after f g so_far.2 got name state)
+    (name ∙ ap (λ x. x.name) own, state ∙ ap (λ x. stopped least x.state) own, same_tail a e after es so_far, shut)
+stopped_more least (suc k) [] after f g so_far got name state shut = absurd (cc (sym (ap (λ fs. slice_get fs (suc k)) so_far) ∙ got))
+stopped_more least (suc k) (e ∷ es) [] f g so_far got name state shut = absurd so_far
+stopped_more least (suc k) (e ∷ es) (a ∷ after) f g so_far got name state shut = (so_far.0, so_far.1, stopped_more least k es after f g so_far.2 got name state shut, so_far.3)
+
+-- none of them is open
+shut_first : (b : Bool) (a : Entry) (rest : List Entry) → a.is_open ≡ false → ((j : ℕ) → is_open_of (slice_get rest j) ≡ false) → (j : ℕ) → is_open_of (slice_get (cond b (a ∷ rest) rest) j) ≡ false
+shut_first true a rest shut others zero = shut
+shut_first true a rest shut others (suc j) = others j
+shut_first false a rest shut others j = others j
+
+pub swept_shut : (least : Bool) (before after : List Entry) → StoppedTo least (length before) before after → (j : ℕ) → is_open_of (slice_get (those_there after) j) ≡ false
+swept_shut least [] after to j = ap (λ fs. is_open_of (slice_get (those_there fs) j)) to
+swept_shut least (e ∷ es) [] to j = absurd to
+swept_shut least (e ∷ es) (a ∷ after) to j = shut_first (not a.state.is_removed) a (those_there after) to.3 (swept_shut least es after to.2) j
 
 -- What is left of one file
 
@@ -185,7 +196,7 @@ pub left_cut : (files new : List Entry) (at n : ℕ) (name : List ℕ) → IsSou
     → left_state false (disk_of new name) ≡ option_map kept_file (left_of (Last n) (name_at files (Some at)) (disk_of files) name)
 left_cut files new at n name sound change =
     let f = change.entry in
-    let g : Entry = record { name = f.name; state = cut_to n f.state; room = change.room } in
+    let g : Entry = record { name = f.name; state = cut_to n f.state; room = change.room; is_open = change.is_open } in
     ap (λ fs. left_state false (disk_of fs name)) change.set
     ∙ ap (left_state false) (disk_set files at f g sound change.found refl name)
     ∙ cut_at_name n (disk_of files name) f.state (bytes_eq f.name name) (λ own. sym (ap (disk_of files) (same_name f.name name own)) ∙ found files at f sound change.found)

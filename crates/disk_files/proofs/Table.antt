@@ -1,12 +1,13 @@
 -- The table of a folder in memory, and the disk that it stands for.
-use Rattle.std.proofs.Common.{◌≡◌, ◌≢◌, ℕ, zero, suc, ◌+◌, ◌<◌, ◌≤◌, cond, Bool, true, false, List, [], ◌∷◌, ◌++◌, length, Option, Some, None, IsSome, slice_get, slice_set, get_or, refl, sym, ◌∙◌, ap, subst}
+use Rattle.std.proofs.Common.{◌≡◌, ◌≢◌, ⊎_elim, ℕ, zero, suc, ◌+◌, ◌<◌, ◌≤◌, cond, Bool, true, false, List, [], ◌∷◌, ◌++◌, length, Option, Some, None, IsSome, slice_get, slice_set, get_or, refl, sym, ◌∙◌, ap, subst}
 use Rattle.std.specs.Str.{bytes_eq}
 use Rattle.std.proofs.lemmas.Option.{slice_get_read, slice_get_within}
 use Rattle.std.proofs.lemmas.Bool.{true≢false}
+use Rattle.std.proofs.lemmas.Bool.Decides.{eqb_tells}
 use Rattle.std.proofs.lemmas.Slice.Eq.{bytes_eq-Decides}
 use Rattle.disk_files.specs.Disk.{File}
 use Rattle.disk_files.specs.Entry.{Entry}
-use Rattle.disk_files.specs.Table.{disk_of, IsSound, name_of, room_of, ChangesAt}
+use Rattle.disk_files.specs.Table.{disk_of, IsSound, name_of, is_open_of, room_of, ChangesAt, SameOpen, SetsOpen}
 
 -- Two names
 
@@ -72,10 +73,11 @@ pub changed : (files : List Entry) (at : ℕ) (how : File → File) (f g : Entry
 changed files at how f g some read name state = record {
   entry = f;
   room = g.room;
+  is_open = g.is_open;
   found = entry_read files at f some read;
   set = ap (slice_set files at)
-      (ap (λ n. let e : Entry = record { name = n; state = g.state; room = g.room } in e) name
-      ∙ ap (λ s. let e : Entry = record { name = f.name; state = s; room = g.room } in e) state);
+      (ap (λ n. let e : Entry = record { name = n; state = g.state; room = g.room; is_open = g.is_open } in e) name
+      ∙ ap (λ s. let e : Entry = record { name = f.name; state = s; room = g.room; is_open = g.is_open } in e) state);
 }
 
 pub room_grows : (files : List Entry) (at n : ℕ) (f g : Entry) → IsSome (name_of (slice_get files at)) → f ≡ get_or files at f
@@ -84,6 +86,21 @@ room_grows files at n f g some read more =
     let got = entry_read files at f some read in
     subst (λ o. room_of o ≤ room_of (slice_get (slice_set files at g) at) + n) (sym got)
     (subst (λ o. f.room ≤ room_of o + n) (sym (get_set files at f g got)) more)
+
+-- Which files are open
+
+pub sets_open : (files : List Entry) (at : ℕ) (f g : Entry) (b : Bool) → IsSome (name_of (slice_get files at)) → f ≡ get_or files at f → g.is_open ≡ b → SetsOpen at b files (slice_set files at g)
+sets_open files at f g b some read is = record {
+  own = ap is_open_of (get_set files at f g (entry_read files at f some read)) ∙ is;
+  others = λ j other. ap is_open_of (get_set_other files at j g other);
+}
+
+pub stays_open : (files : List Entry) (at : ℕ) (f g : Entry) → IsSome (name_of (slice_get files at)) → f ≡ get_or files at f → g.is_open ≡ f.is_open → SameOpen files (slice_set files at g)
+stays_open files at f g some read same j = ⊎_elim
+    (λ own. subst (λ k. is_open_of (slice_get (slice_set files at g) k) ≡ is_open_of (slice_get files k)) (sym own.1)
+    ((sets_open files at f g f.is_open some read same).own ∙ sym (ap is_open_of (entry_read files at f some read))))
+    (λ other. (sets_open files at f g f.is_open some read same).others j other.1)
+    (eqb_tells j at)
 
 -- A name that no file has
 

@@ -51,7 +51,7 @@ written_set (d ∷ rest) (suc at) e g got apart =
 
 module _ (files new : List Entry) (at : ℕ) (how : File → File) (c : ChangesAt at how files new) (past : List (List Entry)) where
   g : Entry
-  g = record { name = c.entry.name; state = how c.entry.state; room = c.room }
+  g = record { name = c.entry.name; state = how c.entry.state; room = c.room; is_open = c.is_open }
 
   -- after a change that writes nothing, what was written to last is what was
   pub last_kept : ((f : File) → length (how f).written ≡ length f.written) → last_place new (files ∷ past) ≡ last_place files past

@@ -1,9 +1,8 @@
 -- What calls on a folder have in common.
-use Rattle.std.specs.Prelude.{◌≡◌, ℕ, Bool, List, Option, Result}
+use Rattle.std.specs.Prelude.{◌≡◌, ℕ, Bool, Result}
 use Rattle.disk_files.specs.Disk.{SameDisk}
 use Rattle.disk_files.specs.Moments.{History, Elapses, now}
 use Rattle.disk_files.specs.Faults.{HasCause, FailsInTurn}
-use Rattle.disk_files.specs.declared.dir.FileNo.{FileNo}
 use Rattle.disk_files.specs.declared.dir.DirError.{DirError}
 
 -- The call asks the device. An honest folder stays honest, and time goes on; refusals are counted, and the device fails the call exactly if it was to.
@@ -13,10 +12,9 @@ pub record CallsDevice {D T : Type 0} (is_honest : D → Type 0) (history : D �
   pub cause : HasCause (fault_count old) (fault_count new) result
   pub fault : is_honest old → FailsInTurn (fails_after old) (fails_after new) result
 
--- The call leaves the folder as it was, with each file open that was, and doesn't ask the device.
-pub record LeavesAlone {D : Type 0} (is_honest : D → Type 0) (history : D → History) (opened : D → FileNo → Option (List ℕ)) (fault_count : D → ℕ) (old new : D) : Type 0 where
+-- The call leaves the disk as it was, and doesn't ask the device. An honest folder stays honest.
+pub record LeavesAlone {D : Type 0} (is_honest : D → Type 0) (history : D → History) (fault_count : D → ℕ) (old new : D) : Type 0 where
   pub honest : is_honest old → is_honest new
   pub time : is_honest old → Elapses (history old) (history new)
   pub same : is_honest old → SameDisk (now (history new)) (now (history old))
-  pub stays_open : (other : FileNo) → opened new other ≡ opened old other
   pub cause : fault_count new ≡ fault_count old

@@ -1,5 +1,5 @@
 -- The steps of a stop over the table of a folder in memory.
-use Rattle.std.specs.Prelude.{◌≡◌, ℕ, zero, suc, Bool, List, [], ◌∷◌, take, max, cond, filter, not, Option, Some, None}
+use Rattle.std.specs.Prelude.{◌≡◌, ℕ, zero, suc, Bool, false, List, [], ◌∷◌, take, max, cond, filter, not, Option, Some, None}
 use Rattle.disk_files.specs.Disk.{File, kept_file, unlinked}
 use Rattle.disk_files.specs.Entry.{Entry}
 
@@ -16,12 +16,12 @@ left_state least (Some f) = cond f.is_removed None (cond least (cond f.is_durabl
 abbrev pub cut_to : ℕ → File → File
 cut_to n f = record f { written = take (max n f.synced) f.written }
 
--- the first k files were stopped, and the others are as they were
+-- the first k files were stopped, and aren't open, and the others are as they were
 abbrev pub StoppedTo : Bool → ℕ → List Entry → List Entry → Type 0
 StoppedTo least zero before after = after ≡ before
 StoppedTo least (suc k) [] after = after ≡ []
 StoppedTo least (suc k) (e ∷ es) [] = ⊥
-StoppedTo least (suc k) (e ∷ es) (a ∷ after) = (a.name ≡ e.name) × (a.state ≡ stopped least e.state) × StoppedTo least k es after
+StoppedTo least (suc k) (e ∷ es) (a ∷ after) = (a.name ≡ e.name) × (a.state ≡ stopped least e.state) × StoppedTo least k es after × (a.is_open ≡ false)
 
 -- the files that weren't removed
 abbrev pub those_there : List Entry → List Entry

@@ -146,8 +146,9 @@ pub trait Dir {
     /// Makes room for so many more bytes of an open file. The disk isn't touched, so a device's failure can't show here.
     fn reserve(&mut self, file: FileNo, room: usize) -> Result<(), AllocError>
         requires { IsSome (opened self.old file) }
-        ensures alone { LeavesAlone is_honest history opened fault_count self.old self.new }
+        ensures alone { LeavesAlone is_honest history fault_count self.old self.new }
         ensures room { OnOk result (room ≤ bytes_left self.new file) }
+        ensures opened { (other : FileNo) → opened self.new other ≡ opened self.old other }
         ensures other_room { (other : FileNo)
             → bytes_left self.old other ≤ bytes_left self.new other }
         ensures fault { is_honest self.old → (k : ℕ) → fails_after self.new k ≡ fails_after self.old k };
@@ -224,6 +225,19 @@ pub trait Dir {
         ensures other_room { (other : FileNo)
             → bytes_left self.old other ≤ bytes_left self.new other }
         ensures only { OnErr result (result ≡ Err DirError.Fault) };
+
+    /// Closes an open file, however often it was opened. The disk isn't touched, so a device's
+    /// failure can't show here: what wasn't synced is as uncertain as it was.
+    fn close(&mut self, file: FileNo)
+        requires { IsSome (opened self.old file) }
+        ensures alone { LeavesAlone is_honest history fault_count self.old self.new }
+        ensures closed { opened self.new file ≡ None }
+        ensures others { (other : FileNo) → other ≢ file
+            → opened self.new other ≡ opened self.old other }
+        ensures other_room { (other : FileNo) → other ≢ file
+            → bytes_left self.old other ≤ bytes_left self.new other }
+        ensures fault { is_honest self.old
+            → (k : ℕ) → fails_after self.new k ≡ fails_after self.old k };
 
     /// Removes an open file, and closes it. After a `Fault` it may have been removed.
     fn remove(&mut self, file: FileNo) -> Result<(), DirError>

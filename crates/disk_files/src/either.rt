@@ -85,6 +85,13 @@ impl<L: Dir, R: Dir> Dir for EitherDir<L, R> {
         }
     }
 
+    fn close(&mut self, file: FileNo) {
+        match self {
+            EitherDir::Left(dir) => dir.close(file),
+            EitherDir::Right(dir) => dir.close(file),
+        }
+    }
+
     fn remove(&mut self, file: FileNo) -> Result<(), DirError> {
         match self {
             EitherDir::Left(dir) => dir.remove(file),

@@ -14,8 +14,9 @@ enum Fails {
     Nothing,
 }
 
-/// A folder over another, whose device fails at a chosen call. Each call counts but `reserve`, `faults` and `was_removed`,
-/// which touch no device. A call that fails here isn't passed on, so it changes nothing.
+/// A folder over another, whose device fails at a chosen call. Each call counts but `reserve`,
+/// `close`, `faults` and `was_removed`, which touch no device. A call that fails here isn't passed
+/// on, so it changes nothing.
 #[derive(Drop)]
 pub struct Fuse<D> {
     inner: D,
@@ -150,6 +151,10 @@ impl<D: Dir> Dir for Fuse<D> {
     fn length(&mut self, file: FileNo) -> Result<usize, DirError> {
         self.pass()?;
         self.inner.length(file)
+    }
+
+    fn close(&mut self, file: FileNo) {
+        self.inner.close(file);
     }
 
     fn remove(&mut self, file: FileNo) -> Result<(), DirError> {

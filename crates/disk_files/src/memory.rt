@@ -1,16 +1,17 @@
 //! A folder in memory, which can be stopped at any moment.
 
-ghost use Rattle.std.specs.Prelude.{◌≡◌, ◌==◌, ℕ, List, Some, None, cond, ◌+◌, ◌-◌, ◌≤◌, ◌++◌, [], ◌∷◌, length, take, drop, min, IfOk, vec_len};
+ghost use Rattle.std.specs.Prelude.{◌≡◌, ◌==◌, ℕ, List, Some, None, cond, ◌+◌, ◌-◌, ◌≤◌, ◌++◌, [], ◌∷◌, length, take, drop, min, IfOk, false, slice_get, vec_len};
+ghost use Rattle.disk_files.specs.declared.dir.FileNo.{FileNo};
 ghost use Rattle.disk_files.specs.Disk.{SameDisk, reads, StopLeaves, after_stop};
 ghost use Rattle.disk_files.specs.Moments.{now};
 ghost use Rattle.disk_files.specs.Stop.{left_of, name_at};
 ghost use Rattle.disk_files.specs.Stopped.{left_state};
-ghost use Rattle.disk_files.specs.Table.{disk_of, IsSound, names_there};
+ghost use Rattle.disk_files.specs.Table.{disk_of, IsSound, is_open_of, names_there};
 ghost use Rattle.disk_files.specs.Faults.{Rises};
 
 use crate::memory_file::{
-    MemoryFile, cut_last, flush_at, grow_at, place_of, place_there, reserve_at, stop_each, sweep,
-    unlink_at, was_removed_in,
+    MemoryFile, cut_last, flush_at, grow_at, place_of, place_there, reserve_at, set_open_at,
+    stop_each, sweep, unlink_at, was_removed_in,
 };
 use crate::past::Past;
 use crate::{Dir, DirError, FileName, FileNo, Keep};
@@ -52,6 +53,7 @@ impl<A: Allocator + Copy> MemoryDir<A> {
             → SameDisk (disk result) (after_stop (left_of keep (last_written self) (disk self))) }
         ensures outcome { IsHonest self → StopLeaves (disk self) (reads (disk result)) }
         ensures settled { IsHonest self → SameDisk (disk result) (after_stop (reads (disk result))) }
+        ensures closed { (file : FileNo) → ⟦<MemoryDir<A> as Dir>⟧.opened result file ≡ None }
     {
         let mut dir = self;
         dir.lose(keep);
@@ -63,6 +65,7 @@ impl<A: Allocator + Copy> MemoryDir<A> {
         ensures sound { IsSound self.old.files.items → IsSound self.new.files.items }
         ensures left { IsSound self.old.files.items → SameDisk (disk_of self.new.files.items)
             (after_stop (left_of keep (name_at self.old.files.items self.old.last) (disk_of self.old.files.items))) }
+        ensures closed { (j : ℕ) → is_open_of (slice_get self.new.files.items j) ≡ false }
         ensures past { self.new.past ≡ [] }
         ensures last { self.new.last ≡ None }
     {
@@ -81,6 +84,7 @@ impl<A: Allocator + Copy> MemoryDir<A> {
         ensures sound { IsSound self.old.files.items → IsSound self.new.files.items }
         ensures left { IsSound self.old.files.items → (name : List ℕ)
             → disk_of self.new.files.items name ≡ left_state least (disk_of self.old.files.items name) }
+        ensures closed { (j : ℕ) → is_open_of (slice_get self.new.files.items j) ≡ false }
         ensures past { self.new.past ≡ [] }
         ensures last { self.new.last ≡ None }
     {
@@ -111,7 +115,7 @@ impl<A: Allocator + Copy> MemoryDir<A> {
 
 impl<A: Allocator + Copy> Dir for MemoryDir<A> {
     ghost use Rattle.std.specs.Prelude.{slice_get, false};
-    ghost use Rattle.disk_files.specs.Table.{name_of, room_of};
+    ghost use Rattle.disk_files.specs.Table.{opened_of, room_of};
     ghost use Rattle.disk_files.specs.Memory.{IsHonest, history as history_now};
 
     ghost is_honest = { λ d. IsHonest d };
@@ -120,7 +124,7 @@ impl<A: Allocator + Copy> Dir for MemoryDir<A> {
 
     ghost fails_after = { λ _ _. false };
 
-    ghost opened = { λ d file. name_of (slice_get d.files.items file.0) };
+    ghost opened = { λ d file. opened_of (slice_get d.files.items file.0) };
 
     ghost bytes_left = { λ d file. room_of (slice_get d.files.items file.0) };
 
@@ -144,7 +148,10 @@ impl<A: Allocator + Copy> Dir for MemoryDir<A> {
 
     fn open(&mut self, name: &[u8]) -> Result<FileNo, DirError> {
         match place_there(&self.files, name) {
-            Some(at) => Ok(FileNo(at)),
+            Some(at) => {
+                set_open_at(&mut self.files, at, true);
+                Ok(FileNo(at))
+            }
             None => Err(self.refuse(DirError::NoSuchFile)),
         }
     }
@@ -176,6 +183,10 @@ impl<A: Allocator + Copy> Dir for MemoryDir<A> {
 
     fn length(&mut self, file: FileNo) -> Result<usize, DirError> {
         Ok(self.files[file.0].bytes().len())
+    }
+
+    fn close(&mut self, file: FileNo) {
+        set_open_at(&mut self.files, file.0, false);
     }
 
     fn remove(&mut self, file: FileNo) -> Result<(), DirError> {

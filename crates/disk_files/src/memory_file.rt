@@ -1,12 +1,12 @@
 //! A file of a folder in memory.
 
-ghost use Rattle.std.specs.Prelude.{◌≡◌, ◌↔◌, IsTrue, ◌+◌, ◌≤◌, ◌<◌, false, not, List, ℕ, length, position, Some, None, IsSome, is_some, IfSome, IfNone, IfOk, OnOk, OnErr, slice_get, vec_len};
+ghost use Rattle.std.specs.Prelude.{◌≡◌, ◌↔◌, IsTrue, ◌+◌, ◌≤◌, ◌<◌, true, false, not, List, ℕ, length, position, Some, None, IsSome, is_some, IfSome, IfNone, IfOk, OnOk, OnErr, slice_get, vec_len};
 ghost use Rattle.std.specs.Str.{bytes_eq};
 ghost use Rattle.disk_files.specs.Disk.{new_file, with_bytes, flushed, unlinked, read_of, after_stop, WasRemoved};
 ghost use Rattle.disk_files.specs.declared.keep.Keep.TheVariants.{Last};
 ghost use Rattle.disk_files.specs.Stop.{left_of, name_at};
 ghost use Rattle.disk_files.specs.Stopped.{stopped, cut_to, left_state, StoppedTo, those_there};
-ghost use Rattle.disk_files.specs.Table.{disk_of, IsSound, name_of, room_of, ChangesAt};
+ghost use Rattle.disk_files.specs.Table.{disk_of, IsSound, name_of, room_of, ChangesAt, SameOpen, SetsOpen};
 
 use crate::FileName;
 use std::alloc::{AllocError, Allocator};
@@ -21,6 +21,7 @@ pub struct MemoryFile<A: Allocator> {
     synced: usize,
     is_durable: bool,
     removed: Option<Snapshot<Vec<u8, A>>>,
+    is_open: bool,
 }
 
 impl<A: Allocator> Model for MemoryFile<A> {
@@ -39,17 +40,19 @@ impl<A: Allocator> Model for MemoryFile<A> {
         is_removed = is_some f.removed;
       };
       room = vec_capacity f.bytes - vec_len f.bytes;
+      is_open = f.is_open;
     } };
 }
 
 impl<A: Allocator> MemoryFile<A> {
-    /// An empty file of this name, with room for so many bytes.
+    /// An empty file of this name, with room for so many bytes, which is open.
     pub fn new(alloc: A, name: &[u8], room: usize) -> Result<MemoryFile<A>, AllocError>
     where
         A: Copy,
         ensures name { IfOk result (λ e. e.name ≡ name.now) }
         ensures state { IfOk result (λ e. e.state ≡ new_file) }
         ensures room { IfOk result (λ e. room ≤ e.room) }
+        ensures opened { IfOk result (λ e. e.is_open ≡ true) }
     {
         let mut bytes = Vec::new(alloc);
         bytes.reserve(room)?;
@@ -59,6 +62,7 @@ impl<A: Allocator> MemoryFile<A> {
             synced: 0,
             is_durable: false,
             removed: None,
+            is_open: true,
         })
     }
 
@@ -97,6 +101,7 @@ impl<A: Allocator> MemoryFile<A> {
         ensures name { self.new.name ≡ self.old.name }
         ensures state { self.new.state ≡ with_bytes bytes.now self.old.state }
         ensures room { self.old.room ≤ self.new.room + length bytes.now }
+        ensures open { self.new.is_open ≡ self.old.is_open }
     {
         if self.bytes.extend_from_slice(bytes).is_err() {
             unreachable!();
@@ -108,6 +113,7 @@ impl<A: Allocator> MemoryFile<A> {
         ensures name { self.new.name ≡ self.old.name }
         ensures state { self.new.state ≡ flushed self.old.state }
         ensures room { self.old.room ≤ self.new.room }
+        ensures open { self.new.is_open ≡ self.old.is_open }
     {
         self.synced = self.bytes.len();
         self.is_durable = true;
@@ -119,18 +125,22 @@ impl<A: Allocator> MemoryFile<A> {
         requires there { self.old.state.is_removed ≡ false }
         ensures name { self.new.name ≡ self.old.name }
         ensures state { self.new.state ≡ unlinked self.old.state }
+        ensures open { self.new.is_open ≡ self.old.is_open }
     {
         self.removed = Some(Snapshot::of(&self.bytes));
         self.bytes = Vec::new(*self.bytes.allocator());
     }
 
-    // What a stop leaves of it, all of which then counts as synced: all, or only what is certainly there.
+    // What a stop leaves of it, all of which then counts as synced: all, or only what is certainly
+    // there. It isn't open then.
     fn stop(&mut self, least: bool)
     where
         A: Copy,
         ensures name { self.new.name ≡ self.old.name }
         ensures state { self.new.state ≡ stopped least self.old.state }
+        ensures closed { self.new.is_open ≡ false }
     {
+        self.is_open = false;
         if self.removed.is_some() {
             return;
         }
@@ -158,9 +168,19 @@ impl<A: Allocator> MemoryFile<A> {
         ensures state { self.new.state ≡ self.old.state }
         ensures more { self.old.room ≤ self.new.room }
         ensures room { OnOk result (room ≤ self.new.room) }
+        ensures open { self.new.is_open ≡ self.old.is_open }
     {
         self.bytes.reserve(room)?;
         Ok(())
+    }
+
+    fn set_open(&mut self, is_open: bool)
+        ensures name { self.new.name ≡ self.old.name }
+        ensures state { self.new.state ≡ self.old.state }
+        ensures room { self.new.room ≡ self.old.room }
+        ensures open { self.new.is_open ≡ is_open }
+    {
+        self.is_open = is_open;
     }
 }
 
@@ -197,6 +217,7 @@ pub fn grow_at<A: Allocator>(files: &mut Vec<MemoryFile<A>, A>, at: usize, bytes
     ensures changed { ChangesAt at (with_bytes bytes.now) files.old.items files.new.items }
     ensures room { room_of (slice_get files.old.items at)
         ≤ room_of (slice_get files.new.items at) + length bytes.now }
+    ensures open { SameOpen files.old.items files.new.items }
 {
     files[at].grow(bytes);
 }
@@ -206,6 +227,7 @@ pub fn flush_at<A: Allocator>(files: &mut Vec<MemoryFile<A>, A>, at: usize)
     requires there { IsSome (name_of (slice_get files.old.items at)) }
     ensures changed { ChangesAt at flushed files.old.items files.new.items }
     ensures room { room_of (slice_get files.old.items at) ≤ room_of (slice_get files.new.items at) }
+    ensures open { SameOpen files.old.items files.new.items }
 {
     files[at].flush();
 }
@@ -214,6 +236,7 @@ pub fn flush_at<A: Allocator>(files: &mut Vec<MemoryFile<A>, A>, at: usize)
 pub fn unlink_at<A: Allocator + Copy>(files: &mut Vec<MemoryFile<A>, A>, at: usize)
     requires there { IsSome (name_of (slice_get files.old.items at)) }
     ensures changed { ChangesAt at unlinked files.old.items files.new.items }
+    ensures open { SameOpen files.old.items files.new.items }
 {
     files[at].unlink();
 }
@@ -276,6 +299,17 @@ pub fn reserve_at<A: Allocator>(
     ensures same { ChangesAt at (λ f. f) files.old.items files.new.items }
     ensures more { room_of (slice_get files.old.items at) ≤ room_of (slice_get files.new.items at) }
     ensures room { OnOk result (room ≤ room_of (slice_get files.new.items at)) }
+    ensures open { SameOpen files.old.items files.new.items }
 {
     files[at].reserve(room)
+}
+
+/// Opens or closes the file at a place.
+pub fn set_open_at<A: Allocator>(files: &mut Vec<MemoryFile<A>, A>, at: usize, is_open: bool)
+    requires there { IsSome (name_of (slice_get files.old.items at)) }
+    ensures same { ChangesAt at (λ f. f) files.old.items files.new.items }
+    ensures room { room_of (slice_get files.old.items at) ≤ room_of (slice_get files.new.items at) }
+    ensures open { SetsOpen at is_open files.old.items files.new.items }
+{
+    files[at].set_open(is_open);
 }

@@ -324,7 +324,13 @@ where
     fn sync(&mut self, file: FileNo) -> Result<(), DirError> {
         let open = open_at(&self.files, file.0);
         let is_settled = open.is_settled;
-        if open.file.sync_all().is_err() {
+        // A settled file has only grown since: a later read needs its bytes and its length alone.
+        let synced = if is_settled {
+            open.file.sync_data()
+        } else {
+            open.file.sync_all()
+        };
+        if synced.is_err() {
             return Err(self.refuse(DirError::Fault));
         }
         if !is_settled {
@@ -346,6 +352,10 @@ where
             Ok(metadata) => Ok(metadata.len() as usize),
             Err(_) => Err(self.refuse(DirError::Fault)),
         }
+    }
+
+    fn close(&mut self, file: FileNo) {
+        close_at(&mut self.files, file.0);
     }
 
     fn remove(&mut self, file: FileNo) -> Result<(), DirError> {

@@ -63,6 +63,7 @@ enum Act {
     Open,
     Append(&'static [u8]),
     Sync,
+    Close,
     Remove,
 }
 
@@ -88,6 +89,12 @@ fn sync<D: Dir>(dir: &mut D, name: &[u8]) -> Result<(), DirError> {
     dir.sync(file)
 }
 
+fn close<D: Dir>(dir: &mut D, name: &[u8]) -> Result<(), DirError> {
+    let file = dir.open(name)?;
+    dir.close(file);
+    Ok(())
+}
+
 fn remove<D: Dir>(dir: &mut D, name: &[u8]) -> Result<(), DirError> {
     let file = dir.open(name)?;
     dir.remove(file)
@@ -99,6 +106,7 @@ fn do_act<D: Dir>(dir: &mut D, name: &[u8], act: Act) -> Option<DirError> {
         Act::Open => open(dir, name),
         Act::Append(bytes) => append(dir, name, bytes).err(),
         Act::Sync => sync(dir, name).err(),
+        Act::Close => close(dir, name).err(),
         Act::Remove => remove(dir, name).err(),
     }
 }
@@ -114,13 +122,16 @@ fn answers<D: Dir>(dir: &mut D, rows: &[Row]) -> bool {
 }
 
 // One file synced in part, one never synced, one removed, and the one that was written to last.
-static FILLED: [Row; 14] = [
+// Whether one of them is closed makes no difference.
+static FILLED: [Row; 17] = [
     (b"kept", Act::Create, None),
     (b"kept", Act::Append(b"ab"), None),
     (b"kept", Act::Sync, None),
+    (b"kept", Act::Close, None),
     (b"kept", Act::Append(b"cd"), None),
     (b"young", Act::Create, None),
     (b"young", Act::Append(b"xy"), None),
+    (b"young", Act::Close, None),
     (b"gone", Act::Create, None),
     (b"gone", Act::Append(b"z"), None),
     (b"gone", Act::Sync, None),
@@ -129,6 +140,7 @@ static FILLED: [Row; 14] = [
     (b"last", Act::Append(b"abc"), None),
     (b"last", Act::Sync, None),
     (b"last", Act::Append(b"def"), None),
+    (b"last", Act::Close, None),
 ];
 
 fn fill<D: Dir>(dir: &mut D) -> Result<(), DirError> {
@@ -338,9 +350,12 @@ fn no_folder<R: Files + Alloc>(rt: &R, path: &str) {
 }
 
 // A folder of the system gets one file more, and counts what it refuses.
-static REAL: [Row; 7] = [
+static REAL: [Row; 10] = [
     (b"b.sink", Act::Create, None),
-    (b"b.sink", Act::Append(b"hello"), None),
+    (b"b.sink", Act::Append(b"hel"), None),
+    (b"b.sink", Act::Sync, None),
+    (b"b.sink", Act::Close, None),
+    (b"b.sink", Act::Append(b"lo"), None),
     (b"b.sink", Act::Sync, None),
     (b"b.sink", Act::Create, Some(DirError::NameTaken)),
     (b"a.journal", Act::Open, Some(DirError::NoSuchFile)),
@@ -419,7 +434,18 @@ fn come_and_go<D: Dir>(dir: &mut D) -> Result<FileNo, DirError> {
     Ok(file)
 }
 
-// Two thousand of them stand at the same place.
+// Opens a file, which is made before that, and closes it, and says where it stood.
+fn open_and_close<D: Dir>(dir: &mut D) -> Result<FileNo, DirError> {
+    let file = match dir.open(b"b") {
+        Err(DirError::NoSuchFile) => dir.create(b"b", 0)?,
+        file => file?,
+    };
+    dir.close(file);
+    Ok(file)
+}
+
+// Two thousand of the ones stand at the same place, and then as many of the others: more than a
+// process may have open.
 fn stay_in_place<D: Dir + Drop>(dir: D) -> bool {
     let mut dir = dir;
     for _ in 0..2000u32 {
@@ -427,11 +453,16 @@ fn stay_in_place<D: Dir + Drop>(dir: D) -> bool {
             return false;
         }
     }
+    for _ in 0..2000u32 {
+        if open_and_close(&mut dir) != Ok(FileNo(0)) {
+            return false;
+        }
+    }
     true
 }
 
 #[test]
-fn removed_files_leave_their_places(rt: HostRuntime) -> Result<(), Fail> {
+fn files_that_are_gone_leave_their_places(rt: HostRuntime) -> Result<(), Fail> {
     let alloc = rt.alloc();
     no_folder(&rt, "disk_places_test");
     let dir = made(rt.clone()?, "disk_places_test")?;

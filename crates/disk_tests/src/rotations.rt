@@ -1,11 +1,15 @@
-//! A sink that stays open: when its next file is begun, and that it takes entries again behind a failure.
+//! A sink that stays open: when its next file is begun, that the older ones are closed, and that it
+//! takes entries again behind a failure.
 
+use crate::folders::made;
 use disk_files::{Dir, Fuse, MemoryDir};
 use event_modes::Entries;
 use numbered_files::read_file;
 use sink_rotation::{FileLimits, Rotation};
 use sink_series::{Series, SeriesFault};
 use std::alloc::Global;
+use std::fs;
+use std::rt::Files;
 use std::test::Fail;
 
 const LIMITS: FileLimits = FileLimits {
@@ -100,5 +104,45 @@ fn takes_entries_again(rt: HostRuntime) -> Result<(), Fail> {
     for passes in 0..16 {
         assert!(rt; recovers(rt.alloc(), passes)?);
     }
+    Ok(())
+}
+
+// How many files this process has open.
+fn open_files<R: Files + Alloc>(rt: &R) -> Result<usize, Fail>
+where
+    R: Clone + Drop,
+    R::A: Clone,
+{
+    Ok(fs::read_dir(rt, "/proc/self/fd")?.count())
+}
+
+// How many events the sink in this folder has, and the sink, open.
+fn counted<D: Dir + Drop>(
+    alloc: Global,
+    dir: D,
+) -> Result<(usize, Series<D, Global>), SeriesFault> {
+    let mut series = Series::open(alloc, dir, b"out").map_err(|(fault, _)| fault)?;
+    Ok((series.content()?.len(), series))
+}
+
+// Sixteen files, each begun a second behind the one before.
+static EACH_SECOND: [u64; 16] = [
+    0, 1_000, 2_000, 3_000, 4_000, 5_000, 6_000, 7_000, 8_000, 9_000, 10_000, 11_000, 12_000,
+    13_000, 14_000, 15_000,
+];
+
+#[test]
+fn older_files_are_closed(rt: HostRuntime) -> Result<(), Fail> {
+    let alloc = rt.alloc();
+    let _ = fs::remove_dir_all(&rt, "sink_closing_test");
+    let dir = made(rt.clone()?, "sink_closing_test")?;
+    // Tests beside this one may open some.
+    let most = open_files(&rt)?.saturating_add(8);
+    let (taken, _, dir) = written(alloc, dir, &EACH_SECOND)?;
+    assert!(rt; taken == 16 && open_files(&rt)? < most);
+    let (count, series) = counted(alloc, dir)?;
+    assert!(rt; count == 16 && open_files(&rt)? < most);
+    drop(series);
+    fs::remove_dir_all(&rt, "sink_closing_test")?;
     Ok(())
 }

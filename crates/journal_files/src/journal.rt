@@ -108,7 +108,8 @@ impl<A: Allocator + Copy> Journal<A> {
         ensures rest { self.new ≡ record self.old { ready = self.new.ready; places = self.new.places; placing = self.new.placing } }
         ensures places { SamePlaces self.old.places self.new.places }
         ensures keeps { D.is_honest dir.old → (t : JournalLog) → Keeps self.old (now (D.history dir.old)) t → Keeps self.new (now (D.history dir.new)) t }
-        ensures alone { LeavesAlone D.is_honest D.history D.opened D.fault_count dir.old dir.new }
+        ensures alone { LeavesAlone D.is_honest D.history D.fault_count dir.old dir.new }
+        ensures opened { (other : FileNo) → D.opened dir.new other ≡ D.opened dir.old other }
     {
         self.spell(item)?;
         dir.reserve(self.file, self.ready.len())

@@ -1,15 +1,16 @@
 -- What a sink keeps while time goes on.
-use Rattle.std.proofs.Common.{ℕ, ◌≡◌, List, [], ◌∷◌, ◌++◌, Option, Some, None, Result, Ok, Err, ap, sym, subst, ◌∙◌}
+use Rattle.std.proofs.Common.{ℕ, ◌≡◌, List, [], ◌∷◌, ◌++◌, Option, Some, None, Result, Ok, Err, ap, refl, sym, subst, ◌∙◌}
 use Rattle.std.specs.Prelude.{IfSome}
 use Rattle.std.specs.List.{AllByRecursion, flat_map}
+use Rattle.disk_files.specs.Calls.{LeavesAlone}
 use Rattle.disk_files.specs.Moments.{History}
 use Rattle.sink_series.specs.Views.{SeriesView, StoredView, Answer, newest}
 use Rattle.sink_series.specs.Keeping.{AnsweredStay, Keeps}
 use Rattle.sink_series.specs.Names.{sink_name}
 use Rattle.sink_series.specs.declared.fault.SeriesFault.{SeriesFault}
-use Rattle.sink_series.proofs.Kept.{Passes, passes_both, answers_on}
+use Rattle.sink_series.proofs.Kept.{Passes, passes_both, passes_rest, answers_on}
 use Rattle.sink_rotation.specs.Views.{FileView, Kept, RotationView, newest_file, kept_in, answers_of}
-use Rattle.sink_rotation.specs.Keeping.{open_of, dir_of, Lasts, IsRotating, Added, Answers}
+use Rattle.sink_rotation.specs.Keeping.{open_of, dir_of, Lasts, IsRotating, KeepsAll, Added, Answers}
 use Rattle.sink_rotation.specs.Steps.{GoesOn, SameFile, BeginsIn, IsBegun, Writes}
 use Rattle.sink_rotation.specs.declared.rotation.Files.{Files}
 use Rattle.sink_rotation.specs.declared.rotation.Files.TheVariants.{Open, Shut}
@@ -61,6 +62,35 @@ module _ {D A : Type 0} (is_honest : D → Type 0) (history : D → History) whe
         };
   }
 
+  -- where the open file was closed
+  module _ (fault_count : D → ℕ) (old : Files D A) (dir : D) (alone : LeavesAlone is_honest history fault_count (dir_of old) dir) where
+    shut_passes : is_honest (dir_of old) → Passes (history (dir_of old)) (history dir)
+    shut_passes honest = passes_rest (history (dir_of old)) (history dir) (alone.time honest) (alone.same honest)
+
+    shut_answers : (files all : List FileView) → all ≡ files → is_honest (dir_of old) → AllByRecursion (λ (file : FileView). AnsweredStay (history (dir_of old)) file.name file.stored) files
+        → AllByRecursion (λ (file : FileView). AnsweredStay (history dir) file.name file.stored) all
+    shut_answers files all is honest stay =
+        subst (AllByRecursion (λ (file : FileView). AnsweredStay (history dir) file.name file.stored)) (sym is) (all_on (history (dir_of old)) (history dir) files (shut_passes honest) stay)
+
+    shut_lasts : (opening : D) → is_honest (dir_of old) → Lasts (history opening) (history (dir_of old)) → Lasts (history opening) (history dir)
+    shut_lasts opening honest lasts =
+        let on = shut_passes honest in
+        lasts_both _ _ _ lasts (record { later = on.later; past = on.past; older = on.safe })
+
+    pub shut_keeps : (opening : D) (path : List ℕ) (limits : FileLimits) (closed : List FileView) (size since : ℕ) (retry : Option ℕ)
+        → IsRotating is_honest history (record { dir = dir_of old; opening = opening; path = path; limits = limits; closed = closed; open_one = open_of old; size = size; since = since; retry = retry })
+        → is_honest opening
+        → KeepsAll is_honest history (record { dir = dir; opening = opening; path = path; limits = limits; closed = newest_file (open_of old) ++ closed; open_one = None; size = size; since = since; retry = retry })
+    shut_keeps opening path limits closed size since retry sink honest =
+        let k = sink.kept honest in
+        let all = newest_file (open_of old) ++ closed in
+        record {
+          dir = alone.honest k.dir;
+          answers = shut_answers all all refl k.dir k.answers;
+          lasts = shut_lasts opening k.dir k.lasts;
+          newest = tt;
+        }
+
   -- where the next file was begun, or none
   begun_answers : (files : Files D A) (dir : D) (path : List ℕ) (all : List FileView) → BeginsIn is_honest history dir files
       → AllByRecursion (λ (file : FileView). AnsweredStay (history dir) file.name file.stored) all
@@ -77,23 +107,21 @@ module _ {D A : Type 0} (is_honest : D → Type 0) (history : D → History) whe
   begun_newest (Shut left) dir path honest begins is = tt
   begun_newest (Open series) dir path honest begins is = (subst is_honest (sym is.0) honest, begins.newest)
 
-  pub begun : (old new : Files D A) (opening dir : D) (path : List ℕ) (limits : FileLimits) (closed all : List FileView) (size since size' since' : ℕ) (retry retry' : Option ℕ)
-      → dir ≡ dir_of old → all ≡ newest_file (open_of old) ++ closed
+  pub begun : (fault_count : D → ℕ) (old new : Files D A) (opening dir : D) (path : List ℕ) (limits : FileLimits) (closed all : List FileView) (size since size' since' : ℕ) (retry retry' : Option ℕ)
+      → LeavesAlone is_honest history fault_count (dir_of old) dir → all ≡ newest_file (open_of old) ++ closed
       → (is_honest dir → BeginsIn is_honest history dir new) → IsBegun dir path (open_of new)
       → IsRotating is_honest history (record { dir = dir_of old; opening = opening; path = path; limits = limits; closed = closed; open_one = open_of old; size = size; since = since; retry = retry })
       → IsRotating is_honest history (record { dir = dir_of new; opening = opening; path = path; limits = limits; closed = all; open_one = open_of new; size = size'; since = since'; retry = retry' })
-  begun old new opening dir path limits closed all size since size' since' retry retry' at files begins is sink = record {
+  begun fault_count old new opening dir path limits closed all size since size' since' retry retry' alone files begins is sink = record {
     path = begun_path new dir path is;
     kept = λ honest.
         let k = sink.kept honest in
-        let here = subst is_honest (sym at) k.dir in
+        let here = alone.honest k.dir in
         let b = begins here in
         record {
           dir = b.honest;
-          answers = begun_answers new dir path all b
-              (subst (λ d. AllByRecursion (λ (file : FileView). AnsweredStay (history d) file.name file.stored) all) (sym at)
-              (subst (AllByRecursion (λ (file : FileView). AnsweredStay (history (dir_of old)) file.name file.stored)) (sym files) k.answers));
-          lasts = lasts_both _ _ _ k.lasts (subst (λ d. Lasts (history d) (history (dir_of new))) at b.lasts);
+          answers = begun_answers new dir path all b (shut_answers fault_count old dir alone (newest_file (open_of old) ++ closed) all files k.dir k.answers);
+          lasts = lasts_both _ _ _ (shut_lasts fault_count old dir alone opening k.dir k.lasts) b.lasts;
           newest = begun_newest new dir path here b is;
         };
   }

@@ -1,11 +1,13 @@
 //! A sink over several files.
 
-ghost use Rattle.std.specs.Prelude.{ℕ, ◌≡◌, ◌≤◌, ◌↔◌, [], ◌++◌, length, true, None, Ok, IsSome, IfOk, OnOk, OnErr};
+ghost use Rattle.std.specs.Prelude.{ℕ, ◌≡◌, ◌≤◌, ◌↔◌, [], ◌++◌, length, true, None, Ok, IsSome, IfOk, OnOk, OnErr, MatchOption};
+ghost use Rattle.disk_files.specs.Calls.{LeavesAlone};
 ghost use Rattle.event_modes.specs.Message.{longest_tag};
-ghost use Rattle.sink_series.specs.Views.{StoredView};
-ghost use Rattle.sink_rotation.specs.Views.{answers_of, newest_file, IsDue};
+ghost use Rattle.sink_series.specs.Closing.{Closes};
+ghost use Rattle.sink_series.specs.Views.{StoredView, newest};
+ghost use Rattle.sink_rotation.specs.Views.{answers_of, files_of, newest_file, IsDue};
 ghost use Rattle.std.specs.List.{concat};
-ghost use Rattle.sink_rotation.specs.Keeping.{dir_of, open_of, Answers, IsSameSink, Stays, Turns};
+ghost use Rattle.sink_rotation.specs.Keeping.{dir_of, open_of, Answers, IsSameSink, KeepsAll, Stays, Turns};
 ghost use Rattle.sink_rotation.specs.Steps.{BeginsIn, GoesOn, IsBegun, SameFile, Writes};
 ghost use Rattle.sink_rotation.specs.Turning.{added, size_after, retry_after, retry_from};
 
@@ -87,25 +89,27 @@ impl<D: Dir, A: Allocator + Copy> Rotation<D, A> {
         })
     }
 
-    /// The folder, as it stands.
+    /// The folder, with the newest file closed. The disk isn't touched, so what was kept stays so.
     pub fn into_dir(self) -> D
-        ensures { result ≡ self.dir }
+        ensures alone { LeavesAlone D.is_honest D.history D.fault_count self.dir result }
+        ensures closes { MatchOption self.open_one (result ≡ self.dir)
+            (λ series. Closes D.opened (newest series) self.dir result) }
+        ensures kept { D.is_honest self.opening → KeepsAll D.is_honest D.history
+            (record self { dir = result; closed = files_of self; open_one = None }) }
     {
         let Rotation {
             alloc: _,
             path: _,
             limits: _,
             files,
-            closed: _,
+            closed,
             opening: _,
             size: _,
             since: _,
             retry: _,
         } = self;
-        match files {
-            Files::Open(series) => series.into_dir(),
-            Files::Shut(dir) => dir,
-        }
+        let (_, dir) = shut(files, closed);
+        dir
     }
 
     /// Writes entries under a tag of at most 1,024 bytes, and syncs them, at this time in milliseconds. The receipt says that each
@@ -243,10 +247,12 @@ impl<D: Dir, A: Allocator + Copy> Rotation<D, A> {
     }
 }
 
-// Closes the file that is open.
+// Closes the file that is open. The disk isn't touched.
 fn shut<D: Dir, A: Allocator>(files: Files<D, A>, closed: Closed<D, A>) -> (Closed<D, A>, D)
     ensures closed { result.0 ≡ newest_file (open_of files) ++ closed }
-    ensures dir { result.1 ≡ dir_of files }
+    ensures alone { LeavesAlone D.is_honest D.history D.fault_count (dir_of files) result.1 }
+    ensures closes { MatchOption (open_of files) (result.1 ≡ dir_of files)
+        (λ series. Closes D.opened (newest series) (dir_of files) result.1) }
 {
     match files {
         Files::Open(series) => (closed.then(&series), series.into_dir()),

@@ -5,6 +5,7 @@ pub mod Folders
 pub mod Keeping
 pub mod Faults
 pub mod Still
+pub mod Closing
 pub mod Begun
 pub mod Answers
 pub mod Laws

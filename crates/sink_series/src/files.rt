@@ -6,6 +6,7 @@ ghost use Rattle.std.specs.Ordering.{nat_cmp};
 ghost use Rattle.std.specs.BTreeSet.{contains};
 ghost use Rattle.disk_files.specs.Disk.{with_bytes, flushed, SameDisk, Makes, Changes, reads};
 ghost use Rattle.disk_files.specs.Moments.{Elapses, LeavesOnly, now};
+ghost use Rattle.disk_files.specs.Calls.{LeavesAlone};
 ghost use Rattle.disk_files.specs.Faults.{HasCause as HasDirCause};
 ghost use Rattle.disk_files.specs.declared.dir.FileNo.{FileNo};
 ghost use Rattle.event_modes.specs.Message.{longest_tag};
@@ -166,24 +167,25 @@ pub(crate) fn put_synced<D: Dir>(dir: &mut D, file: FileNo, bytes: &[u8]) -> Res
     dir.sync(file)
 }
 
-/// The content of a sink. The disk stays as it is. The errors are `Memory` and `Fault`.
+/// The content of a sink, whose own file stays open: the others are closed once they are read.
+/// The disk stays as it is. The errors are `Memory` and `Fault`.
 pub(crate) fn read_all<A: Allocator + Copy, D: Dir>(
     alloc: A,
     dir: &mut D,
     path: &[u8],
+    own: FileNo,
 ) -> Result<Vec<SinkEvent<A>, A>, SeriesFault>
     ensures honest { D.is_honest dir.old → D.is_honest dir.new }
     ensures time { D.is_honest dir.old → Elapses (D.history dir.old) (D.history dir.new) }
     ensures same { D.is_honest dir.old → SameDisk (now (D.history dir.new)) (now (D.history dir.old)) }
     ensures content { D.is_honest dir.old
         → IfOk result (λ events. SinkHolds path.now (reads (now (D.history dir.old))) events.items) }
-    ensures others { (other : FileNo) → IsSome (D.opened dir.old other)
-        → D.opened dir.new other ≡ D.opened dir.old other }
+    ensures stays_open { IsSome (D.opened dir.old own) → D.opened dir.new own ≡ D.opened dir.old own }
     ensures cause { HasCause (D.fault_count dir.old) (D.fault_count dir.new) result }
     ensures only { OnErr result ((result ≡ Err SeriesFault.Memory) ⊎ (result ≡ Err SeriesFault.Fault)) }
 {
     let found = numbers(alloc, dir, sinks(path))?;
-    read_to(alloc, dir, path, &found, greatest_of(&found))
+    read_to(alloc, dir, path, own, &found, greatest_of(&found))
 }
 
 // A number that no number of the set is above.
@@ -201,6 +203,7 @@ fn read_to<A: Allocator + Copy, D: Dir>(
     alloc: A,
     dir: &mut D,
     path: &[u8],
+    own: FileNo,
     numbers: &BTreeSet<u32, A>,
     to: u32,
 ) -> Result<Vec<SinkEvent<A>, A>, SeriesFault>
@@ -208,8 +211,7 @@ fn read_to<A: Allocator + Copy, D: Dir>(
     ensures content { D.is_honest dir.old
         → ((n : ℕ) → (IsTrue (contains nat_cmp numbers.now n) ↔ HasFile path.now (reads (now (D.history dir.old))) n))
         → IfOk result (λ events. HoldsTo path.now (reads (now (D.history dir.old))) to events.items) }
-    ensures others { (other : FileNo) → IsSome (D.opened dir.old other)
-        → D.opened dir.new other ≡ D.opened dir.old other }
+    ensures stays_open { IsSome (D.opened dir.old own) → D.opened dir.new own ≡ D.opened dir.old own }
     ensures cause { HasCause (D.fault_count dir.old) (D.fault_count dir.new) result }
     ensures only { OnErr result ((result ≡ Err SeriesFault.Memory) ⊎ (result ≡ Err SeriesFault.Fault)) }
 {
@@ -218,31 +220,44 @@ fn read_to<A: Allocator + Copy, D: Dir>(
     while number < to {
         number += 1;
         if numbers.contains(&number) {
-            let mut found = read_number(alloc, dir, path, number)?;
+            let mut found = read_number(alloc, dir, path, own, number)?;
             events.append(&mut found)?;
         }
     }
     Ok(events)
 }
 
-// The content of the file of this number.
+// The content of the file of this number, which is closed then, unless it is the sink's own.
 fn read_number<A: Allocator + Copy, D: Dir>(
     alloc: A,
     dir: &mut D,
     path: &[u8],
+    own: FileNo,
     number: u32,
 ) -> Result<Vec<SinkEvent<A>, A>, SeriesFault>
     ensures still { D.is_honest dir.old → D.is_honest dir.new × IsStill (D.history dir.old) (D.history dir.new) }
     ensures content { D.is_honest dir.old → (bytes : List ℕ)
         → reads (now (D.history dir.old)) (sink_name path.now number) ≡ Some bytes
         → IfOk result (λ events. Holds bytes events.items) }
-    ensures others { (other : FileNo) → IsSome (D.opened dir.old other)
-        → D.opened dir.new other ≡ D.opened dir.old other }
+    ensures stays_open { IsSome (D.opened dir.old own) → D.opened dir.new own ≡ D.opened dir.old own }
     ensures cause { HasCause (D.fault_count dir.old) (D.fault_count dir.new) result }
     ensures only { OnErr result ((result ≡ Err SeriesFault.Memory) ⊎ (result ≡ Err SeriesFault.Fault)) }
 {
     let name = name_of(alloc, path, number)?;
     let file = dir.open(&name)?;
-    let bytes = read_file(alloc, dir, file)?;
+    let read = read_file(alloc, dir, file);
+    close_other(dir, file, own);
+    let bytes = read?;
     Ok(read_events(alloc, &bytes)?)
+}
+
+// Closes a file, unless it is the sink's own.
+fn close_other<D: Dir>(dir: &mut D, file: FileNo, own: FileNo)
+    requires { IsSome (D.opened dir.old file) }
+    ensures alone { LeavesAlone D.is_honest D.history D.fault_count dir.old dir.new }
+    ensures stays_open { D.opened dir.new own ≡ D.opened dir.old own }
+{
+    if file != own {
+        dir.close(file);
+    }
 }

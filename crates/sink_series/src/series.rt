@@ -3,8 +3,10 @@
 ghost use Rattle.std.specs.Prelude.{◌≡◌, ◌≢◌, ◌⊎◌, ◌↔◌, ℕ, ◌≤◌, List, [], ◌∷◌, ◌++◌, length, true, false, IsSome, IfOk, IfErr, OnOk, OnErr, IsErrOf};
 ghost use Rattle.disk_files.specs.Disk.{kept_file, SameDisk, Makes, reads};
 ghost use Rattle.disk_files.specs.Moments.{Elapses, LeavesOnly, now};
+ghost use Rattle.disk_files.specs.Calls.{LeavesAlone};
 ghost use Rattle.disk_files.specs.Faults.{Rises};
 ghost use Rattle.event_modes.specs.Message.{longest_tag};
+ghost use Rattle.sink_series.specs.Closing.{Closes};
 ghost use Rattle.sink_series.specs.Events.{Event, run_of, under};
 ghost use Rattle.sink_series.specs.Folders.{SinkHolds};
 ghost use Rattle.sink_series.specs.Keeping.{IsSafe, StaysSafe, OthersStay, IsBeginning, Keeps};
@@ -171,27 +173,33 @@ impl<D: Dir, A: Allocator + Copy> Series<D, A> {
         ensures cause { HasCause (D.fault_count self.old.dir) (D.fault_count self.new.dir) result }
         ensures only { OnErr result ((result ≡ Err SeriesFault.Memory) ⊎ (result ≡ Err SeriesFault.Fault)) }
     {
-        read_all(self.alloc, &mut self.dir, &self.path)
+        read_all(self.alloc, &mut self.dir, &self.path, self.file)
     }
 }
 
 impl<D: Dir, A: Allocator> Series<D, A> {
-    /// The folder, as it stands.
+    ghost use Rattle.sink_series.specs.Views.{newest};
+
+    /// The folder, with the newest file closed. The disk isn't touched, so what was kept stays so.
     pub fn into_dir(self) -> D
-        ensures dir { result ≡ self.dir }
-        ensures kept { D.is_honest self.opening → Keeps D.is_honest D.history self }
+        ensures alone { LeavesAlone D.is_honest D.history D.fault_count self.dir result }
+        ensures closes { Closes D.opened (newest self) self.dir result }
+        ensures kept { D.is_honest self.opening
+            → Keeps D.is_honest D.history (record self { dir = result }) }
     {
         let Series {
             alloc: _,
             dir,
             path: _,
             number: _,
-            file: _,
+            file,
             begun: _,
             answers: _,
             opening: _,
             has_failed: _,
         } = self;
+        let mut dir = dir;
+        dir.close(file);
         dir
     }
 }

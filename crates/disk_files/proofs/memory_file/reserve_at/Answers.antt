@@ -1,6 +1,6 @@
 use Rattle.std.proofs.Common.{◌≤◌, OnOk, sym, subst, arith}
 use Rattle.disk_files.specs.Table.{room_of}
-use Rattle.disk_files.proofs.Table.{changed, room_grows, entry_read, get_set}
+use Rattle.disk_files.proofs.Table.{changed, room_grows, stays_open, entry_read, get_set}
 use Rattle.disk_files.proofs.memory_file.reserve_at.Goals as goal
 
 pub returns-clause-same : goal.returns-clause-same
@@ -11,6 +11,9 @@ pub returns-clause-more : goal.returns-clause-more
 returns-clause-more g c =
     let more = room_grows c.args.files.now.items c.args.at 0 c.index_mut.result.now c.reserve.new.self c.requires.there c.index_mut.ensures.value (omega (arith, c.reserve.ensures.more)) in
     omega (arith, more)
+
+pub returns-clause-open : goal.returns-clause-open
+returns-clause-open g c = stays_open c.args.files.now.items c.args.at c.index_mut.result.now c.reserve.new.self c.requires.there c.index_mut.ensures.value c.reserve.ensures.open
 
 pub returns-clause-room : goal.returns-clause-room
 returns-clause-room g c =

@@ -12,6 +12,6 @@ loop-file-preserved g c =
     let got = slice_get_read items (length items) i c.file-item.result refl here c.file-item.is in
     let same = sym c.file-item.is in
     let next = stopped_more c.args.least i c.deref_mut-file-items.result.now items c.file-item.result c.stop.new.self c.loop-file.invariant got
-    (c.stop.ensures.name ∙ ap (λ e. e.name) same) (c.stop.ensures.state ∙ ap (λ e. stopped c.args.least e.state) same) in
+    (c.stop.ensures.name ∙ ap (λ e. e.name) same) (c.stop.ensures.state ∙ ap (λ e. stopped c.args.least e.state) same) c.stop.ensures.closed in
     let one : suc i ≡ i + 1 = omega arith in
     subst (λ n. StoppedTo c.args.least n c.deref_mut-file-items.result.now (slice_set items i c.stop.new.self)) one next

@@ -8,9 +8,11 @@ use Rattle.sink_series.proofs.files.read_number.Goals as goal
 pub returns-clause-still : goal.returns-clause-still
 returns-clause-still g c honest =
     let f = c.in_ok-file.ensures in
-    let b = c.in_ok-bytes.ensures in
+    let b = c.read_file-read.ensures in
+    let a = c.close_other.ensures.alone in
     let on = f.device.honest honest in
-    (b.honest on, still_on _ _ _ (still_on _ _ _ (still_here _) (f.device.time honest) (f.same honest)) (b.time on) (b.same on))
+    let read = still_on _ _ _ (still_on _ _ _ (still_here _) (f.device.time honest) (f.same honest)) (b.time on) (b.same on) in
+    (a.honest (b.honest on), still_on _ _ _ read (a.time (b.honest on)) (a.same (b.honest on)))
 
 pub returns-clause-content : goal.returns-clause-content
 returns-clause-content g c honest bytes there =

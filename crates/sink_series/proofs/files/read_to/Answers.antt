@@ -9,7 +9,7 @@ pub loop-number-init : goal.loop-number-init
 loop-number-init g c = (
   omega arith,
   λ honest. (honest, still_here _),
-  λ other is. refl,
+  λ is. refl,
   omega arith,
   λ honest are. from_none _ _ 0 c.new-events.result.items refl c.new-events.ensures.items,
 )
@@ -32,7 +32,7 @@ loop-number-preserved-then-contains g c =
     let r = c.in_ok-found.ensures in (
       omega arith,
       λ honest. (let s = v.1 honest in let t = r.still s.0 in (t.0, still_join _ _ _ s.1 t.1)),
-      λ other is. r.others other (subst IsSome (sym (v.2 other is)) is) ∙ v.2 other is,
+      λ is. r.stays_open (subst IsSome (sym (v.2 is)) is) ∙ v.2 is,
       omega (arith, v.3, r.cause.later),
       λ honest are. (
           let s = v.1 honest in

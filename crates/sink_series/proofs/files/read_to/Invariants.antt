@@ -4,7 +4,6 @@ use Rattle.std.specs.Ordering.{nat_cmp}
 use Rattle.std.specs.BTreeSet.{contains}
 use Rattle.disk_files.specs.Disk.{reads}
 use Rattle.disk_files.specs.Moments.{now}
-use Rattle.disk_files.specs.declared.dir.FileNo.{FileNo}
 use Rattle.sink_series.specs.Folders.{HasFile, HoldsTo}
 use Rattle.sink_series.specs.Still.{IsStill}
 use Rattle.sink_series.proofs.files.read_to.Given as goal
@@ -13,7 +12,7 @@ abbrev pub invariant-loop-number : goal.invariant-loop-number
 invariant-loop-number g l =
     (l.number ≤ l.to)
     × (g.D.Dir.is_honest l.initial.dir → g.D.Dir.is_honest l.dir × IsStill (g.D.Dir.history l.initial.dir) (g.D.Dir.history l.dir))
-    × ((other : FileNo) → IsSome (g.D.Dir.opened l.initial.dir other) → g.D.Dir.opened l.dir other ≡ g.D.Dir.opened l.initial.dir other)
+    × (IsSome (g.D.Dir.opened l.initial.dir l.own) → g.D.Dir.opened l.dir l.own ≡ g.D.Dir.opened l.initial.dir l.own)
     × (g.D.Dir.fault_count l.initial.dir ≤ g.D.Dir.fault_count l.dir)
     × (g.D.Dir.is_honest l.initial.dir
     → ((n : ℕ) → (IsTrue (contains nat_cmp l.numbers n) ↔ HasFile l.path (reads (now (g.D.Dir.history l.initial.dir))) n))

@@ -1,4 +1,6 @@
-use Rattle.std.proofs.Common.{rules, ap, refl, arith, length-append}
+use Rattle.std.proofs.Common.{List, slice_get, rules, ap, ◌∙◌, refl, arith, length-append}
+use Rattle.disk_files.specs.Entry.{Entry}
+use Rattle.disk_files.specs.Table.{is_open_of}
 use Rattle.disk_files.specs.Disk.{with_bytes}
 use Rattle.disk_files.proofs.Changed.{changes_from, sound_changed, now_changed, opened_same, room_other, number_apart}
 use Rattle.disk_files.proofs.Written.{last_grown}
@@ -25,7 +27,7 @@ returns-clause-ok g c = λ honest name opened.
 pub returns-clause-opened : goal.returns-clause-opened
 returns-clause-opened g c = λ other.
     let change = changes_from c.args.self.now.files.items c.note.new.self.files.items c.grow_at.new.files.items c.args.file.0 (with_bytes c.args.bytes.now) (ap (λ d. d.files.items) c.note.ensures) c.grow_at.ensures.changed in
-    opened_same _ _ c.args.file.0 (with_bytes c.args.bytes.now) change (λ f. refl) other.0
+    opened_same _ _ c.args.file.0 (with_bytes c.args.bytes.now) change (λ j. c.grow_at.ensures.open j ∙ ap (λ (fs : List Entry). is_open_of (slice_get fs j)) (ap (λ d. d.files.items) c.note.ensures)) (λ f. refl) other.0
 
 pub returns-clause-other_room : goal.returns-clause-other_room
 returns-clause-other_room g c = λ other apart.

@@ -15,10 +15,12 @@ returns-clause-alone g c = record {
   same = λ honest name.
       let past = c.args.self.now.past in
       now_is c.reserve_at.new.files.items past name ∙ same_disk c.args.self.now.files.items c.reserve_at.new.files.items c.args.file.0 c.reserve_at.ensures.same honest.0 name ∙ sym (now_is c.args.self.now.files.items past name);
-  stays_open = λ other.
-      opened_same c.args.self.now.files.items c.reserve_at.new.files.items c.args.file.0 (λ f. f) c.reserve_at.ensures.same (λ f. refl) other.0;
   cause = search rules;
 }
+
+pub returns-clause-opened : goal.returns-clause-opened
+returns-clause-opened g c = λ other.
+    opened_same c.args.self.now.files.items c.reserve_at.new.files.items c.args.file.0 (λ f. f) c.reserve_at.ensures.same c.reserve_at.ensures.open (λ f. refl) other.0
 
 pub returns-clause-other_room : goal.returns-clause-other_room
 returns-clause-other_room g c = λ other.

@@ -1,4 +1,6 @@
-use Rattle.std.proofs.Common.{rules, ap, refl, sym, ◌∙◌, arith}
+use Rattle.std.proofs.Common.{List, slice_get, rules, ap, refl, sym, ◌∙◌, arith}
+use Rattle.disk_files.specs.Entry.{Entry}
+use Rattle.disk_files.specs.Table.{is_open_of}
 use Rattle.disk_files.specs.Disk.{flushed}
 use Rattle.disk_files.proofs.Changed.{changes_from, sound_changed, now_changed, opened_same, rooms_from}
 use Rattle.disk_files.specs.Written.{last_place}
@@ -26,7 +28,7 @@ returns-clause-ok g c = λ honest name opened.
 pub returns-clause-opened : goal.returns-clause-opened
 returns-clause-opened g c = λ other.
     let change = changes_from c.args.self.now.files.items c.note.new.self.files.items c.flush_at.new.files.items c.args.file.0 flushed (ap (λ d. d.files.items) c.note.ensures) c.flush_at.ensures.changed in
-    opened_same _ _ c.args.file.0 flushed change (λ f. refl) other.0
+    opened_same _ _ c.args.file.0 flushed change (λ j. c.flush_at.ensures.open j ∙ ap (λ (fs : List Entry). is_open_of (slice_get fs j)) (ap (λ d. d.files.items) c.note.ensures)) (λ f. refl) other.0
 
 pub returns-clause-other_room : goal.returns-clause-other_room
 returns-clause-other_room g c = λ other.

@@ -8,7 +8,7 @@ invariant_of-self g c =
     let r = c.read_all.ensures in
     let sound = c.self.invariant.sound in
     record {
-      sound = record { named = r.others c.self.inside.file (is_some_of _ _ sound.named) ∙ sound.named; each = sound.each };
+      sound = record { named = r.stays_open (is_some_of _ _ sound.named) ∙ sound.named; each = sound.each };
       kept = λ honest.
           let k = c.self.invariant.kept honest in
           keeps_on g.D.Dir.is_honest g.D.Dir.history _ _ k (r.honest k.honest.dir) (passes_rest _ _ (r.time k.honest.dir) (r.same k.honest.dir)) refl refl refl
