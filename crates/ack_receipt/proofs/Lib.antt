@@ -1,3 +1,4 @@
 pub mod Held
 pub mod Redeem
 pub mod Steady
+pub mod Asking

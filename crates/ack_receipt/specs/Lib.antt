@@ -4,4 +4,5 @@ pub mod Drawing
 pub mod Holding
 pub mod Terms
 pub mod Redeeming
+pub mod Room
 pub mod Shown

@@ -1,10 +1,13 @@
 -- Appends that wait for their receipts.
-use Rattle.std.specs.Prelude.{ℕ, ◌≡◌, ◌≢◌, ◌<◌, ◌+◌, ◌++◌, List, [], ◌∷◌, length, map, All, AllPairs}
+use Rattle.std.specs.Prelude.{ℕ, ◌≡◌, ◌≢◌, ◌<◌, ◌+◌, ◌⊎◌, ◌++◌, List, [], ◌∷◌, length, map, All, AllPairs}
 use Rattle.book_audit.specs.declared.line.Leaf.{Leaf}
 use Rattle.book_audit.specs.declared.line.Line.{Line}
 use Rattle.buffer_book.specs.Books.{IsWaiting}
 use Rattle.buffer_book.specs.declared.past.Written.{Written}
+use Rattle.buffer_store.specs.declared.fault.BufferFault.TheVariants.{Failed, Fault, Memory}
 use Rattle.ack_receipt.specs.Deliveries.{Appended, Pended}
+use Rattle.ack_receipt.specs.declared.fault.RedeemFault.{RedeemFault}
+use Rattle.ack_receipt.specs.declared.fault.RedeemFault.TheVariants.{Buffer, Stranger}
 
 -- what the book says of the append
 abbrev pub line_of : Pended → Line
@@ -59,3 +62,8 @@ numbers_from number (pending ∷ pendings) = number ∷ numbers_from (number + 1
 pub record AreWritten (pendings : List Pended) (receipts : List Appended) (old new : List Written) : Type 0 where
   pub lines : new ≡ old ++ map written_of pendings
   pub named : map (λ receipt. receipt.line) receipts ≡ numbers_from (length old) pendings
+
+-- Why they get none: one of them is of another buffer, the device fails the buffer or did so before, or there is no memory.
+abbrev pub IsUnredeemed : RedeemFault → Type 0
+IsUnredeemed fault = (fault ≡ Stranger)
+    ⊎ ((fault ≡ Buffer Failed) ⊎ ((fault ≡ Buffer Memory) ⊎ (fault ≡ Buffer Fault)))

@@ -11,6 +11,7 @@ ghost use Rattle.buffer_state.specs.State.{IsAt, chunk_at};
 ghost use Rattle.buffer_state.specs.Steps.{claimed, first_of, queued_last};
 ghost use Rattle.buffer_state.specs.declared.chunk.Stage.TheVariants.{Claimed, Staged};
 ghost use Rattle.buffer_store.specs.Durability.{BeganWell};
+ghost use Rattle.buffer_store.specs.Room.{IsNearlyFull};
 ghost use Rattle.buffer_book.specs.Told.{counts_of};
 ghost use Rattle.buffer_book.specs.Books.{IsWaiting, Removes, Syncs, Unchanged, WantsRenewal, waiting_at};
 ghost use Rattle.buffer_book.specs.Claims.{IsCopied};
@@ -128,6 +129,13 @@ impl<D: Dir, A: Allocator + Copy> LockedBuffer<D, A> {
         ensures number { WantsRenewal self.old.buffer → OnOk result (self.new.buffer.journal.number ≡ self.old.buffer.journal.number + 1) }
     {
         self.booked.renew()
+    }
+
+    /// Whether its chunks take more than four fifths of what it takes.
+    pub(crate) fn is_nearly_full(&self) -> bool
+        ensures { IsTrue result ↔ IsNearlyFull self.now.buffer.limits self.now.buffer.chunks }
+    {
+        self.booked.is_nearly_full()
     }
 
     /// Whether the device failed the buffer.

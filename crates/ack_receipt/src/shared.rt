@@ -2,7 +2,7 @@
 
 ghost use Rattle.std.specs.Prelude.{◌≡◌, ◌<◌, true, length, IfOk, IfErr, IfSome, OnOk};
 ghost use Rattle.buffer_book.specs.Evidences.{IsFor};
-ghost use Rattle.ack_receipt.specs.Redeeming.{AreReceiptsOf};
+ghost use Rattle.ack_receipt.specs.Redeeming.{AreReceiptsOf, IsUnredeemed};
 
 use crate::bell::Bell;
 use crate::delivery::Delivery;
@@ -66,6 +66,19 @@ impl<D: Dir, A: Allocator + Copy> SharedBuffer<D, A> {
         self.terms.takes()
     }
 
+    /// Whether an append of the delivery's entries would have room now, and why it hasn't. Nothing changes. Where queued chunks may
+    /// be dropped, those count as gone.
+    ///
+    /// The first of `Failed`, `TooLarge`, `Full` and `LastSerial` that applies.
+    pub fn ask_room<R: Wait>(&self, rt: &R, delivery: &Delivery<A>) -> Result<(), BufferFault> {
+        self.lock.lock(rt).ask_room(&self.terms, delivery)
+    }
+
+    /// Whether its chunks take more than four fifths of what it takes.
+    pub fn is_nearly_full<R: Wait>(&self, rt: &R) -> bool {
+        self.lock.lock(rt).is_nearly_full()
+    }
+
     /// Appends a delivery's entries under its tag, and syncs them. Asks for a message with entries.
     ///
     /// The first of `Failed`, `TooLarge`, `Full`, `LastSerial`, `Memory` and `Fault` that applies; `TooLarge` also for a tag of more than 1,024 bytes.
@@ -101,6 +114,7 @@ impl<D: Dir, A: Allocator + Copy> SharedBuffer<D, A> {
     ) -> Result<Vec<Receipt<A>, A>, (RedeemFault, Vec<Pending<A>, A>)>
         ensures ok { IfOk result (λ receipts. AreReceiptsOf self.now.leaf pendings.items receipts.items) }
         ensures back { IfErr result (λ refused. refused.1 ≡ pendings) }
+        ensures only { IfErr result (λ refused. IsUnredeemed refused.0) }
     {
         self.lock.lock(rt).redeem(&self.terms, pendings)
     }

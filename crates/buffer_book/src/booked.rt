@@ -1,6 +1,6 @@
 //! A buffer with its book, and the calls that neither append nor let a chunk go.
 
-ghost use Rattle.std.specs.Prelude.{◌≡◌, ◌≢◌, ◌↔◌, ◌⊎◌, ◌<◌, ◌≤◌, ◌+◌, [], true, false, length, All, Ok, Err, OnOk, OnErr, IsErrOf};
+ghost use Rattle.std.specs.Prelude.{◌≡◌, ◌≢◌, ◌↔◌, ◌⊎◌, ◌<◌, ◌≤◌, ◌+◌, [], true, false, length, All, Ok, Err, OnOk, OnErr, IsErrOf, IsTrue};
 ghost use Rattle.book_audit.specs.Audits.{Accounts, AreInBook, AreOpenOnce, Closes, HasStranger, IsAgain, IsLeftOut, Settles, lines_named, lines_of};
 ghost use Rattle.book_audit.specs.declared.fault.BookFault.{BookFault};
 ghost use Rattle.book_audit.specs.declared.fault.AuditError.{AuditError};
@@ -8,6 +8,7 @@ ghost use Rattle.buffer_state.specs.State.{IsAt, chunk_at};
 ghost use Rattle.buffer_state.specs.Steps.{queued_last};
 ghost use Rattle.buffer_state.specs.declared.chunk.Stage.TheVariants.{Staged};
 ghost use Rattle.buffer_store.specs.Durability.{BeganWell};
+ghost use Rattle.buffer_store.specs.Room.{FitsBesideUnqueued, IsNearlyFull};
 ghost use Rattle.buffer_store.specs.declared.fault.BufferFault.{BufferFault};
 ghost use Rattle.buffer_book.specs.Told.{counts_of};
 ghost use Rattle.buffer_book.specs.Books.{IsSound, Steady, Syncs, WantsRenewal};
@@ -21,6 +22,7 @@ use book_audit::{AuditError, BookFault, Leaf, Line, OpenLines, Stub, audit};
 use buffer_state::LiveChunks;
 use buffer_store::{Buffer, BufferFault};
 use disk_files::Dir;
+use event_modes::Entries;
 use std::alloc::{AllocError, Allocator};
 use std::collections::BTreeMap;
 use std::marker::Model;
@@ -80,6 +82,21 @@ impl<D: Dir, A: Allocator + Copy> Booked<D, A> {
         ensures sound { IsSound self.now }
     {
         self.buffer.chunks()
+    }
+
+    /// Whether entries would fit, were as many queued chunks let go as that takes. Nothing changes.
+    pub fn fits_beside_unqueued<B: Allocator>(&self, entries: &Entries<B>) -> bool
+        ensures { IsTrue result
+            ↔ FitsBesideUnqueued self.now.buffer.limits self.now.buffer.chunks entries.now }
+    {
+        self.buffer.fits_beside_unqueued(entries)
+    }
+
+    /// Whether its chunks take more than four fifths of what it takes.
+    pub fn is_nearly_full(&self) -> bool
+        ensures { IsTrue result ↔ IsNearlyFull self.now.buffer.limits self.now.buffer.chunks }
+    {
+        self.buffer.is_nearly_full()
     }
 
     /// Whether the device failed the buffer.

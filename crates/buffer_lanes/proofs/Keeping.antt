@@ -1,5 +1,5 @@
 -- What stays of the buffers where one of them did something.
-use Rattle.std.proofs.Common.{ℕ, ◌≡◌, ◌∙◌, List, [], ◌∷◌, map, ap, sym, subst, refl, Option, Some, Result, Ok, Err}
+use Rattle.std.proofs.Common.{ℕ, Bool, ◌≡◌, ◌∙◌, List, [], ◌∷◌, map, ap, sym, subst, refl, Option, Some, Result, Ok, Err}
 use Rattle.std.specs.Prelude.{slice_index_or, slice_set}
 use Rattle.std.proofs.Math.Seq.{map-set_same}
 use Rattle.buffer_store.specs.declared.fault.BufferFault.{BufferFault}
@@ -25,23 +25,25 @@ still_after before (Ok _) first is = is
 still_after before (Err fault) first is = ap (λ (b : Option BufferFault). first_fault b fault) is
 
 -- the buffers, as contracts see them
-abbrev pub lanes_of : {A : Type 0} → List (LaneState A) → ℕ → Option BufferFault → LanesState A
-lanes_of lanes room fault = record {
+abbrev pub lanes_of : {A : Type 0} → List (LaneState A) → ℕ → Option BufferFault → ℕ → Bool → LanesState A
+lanes_of lanes room fault time short = record {
   terms = map (λ l. l.terms) lanes;
   plans = map (λ l. l.plan) lanes;
   waiting = map (λ l. l.waiting) lanes;
   later = map (λ l. l.later) lanes;
   room = room;
   fault = fault;
+  time = time;
+  short = short;
 }
 
 -- one of them did something that keeps it, and answered so
-pub one_kept : {A T : Type 0} (lanes : List (LaneState A)) (i : ℕ) (old new : LaneState A) (room room' : ℕ) (first : Option BufferFault) (answer : Result T BufferFault)
+pub one_kept : {A T : Type 0} {time time' : ℕ} {short short' : Bool} (lanes : List (LaneState A)) (i : ℕ) (old new : LaneState A) (room room' : ℕ) (first : Option BufferFault) (answer : Result T BufferFault)
     (before after : LanesState A) → old ≡ slice_index_or lanes i old → KeepsLane old new
-    → lanes_of lanes room first ≡ before → after ≡ lanes_of (slice_set lanes i new) room' (fault_after first answer) → KeepsLanes before after
-one_kept {A} lanes i old new room room' first answer before after at kept b a =
+    → lanes_of lanes room first time short ≡ before → after ≡ lanes_of (slice_set lanes i new) room' (fault_after first answer) time' short' → KeepsLanes before after
+one_kept {A} {T} {time} {time'} {short} {short'} lanes i old new room room' first answer before after at kept b a =
     subst (λ (s : LanesState A). KeepsLanes s after) b
-    (subst (KeepsLanes (lanes_of lanes room first)) (sym a)
+    (subst (KeepsLanes (lanes_of lanes room first time short)) (sym a)
     (record {
       terms = kept_at (λ (l : LaneState A). l.terms) lanes i old new at kept.terms;
       timings = kept_in (λ (l : LaneState A). l.plan) timing_of lanes i old new at kept.timing;

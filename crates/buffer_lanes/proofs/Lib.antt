@@ -3,3 +3,4 @@ pub mod Appending
 pub mod Redeeming
 pub mod Leaving
 pub mod Pendings
+pub mod Noting

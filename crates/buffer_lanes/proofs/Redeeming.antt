@@ -47,15 +47,15 @@ put_is : {L : Type 0} (lanes : List L) (place : ℕ) (new : L) → place < lengt
 put_is lanes place new within = sym (get_or-set_same lanes place new new within)
 
 -- one of the buffers redeemed its appends
-pub redeemed_at : {A T : Type 0} (lanes : List (LaneState A)) (place : ℕ) (old new : LaneState A) (room room' : ℕ) (first first' : Option BufferFault) (answer : Result T BufferFault)
+pub redeemed_at : {A T : Type 0} {time time' : ℕ} {short short' : Bool} (lanes : List (LaneState A)) (place : ℕ) (old new : LaneState A) (room room' : ℕ) (first first' : Option BufferFault) (answer : Result T BufferFault)
     (before after : LanesState A) (buffer : BufferNo) → place < length lanes → old ≡ slice_index_or lanes place old
     → OnOk answer (HaveReceipts old new ⊎ WaitOn old new) → OnErr answer (GetNone new)
-    → lanes_of lanes room first ≡ before → after ≡ lanes_of (slice_set lanes place new) room' first' → buffer.0 ≡ place → AreRedeemedAt buffer before after
-redeemed_at {A} {T} lanes place old new room room' first first' answer before after buffer within is ok err b a same =
+    → lanes_of lanes room first time short ≡ before → after ≡ lanes_of (slice_set lanes place new) room' first' time' short' → buffer.0 ≡ place → AreRedeemedAt buffer before after
+redeemed_at {A} {T} {time} {time'} {short} {short'} lanes place old new room room' first first' answer before after buffer within is ok err b a same =
     subst (λ (s : LanesState A). AreRedeemedAt buffer s after) b
-    (subst (AreRedeemedAt buffer (lanes_of lanes room first)) (sym a) (by place same within is))
+    (subst (AreRedeemedAt buffer (lanes_of lanes room first time short)) (sym a) (by place same within is))
   where
-    by : (k : ℕ) → buffer.0 ≡ k → k < length lanes → old ≡ slice_index_or lanes k old → AreRedeemedAt buffer (lanes_of lanes room first) (lanes_of (slice_set lanes place new) room' first')
+    by : (k : ℕ) → buffer.0 ≡ k → k < length lanes → old ≡ slice_index_or lanes k old → AreRedeemedAt buffer (lanes_of lanes room first time short) (lanes_of (slice_set lanes place new) room' first' time' short')
     by k e w i =
         let here : buffer.0 < length lanes = subst (λ (n : ℕ). n < length lanes) (sym e) w in
         let there : buffer.0 < length (slice_set lanes place new) = subst (λ (n : ℕ). buffer.0 < n) (sym (length-set lanes place new)) here in
@@ -69,12 +69,12 @@ redeemed_at {A} {T} lanes place old new room room' first first' answer before af
         ) (lane_redeemed old new answer ok err)
 
 -- The others are as they were.
-pub others_at : {A : Type 0} (lanes : List (LaneState A)) (place : ℕ) (new : LaneState A) (room room' : ℕ) (first first' : Option BufferFault)
-    (before after : LanesState A) (buffer : BufferNo) → lanes_of lanes room first ≡ before → after ≡ lanes_of (slice_set lanes place new) room' first' → buffer.0 ≢ place
+pub others_at : {A : Type 0} {time time' : ℕ} {short short' : Bool} (lanes : List (LaneState A)) (place : ℕ) (new : LaneState A) (room room' : ℕ) (first first' : Option BufferFault)
+    (before after : LanesState A) (buffer : BufferNo) → lanes_of lanes room first time short ≡ before → after ≡ lanes_of (slice_set lanes place new) room' first' time' short' → buffer.0 ≢ place
     → IsUntouched buffer before after
-others_at {A} lanes place new room room' first first' before after buffer b a apart =
+others_at {A} {time} {time'} {short} {short'} lanes place new room room' first first' before after buffer b a apart =
     subst (λ (s : LanesState A). IsUntouched buffer s after) b
-    (subst (IsUntouched buffer (lanes_of lanes room first)) (sym a)
+    (subst (IsUntouched buffer (lanes_of lanes room first time short)) (sym a)
     (record {
       waiting =
           ap (λ (l : List (List Pended)). listed_at l buffer) (map-set (λ (l : LaneState A). l.waiting) lanes place new)
@@ -87,8 +87,8 @@ others_at {A} lanes place new room room' first first' before after buffer b a ap
     }))
 
 -- of a buffer that isn't there nothing waits, and there are no receipts
-pub none_there : {A : Type 0} (lanes : List (LaneState A)) (room : ℕ) (first : Option BufferFault) (state : LanesState A) (buffer : BufferNo)
-    → lanes_of lanes room first ≡ state → length lanes ≤ buffer.0 → AreRedeemedAt buffer state state
+pub none_there : {A : Type 0} {time : ℕ} {short : Bool} (lanes : List (LaneState A)) (room : ℕ) (first : Option BufferFault) (state : LanesState A) (buffer : BufferNo)
+    → lanes_of lanes room first time short ≡ state → length lanes ≤ buffer.0 → AreRedeemedAt buffer state state
 none_there {A} lanes room first state buffer is past =
     subst (λ (s : LanesState A). AreRedeemedAt buffer s s) is
     (rw (
@@ -122,7 +122,7 @@ redeemed_more old between new at done left here others buffer within = by (eq-or
     by (inr l) = still_redeemed old between new buffer (done buffer l) (others buffer (λ e. absurd (omega (arith, e, l))))
 
 -- All did, and of others nothing waits.
-pub all_redeemed : {A : Type 0} (lanes : List (LaneState A)) (room : ℕ) (first : Option BufferFault) (old new : LanesState A) (end : ℕ) → lanes_of lanes room first ≡ old → length lanes ≤ end
+pub all_redeemed : {A : Type 0} {time : ℕ} {short : Bool} (lanes : List (LaneState A)) (room : ℕ) (first : Option BufferFault) (old new : LanesState A) (end : ℕ) → lanes_of lanes room first time short ≡ old → length lanes ≤ end
     → ((buffer : BufferNo) → buffer.0 < end → AreRedeemedAt buffer old new) → ((buffer : BufferNo) → end ≤ buffer.0 → IsUntouched buffer old new)
     → (buffer : BufferNo) → AreRedeemedAt buffer old new
 all_redeemed lanes room first old new end is past done left buffer = by (cases_lt buffer.0 end)

@@ -1,12 +1,12 @@
 -- The buffers of a relay, as its loop uses them.
-use Rattle.std.specs.Prelude.{ℕ, ◌≡◌, ◌-◌, ◌++◌, ◌∷◌, ◌⊎◌, ◌<◌, Bool, true, false, List, [], map, length, take, Option, None, Some, Result, Ok, Err, if◌then◌else◌, slice_get, slice_set, unwrap_or}
+use Rattle.std.specs.Prelude.{ℕ, ◌≡◌, ◌≢◌, ◌-◌, ◌++◌, ◌∷◌, ◌⊎◌, ◌<◌, Bool, true, false, List, [], map, length, take, All, Option, None, Some, Result, Ok, Err, if◌then◌else◌, slice_get, slice_index_or, slice_set, unwrap_or}
 use Rattle.buffer_store.specs.declared.fault.BufferFault.{BufferFault}
 use Rattle.buffer_store.specs.declared.fault.BufferFault.TheVariants.{Full, TooLarge, Gone, Fault, Failed, LastSerial, Damaged, Memory}
 use Rattle.relay_conf.specs.declared.output.BufferNo.{BufferNo}
 use Rattle.ack_receipt.specs.Deliveries.{Appended, Pended}
 use Rattle.ack_receipt.specs.Redeeming.{AreReceiptsOf}
 use Rattle.ack_receipt.specs.Terms.{Terms}
-use Rattle.buffer_lanes.specs.Schedules.{Plan, Timing, timing_of}
+use Rattle.buffer_lanes.specs.Schedules.{IsNoneDue, IsNoted, Plan, Timing, timing_of}
 
 -- a buffer: its terms, when its staged chunks are queued, its appends that wait for receipts, its receipts that nobody took yet, both in the order of the
 -- appends, and whether there was no memory for its receipts, so that they come later
@@ -17,7 +17,8 @@ pub record LaneState (A : Type 0) : Type 0 where
   pub receipts : List Appended
   pub later : Bool
 
--- the buffers by their numbers, each with those; for how many more there is room; and the first fault of a device, if there was one
+-- the buffers by their numbers, each with those; for how many more there is room; the first fault of a device, if there was one; the time in
+-- milliseconds; and whether something that was to be queued wasn't
 pub record LanesState (A : Type 0) : Type 0 where
   pub terms : List (Terms A)
   pub plans : List Plan
@@ -25,6 +26,8 @@ pub record LanesState (A : Type 0) : Type 0 where
   pub later : List Bool
   pub room : ℕ
   pub fault : Option BufferFault
+  pub time : ℕ
+  pub short : Bool
 
 -- what is listed of this buffer; nothing of one that isn't there
 abbrev pub listed_at : {X : Type 0} → List (List X) → BufferNo → List X
@@ -130,3 +133,22 @@ pub record IsUntouched {A : Type 0} (buffer : BufferNo) (old new : LanesState A)
 -- an append to one of the buffers waits for its receipt
 abbrev pub AppendsWait : List (List Pended) → Type 0
 AppendsWait waiting = (buffer : BufferNo) × (0 < length (listed_at waiting buffer))
+
+-- the buffers' plans once an append at this time went to a chunk of this serial at this one: those of the others are as they were
+pub record IsNotedAt (place serial time : ℕ) (before behind : List Plan) : Type 0 where
+  pub plan : Plan
+  pub is : behind ≡ slice_set before place plan
+  pub noted : (none : Plan) → place < length before → IsNoted serial time (slice_index_or before place none) plan
+
+-- none of this buffer's staged chunks is to be queued now, if it is there
+abbrev pub IsNoneDueAt : ℕ → ℕ → List Plan → Type 0
+IsNoneDueAt place time plans = (none : Plan) → place < length plans → IsNoneDue time (slice_index_or plans place none)
+
+-- the plans of all buffers but this one are as they were
+pub record IsOneElse (place : ℕ) (old new : List Plan) : Type 0 where
+  pub length : length new ≡ length old
+  pub others : (other : ℕ) (none : Plan) → other ≢ place → slice_index_or new other none ≡ slice_index_or old other none
+
+-- no staged chunk is to be queued now, unless there was no memory for it or a device failed
+abbrev pub AreQueued : {A : Type 0} → LanesState A → Type 0
+AreQueued lanes = lanes.short ≡ false → All (IsNoneDue lanes.time) lanes.plans

@@ -1,5 +1,5 @@
 -- When the staged chunks of a buffer are queued (Fluentd, "Config: Buffer Section", flush_mode, flush_interval).
-use Rattle.std.specs.Prelude.{ℕ, ◌≡◌, ◌-◌, Bool, List, [], ◌∷◌, ◌++◌, length, map, slice_get, Option, None, Some, if◌then◌else◌, nat_lt, not, true}
+use Rattle.std.specs.Prelude.{ℕ, ◌≡◌, ◌-◌, Bool, List, [], ◌∷◌, ◌++◌, length, map, All, slice_get, Option, None, Some, if◌then◌else◌, nat_lt, not, true}
 use Rattle.std.specs.List.{flat_map}
 use Rattle.buffer_state.specs.Shown.{Facts, numbered_facts}
 use Rattle.buffer_state.specs.State.{State, is_staged}
@@ -54,7 +54,17 @@ abbrev pub due_in : FlushMode → ℕ → ℕ → List Staged → Option ℕ
 due_in mode interval now [] = None
 due_in mode interval now (staged ∷ more) = if is_due mode interval now staged then Some staged.serial else None
 
--- these are left of those, where the first ones are staged no more
-pub record AreLastOf (left before : List Staged) : Type 0 where
+-- The first of these were to be queued now, and are staged no more; these are left.
+pub record AreLeft (mode : FlushMode) (interval now : ℕ) (left before : List Staged) : Type 0 where
   pub gone : List Staged
   pub is : before ≡ gone ++ left
+  pub due : All (λ staged. is_due mode interval now staged ≡ true) gone
+
+-- none of a buffer's staged chunks is to be queued now
+abbrev pub IsNoneDue : ℕ → Plan → Type 0
+IsNoneDue now plan = due_in plan.mode plan.interval now plan.chunks ≡ None
+
+-- a buffer's plan once an append at this time went to this chunk
+pub record IsNoted (serial now : ℕ) (old new : Plan) : Type 0 where
+  pub chunks : new.chunks ≡ noted serial now old.chunks
+  pub timing : timing_of new ≡ timing_of old

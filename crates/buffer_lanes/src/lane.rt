@@ -1,15 +1,16 @@
 //! A buffer as the loop uses it.
 
-ghost use Rattle.std.specs.Prelude.{◌≡◌, ◌<◌, ◌⊎◌, ◌↔◌, ◌++◌, [], false, length, IfOk, IfNone, IsTrue, OnOk, OnErr};
+ghost use Rattle.std.specs.Prelude.{◌≡◌, ◌<◌, ◌⊎◌, ◌↔◌, ◌++◌, [], false, true, length, IfErr, IfOk, IfNone, IsTrue, OnOk, OnErr};
 ghost use Rattle.std.specs.Arc.{arc_value};
 ghost use Rattle.std.specs.Option.{option_to_list};
-ghost use Rattle.buffer_lanes.specs.Lanes.{GetNone, HaveReceipts, IsAppended, KeepsLane, WaitOn, undone};
-ghost use Rattle.buffer_lanes.specs.Schedules.{AreLastOf, noted};
+ghost use Rattle.buffer_lanes.specs.Lanes.{GetNone, HaveReceipts, IsAppended, KeepsLane, WaitOn, is_lost, undone};
+ghost use Rattle.buffer_lanes.specs.Schedules.{AreLeft, IsNoneDue, IsNoted};
 
 use crate::schedule::Schedule;
 use ack_receipt::{Delivery, Pending, Receipt, RedeemFault, SharedBuffer, Stub};
 use buffer_store::BufferFault;
 use disk_files::Dir;
+use relay_notices::{Notice, Refusal, Teller};
 use std::alloc::Allocator;
 use std::marker::Model;
 use std::mem;
@@ -26,6 +27,10 @@ pub struct Lane<D: Dir, A: Allocator> {
     receipts: IntoIter<Receipt<A>, A>,
     // There was no memory for receipts.
     is_later: bool,
+    // Tells of messages that it refuses, of chunks that it drops, and that it is nearly full.
+    teller: Teller<A>,
+    // It was nearly full when that was asked last.
+    is_nearly_full: bool,
 }
 
 impl<D: Dir, A: Allocator> Model for Lane<D, A> {
@@ -55,7 +60,16 @@ impl<D: Dir + Drop, A: Allocator + Copy> Lane<D, A> {
             pendings: Vec::new(alloc),
             receipts: Vec::new(alloc).into_iter(),
             is_later: false,
+            teller: Teller::silent(),
+            is_nearly_full: false,
         }
+    }
+
+    /// What it refuses and drops is told by this teller from now on.
+    pub fn tell_by(&mut self, teller: Teller<A>)
+        ensures { self.new ≡ self.old }
+    {
+        self.teller = teller;
     }
 
     /// The buffer.
@@ -86,8 +100,25 @@ impl<D: Dir + Drop, A: Allocator + Copy> Lane<D, A> {
         self.receipts.len()
     }
 
+    /// Whether the delivery's entries would have room, and why they haven't, which is told. Nothing changes.
+    pub fn ask_room<R: Wait>(&self, rt: &R, delivery: &Delivery<A>) -> Result<(), BufferFault> {
+        self.told(rt, self.buffer.ask_room(rt, delivery))
+    }
+
+    // What the buffer answered to a delivery; a refusal is told.
+    fn told<R: Wait, T>(&self, rt: &R, answer: Result<T, BufferFault>) -> Result<T, BufferFault>
+        ensures { result ≡ answer }
+    {
+        if let Err(fault) = &answer
+            && let Some(refusal) = refusal_of(*fault)
+        {
+            self.teller.tell(rt, 0, Notice::NotTaken(refusal));
+        }
+        answer
+    }
+
     /// Appends the delivery's entries, dropping the oldest chunks for them where the buffer may, and gives the serial of the chunk
-    /// that has them: it is staged, if it wasn't before, since now.
+    /// that has them: it is staged, if it wasn't before, since now. A refusal is told.
     ///
     /// An error leaves no append to be undone.
     pub fn append<R: Wait>(
@@ -99,7 +130,7 @@ impl<D: Dir + Drop, A: Allocator + Copy> Lane<D, A> {
         requires { 0 < length delivery.now.message.entries }
         ensures kept { KeepsLane self.old self.new }
         ensures later { self.new.later ≡ self.old.later }
-        ensures staged { IfOk result (λ serial. self.new.plan.chunks ≡ noted serial now self.old.plan.chunks) }
+        ensures staged { IfOk result (λ serial. IsNoted serial now self.old.plan self.new.plan) }
         ensures err { OnErr result (self.new.plan.chunks ≡ self.old.plan.chunks) }
         ensures appended { IfOk result (λ serial. IsAppended delivery.now.number serial self.old.waiting self.new.waiting) }
         ensures none { OnErr result (self.new.waiting ≡ self.old.waiting) }
@@ -107,7 +138,8 @@ impl<D: Dir + Drop, A: Allocator + Copy> Lane<D, A> {
     {
         self.schedule.reserve()?;
         self.pendings.reserve(1)?;
-        let pending = append_to(rt, &self.buffer, delivery)?;
+        let put = append_to(rt, &self.buffer, &self.teller, delivery);
+        let pending = self.told(rt, put)?;
         let serial = pending.serial();
         self.schedule.note(serial, now);
         self.pendings.push_reserved(pending);
@@ -123,13 +155,15 @@ impl<D: Dir + Drop, A: Allocator + Copy> Lane<D, A> {
         }
     }
 
-    /// Queues the chunks that are to be queued now. What there is no memory for is queued later.
+    /// Queues the chunks that are to be queued now, and no others.
     ///
-    /// The error is that of the device.
+    /// The error is want of memory, or that of the device: what is left is queued later.
     pub fn queue_due<R: Wait>(&mut self, rt: &R, now: u64) -> Result<(), BufferFault>
         ensures kept { KeepsLane self.old self.new }
         ensures rest { self.new ≡ record self.old { plan = self.new.plan } }
-        ensures chunks { AreLastOf self.new.plan.chunks self.old.plan.chunks }
+        ensures chunks { AreLeft self.old.plan.mode self.old.plan.interval now
+            self.new.plan.chunks self.old.plan.chunks }
+        ensures none { OnOk result (IsNoneDue now self.new.plan) }
     {
         'chunks: for _ in rt.forever() {
             let Some(serial) = self.schedule.due(now) else {
@@ -137,23 +171,24 @@ impl<D: Dir + Drop, A: Allocator + Copy> Lane<D, A> {
             };
             match self.buffer.enqueue_shown(rt, serial) {
                 Ok(unstaged) => self.schedule.forget_first(unstaged),
-                Err(BufferFault::Memory) => return Ok(()),
                 Err(fault) => return Err(fault),
             }
         }
-        Ok(())
+        unreachable!()
     }
 
     /// Makes receipts of the appends, in their order, by one sync where one is needed. Receipts that nobody took before are of
     /// deliveries that ended without them: they are spent. Without memory the appends wait for the next turn.
     ///
-    /// The error is that of the device: the appends get no receipts. `Gone` doesn't come, since each of the appends waits in the
-    /// buffer's book.
+    /// The error is that of the device: the appends get no receipts. So it is where one of them isn't of this buffer, which doesn't come:
+    /// each of the appends waits in the buffer's book.
     pub fn redeem<R: Wait>(&mut self, rt: &R) -> Result<(), BufferFault>
         ensures terms { self.new.terms ≡ self.old.terms }
         ensures plan { self.new.plan ≡ self.old.plan }
         ensures ok { OnOk result (HaveReceipts self.old self.new ⊎ WaitOn self.old self.new) }
         ensures err { OnErr result (GetNone self.new) }
+        // That they get none isn't passed over: the fault ends the relay.
+        ensures told { IfErr result (λ fault. is_lost fault ≡ true) }
     {
         let alloc = *self.pendings.allocator();
         self.keep(rt, Vec::new(alloc));
@@ -161,6 +196,7 @@ impl<D: Dir + Drop, A: Allocator + Copy> Lane<D, A> {
         if self.pendings.is_empty() {
             return Ok(());
         }
+        self.note_room(rt);
         let list = mem::replace(&mut self.pendings, Vec::new(alloc));
         match self.buffer.redeem(rt, list) {
             Ok(receipts) => {
@@ -178,9 +214,20 @@ impl<D: Dir + Drop, A: Allocator + Copy> Lane<D, A> {
             }
             Err((RedeemFault::Stranger, list)) => {
                 give_up(rt, &self.buffer, list);
-                Err(BufferFault::Gone)
+                Err(BufferFault::Failed)
             }
         }
+    }
+
+    // Tells that the buffer is nearly full, where it wasn't when that was asked last.
+    fn note_room<R: Wait>(&mut self, rt: &R)
+        ensures { self.new ≡ self.old }
+    {
+        let is_nearly_full = self.buffer.is_nearly_full(rt);
+        if is_nearly_full && !self.is_nearly_full {
+            self.teller.tell(rt, 0, Notice::NearlyFull);
+        }
+        self.is_nearly_full = is_nearly_full;
     }
 
     // These receipts are to be handed out, and no others: those are spent.
@@ -230,6 +277,8 @@ impl<D: Dir + Drop, A: Allocator + Copy> Lane<D, A> {
             pendings,
             receipts,
             is_later: _,
+            teller: _,
+            is_nearly_full: _,
         } = self;
         give_up(rt, &buffer, pendings);
         let mut rest = receipts;
@@ -240,26 +289,59 @@ impl<D: Dir + Drop, A: Allocator + Copy> Lane<D, A> {
     }
 }
 
-// Appends, dropping the oldest chunks until the append fits or none is queued, where the buffer may.
+// Appends, dropping the oldest chunks until the append fits, where the buffer may and that helps. What is dropped is told.
 fn append_to<R: Wait, D: Dir, A: Allocator + Copy>(
     rt: &R,
     buffer: &SharedBuffer<D, A>,
+    teller: &Teller<A>,
     delivery: &Delivery<A>,
 ) -> Result<Pending<A>, BufferFault>
     requires { 0 < length delivery.now.message.entries }
     ensures { IfOk result (λ pending. pending.delivery ≡ delivery.now.number) }
 {
+    match buffer.append_pending(rt, delivery) {
+        Err(BufferFault::Full) if buffer.takes().drops => {}
+        answer => return answer,
+    }
+    buffer.ask_room(rt, delivery)?;
     for _ in rt.forever() {
+        drop_one(rt, buffer, teller)?;
         match buffer.append_pending(rt, delivery) {
-            Err(BufferFault::Full) if buffer.takes().drops => match buffer.drop_oldest(rt) {
-                Ok(_) => {}
-                Err(BufferFault::Gone) => return Err(BufferFault::Full),
-                Err(fault) => return Err(fault),
-            },
+            Err(BufferFault::Full) => {}
             answer => return answer,
         }
     }
     Err(BufferFault::Full)
+}
+
+// Drops the oldest queued chunk. `Full` where none is queued.
+fn drop_one<R: Wait, D: Dir, A: Allocator + Copy>(
+    rt: &R,
+    buffer: &SharedBuffer<D, A>,
+    teller: &Teller<A>,
+) -> Result<(), BufferFault> {
+    match buffer.drop_oldest(rt) {
+        Ok(_) => {
+            teller.tell(rt, 0, Notice::Dropped);
+            Ok(())
+        }
+        Err(BufferFault::Gone) => Err(BufferFault::Full),
+        Err(fault) => Err(fault),
+    }
+}
+
+// What is told of a message that a buffer refuses with this. A fault of its device is told once, when the relay ends.
+fn refusal_of(fault: BufferFault) -> Option<Refusal> {
+    match fault {
+        BufferFault::Full => Some(Refusal::Full),
+        BufferFault::TooLarge => Some(Refusal::TooLarge),
+        BufferFault::Memory => Some(Refusal::Memory),
+        BufferFault::Gone
+        | BufferFault::Fault
+        | BufferFault::Failed
+        | BufferFault::LastSerial
+        | BufferFault::Damaged => None,
+    }
 }
 
 // These appends get no receipts.

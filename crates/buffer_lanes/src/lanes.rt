@@ -1,8 +1,8 @@
 //! The buffers of a relay, as its loop uses them.
 
-ghost use Rattle.std.specs.Prelude.{◌≡◌, ◌≢◌, ◌<◌, ◌≤◌, ◌+◌, ◌++◌, ◌∷◌, ◌↔◌, [], None, length, slice_set, Any, Contains, IfOk, IfSome, IsFalse, IsTrue, OnErr};
+ghost use Rattle.std.specs.Prelude.{◌≡◌, ◌≢◌, ◌<◌, ◌≤◌, ◌+◌, ◌++◌, ◌∷◌, ◌↔◌, [], None, false, length, slice_set, Any, Contains, IfOk, IfSome, IsFalse, IsSome, IsTrue, OnErr, OnOk};
 ghost use Rattle.relay_conf.specs.declared.output.BufferNo.{BufferNo};
-ghost use Rattle.buffer_lanes.specs.Lanes.{AppendsWait, AreRedeemedAt, EndsWith, IsAppendedAt, IsUntouched, KeepsLanes, fault_after, is_lost as is_lost_fault, later_at, listed_at, undone};
+ghost use Rattle.buffer_lanes.specs.Lanes.{AppendsWait, AreQueued, AreRedeemedAt, EndsWith, IsAppendedAt, IsNoneDueAt, IsNotedAt, IsOneElse, IsUntouched, KeepsLanes, fault_after, is_lost as is_lost_fault, later_at, listed_at, undone};
 ghost use Rattle.buffer_lanes.specs.Waits.{HasEntries};
 
 use crate::lane::Lane;
@@ -11,6 +11,7 @@ use ack_receipt::{Delivery, Stub};
 use buffer_store::BufferFault;
 use disk_files::Dir;
 use relay_conf::BufferNo;
+use relay_notices::Teller;
 use std::alloc::{AllocError, Allocator};
 use std::marker::Model;
 use std::sync::Wait;
@@ -24,6 +25,8 @@ pub struct Lanes<D: Dir, A: Allocator> {
     stubs: Option<Vec<Stub<A>, A>>,
     // The first fault of a device.
     fault: Option<BufferFault>,
+    // Something that was to be queued wasn't.
+    is_short: bool,
 }
 
 impl<D: Dir, A: Allocator> Model for Lanes<D, A> {
@@ -39,13 +42,15 @@ impl<D: Dir, A: Allocator> Model for Lanes<D, A> {
       later = map (λ lane. lane.later) l.lanes.items;
       room = vec_capacity l.lanes - vec_len l.lanes;
       fault = l.fault;
+      time = l.time;
+      short = l.is_short;
     } };
 }
 
 impl<D: Dir + Drop, A: Allocator + Copy> Lanes<D, A> {
     /// No buffers yet, and room for so many. The error is want of memory.
     pub fn with_capacity(alloc: A, count: usize) -> Result<Self, AllocError>
-        ensures none { IfOk result (λ lanes. lanes ≡ record { terms = []; plans = []; waiting = []; later = []; room = lanes.room; fault = None }) }
+        ensures none { IfOk result (λ lanes. lanes ≡ record { terms = []; plans = []; waiting = []; later = []; room = lanes.room; fault = None; time = 0; short = false }) }
         ensures room { IfOk result (λ lanes. count ≤ lanes.room) }
     {
         let lanes = Vec::with_capacity(alloc, count)?;
@@ -54,6 +59,7 @@ impl<D: Dir + Drop, A: Allocator + Copy> Lanes<D, A> {
             time: 0,
             stubs: None,
             fault: None,
+            is_short: false,
         })
     }
 
@@ -66,6 +72,8 @@ impl<D: Dir + Drop, A: Allocator + Copy> Lanes<D, A> {
         ensures waiting { self.new.waiting ≡ self.old.waiting ++ lane.waiting ∷ [] }
         ensures later { self.new.later ≡ self.old.later ++ lane.later ∷ [] }
         ensures fault { self.new.fault ≡ self.old.fault }
+        ensures time { self.new.time ≡ self.old.time }
+        ensures short { self.new.short ≡ self.old.short }
     {
         self.lanes.push_reserved(lane);
     }
@@ -77,9 +85,27 @@ impl<D: Dir + Drop, A: Allocator + Copy> Lanes<D, A> {
         self.stubs = Some(Vec::new(alloc));
     }
 
+    /// What the buffers refuse and drop is told by this teller from now on, whose places are the buffers, in their order.
+    pub fn tell_by(&mut self, teller: &Teller<A>)
+        ensures { self.new ≡ self.old }
+    {
+        for at in 0..self.lanes.len() {
+            self.tell_by_at(at, teller);
+        }
+    }
+
+    fn tell_by_at(&mut self, at: usize, teller: &Teller<A>)
+        ensures { self.new ≡ self.old }
+    {
+        let Some(lane) = self.lanes.get_mut(at) else {
+            return;
+        };
+        lane.tell_by(teller.from(at));
+    }
+
     /// It is this time, in milliseconds since one fixed start.
     pub fn set_time(&mut self, now: u64)
-        ensures { self.new ≡ self.old }
+        ensures { self.new ≡ record self.old { time = now } }
     {
         self.time = now;
     }
@@ -113,7 +139,7 @@ impl<D: Dir + Drop, A: Allocator + Copy> Lanes<D, A> {
     }
 
     /// Appends the delivery's entries to each of these buffers, in their order. `false` where one refuses: then none of them has an
-    /// append of the delivery that waits for a receipt.
+    /// append of the delivery that waits for a receipt; and where one of several has no room, no buffer has its entries.
     pub(crate) fn append<R: Wait>(
         &mut self,
         rt: &R,
@@ -126,8 +152,43 @@ impl<D: Dir + Drop, A: Allocator + Copy> Lanes<D, A> {
         ensures appended { IsTrue result → (buffer : BufferNo) → Contains buffers.now buffer
             → EndsWith delivery.now.number (listed_at self.new.waiting buffer) }
         ensures undone { IsFalse result → self.new.waiting ≡ self.old.waiting }
+    {
+        // With one buffer the append itself asks.
+        if buffers.len() > 1 && !self.have_room(rt, buffers, delivery) {
+            return false;
+        }
+        self.append_each(rt, buffers, delivery)
+    }
+
+    // Whether each of these buffers has room for the delivery's entries. The first that has none tells it.
+    fn have_room<R: Wait>(&self, rt: &R, buffers: &[BufferNo], delivery: &Delivery<A>) -> bool {
+        buffers
+            .iter()
+            .all(|buffer| self.has_room(rt, *buffer, delivery))
+    }
+
+    // The same of one. Where its device failed, the append itself finds that out.
+    fn has_room<R: Wait>(&self, rt: &R, buffer: BufferNo, delivery: &Delivery<A>) -> bool {
+        let Some(lane) = self.lanes.get(buffer.0) else {
+            return true;
+        };
+        match lane.ask_room(rt, delivery) {
+            Ok(()) => true,
+            Err(fault) => is_lost(fault),
+        }
+    }
+
+    // Appends to each of them, unless one refuses.
+    fn append_each<R: Wait>(&mut self, rt: &R, buffers: &[BufferNo], delivery: &Delivery<A>) -> bool
+        requires { HasEntries delivery.now buffers.now }
+        ensures kept { KeepsLanes self.old self.new }
+        ensures later { self.new.later ≡ self.old.later }
+        ensures appended { IsTrue result → (buffer : BufferNo) → Contains buffers.now buffer
+            → EndsWith delivery.now.number (listed_at self.new.waiting buffer) }
+        ensures undone { IsFalse result → self.new.waiting ≡ self.old.waiting }
         // Behind an append of the delivery come others of it alone.
-        ensures last { (buffer : BufferNo) → EndsWith delivery.now.number (listed_at self.old.waiting buffer)
+        ensures last { (buffer : BufferNo)
+            → EndsWith delivery.now.number (listed_at self.old.waiting buffer)
             → EndsWith delivery.now.number (listed_at self.new.waiting buffer) }
     {
         let Some((first, others)) = buffers.split_first() else {
@@ -136,7 +197,7 @@ impl<D: Dir + Drop, A: Allocator + Copy> Lanes<D, A> {
         let Ok(_) = self.append_to(rt, *first, delivery) else {
             return false;
         };
-        if self.append(rt, others, delivery) {
+        if self.append_each(rt, others, delivery) {
             return true;
         }
         self.undo_at(rt, *first);
@@ -155,6 +216,9 @@ impl<D: Dir + Drop, A: Allocator + Copy> Lanes<D, A> {
         ensures later { self.new.later ≡ self.old.later }
         ensures appended { IfOk result (λ serial. IsAppendedAt buffer delivery.now.number serial self.old.waiting self.new.waiting) }
         ensures none { OnErr result (self.new.waiting ≡ self.old.waiting) }
+        ensures noted { IfOk result (λ serial. IsNotedAt buffer.0 serial self.old.time self.old.plans self.new.plans) }
+        ensures time { self.new.time ≡ self.old.time }
+        ensures short { self.new.short ≡ self.old.short }
         ensures fault { self.new.fault ≡ fault_after self.old.fault result }
     {
         let now = self.time;
@@ -175,18 +239,24 @@ impl<D: Dir + Drop, A: Allocator + Copy> Lanes<D, A> {
         lane.undo(rt);
     }
 
-    /// Queues the chunks that are to be queued now.
+    /// Queues the chunks that are to be queued now. What there is no memory for is queued later, and so is what a device refuses.
     pub fn queue_due<R: Wait>(&mut self, rt: &R)
         ensures kept { KeepsLanes self.old self.new }
-        ensures rest { self.new ≡ record self.old { plans = self.new.plans; fault = self.new.fault } }
+        ensures queued { AreQueued self.new }
+        ensures rest { self.new ≡ record self.old { plans = self.new.plans; fault = self.new.fault; short = self.new.short } }
     {
+        self.is_short = false;
         for at in 0..self.lanes.len() {
-            let _ = self.queue_due_at(rt, at);
+            if self.queue_due_at(rt, at).is_err() {
+                self.is_short = true;
+            }
         }
     }
 
     fn queue_due_at<R: Wait>(&mut self, rt: &R, at: usize) -> Result<(), BufferFault>
         ensures kept { KeepsLanes self.old self.new }
+        ensures none { OnOk result (IsNoneDueAt at self.old.time self.new.plans) }
+        ensures others { IsOneElse at self.old.plans self.new.plans }
         ensures rest { self.new ≡ record self.old { plans = self.new.plans; fault = fault_after self.old.fault result } }
     {
         let now = self.time;
@@ -201,6 +271,7 @@ impl<D: Dir + Drop, A: Allocator + Copy> Lanes<D, A> {
     pub fn redeem<R: Wait>(&mut self, rt: &R)
         ensures kept { KeepsLanes self.old self.new }
         ensures plans { self.new.plans ≡ self.old.plans }
+        ensures time { (self.new.time ≡ self.old.time) × (self.new.short ≡ self.old.short) }
         ensures redeemed { (buffer : BufferNo) → AreRedeemedAt buffer self.old self.new }
     {
         for at in 0..self.lanes.len() {
@@ -211,6 +282,9 @@ impl<D: Dir + Drop, A: Allocator + Copy> Lanes<D, A> {
     fn redeem_at<R: Wait>(&mut self, rt: &R, at: usize) -> Result<(), BufferFault>
         ensures kept { KeepsLanes self.old self.new }
         ensures plans { self.new.plans ≡ self.old.plans }
+        ensures time { (self.new.time ≡ self.old.time) × (self.new.short ≡ self.old.short) }
+        // Where appends get no receipts, the fault is told.
+        ensures told { OnErr result (IsSome self.new.fault) }
         ensures redeemed { (buffer : BufferNo) → buffer.0 ≡ at → AreRedeemedAt buffer self.old self.new }
         ensures others { (buffer : BufferNo) → buffer.0 ≢ at → IsUntouched buffer self.old self.new }
         ensures fault { self.new.fault ≡ fault_after self.old.fault result }
@@ -307,6 +381,7 @@ impl<D: Dir + Drop, A: Allocator + Copy> Lanes<D, A> {
             time: _,
             stubs,
             fault: _,
+            is_short: _,
         } = self;
         let mut rest = lanes.into_iter();
         while let Some(lane) = rest.next() {

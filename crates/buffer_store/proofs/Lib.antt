@@ -6,3 +6,4 @@ pub mod Plans
 pub mod Lasting
 pub mod Bodies
 pub mod Looking
+pub mod Freeing

@@ -5,3 +5,4 @@ pub mod Openings
 pub mod Refusals
 pub mod Laws
 pub mod Logs
+pub mod Room

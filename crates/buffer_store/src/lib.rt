@@ -8,6 +8,7 @@ mod laws;
 mod log;
 mod opening;
 mod renewal;
+mod room;
 mod settings;
 mod writing;
 

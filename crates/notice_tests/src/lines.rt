@@ -1,6 +1,6 @@
 //! The texts of lines.
 
-use relay_notices::{Closing, Ending, Failure, Notice, Pending, line_of};
+use relay_notices::{Closing, Ending, Failure, Notice, Pending, Refusal, line_of};
 use std::alloc::Global;
 use std::test::Fail;
 
@@ -13,7 +13,7 @@ fn text_of(alloc: Global, notice: Notice) -> Result<String, Fail> {
     Ok(line_of(alloc, 0, "P", &pending)?)
 }
 
-static TEXTS: [(Notice, &str); 12] = [
+static TEXTS: [(Notice, &str); 16] = [
     (
         Notice::Fails(Failure::Refused),
         "fails: it refuses connections",
@@ -34,6 +34,22 @@ static TEXTS: [(Notice, &str); 12] = [
     (
         Notice::GivenUp,
         "a chunk was given up, since its retries are over",
+    ),
+    (
+        Notice::NearlyFull,
+        "its buffer is past 80 % of total_limit_size",
+    ),
+    (
+        Notice::Dropped,
+        "a queued chunk was dropped unsent, since its buffer is full",
+    ),
+    (
+        Notice::NotTaken(Refusal::Full),
+        "a message was refused, since its buffer is full; its client gets no answer",
+    ),
+    (
+        Notice::NotTaken(Refusal::TooLarge),
+        "a message was refused, since it is more than a chunk takes; its client gets no answer",
     ),
     (
         Notice::Closed(Closing::BadStream),

@@ -12,6 +12,6 @@ mod slot;
 
 pub use limiter::{Due, Limiter};
 pub use line::line_of;
-pub use notice::{Closing, Ending, Failure, Notice};
+pub use notice::{Closing, Ending, Failure, Notice, Refusal};
 pub use notices::{Notices, Teller};
 pub use slot::{Pending, Slot};

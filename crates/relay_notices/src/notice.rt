@@ -12,6 +12,12 @@ pub enum Notice {
     Works,
     /// A chunk was let go, since its retries are over.
     GivenUp,
+    /// A buffer has more than four fifths of what it takes.
+    NearlyFull,
+    /// A queued chunk was let go unsent, so that a message has room.
+    Dropped,
+    /// A buffer took no message, so that its client gets no answer.
+    NotTaken(Refusal),
     /// A client was closed.
     Closed(Closing),
     /// The files of a sink can't be written.
@@ -43,6 +49,17 @@ pub enum Failure {
     BadAnswer,
     /// It closed the connection before it had answered.
     Lost,
+}
+
+/// Why a buffer took no message.
+#[derive(Clone, Copy, Debug, PartialEq, Eq)]
+pub enum Refusal {
+    /// With what is there it is more than the buffer takes.
+    Full,
+    /// It is more than a chunk takes.
+    TooLarge,
+    /// There was no memory.
+    Memory,
 }
 
 /// Why a client was closed.
@@ -91,6 +108,9 @@ impl Notice {
             Notice::Fails(failure) => failure.text(),
             Notice::Works => "works again",
             Notice::GivenUp => "a chunk was given up, since its retries are over",
+            Notice::NearlyFull => "its buffer is past 80 % of total_limit_size",
+            Notice::Dropped => "a queued chunk was dropped unsent, since its buffer is full",
+            Notice::NotTaken(refusal) => refusal.text(),
             Notice::Closed(closing) => closing.text(),
             Notice::SinkFailed => "fails: its file can't be written; the next is tried each minute",
             Notice::JournalFailed => "the journal of its buffer can't be written",
@@ -111,6 +131,22 @@ impl Failure {
             Failure::NoAcknowledgement => "fails: no acknowledgement came in time",
             Failure::BadAnswer => "fails: what it answered is no acknowledgement",
             Failure::Lost => "fails: it closed the connection",
+        }
+    }
+}
+
+impl Refusal {
+    fn text(self) -> &'static str {
+        match self {
+            Refusal::Full => {
+                "a message was refused, since its buffer is full; its client gets no answer"
+            }
+            Refusal::TooLarge => {
+                "a message was refused, since it is more than a chunk takes; its client gets no answer"
+            }
+            Refusal::Memory => {
+                "a message was refused, since there was no memory; its client gets no answer"
+            }
         }
     }
 }

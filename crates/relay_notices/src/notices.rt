@@ -71,8 +71,13 @@ impl<A: Allocator + Copy> Teller<A> {
 
     /// Tells of the same places; of none where there is no memory.
     pub fn another(&self) -> Teller<A> {
+        self.from(0)
+    }
+
+    /// Tells of its places from this one on; of none where there is no memory.
+    pub fn from(&self, place: usize) -> Teller<A> {
         match &self.notices {
-            Some(notices) => Teller::new(notices, self.first),
+            Some(notices) => Teller::new(notices, self.first.saturating_add(place)),
             None => Teller::silent(),
         }
     }

@@ -1,9 +1,12 @@
 //! Appends of deliveries: under the delivery's own number and tag, of its own entries.
 
-ghost use Rattle.std.specs.Prelude.{◌≡◌, ◌<◌, false, length, Ok, IfOk, OnOk, OnErr};
+ghost use Rattle.std.specs.Prelude.{◌≡◌, ◌<◌, true, false, length, Ok, Err, IfOk, OnOk, OnErr};
 ghost use Rattle.book_audit.specs.Audits.{SameLines};
 ghost use Rattle.buffer_book.specs.Books.{Appends, IsWaiting, Steady, Unchanged, WritesLine};
+ghost use Rattle.buffer_store.specs.declared.fault.BufferFault.{BufferFault};
 ghost use Rattle.ack_receipt.specs.Redeeming.{line_of};
+ghost use Rattle.buffer_store.specs.Room.{FitsBesideUnqueued};
+ghost use Rattle.ack_receipt.specs.Room.{HasRoom};
 
 use super::LockedBuffer;
 use super::pending::Pending;
@@ -13,9 +16,48 @@ use crate::delivery::Delivery;
 use buffer_book::{Noted, Waits};
 use buffer_store::BufferFault;
 use disk_files::Dir;
+use event_modes::Entries;
 use std::alloc::Allocator;
 
 impl<D: Dir, A: Allocator + Copy> LockedBuffer<D, A> {
+    /// Whether an append of the delivery's entries would have room, and why it hasn't. Nothing changes. Where queued chunks may be
+    /// dropped, those count as gone.
+    ///
+    /// The first of `Failed`, `TooLarge`, `Full` and `LastSerial` that applies.
+    pub(crate) fn ask_room(
+        &self,
+        terms: &Terms<A>,
+        delivery: &Delivery<A>,
+    ) -> Result<(), BufferFault>
+        ensures ok { OnOk result (HasRoom terms.now.takes self.now.buffer.limits
+            self.now.buffer.chunks delivery.now.tag delivery.now.message.entries) }
+        ensures full { result ≡ Err BufferFault.Full
+            → HasRoom terms.now.takes self.now.buffer.limits
+            self.now.buffer.chunks delivery.now.tag delivery.now.message.entries → ⊥ }
+    {
+        let entries = delivery.entries();
+        match self.booked.plan(delivery.tag(), entries) {
+            Ok(_) => Ok(()),
+            Err(BufferFault::Full) => self.room_by_dropping(terms, entries),
+            Err(fault) => Err(fault),
+        }
+    }
+
+    // Whether a full buffer has room for entries once queued chunks are let go, where they may be.
+    fn room_by_dropping(&self, terms: &Terms<A>, entries: &Entries<A>) -> Result<(), BufferFault>
+        ensures ok { OnOk result ((terms.now.takes.drops ≡ true)
+            × FitsBesideUnqueued self.now.buffer.limits self.now.buffer.chunks entries.now) }
+        ensures full { OnErr result ((result ≡ Err BufferFault.Full)
+            × ((terms.now.takes.drops ≡ true)
+            → FitsBesideUnqueued self.now.buffer.limits self.now.buffer.chunks entries.now → ⊥)) }
+    {
+        if terms.takes.drops && self.booked.fits_beside_unqueued(entries) {
+            Ok(())
+        } else {
+            Err(BufferFault::Full)
+        }
+    }
+
     /// Appends a delivery's entries under its tag, syncs them, and makes the receipt.
     ///
     /// The first of `Failed`, `TooLarge`, `Full`, `LastSerial`, `Memory` and `Fault` that applies.

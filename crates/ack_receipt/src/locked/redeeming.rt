@@ -6,7 +6,7 @@ ghost use Rattle.std.specs.BTreeMap.{is_at};
 ghost use Rattle.buffer_store.specs.declared.fault.BufferFault.{BufferFault};
 ghost use Rattle.buffer_book.specs.Books.{IsWaiting, Syncs, WritesLine, waiting_at};
 ghost use Rattle.ack_receipt.specs.declared.fault.RedeemFault.{RedeemFault};
-ghost use Rattle.ack_receipt.specs.Redeeming.{AreApart, AreBefore, AreReceiptsOf, AreWritten, CanRedeem, IsRedeemable, line_of, origin_of, origin_of_pending};
+ghost use Rattle.ack_receipt.specs.Redeeming.{AreApart, AreBefore, AreReceiptsOf, AreWritten, CanRedeem, IsRedeemable, IsUnredeemed, line_of, origin_of, origin_of_pending};
 
 use super::LockedBuffer;
 use super::pending::Pending;
@@ -44,6 +44,7 @@ impl<D: Dir, A: Allocator + Copy> LockedBuffer<D, A> {
         // A failed buffer gives no receipts.
         ensures stopped { self.old.buffer.failed ≡ true → IsErr result }
         ensures back { IfErr result (λ refused. refused.1 ≡ pendings) }
+        ensures only { IfErr result (λ refused. IsUnredeemed refused.0) }
         ensures lines { OnErr result (self.new.lines ≡ self.old.lines) }
     {
         if !are_waiting(&self.booked, terms.leaf, &pendings) || !are_apart(&pendings) {

@@ -2,7 +2,7 @@ use Rattle.std.proofs.Common.{◌≡◌}
 use Rattle.std.specs.Arc.{arc_value}
 use Rattle.std.specs.Vec.Iter.{into_iter_items}
 use Rattle.buffer_lanes.specs.Lanes.{KeepsLane, LaneState}
-use Rattle.buffer_lanes.specs.Schedules.{AreLastOf}
+use Rattle.buffer_lanes.specs.Schedules.{AreLeft}
 use Rattle.buffer_lanes.proofs.lane.Lane.queue_due.Given as goal
 
 abbrev pub invariant-chunks : goal.invariant-chunks
@@ -17,5 +17,5 @@ invariant-chunks g l =
       turns : (goal.iterator-chunks g).can_next l.iterator' × (goal.iterator-chunks g).is_finite l.iterator';
       kept : KeepsLane l.fn.self now;
       rest : now ≡ record l.fn.self { plan = l.self-inside.schedule };
-      chunks : AreLastOf l.self-inside.schedule.chunks l.fn.self.plan.chunks;
+      chunks : AreLeft l.fn.self.plan.mode l.fn.self.plan.interval l.fn.now l.self-inside.schedule.chunks l.fn.self.plan.chunks;
     }

@@ -1,7 +1,10 @@
-use Rattle.std.proofs.Common.{◌∙◌, ap, arith, refl}
+use Rattle.std.proofs.Common.{ℕ, ◌∙◌, ap, arith, refl, subst}
+use Rattle.std.specs.Prelude.{IfOk}
 use Rattle.buffer_lanes.specs.Lanes.{LaneState, LanesState}
 use Rattle.buffer_lanes.proofs.Appending.{appended_at, refused_at}
+use Rattle.buffer_lanes.specs.Schedules.{IsNoted}
 use Rattle.buffer_lanes.proofs.Keeping.{kept_at, one_kept}
+use Rattle.buffer_lanes.proofs.Noting.{noted_at}
 use Rattle.buffer_lanes.proofs.lanes.Lanes.append_to.Goals as goal
 
 pub returns-clause-kept : goal.returns-clause-kept
@@ -26,3 +29,11 @@ returns-clause-none g c =
     refused_at c.self.inside.lanes.items c.args.buffer.0 c.in-Some.lane.now c.append-answer.new.self c.append-answer.result c.heed.result _ _
     c.heed.ensures.same c.in-Some.ensures.value c.append-answer.ensures.none
     (ap (λ (s : LanesState _). s.waiting) c.self.view_is) (ap (λ (s : LanesState _). s.waiting) c.heed.ensures.rest)
+
+pub returns-clause-noted : goal.returns-clause-noted
+returns-clause-noted g c =
+    noted_at c.self.inside.lanes.items c.args.buffer.0 c.args.self.now.time c.in-Some.lane.now c.append-answer.new.self c.append-answer.result c.heed.result _ _
+    c.heed.ensures.same (omega (arith, c.in-Some.ensures.variant.0 refl, c.self.inside.lanes.ok.0)) c.in-Some.ensures.value
+    (subst (λ (t : ℕ). IfOk c.append-answer.result (λ serial. IsNoted serial t c.in-Some.lane.now.plan c.append-answer.new.self.plan))
+    (ap (λ (s : LanesState _). s.time) c.self.view_is) c.append-answer.ensures.staged)
+    (ap (λ (s : LanesState _). s.plans) c.self.view_is) (ap (λ (s : LanesState _). s.plans) c.heed.ensures.rest)

@@ -19,4 +19,6 @@ returns g c =
       later = (kept_at (λ (l : LaneState _). l.later) lanes c.args.buffer.0 old new at (ap (λ (l : LaneState _). l.later) is) ∙ ap (λ (s : LanesState _). s.later) was) i;
       room = ap (λ (s : LanesState _). s.room) was i;
       fault = ap (λ (s : LanesState _). s.fault) was i;
+      time = ap (λ (s : LanesState _). s.time) was i;
+      short = ap (λ (s : LanesState _). s.short) was i;
     }
