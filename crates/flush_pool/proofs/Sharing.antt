@@ -1,4 +1,4 @@
--- A shared buffer may be used by several threads.
+-- A shared buffer, and what is known of its failed chunks, may be used by several threads.
 use denote.RattleType.{RattleType}
 use denote.Param.Send.{IsSend, IsSync, Frees, sendable}
 use Rattle.std.proofs.Crossing.{crosses}
@@ -20,6 +20,10 @@ use Rattle.buffer_book.specs.contracts.booked.Booked as Booked
 use Rattle.ack_receipt.specs.contracts.locked.LockedBuffer as Locked
 use Rattle.ack_receipt.specs.contracts.locked.terms.Terms as Terms
 use Rattle.ack_receipt.specs.contracts.shared.SharedBuffer as Shared
+use Rattle.relay_notices.proofs.Sharing as told
+use Rattle.retry_waits.specs.contracts.failures.Failures as Failures
+use Rattle.flush_pool.specs.contracts.retries.Retries as Retries
+use Rattle.flush_pool.specs.contracts.retries.known.Known as Known
 
 module _ (A : RattleType) (a : alloc.Ghosts A.Denot) where
   Content-send : IsSend (Content.the_field A a).row
@@ -48,6 +52,18 @@ module _ (A : RattleType) (a : alloc.Ghosts A.Denot) where
 
   Terms-sync : IsSend A → IsSync A → Frees a a.dealloc_token → IsSync (Terms.the_field A a).row
   Terms-sync sa ya f = search (over.crosses, sendable) depth 20
+
+  Failures-send : IsSend A → Frees a a.dealloc_token → IsSend (Failures.the_field A a).row
+  Failures-send sa f = search (maps.crosses, crosses, over.crosses, sendable) depth 20
+
+  Known-send : IsSend A → Frees a a.dealloc_token → IsSend (Known.the_field A a).row
+  Known-send sa f = let u = Failures-send sa f in search (maps.crosses, crosses, over.crosses, sendable) depth 20
+
+  pub Retries-sync : IsSend A → IsSync A → Frees a a.dealloc_token → IsSync (Retries.the_field A a).row
+  Retries-sync sa ya f =
+      let k = Known-send sa f in
+      let t = told.Teller-sync A a sa ya f in
+      search (maps.crosses, crosses, over.crosses, sendable) depth 20
 
 module _ (D A : RattleType) (d : dir.Ghosts D.Denot) (a : alloc.Ghosts A.Denot) where
   Log-send : IsSend D → IsSend A → Frees a a.dealloc_token → IsSend (Log.the_field D A d a).row

@@ -1,9 +1,9 @@
 -- What a worker does at a shared buffer, one act after another.
 use Rattle.std.specs.Prelude.{ℕ, Bool, List, [], ◌∷◌, Option, None, Some}
-use Rattle.book_audit.specs.declared.line.Leaf.{Leaf}
 use Rattle.buffer_book.specs.declared.fault.PurgeFault.{PurgeFault}
-use Rattle.buffer_book.specs.declared.takes.Takes.{Takes}
 use Rattle.buffer_book.specs.Evidences.{Shows}
+use Rattle.ack_receipt.specs.Terms.{Terms}
+use Rattle.retry_waits.specs.declared.settings.RetrySettings.{RetrySettings}
 use Rattle.flush_pool.specs.declared.fault.CarryFault.{CarryFault}
 use Rattle.flush_pool.specs.declared.verdict.Verdict.{Verdict}
 
@@ -24,19 +24,30 @@ pub data Act : Type 0 where
   Forgot : (serial : ℕ) → Act
   GaveBack : (serial : ℕ) → Act
 
--- the buffer that a worker works at, by its name and what lets its chunks go, and what the worker did there, the last act first
-pub record Place (A : Type 0) : Type 0 where
-  pub leaf : Leaf
-  pub takes : Takes A
+-- what a worker works with: its buffer, by its name and what lets its chunks go, its courier, its gate, and the settings of its retries
+pub record Post (A C G : Type 0) : Type 0 where
+  pub terms : Terms A
+  pub courier : C
+  pub gate : G
+  pub retry : RetrySettings
+
+-- the post at this buffer, with this courier, this gate, and retries by these settings
+abbrev pub at : {A C G : Type 0} → Terms A → C → G → RetrySettings → Post A C G
+at terms courier gate retry =
+    record { terms = terms; courier = courier; gate = gate; retry = retry }
+
+-- a worker's post, and what the worker did there, the last act first
+pub record Place (A C G : Type 0) : Type 0 where
+  pub post : Post A C G
   pub acts : List Act
 
--- the place of a worker at this buffer, which did this
-abbrev pub at : {A : Type 0} → Leaf → Takes A → List Act → Place A
-at leaf takes acts = record { leaf = leaf; takes = takes; acts = acts }
+-- the place of a worker that did nothing yet
+abbrev pub idle : {A C G : Type 0} → Post A C G → Place A C G
+idle post = record { post = post; acts = [] }
 
 -- the place after one act more
-abbrev pub did : {A : Type 0} → Act → Place A → Place A
-did act place = record { leaf = place.leaf; takes = place.takes; acts = act ∷ place.acts }
+abbrev pub did : {A C G : Type 0} → Act → Place A C G → Place A C G
+did act place = record { post = place.post; acts = act ∷ place.acts }
 
 -- what was done last
 abbrev pub last : List Act → Option Act

@@ -7,11 +7,13 @@ use Rattle.buffer_store.specs.declared.fault.BufferFault.TheVariants as store
 use Rattle.buffer_book.specs.declared.fault.PurgeFault.{PurgeFault}
 use Rattle.buffer_book.specs.declared.fault.PurgeFault.TheVariants as purge
 use Rattle.buffer_book.specs.declared.takes.Takes.{Takes}
+use Rattle.buffer_book.specs.Claims as claims
 use Rattle.buffer_book.specs.Evidences.{Shows, Expired, named, IsOfKind}
 use Rattle.flush_pool.specs.declared.fault.CarryFault.{CarryFault}
 use Rattle.flush_pool.specs.declared.fault.CarryFault.TheVariants as carry
 use Rattle.flush_pool.specs.declared.verdict.Verdict.TheVariants.{Try, Wait, GiveUp}
-use Rattle.flush_pool.specs.Acts.{Act, Looked, Unclaimed, Claimed, Judged, Asked, Carried, NotCarried, Checked, Purged, NotPurged, Noted, NotNoted, Forgot, GaveBack, last, held}
+use Rattle.flush_pool.specs.Verdicts.{IsVerdictBy}
+use Rattle.flush_pool.specs.Acts.{Act, Looked, Unclaimed, Claimed, Judged, Asked, Carried, NotCarried, Checked, Purged, NotPurged, Noted, NotNoted, Forgot, GaveBack, Post, last, held}
 
 -- the faults of a buffer that end a worker: there was no memory, or it has failed before
 abbrev pub ends_at : BufferFault → Option BufferFault
@@ -93,7 +95,26 @@ May leaf takes acts (NotNoted serial) = HasFailed serial acts
 -- it gives back the chunk that it holds
 May leaf takes acts (GaveBack serial) = (held acts ≡ Some serial) × IsToGoBack serial acts
 
--- each act of a worker at this buffer stands where it may
-abbrev pub AreLawful : {A : Type 0} → Leaf → Takes A → List Act → Type 0
-AreLawful leaf takes [] = Unit {0}
-AreLawful leaf takes (act ∷ acts) = May leaf takes acts act × AreLawful leaf takes acts
+-- this was given for a claimed chunk of this serial, of the buffer of this name
+abbrev pub IsGivenAt : (gives : claims.Claimed → Shows → Type 0) → Leaf → ℕ → Shows → Type 0
+IsGivenAt gives leaf serial shown =
+    (claim : claims.Claimed) × (claim.leaf ≡ leaf) × (claim.serial ≡ serial) × gives claim shown
+
+-- Who answers for an act, at a post whose gate lets these serials through and whose courier gives
+-- these: a verdict is by the settings of its retries, and by whether its buffer lets chunks expire;
+-- a gate's yes is its own, and what shows that a chunk was carried its courier gave for it.
+abbrev pub IsVouched : {A C G : Type 0} → (lets : G → ℕ → Type 0)
+    → (gives : C → claims.Claimed → Shows → Type 0) → Post A C G → Act → Type 0
+IsVouched lets gives post (Judged serial verdict) =
+    IsVerdictBy post.retry post.terms.takes.expires verdict
+IsVouched lets gives post (Asked serial answer) = answer ≡ true → lets post.gate serial
+IsVouched lets gives post (Carried serial shown) =
+    IsGivenAt (gives post.courier) post.terms.leaf serial shown
+IsVouched lets gives post _ = Unit {0}
+
+-- each act of a worker at this post stands where it may, and what is of the post answers for it
+abbrev pub AreLawful : {A C G : Type 0} → (lets : G → ℕ → Type 0)
+    → (gives : C → claims.Claimed → Shows → Type 0) → Post A C G → List Act → Type 0
+AreLawful lets gives post [] = Unit {0}
+AreLawful lets gives post (act ∷ acts) = May post.terms.leaf post.terms.takes acts act
+    × IsVouched lets gives post act × AreLawful lets gives post acts

@@ -2,15 +2,17 @@
 use Rattle.std.specs.Prelude.{ℕ, ◌≡◌, ◌+◌, true, None, Some, List, Result, Ok, Err}
 use Rattle.buffer_store.specs.declared.fault.BufferFault.{BufferFault}
 use Rattle.buffer_book.specs.Claims.{Claimed}
+use Rattle.buffer_book.specs.Evidences.{Shows}
 use Rattle.flush_pool.specs.declared.acts.Outcome.{Outcome}
 use Rattle.flush_pool.specs.declared.worked.Worked.{Worked}
-use Rattle.flush_pool.specs.Acts.{Act, Place, Looked, last, held}
+use Rattle.flush_pool.specs.Acts.{Act, Place, Post, Looked, last, held}
 use Rattle.flush_pool.specs.Counts.{none, counted, counts, added}
 use Rattle.flush_pool.specs.Laws.{AreLawful, ends_by}
 
 -- the worker has this claimed chunk of its buffer in its hands
-abbrev pub Holds : {A : Type 0} → Claimed → Place A → Type 0
-Holds claim place = (claim.leaf ≡ place.leaf) × (held place.acts ≡ Some claim.serial)
+abbrev pub Holds : {A C G : Type 0} → Claimed → Place A C G → Type 0
+Holds claim place =
+    (claim.leaf ≡ place.post.terms.leaf) × (held place.acts ≡ Some claim.serial)
 
 -- the worker has nothing in its hands, and may go on
 abbrev pub IsFree : List Act → Type 0
@@ -26,16 +28,18 @@ abbrev pub HasEnded : List Act → Result Worked BufferFault → Type 0
 HasEnded acts (Ok worked) = (last acts ≡ Some (Looked true)) × (held acts ≡ None) × (worked ≡ counts acts)
 HasEnded acts (Err fault) = (held acts ≡ None) × (ends_by acts ≡ Some fault)
 
--- a worker at this buffer did what it did by the laws, and ended so
-pub record IsWorked {A : Type 0} (old new : Place A) (answer : Result Worked BufferFault) : Type 0 where
-  pub leaf : new.leaf ≡ old.leaf
-  pub takes : new.takes ≡ old.takes
-  pub lawful : AreLawful new.leaf new.takes new.acts
-  pub ended : HasEnded new.acts answer
+-- a worker did what it did by the laws, whose gate lets these serials through and whose courier gives these, and ended so
+pub record IsWorked {A C G : Type 0} (lets : G → ℕ → Type 0)
+    (gives : C → Claimed → Shows → Type 0) (end : Place A C G)
+    (answer : Result Worked BufferFault) : Type 0 where
+  pub lawful : AreLawful lets gives end.post end.acts
+  pub ended : HasEnded end.acts answer
 
--- a worker that had done nothing ended so
-abbrev pub HasWorked : {A : Type 0} → Place A → Result Worked BufferFault → Type 0
-HasWorked {A = A} start answer = (end : Place A) × IsWorked start end answer
+-- a worker at this post that had done nothing ended so
+abbrev pub HasWorked : {A C G : Type 0} → (lets : G → ℕ → Type 0)
+    → (gives : C → Claimed → Shows → Type 0) → Post A C G → Result Worked BufferFault → Type 0
+HasWorked lets gives post answer =
+    (acts : List Act) × IsWorked lets gives (record { post = post; acts = acts }) answer
 
 -- how two ended: with both their counts, or with the fault of the first that has one
 abbrev pub both : Result Worked BufferFault → Result Worked BufferFault → Result Worked BufferFault
@@ -43,7 +47,11 @@ both (Ok one) (Ok other) = Ok (added one other)
 both (Ok one) (Err fault) = Err fault
 both (Err fault) other = Err fault
 
--- so many workers, each of which had done nothing, ended so
-pub data HaveWorked {A : Type 0} (start : Place A) : ℕ → Result Worked BufferFault → Type 0 where
-  Nobody : HaveWorked start 0 (Ok none)
-  OneMore : (n : ℕ) (one others : Result Worked BufferFault) → HasWorked start one → HaveWorked start n others → HaveWorked start (n + 1) (both one others)
+-- so many workers at this post, each of which had done nothing, ended so
+pub data HaveWorked {A C G : Type 0} (lets : G → ℕ → Type 0)
+    (gives : C → Claimed → Shows → Type 0) (post : Post A C G)
+    : ℕ → Result Worked BufferFault → Type 0 where
+  Nobody : HaveWorked lets gives post 0 (Ok none)
+  OneMore : (n : ℕ) (one others : Result Worked BufferFault) → HasWorked lets gives post one
+      → HaveWorked lets gives post n others
+      → HaveWorked lets gives post (n + 1) (both one others)

@@ -15,3 +15,8 @@ abbrev pub IsVerdict : RetrySettings → Bool → Option Failed → ℕ → Verd
 IsVerdict settings expires failed now GiveUp = IsGivenUp settings expires failed now
 IsVerdict settings expires failed now Try = (¬ IsGivenUp settings expires failed now) × IsDue settings failed now
 IsVerdict settings expires failed now Wait = (¬ IsGivenUp settings expires failed now) × (¬ IsDue settings failed now)
+
+-- the verdict on a chunk by these settings, at some time and with some failures
+abbrev pub IsVerdictBy : RetrySettings → Bool → Verdict → Type 0
+IsVerdictBy settings expires verdict =
+    (failed : Option Failed) × (now : ℕ) × IsVerdict settings expires failed now verdict

@@ -16,14 +16,14 @@ pub trait Courier<R: Wait, D: Dir, A: Allocator> {
     ghost use Rattle.buffer_book.specs.Claims.{Claimed};
     ghost use Rattle.buffer_book.specs.Evidences.{Shows};
 
-    /// What is so where it gave this for the claimed chunk. Of a courier that says nothing of it, nothing is known; but nobody
+    /// What is so where this courier gave this for the claimed chunk. Of one that says nothing of it, nothing is known; but nobody
     /// else says it in its place.
-    ghost gives: { Claimed → Shows → Type 0 } = { λ _ _. Unit {0} };
+    ghost gives: { Self → Claimed → Shows → Type 0 } = { λ _ _ _. Unit {0} };
 
     /// Carries a claimed chunk, and gives what shows that it arrived. What it gave is looked at by the buffer, which takes
     /// no evidence of another chunk or kind.
     ///
     /// After an error the chunk stays in its buffer, whether it arrived or not.
     fn carry(&self, rt: &R, chunk: &ClaimView<'_, D, A>) -> Result<Evidence<A>, CarryFault>
-        ensures { (shown : Shows) → result ≡ Ok shown → gives chunk.now shown };
+        ensures { (shown : Shows) → result ≡ Ok shown → gives self.now chunk.now shown };
 }

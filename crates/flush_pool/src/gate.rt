@@ -6,12 +6,12 @@ ghost use Rattle.std.specs.Prelude.{◌≡◌, true};
 pub trait Gate {
     ghost use Rattle.std.specs.Prelude.{ℕ};
 
-    /// What its yes to a serial says. Of a gate that says nothing of it, nothing is known; but nobody else says it in its place.
-    ghost lets: { ℕ → Type 0 } = { λ _. Unit {0} };
+    /// What this gate's yes to a serial says. Of one that says nothing of it, nothing is known; but nobody else says it in its place.
+    ghost lets: { Self → ℕ → Type 0 } = { λ _ _. Unit {0} };
 
     /// Whether the chunk of this serial may be carried now.
     fn pass(&self, serial: u64) -> bool
-        ensures { result ≡ true → lets serial };
+        ensures { result ≡ true → lets self.now serial };
 }
 
 /// A gate that always says yes.
@@ -29,7 +29,7 @@ const MOST_ASKED: u32 = 1_000_000;
 
 /// Whether the gate says yes at one of the times that a worker asks.
 pub(crate) fn passes<G: Gate>(gate: &G, serial: u64) -> bool
-    ensures { result ≡ true → G.lets serial }
+    ensures { result ≡ true → G.lets gate.now serial }
 {
     for _ in 0..MOST_ASKED {
         if gate.pass(serial) {

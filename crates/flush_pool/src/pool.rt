@@ -1,7 +1,7 @@
 //! Flush threads: a worker at a buffer until it is told to stop, and several at once.
 
 ghost use denote.Param.Send.{IsSync, IsSend, Frees};
-ghost use Rattle.std.specs.Prelude.{◌≡◌, []};
+ghost use Rattle.std.specs.Prelude.{◌≡◌};
 ghost use Rattle.flush_pool.specs.Acts.{at};
 ghost use Rattle.flush_pool.specs.Rounds.{HasWorked, HaveWorked, both};
 
@@ -38,7 +38,7 @@ pub fn work<R: Wait + Clock, D: Dir, A: Allocator + Copy, C: Courier<R, D, A>, G
     retries: &Retries<A>,
     stop: &AtomicBool,
 ) -> Result<Worked, BufferFault>
-    ensures { HasWorked (at buffer.now.leaf buffer.now.takes []) result }
+    ensures { HasWorked G.lets C.gives (at buffer.now courier.now gate.now retries.now) result }
 {
     Worker::new(rt, buffer, courier, gate, retries, stop).work()
 }
@@ -62,7 +62,7 @@ pub fn run_pool<
     retries: &Retries<A>,
     stop: &AtomicBool,
 ) -> Result<Worked, BufferFault>
-    ensures { HaveWorked (at buffer.now.leaf buffer.now.takes []) threads result }
+    ensures { HaveWorked G.lets C.gives (at buffer.now courier.now gate.now retries.now) threads result }
 {
     if threads == 0 {
         return Ok(Worked::new());
@@ -71,11 +71,11 @@ pub fn run_pool<
     let (one, others) = join(
         rt,
         || -> Result<Worked, BufferFault>
-            ensures { HasWorked (at buffer.entry.now.leaf buffer.entry.now.takes []) result }
+            ensures { HasWorked G.lets C.gives (at buffer.entry.now courier.entry.now gate.entry.now retries.entry.now) result }
         { work(rt, buffer, courier, gate, retries, stop) },
         || -> Result<Worked, BufferFault>
             requires { IsSync R.row × IsSend D.row × IsSend A.row × IsSync A.row × IsSync C.row × IsSync G.row × Frees A.Allocator A.dealloc_token }
-            ensures { HaveWorked (at buffer.entry.now.leaf buffer.entry.now.takes []) rest result }
+            ensures { HaveWorked G.lets C.gives (at buffer.entry.now courier.entry.now gate.entry.now retries.entry.now) rest result }
         { run_pool(rt, rest, buffer, courier, gate, retries, stop) },
     );
     both_of(one, others)

@@ -1,6 +1,7 @@
 //! The failures of a buffer's chunks, as its workers share them.
 
 ghost use Rattle.std.specs.Prelude.{◌≡◌, IfOk};
+ghost use Rattle.flush_pool.specs.Verdicts.{IsVerdictBy};
 
 mod known;
 
@@ -11,6 +12,7 @@ pub(crate) use known::{Forgotten, Judgement, Noted};
 use relay_notices::{Notice, Teller};
 use retry_waits::RetrySettings;
 use std::alloc::{AllocError, Allocator};
+use std::marker::Model;
 use std::sync::{Mutex, Wait};
 use std::time::Clock;
 
@@ -20,6 +22,7 @@ const LOOKS: u8 = 2;
 /// Which chunks of a buffer failed and when, for all its workers, and the settings by which they wait and are given up.
 /// It knows a chunk from its first failure until a worker purges it. One that left its buffer otherwise is forgotten too: each
 /// failure looks at the two known chunks that were looked at longest ago, so what is kept is bounded by the chunks that the buffer has.
+/// Contracts see the settings.
 #[derive(Drop)]
 pub struct Retries<A: Allocator> {
     settings: RetrySettings,
@@ -28,9 +31,19 @@ pub struct Retries<A: Allocator> {
     teller: Teller<A>,
 }
 
+impl<A: Allocator> Model for Retries<A> {
+    ghost use Rattle.retry_waits.specs.declared.settings.RetrySettings.{RetrySettings};
+
+    ghost Value = { RetrySettings };
+
+    ghost view = { λ r. r.settings };
+}
+
 impl<A: Allocator + Copy> Retries<A> {
     /// No chunk has failed.
-    pub fn new(alloc: A, settings: RetrySettings) -> Self {
+    pub fn new(alloc: A, settings: RetrySettings) -> Self
+        ensures { result ≡ settings }
+    {
         Retries {
             settings,
             known: Mutex::new(Known::new(alloc)),
@@ -39,7 +52,9 @@ impl<A: Allocator + Copy> Retries<A> {
     }
 
     /// Workers tell by this teller, of which the first place is the buffer, of chunks that are given up.
-    pub fn telling(self, teller: Teller<A>) -> Self {
+    pub fn telling(self, teller: Teller<A>) -> Self
+        ensures { result ≡ self }
+    {
         Retries { teller, ..self }
     }
 
@@ -74,10 +89,12 @@ impl<A: Allocator + Copy> Retries<A> {
         }
     }
 
-    /// What is to become of the chunk of this serial now, where its buffer lets chunks expire or doesn't.
+    /// What is to become of the chunk of this serial now, where its buffer lets chunks expire or doesn't: by the settings, at some
+    /// time, and by some failures, which lie behind the lock.
     pub(crate) fn judge<R: Wait + Clock>(&self, rt: &R, expires: bool, serial: u64) -> Judgement
         ensures serial { result.serial ≡ serial }
         ensures expires { result.expires ≡ expires }
+        ensures verdict { IsVerdictBy self.now expires result.verdict }
     {
         let read = read_clock(rt);
         self.known

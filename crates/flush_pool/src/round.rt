@@ -38,7 +38,8 @@ where
     /// `Memory` and `Failed` end it earlier. The chunk of that round is given back; what was done before stands.
     pub fn work(&mut self) -> Result<Worked, BufferFault>
         requires { self.old.acts ≡ [] }
-        ensures { IsWorked self.old self.new result }
+        ensures post { self.new.post ≡ self.old.post }
+        ensures worked { IsWorked G.lets C.gives self.new result }
     {
         let ended = self.go_on();
         self.stays_lawful();
@@ -48,8 +49,7 @@ where
     // Rounds until it is told to stop, or has to end.
     fn go_on(&mut self) -> Result<Worked, BufferFault>
         requires { self.old.acts ≡ [] }
-        ensures leaf { self.new.leaf ≡ self.old.leaf }
-        ensures takes { self.new.takes ≡ self.old.takes }
+        ensures post { self.new.post ≡ self.old.post }
         ensures ended { HasEnded self.new.acts result }
     {
         let mut worked = Worked::new();
@@ -102,8 +102,7 @@ where
     fn settle(&mut self, claim: Claim<A>) -> Result<Outcome, BufferFault>
         requires holds { Holds claim self.old }
         requires claimed { last self.old.acts ≡ Some (Claimed claim.serial) }
-        ensures leaf { self.new.leaf ≡ self.old.leaf }
-        ensures takes { self.new.takes ≡ self.old.takes }
+        ensures post { self.new.post ≡ self.old.post }
         ensures settled { IsSettled self.old.acts self.new.acts result }
     {
         let judged = self.judge(&claim);
@@ -133,8 +132,7 @@ where
     fn deliver(&mut self, claim: Claim<A>) -> Result<Outcome, BufferFault>
         requires holds { Holds claim self.old }
         requires tried { last self.old.acts ≡ Some (Judged claim.serial Try) }
-        ensures leaf { self.new.leaf ≡ self.old.leaf }
-        ensures takes { self.new.takes ≡ self.old.takes }
+        ensures post { self.new.post ≡ self.old.post }
         ensures settled { IsSettled self.old.acts self.new.acts result }
     {
         if !self.ask_gate(&claim) {
@@ -150,8 +148,7 @@ where
     fn take_fault(&mut self, claim: Claim<A>, fault: CarryFault) -> Result<Outcome, BufferFault>
         requires holds { Holds claim self.old }
         requires failed { last self.old.acts ≡ Some (NotCarried claim.serial fault) }
-        ensures leaf { self.new.leaf ≡ self.old.leaf }
-        ensures takes { self.new.takes ≡ self.old.takes }
+        ensures post { self.new.post ≡ self.old.post }
         ensures settled { IsSettled self.old.acts self.new.acts result }
     {
         if is_memory(fault) {
@@ -168,9 +165,8 @@ where
     // Purges a chunk on this evidence. What the buffer refuses counts as a failed delivery, but for where the worker ends.
     fn let_go(&mut self, claim: Claim<A>, evidence: Evidence<A>) -> Result<Outcome, BufferFault>
         requires holds { Holds claim self.old }
-        requires earned { IsEarned self.old.leaf claim.serial evidence self.old.acts }
-        ensures leaf { self.new.leaf ≡ self.old.leaf }
-        ensures takes { self.new.takes ≡ self.old.takes }
+        requires earned { IsEarned self.old.post.terms.leaf claim.serial evidence self.old.acts }
+        ensures post { self.new.post ≡ self.old.post }
         ensures settled { IsSettled self.old.acts self.new.acts result }
     {
         let serial = claim.serial();
@@ -192,8 +188,7 @@ where
     fn put_back(&mut self, claim: Claim<A>) -> Result<Outcome, BufferFault>
         requires holds { Holds claim self.old }
         requires failed { HasFailed claim.serial self.old.acts }
-        ensures leaf { self.new.leaf ≡ self.old.leaf }
-        ensures takes { self.new.takes ≡ self.old.takes }
+        ensures post { self.new.post ≡ self.old.post }
         ensures settled { IsSettled self.old.acts self.new.acts result }
     {
         match self.note(&claim) {

@@ -14,35 +14,56 @@ use relay_notices::{Notice, Teller};
 use sink_rotation::Rotation;
 use sink_series::SeriesFault;
 use std::alloc::Allocator;
+use std::marker::Model;
+use std::snapshot::Snapshot;
 use std::sync::{Mutex, Wait};
 use std::time::Clock;
 
 /// Writes chunks to a sink's files, one at a time: its workers share them behind a lock of its own. They are away only while one
-/// writes, under that lock.
+/// writes, under that lock. Contracts see the sink as it was opened.
 #[derive(Drop)]
 pub struct SinkCourier<S: Dir, A: Allocator> {
     sink: Mutex<Option<Rotation<S, A>>>,
+    given: Snapshot<Rotation<S, A>>,
     // Tells of the sink.
     teller: Teller<A>,
 }
 
+impl<S: Dir, A: Allocator> Model for SinkCourier<S, A> {
+    ghost use Rattle.flush_pool.specs.Carriages.{Opened};
+
+    ghost Value = { Opened S };
+
+    ghost view = { λ c. record { folder = c.given.value.opening; path = c.given.value.path } };
+}
+
 impl<S: Dir, A: Allocator + Copy> SinkCourier<S, A> {
     /// Writes to this sink.
-    pub fn new(sink: Rotation<S, A>) -> Self {
+    pub fn new(sink: Rotation<S, A>) -> Self
+        ensures { result ≡ record { folder = sink.opening; path = sink.path } }
+    {
+        let given = Snapshot::of(&sink);
         SinkCourier {
             sink: Mutex::new(Some(sink)),
+            given,
             teller: Teller::silent(),
         }
     }
 
     /// It tells by this teller, of which the first place is the sink, where the files can't be written.
-    pub fn telling(self, teller: Teller<A>) -> Self {
+    pub fn telling(self, teller: Teller<A>) -> Self
+        ensures { result ≡ self }
+    {
         SinkCourier { teller, ..self }
     }
 
     /// The sink's folder, when all work is done.
     pub fn into_dir(self) -> Option<S> {
-        let SinkCourier { sink, teller: _ } = self;
+        let SinkCourier {
+            sink,
+            given: _,
+            teller: _,
+        } = self;
         match sink.into_inner() {
             Some(sink) => Some(sink.into_dir()),
             None => None,
@@ -64,7 +85,7 @@ impl<R: Wait + Clock, D: Dir, S: Dir + Drop, A: Allocator + Copy> Courier<R, D, 
     for SinkCourier<S, A> {
     ghost use Rattle.buffer_book.specs.Evidences.{Shows};
 
-    ghost gives = { IsStoredFor };
+    ghost gives = { λ _ claim shown. IsStoredFor claim shown };
 
     /// Reads the chunk's entries, writes them and syncs them.
     ///

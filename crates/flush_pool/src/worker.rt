@@ -1,10 +1,10 @@
 //! A worker at a shared buffer.
 
-ghost use Rattle.std.specs.Prelude.{◌≡◌, ◌≢◌, [], true, false, Some, IfOk};
-ghost use Rattle.flush_pool.specs.Acts.{Looked, Claimed, Judged, Asked, NotCarried, Checked, Forgot, GaveBack, at, did, last};
+ghost use Rattle.std.specs.Prelude.{◌≡◌, ◌≢◌, true, false, Some};
+ghost use Rattle.flush_pool.specs.Acts.{Looked, Claimed, Judged, Asked, NotCarried, Checked, Forgot, GaveBack, at, did, idle, last};
 ghost use Rattle.flush_pool.specs.Answers.{IsClaimed, IsCarried, IsPurged, IsNoted};
 ghost use Rattle.flush_pool.specs.Diaries.{act_of};
-ghost use Rattle.flush_pool.specs.Laws.{AreLawful, HasFailed, IsEarned, IsToGoBack, May, WasPurged};
+ghost use Rattle.flush_pool.specs.Laws.{AreLawful, HasFailed, IsEarned, IsToGoBack, IsVouched, May, WasPurged};
 ghost use Rattle.flush_pool.specs.Rounds.{Holds, IsFree};
 ghost use Rattle.flush_pool.specs.declared.fault.CarryFault.{CarryFault};
 ghost use Rattle.flush_pool.specs.declared.verdict.Verdict.TheVariants.{Try};
@@ -31,12 +31,13 @@ const REST: u64 = 10;
 /// How often it sleeps so at most where all that is queued waits, before it looks at each chunk again: for ten seconds.
 const RESTS: u32 = 1_000;
 
-/// A worker at a shared buffer, with all that it shares with the others. Contracts see the buffer's name and what lets its
-/// chunks go, and what this worker did there, one act after another: that is kept for the proofs alone, and takes no memory.
-/// Each act stands where the laws let it stand: a call for it asks so.
+/// A worker at a shared buffer, with all that it shares with the others. Contracts see its post, which is the buffer's name
+/// and what lets its chunks go, its courier, its gate and the settings of its retries, and what this worker did there, one act after another: that is kept
+/// for the proofs alone, and takes no memory. Each act stands where the laws let it stand: a call for it asks so. What a
+/// courier gave, or a gate said, is that of the worker's own.
 ///
 /// What an act answers isn't known from what this worker did, since others do the same at once.
-pub struct Worker<'a, R, D: Dir, A: Allocator, C, G> {
+pub struct Worker<'a, R: Wait, D: Dir, A: Allocator, C: Courier<R, D, A>, G: Gate> {
     rt: &'a R,
     buffer: &'a SharedBuffer<D, A>,
     courier: &'a C,
@@ -46,19 +47,21 @@ pub struct Worker<'a, R, D: Dir, A: Allocator, C, G> {
     diary: Diary<A>,
 }
 
-impl<'a, R, D: Dir, A: Allocator, C, G> Model for Worker<'a, R, D, A, C, G> {
+impl<'a, R: Wait, D: Dir, A: Allocator, C: Courier<R, D, A>, G: Gate> Model
+    for Worker<'a, R, D, A, C, G> {
     ghost use Rattle.flush_pool.specs.Acts.{Place, at};
     ghost use Rattle.flush_pool.specs.Laws.{AreLawful};
 
-    ghost Value = { Place A };
+    ghost Value = { Place A C G };
 
-    ghost view = { λ s. at s.buffer.now.leaf s.buffer.now.takes s.diary };
+    ghost view = { λ s. record { post = at s.buffer.now s.courier.now s.gate.now s.retries.now; acts = s.diary } };
 
-    // Each act stands where it may.
-    ghost invariant = { λ s. AreLawful s.buffer.now.leaf s.buffer.now.takes s.diary };
+    // Each act stands where it may, and its own courier, gate or retries answer for it.
+    ghost invariant = { λ s. AreLawful G.lets C.gives (at s.buffer.now s.courier.now s.gate.now s.retries.now) s.diary };
 }
 
-impl<'a, R, D: Dir, A: Allocator, C, G> Drop for Worker<'a, R, D, A, C, G> {
+impl<'a, R: Wait, D: Dir, A: Allocator, C: Courier<R, D, A>, G: Gate> Drop
+    for Worker<'a, R, D, A, C, G> {
     fn drop(self) {
         let Worker {
             rt: _,
@@ -89,7 +92,7 @@ where
         retries: &'a Retries<A>,
         stop: &'a AtomicBool,
     ) -> Self
-        ensures { result ≡ at buffer.now.leaf buffer.now.takes [] }
+        ensures { result ≡ idle (at buffer.now courier.now gate.now retries.now) }
     {
         Worker {
             rt,
@@ -114,7 +117,8 @@ where
 
     // Writes down what it did just now, which may stand behind the rest.
     fn write(&mut self, deed: &Deed<A>)
-        requires { May self.old.leaf self.old.takes self.old.acts (act_of deed.now) }
+        requires may { May self.old.post.terms.leaf self.old.post.terms.takes self.old.acts (act_of deed.now) }
+        requires vouched { IsVouched G.lets C.gives self.old.post (act_of deed.now) }
         ensures { self.new ≡ did (act_of deed.now) self.old }
     {
         self.diary = self.diary.then(deed);
@@ -122,7 +126,7 @@ where
 
     /// All that it did is by the laws. The call does nothing: it stands for a theorem.
     pub(crate) fn stays_lawful(&self)
-        ensures { AreLawful self.now.leaf self.now.takes self.now.acts }
+        ensures { AreLawful G.lets C.gives self.now.post self.now.acts }
     {
         let _ = &self.diary;
     }
@@ -161,7 +165,7 @@ where
         requires { last self.old.acts ≡ Some (Claimed claim.now.serial) }
         ensures judged { self.new ≡ did (Judged claim.now.serial result.verdict) self.old }
         // By what its own buffer says of the end of retries.
-        ensures expires { result.expires ≡ self.old.takes.expires }
+        ensures expires { result.expires ≡ self.old.post.terms.takes.expires }
     {
         let judged = self
             .retries
@@ -173,8 +177,7 @@ where
     /// Asks the gate whether the chunk may be carried, as often as it takes up to the limit.
     pub(crate) fn ask_gate(&mut self, claim: &Claim<A>) -> bool
         requires { last self.old.acts ≡ Some (Judged claim.now.serial Try) }
-        ensures asked { self.new ≡ did (Asked claim.now.serial result) self.old }
-        ensures lets { result ≡ true → G.lets claim.now.serial }
+        ensures { self.new ≡ did (Asked claim.now.serial result) self.old }
     {
         let serial = claim.serial();
         let answer = passes(self.gate, serial);
@@ -184,10 +187,9 @@ where
 
     /// Has the chunk carried, and gives what the courier gave. The buffer's lock isn't held.
     pub(crate) fn carry(&mut self, claim: &Claim<A>) -> Result<Evidence<A>, CarryFault>
-        requires own { claim.now.leaf ≡ self.old.leaf }
+        requires own { claim.now.leaf ≡ self.old.post.terms.leaf }
         requires passed { last self.old.acts ≡ Some (Asked claim.now.serial true) }
-        ensures carried { IsCarried claim.now.serial self.old self.new result }
-        ensures gives { IfOk result (λ shown. C.gives claim.now shown) }
+        ensures { IsCarried claim.now.serial self.old self.new result }
     {
         let chunk = ClaimView::new(self.buffer, claim);
         match self.courier.carry(self.rt, &chunk) {
@@ -223,8 +225,8 @@ where
         claim: Claim<A>,
         evidence: Evidence<A>,
     ) -> Result<(), (PurgeFault, Claim<A>, Evidence<A>)>
-        requires own { claim.leaf ≡ self.old.leaf }
-        requires earned { IsEarned self.old.leaf claim.serial evidence self.old.acts }
+        requires own { claim.leaf ≡ self.old.post.terms.leaf }
+        requires earned { IsEarned self.old.post.terms.leaf claim.serial evidence self.old.acts }
         ensures { IsPurged claim evidence self.old self.new result }
     {
         let serial = claim.serial();

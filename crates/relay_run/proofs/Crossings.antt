@@ -82,11 +82,8 @@ Carrier-sync =
       (search (crosses, sendable) depth 120 fits 100000, tt),
       (
         (
-          search (Rotation-send, crosses, sendable) depth 120 fits 100000,
-          (
-            search (answers.crosses, begun.crosses, closed.crosses, crosses, sendable) depth 60 fits 20000,
-            (search (crosses, sendable) depth 60 fits 20000, tt),
-          ),
+          search (Rotation-send, answers.crosses, begun.crosses, closed.crosses, crosses, sendable) depth 120 fits 100000,
+          (search (crosses, sendable) depth 60 fits 20000, tt),
         ),
         tt,
       ),
@@ -100,11 +97,8 @@ Carrier-send =
       (search (crosses, sendable) depth 120 fits 100000, tt),
       (
         (
-          search (Rotation-send, crosses, sendable) depth 120 fits 100000,
-          (
-            search (answers.crosses, begun.crosses, closed.crosses, crosses, sendable) depth 60 fits 20000,
-            (search (crosses, sendable) depth 60 fits 20000, tt),
-          ),
+          search (Rotation-send, answers.crosses, begun.crosses, closed.crosses, crosses, sendable) depth 120 fits 100000,
+          (search (crosses, sendable) depth 60 fits 20000, tt),
         ),
         tt,
       ),

@@ -1,3 +1,4 @@
 pub mod StartingSteps
 pub mod RunningSteps
 pub mod Crossings
+pub mod Ending

@@ -3,7 +3,11 @@ use Rattle.std.specs.Prelude.{ℕ, ◌≡◌, All, List, [], ◌∷◌, map, Opt
 use Rattle.std.specs.contracts.alloc.Global as heap
 use Rattle.buffer_store.specs.declared.fault.BufferFault.{BufferFault}
 use Rattle.buffer_store.specs.declared.fault.BufferFault.TheVariants as store
+use Rattle.buffer_book.specs.Claims.{Claimed}
+use Rattle.buffer_book.specs.Evidences.{Shows}
+use Rattle.flush_pool.specs.declared.gate.OpenGate.{OpenGate}
 use Rattle.flush_pool.specs.Acts.{at}
+use Rattle.flush_pool.specs.Carriages.{IsStoredFor}
 use Rattle.flush_pool.specs.Rounds.{HaveWorked}
 use Rattle.flush_pool.specs.declared.worked.Worked.{Worked}
 use Rattle.loop_core.specs.declared.fault.LoopFault.{LoopFault}
@@ -15,7 +19,9 @@ use Rattle.relay_ports.specs.Setups.{Setup}
 use Rattle.relay_buffers.specs.Buffers.{AreBuffersOf, ArePlaced}
 use Rattle.relay_buffers.specs.Folders.{path_for}
 use Rattle.relay_buffers.specs.Owners.{Owned}
-use Rattle.tcp_courier.specs.Carrying.{sender_of}
+use Rattle.relay_sockets.specs.Endpoints.{Origin}
+use Rattle.relay_sockets.specs.Traffics.{Traffic}
+use Rattle.tcp_courier.specs.Carrying.{IsSent, sender_of}
 use Rattle.mio_relay.specs.Connections.{ArePortsOf, served_as}
 use Rattle.mio_relay.specs.Loops.{BoundState, LoopState}
 use Rattle.relay_run.specs.declared.flush.Carrier.{Carrier}
@@ -26,24 +32,29 @@ pub record PoolState : Type 0 where
   pub job : Owned heap.the_row.Denot
   pub carrier : Carrier
 
--- this carries to the sink that was opened by this name, in the folder of the system with this path
-abbrev pub IsSinkAs : (name : List ℕ) → (path : Option (List ℕ)) → Carrier → Type 0
-IsSinkAs name path (Servers sender) = ⊥
-IsSinkAs name path (Sink courier opened noted) = (opened.value.path ≡ name) × (option_map string_bytes noted ≡ path)
-
--- the same in this folder
+-- this carries to the sink that was opened by this name, in the folder that was made for it, which is that of the system with this path
 abbrev pub IsSinkAt : (folder name : List ℕ) → Carrier → Type 0
-IsSinkAt folder name carrier = IsSinkAs name (Some folder) carrier
+IsSinkAt folder name (Servers sender) = ⊥
+IsSinkAt folder name (Sink courier placed) = (courier.path ≡ name)
+    × (courier.folder ≡ placed.value.dir)
+    × (option_map string_bytes placed.value.path ≡ Some folder)
 
 -- the output's chunks are carried by a courier to its servers, as its settings say, or to the sink of its path, in this folder
 abbrev pub IsCarrierOf : {A : Type 0} → (folder : List ℕ) → BufferedOutput A → Carrier → Type 0
 IsCarrierOf folder (Forward settings) (Servers sender) = sender ≡ sender_of settings sender.dialer
-IsCarrierOf folder (Forward settings) (Sink courier opened noted) = ⊥
+IsCarrierOf folder (Forward settings) (Sink courier placed) = ⊥
 IsCarrierOf folder (File settings) carrier = IsSinkAt folder (string_bytes settings.path) carrier
 
 -- This delivers the chunks of an output as the output's settings say, to files in this folder.
 abbrev pub IsPoolOf : (folder : List ℕ) → PoolState → Type 0
 IsPoolOf folder pool = IsCarrierOf folder pool.job.output pool.carrier
+
+-- What this gave for a chunk, over connections with these origins and this traffic: by a courier, what that gives of a chunk that was sent to one of its
+-- servers; and of a sink, that the chunk's entries are in it.
+abbrev pub IsCarriedBy : {S : Type 0} → (origin : S → Origin) → (traffic : S → Traffic)
+    → Carrier → Claimed → Shows → Type 0
+IsCarriedBy origin traffic (Servers sender) claim shown = IsSent origin traffic sender claim shown
+IsCarriedBy origin traffic (Sink courier placed) claim shown = IsStoredFor claim shown
 
 -- a relay that runs: its loop, the ports of its sources, and what delivers the chunks of its outputs
 pub record RelayState : Type 0 where
@@ -56,9 +67,16 @@ pub record PoolEnded : Type 0 where
   pub pool : PoolState
   pub done : Result Worked BufferFault
 
--- So ended as many workers as the pool has threads, at its own buffer, where each of them had done nothing.
-abbrev pub HaveEnded : PoolEnded → Type 0
-HaveEnded end = HaveWorked (at end.pool.job.terms.leaf end.pool.job.terms.takes []) (settings_of end.pool.job.output).flush_thread_count end.done
+-- any chunk may be carried at any time
+abbrev pub LetsAll : OpenGate → ℕ → Type 0
+LetsAll gate serial = Unit {0}
+
+-- So ended as many workers as the pool has threads, at its own buffer, with its own carrier and the retry settings of its output, where each of them had done nothing.
+abbrev pub HaveEnded : {S : Type 0} → (origin : S → Origin) → (traffic : S → Traffic)
+    → PoolEnded → Type 0
+HaveEnded origin traffic end = (gate : OpenGate)
+    × HaveWorked LetsAll (IsCarriedBy origin traffic) (at end.pool.job.terms end.pool.carrier gate (settings_of end.pool.job.output).retry)
+    (settings_of end.pool.job.output).flush_thread_count end.done
 
 -- the fault of a relay whose workers at a buffer ended so
 abbrev pub fault_of : Result Worked BufferFault → Option LoopFault

@@ -1,7 +1,7 @@
 //! The threads that deliver a relay's chunks.
 
-ghost use Rattle.std.specs.Prelude.{◌≡◌, IfErr, IfOk, option_map, string_bytes};
-ghost use Rattle.relay_run.specs.Running.{IsCarrierOf, IsPoolOf, IsSinkAs, IsSinkAt, fault_of as fault_of_done};
+ghost use Rattle.std.specs.Prelude.{◌≡◌, IfErr, IfOk};
+ghost use Rattle.relay_run.specs.Running.{IsCarrierOf, IsPoolOf, IsSinkAt, fault_of as fault_of_done};
 
 use crate::voice::Voice;
 use ack_receipt::{Evidence, SharedBuffer};
@@ -15,7 +15,7 @@ use relay_buffers::{DeliveryJob, PlacedDir, SystemDir, real_dir};
 use relay_conf::RetrySettings;
 use relay_notices::{Notice, Teller};
 use relay_ports::BufferedOutput;
-use relay_sockets::{Nonces, SystemDialer, now_after};
+use relay_sockets::{Dialer, Nonces, SystemDialer, Wire, now_after};
 use sink_rotation::{FileLimits, Rotation};
 use sink_series::SeriesFault;
 use std::alloc::Global;
@@ -42,8 +42,8 @@ type Connects = SystemDialer<HostRuntime, Global>;
 /// A folder of the relay's buffers.
 pub type Folder = SystemDir<HostRuntime, Global>;
 
-// The files of a sink.
-type Files = Rotation<RealDir<HostRuntime, Global>, Global>;
+// The folder of a sink.
+type Placed = PlacedDir<RealDir<HostRuntime, Global>, Global>;
 
 // A sink's next file is begun behind 1 GiB or a day; and a minute after the last one, where that can't be written.
 const FILE_LIMITS: FileLimits = FileLimits {
@@ -52,18 +52,22 @@ const FILE_LIMITS: FileLimits = FileLimits {
     pause: 60_000,
 };
 
-/// Carries chunks to servers, or to the files of a sink. Contracts see the sink as it was opened, and the path of its folder.
+/// Carries chunks to servers, or to the files of a sink. Contracts see besides the folder as it was made for the sink, with its path.
 #[derive(Drop)]
 pub enum Carrier {
     Servers(TcpCourier<Connects, Global>),
     Sink {
         courier: SinkCourier<RealDir<HostRuntime, Global>, Global>,
-        opened: Snapshot<Files>,
-        path: Option<String>,
+        placed: Snapshot<Placed>,
     },
 }
 
 impl<R: Wait + Net + Clock, D: Dir> Courier<R, D, Global> for Carrier {
+    ghost use Rattle.relay_run.specs.Running.{IsCarriedBy};
+
+    ghost gives = { IsCarriedBy ⟦<<Connects as Dialer>::Stream as Wire>⟧.origin
+        ⟦<<Connects as Dialer>::Stream as Wire>⟧.traffic };
+
     fn carry(
         &self,
         rt: &R,
@@ -71,11 +75,7 @@ impl<R: Wait + Net + Clock, D: Dir> Courier<R, D, Global> for Carrier {
     ) -> Result<Evidence<Global>, CarryFault> {
         match self {
             Carrier::Servers(courier) => courier.carry(rt, chunk),
-            Carrier::Sink {
-                courier,
-                opened: _,
-                path: _,
-            } => courier.carry(rt, chunk),
+            Carrier::Sink { courier, placed: _ } => courier.carry(rt, chunk),
         }
     }
 }
@@ -185,7 +185,10 @@ impl Model for PoolEnd {
     ghost view = { λ e. record { pool = e.of.value; done = e.done } };
 
     // So ended this pool's workers.
-    ghost invariant = { λ e. HaveEnded (record { pool = e.of.value; done = e.done }) };
+    ghost invariant = { λ e.
+        HaveEnded ⟦<<Connects as Dialer>::Stream as Wire>⟧.origin
+        ⟦<<Connects as Dialer>::Stream as Wire>⟧.traffic
+        (record { pool = e.of.value; done = e.done }) };
 }
 
 impl PoolEnd {
@@ -251,26 +254,19 @@ fn sink_of<R: Wait>(
     ensures { IfOk result (IsSinkAt home.entry.path.now name.now) }
 {
     let alloc = home.files.alloc();
-    let PlacedDir { dir, path } = real_dir(copy_of(home.files)?, alloc, home.path)?;
+    let made = real_dir(copy_of(home.files)?, alloc, home.path)?;
+    let placed = Snapshot::of(&made);
+    let PlacedDir { dir, path: _ } = made;
     let time = now_after(home.files, 0);
     match Rotation::open(alloc, dir, name.as_bytes(), FILE_LIMITS, time) {
-        Ok(sink) => Ok(carrier_to(sink, path, teller)),
+        Ok(sink) => Ok(Carrier::Sink {
+            courier: SinkCourier::new(sink).telling(teller),
+            placed,
+        }),
         Err((SeriesFault::Memory, _)) => Err(LoopFault::Memory),
         Err(_) => {
             teller.tell(rt, 0, Notice::SinkFailed);
             Err(LoopFault::Buffer(BufferFault::Fault))
         }
-    }
-}
-
-// What carries chunks to these files, in the folder of this path. There are no others here.
-fn carrier_to(sink: Files, path: Option<String>, teller: Teller<Global>) -> Carrier
-    ensures { IsSinkAs sink.path (option_map string_bytes path) result }
-{
-    let opened = Snapshot::of(&sink);
-    Carrier::Sink {
-        courier: SinkCourier::new(sink).telling(teller),
-        opened,
-        path,
     }
 }

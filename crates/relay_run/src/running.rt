@@ -200,6 +200,7 @@ where
         }
         let mut turning = turning;
         turning.tell_by(voice.of_clients());
+        turning.tell_of_buffers(&voice.of_chunks(0));
         let turned = Snapshot::of(&turning);
         let left = turning.run(rt, &stop);
         stop.store(true, Ordering::SeqCst);

@@ -59,3 +59,12 @@ pub record Delivers {N : Type 0} (sender : Sender N) (chunk : Claimed) (traffic 
   pub entries : List (List ℕ)
   pub count : length entries ≡ chunk.count
   pub conveys : ConveysChunk new traffic (begun sender.shows salt).phase chunk entries sender.asks
+
+-- What a courier gave for a chunk: evidence that names the chunk; and there is a connection to one of its own servers that conveyed the chunk, and
+-- where an acknowledgement is asked for gave one.
+pub record IsSent {N S : Type 0} (origin : S → Origin) (traffic : S → Traffic)
+    (sender : Sender N) (claim : Claimed) (shown : Shows) : Type 0 where
+  pub names : NamesChunk sender.asks claim shown
+  pub stream : S
+  pub one : IsToOne sender.servers (origin stream)
+  pub delivers : Delivers sender claim (traffic stream)

@@ -288,10 +288,12 @@ fn is_of_server(fault: CarryFault) -> bool
 }
 
 impl<R: Wait, D: Dir, N: Dialer + Drop, A: Allocator + Copy> Courier<R, D, A> for TcpCourier<N, A> {
+    ghost use Rattle.tcp_courier.specs.Carrying.{IsSent};
+
+    ghost gives = { IsSent N.Stream.origin N.Stream.traffic };
+
     /// Carries a chunk as `carry_over` does, by the turn that all threads share, and closes the connection.
-    fn carry(&self, rt: &R, chunk: &ClaimView<'_, D, A>) -> Result<Evidence<A>, CarryFault>
-        ensures { IfOk result (NamesChunk self.now.asks chunk.now) }
-    {
+    fn carry(&self, rt: &R, chunk: &ClaimView<'_, D, A>) -> Result<Evidence<A>, CarryFault> {
         let began = *self.turn.lock(rt);
         let mut turn = began;
         let carried = self.carry_over(rt, chunk, &mut turn);

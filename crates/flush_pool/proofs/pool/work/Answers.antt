@@ -1,6 +1,7 @@
-use Rattle.std.proofs.Common.{◌≡◌, subst}
-use Rattle.flush_pool.specs.Rounds.{IsWorked}
+use Rattle.std.proofs.Common.{◌≡◌, ap, subst, ◌∙◌}
+use Rattle.flush_pool.specs.Acts.{Place, Post}
+use Rattle.flush_pool.specs.Rounds.{HasWorked}
 use Rattle.flush_pool.proofs.pool.work.Goals as goal
 
 pub returns : goal.returns
-returns g c = (c.work.new.self, subst (λ p. IsWorked p c.work.new.self c.work.result) c.new.ensures c.work.ensures)
+returns g c = subst (λ post. HasWorked g.G.Gate.lets g.C.Courier.gives post c.work.result) (c.work.ensures.post ∙ ap (λ place. place.post) c.new.ensures) (c.work.new.self.acts, c.work.ensures.worked)
