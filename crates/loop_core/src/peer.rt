@@ -93,6 +93,8 @@ impl<A: Allocator + Copy> Peer<A> {
         // Each message that was demanded got its number.
         ensures numbered { OnOk result (numbers.new + length self.old.session.asked
             ≡ numbers.old + length self.new.session.asked) }
+        // Whatever comes of it, the numbers don't go back.
+        ensures drawn { numbers.old ≤ numbers.new }
         // After a fault of the stream or the handshake nothing more is read.
         ensures closes { OnOk result (self.new.session.phase ≡ Over → self.new.closing ≡ true) }
         ensures closed { self.old.closing ≡ true → self.new.closing ≡ true }
@@ -123,6 +125,7 @@ impl<A: Allocator + Copy> Peer<A> {
         ensures lanes { KeepsLanes lanes.old lanes.new }
         ensures session { self.new.session ≡ self.old.session }
         ensures numbered { OnOk result (numbers.new ≡ numbers.old + length (asked_in (map wanted demands.items))) }
+        ensures drawn { numbers.old ≤ numbers.new }
         ensures closes { OnOk result (self.new.closing ≡ (self.old.closing || wants_close (map wanted demands.items))) }
         ensures closed { self.old.closing ≡ true → self.new.closing ≡ true }
         ensures waits { GoOnWaiting self.old.waits self.new.waits }
@@ -159,6 +162,7 @@ impl<A: Allocator + Copy> Peer<A> {
         ensures session { self.new.session ≡ self.old.session }
         ensures lanes { KeepsLanes lanes.old lanes.new }
         ensures numbered { OnOk result (numbers.new ≡ numbers.old + 1) }
+        ensures drawn { numbers.old ≤ numbers.new }
         ensures closing { self.new.closing ≡ self.old.closing }
         ensures waits { (self.new.waits ≡ self.old.waits) ⊎ OneMoreWaits self.old.waits self.new.waits }
     {

@@ -7,3 +7,4 @@ pub mod Writing
 pub mod Reading
 pub mod Refusing
 pub mod Heaviest
+pub mod Turning

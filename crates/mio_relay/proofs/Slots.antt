@@ -1,6 +1,6 @@
 -- What is at the keys of a loop's connections, after one changed.
 use Rattle.std.proofs.Common.{ℕ, ◌≡◌, ◌∙◌, ◌+◌, ◌<◌, ◌≤◌, ◌⊎◌, inl, inr, arith, All, Bool, true, false, List, [], ◌∷◌, length, ap, refl, sym, subst, Option, None, Some, Result, Ok, Err}
-use Rattle.std.specs.Prelude.{IfSome, IsSomeAnd, OnOk, option_map, slice_get, slice_index_or, slice_set}
+use Rattle.std.specs.Prelude.{is_some, IfSome, IsSomeAnd, OnOk, option_map, slice_get, slice_index_or, slice_set}
 use Rattle.std.proofs.Math.Nat.{eq-or-lt_of_le}
 use Rattle.std.proofs.lemmas.List.{get_or-set_same, get_or-set_other, length-set}
 use Rattle.std.proofs.lemmas.List.Elements.{All-nil, All-set}
@@ -8,6 +8,7 @@ use Rattle.std.proofs.lemmas.Option.{slice_get-map}
 use Rattle.buffer_lanes.specs.Waits.{Waits}
 use Rattle.relay_sockets.specs.Endpoints.{CameAt, Origin}
 use Rattle.mio_relay.specs.Connections.{AllBelow, AreFlushed, AreFlushedBelow, AreInTime, AreInTimeBelow, AreListening, AreServed, AreSettled, AreSettledBelow, BeginsAt, ConnectionState, HoldsFlushed, HoldsInTime, HoldsNone, GoesOn, GoOn, Hosted, IsSameConnection, IsServed, Served, sources_in}
+use Rattle.mio_relay.specs.Turning.{MayGet}
 use Rattle.relay_sockets.specs.Endpoints.{Endpoint}
 use Rattle.relay_sockets.specs.declared.network.Accepted.{Accepted}
 use Rattle.relay_sockets.specs.declared.network.Accepted.TheVariants.{Stream, Again, Empty, Refused}
@@ -24,12 +25,13 @@ kept_at slots key old new within at goes sources all =
     let P : Option ConnectionState → Type 0 = λ slot. IfSome slot (IsServed sources) in
     All-set P slots key new (goes sources (subst P (sym at) (all key old within))) all
 
--- a connection of one of these sources is put at this key
-pub put_at : (slots : List (Option ConnectionState)) (key : ℕ) (new : Option ConnectionState) (connection : ConnectionState) → new ≡ Some connection
-    → (sources : List Served) → AreServed sources slots → IsServed sources connection → AreServed sources (slice_set slots key new)
-put_at slots key new connection e sources all one =
+-- a connection of one of these sources is put at this key, where there is none
+pub put_at : (slots : List (Option ConnectionState)) (key : ℕ) (old new : Option ConnectionState) (connection : ConnectionState) → key < length slots
+    → old ≡ slice_index_or slots key old → MayGet connection old new → (sources : List Served) → AreServed sources slots → IsServed sources connection
+    → AreServed sources (slice_set slots key new)
+put_at slots key old new connection within at gets sources all one =
     let P : Option ConnectionState → Type 0 = λ slot. IfSome slot (IsServed sources) in
-    All-set P slots key new (subst P (sym e) one) all
+    All-set P slots key new (elim gets [ inl e ↦ subst P (sym e) (subst P (sym at) (all key old within)) | inr got ↦ subst P (sym got.is) one ]) all
 
 -- what came in at the listener of this place, and begins there, is served as one of its source
 pub begins_served : (hosted : List Hosted) (place : ℕ) (nonce : List ℕ) (connection : ConnectionState) → connection.origin ≡ CameAt place
@@ -121,6 +123,11 @@ no_not_yes e = subst at e tt
     at : Bool → Type 0
     at true = ⊥
     at false = Unit {0}
+
+-- where there isn't some, there is none
+pub none_there : {T : Type 0} (o : Option T) (b : Bool) → b ≡ is_some o → b ≡ false → o ≡ None
+none_there None b tells e = refl
+none_there (Some x) b tells e = absurd (no_not_yes (sym e ∙ tells))
 
 -- none waits at the keys below the last
 pub all_settled : (slots : List (Option ConnectionState)) (end : ℕ) → length slots ≤ end → AreSettledBelow end slots → AreSettled slots

@@ -1,5 +1,5 @@
 -- What stays of a loop, where its connections or its network alone change.
-use Rattle.std.proofs.Common.{◌≡◌, ◌∙◌, Bool, List, [], ap, map, refl, subst, sym}
+use Rattle.std.proofs.Common.{◌≡◌, ◌∙◌, arith, Bool, List, [], ap, map, refl, subst, sym}
 use Rattle.ack_receipt.specs.Deliveries.{Pended}
 use Rattle.relay_conf.specs.declared.output.BufferNo.{BufferNo}
 use Rattle.buffer_lanes.specs.Lanes.{AreRedeemed, AreRedeemedAt, LanesState, later_at, listed_at}
@@ -9,8 +9,8 @@ use Rattle.mio_relay.specs.Loops.{LoopState, OnlyLaterWait, Rests, Stays}
 
 -- its lanes are as they were, and so is all else that stays
 pub stays_on : {A : Type 0} (inside now new : LoopState A) → inside ≡ now → new.bound ≡ inside.bound → new.sources ≡ inside.sources → new.buffers ≡ inside.buffers
-    → new.lanes ≡ inside.lanes → Stays now new
-stays_on {A} inside now new is bound sources buffers lanes =
+    → new.lanes ≡ inside.lanes → new.numbers ≡ inside.numbers → Stays now new
+stays_on {A} inside now new is bound sources buffers lanes numbers =
     subst (λ (l : LoopState A). Stays l new) is
     (record {
       bound = bound;
@@ -21,6 +21,7 @@ stays_on {A} inside now new is bound sources buffers lanes =
         timings = ap (λ (l : LanesState A). map timing_of l.plans) lanes;
         fault = λ fault was. ap (λ (l : LanesState A). l.fault) lanes ∙ was;
       };
+      numbers = omega (arith, numbers);
     })
 
 -- no delivery waits that didn't, and nothing is outgoing that a stream would take
@@ -50,6 +51,7 @@ stays_more old between new first next = record {
     timings = next.lanes.timings ∙ first.lanes.timings;
     fault = λ fault was. next.lanes.fault fault (first.lanes.fault fault was);
   };
+  numbers = omega (arith, first.numbers, next.numbers);
 }
 
 -- and what rests
@@ -63,7 +65,7 @@ rests_more old between new first next = record {
 
 -- where nothing is done, all stays
 pub stays_same : {A : Type 0} (l : LoopState A) → Stays l l
-stays_same l = record { bound = refl; sources = refl; buffers = refl; lanes = record { terms = refl; timings = refl; fault = λ fault was. was } }
+stays_same l = record { bound = refl; sources = refl; buffers = refl; lanes = record { terms = refl; timings = refl; fault = λ fault was. was }; numbers = omega arith }
 
 -- and rests
 pub rests_same : {A : Type 0} (l : LoopState A) → Rests l l

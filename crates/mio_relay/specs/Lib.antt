@@ -3,3 +3,4 @@ pub mod Faults
 pub mod Holding
 pub mod Limits
 pub mod Loops
+pub mod Turning

@@ -1,5 +1,5 @@
 -- What a relay's loop keeps.
-use Rattle.std.specs.Prelude.{ℕ, ◌≡◌, [], false, List, Option}
+use Rattle.std.specs.Prelude.{ℕ, ◌≡◌, ◌≤◌, [], false, List, Option}
 use Rattle.ack_receipt.specs.Terms.{Terms}
 use Rattle.buffer_lanes.specs.Lanes.{KeepsLanes, LanesState, later_at, listed_at}
 use Rattle.loop_core.specs.declared.fault.LoopFault.{LoopFault}
@@ -8,16 +8,18 @@ use Rattle.relay_ports.specs.declared.buffered.BufferedOutput.{BufferedOutput}
 use Rattle.relay_sockets.specs.declared.network.NetFault.{NetFault}
 use Rattle.relay_sockets.specs.Endpoints.{Endpoint}
 use Rattle.mio_relay.specs.Connections.{AreFlushed, AreSettled, ConnectionState, Served}
+use Rattle.mio_relay.specs.Turning.{ComesOn, EachKey}
 
 -- a loop: the addresses that were bound, its sources in the order of the configuration, its connections by their keys, its buffers by their places,
--- the same as it uses them, its time in milliseconds, the fault of a turn that ended it, if one did, and why its network refuses to wait for sockets, where
--- it is known to
+-- the same as it uses them, how many numbers deliveries have had, its time in milliseconds, the fault of a turn that ended it, if one did, and why its
+-- network refuses to wait for sockets, where it is known to
 pub record LoopState (A : Type 0) : Type 0 where
   pub bound : List Endpoint
   pub sources : List Served
   pub connections : List (Option ConnectionState)
   pub buffers : List (Terms A)
   pub lanes : LanesState A
+  pub numbers : ℕ
   pub time : ℕ
   pub fault : Option LoopFault
   pub refusal : Option NetFault
@@ -29,12 +31,19 @@ pub record BoundState (A : Type 0) : Type 0 where
   pub number : ℕ
   pub outputs : List (BufferedOutput A)
 
--- what a call leaves as it was
+-- what a call leaves as it was; and the numbers of deliveries don't go back
 pub record Stays {A : Type 0} (old new : LoopState A) : Type 0 where
   pub bound : new.bound ≡ old.bound
   pub sources : new.sources ≡ old.sources
   pub buffers : new.buffers ≡ old.buffers
   pub lanes : KeepsLanes old.lanes new.lanes
+  pub numbers : old.numbers ≤ new.numbers
+
+-- What a call does before connections are closed: it is the same time, and each connection goes on;
+-- others came in at this time.
+pub record TakesIn {A : Type 0} (old new : LoopState A) : Type 0 where
+  pub time : new.time ≡ old.time
+  pub connections : EachKey (ComesOn old.time) old.connections new.connections
 
 -- no delivery waits that didn't: the same appends wait, and the same buffers' receipts come later, and where none waited none does; nor is anything outgoing
 -- that a stream would take, where nothing was

@@ -4,7 +4,7 @@ ghost use Rattle.std.specs.Prelude.{◌≡◌, IsSomeAnd, slice_get};
 ghost use Rattle.relay_sockets.specs.Accepting.{IfStream};
 ghost use Rattle.relay_sockets.specs.Endpoints.{CameAt};
 ghost use Rattle.mio_relay.specs.Connections.{IsServed};
-ghost use Rattle.mio_relay.specs.Loops.{Stays};
+ghost use Rattle.mio_relay.specs.Loops.{Stays, TakesIn};
 
 use crate::connection::{Connection, ConnectionParts};
 use crate::in_loop::InLoop;
@@ -17,7 +17,8 @@ use std::sync::Wait;
 impl<N: Network + Drop, D: Dir + Drop, A: Allocator + Copy> InLoop<N, D, A> {
     // Takes in the connections that wait.
     pub(crate) fn accept_all<R: Wait>(&mut self, rt: &R)
-        ensures { Stays self.old self.new }
+        ensures stays { Stays self.old self.new }
+        ensures takes { TakesIn self.old self.new }
     {
         for place in 0..self.listeners.len() {
             self.accept_at(rt, place);
@@ -26,7 +27,8 @@ impl<N: Network + Drop, D: Dir + Drop, A: Allocator + Copy> InLoop<N, D, A> {
 
     // Takes in the connections that wait at one source, at most so many as a loop has.
     fn accept_at<R: Wait>(&mut self, rt: &R, place: usize)
-        ensures { Stays self.old self.new }
+        ensures stays { Stays self.old self.new }
+        ensures takes { TakesIn self.old self.new }
     {
         for _ in 0..self.most {
             if !self.accept_one(rt, place) {
@@ -38,7 +40,8 @@ impl<N: Network + Drop, D: Dir + Drop, A: Allocator + Copy> InLoop<N, D, A> {
     // Takes the next connection in that waits at one source; whether there may be more. Where the loop has as many as it may, they wait there
     // until one closes.
     fn accept_one<R: Wait>(&mut self, rt: &R, place: usize) -> bool
-        ensures { Stays self.old self.new }
+        ensures stays { Stays self.old self.new }
+        ensures takes { TakesIn self.old self.new }
     {
         if self.connections.count() >= self.most {
             return false;
@@ -60,6 +63,7 @@ impl<N: Network + Drop, D: Dir + Drop, A: Allocator + Copy> InLoop<N, D, A> {
     fn next_at(&mut self, place: usize) -> Accepted<N::Stream>
         ensures came { IfStream result (λ stream. N.Stream.origin stream ≡ CameAt place) }
         ensures stays { Stays self.old self.new }
+        ensures takes { TakesIn self.old self.new }
     {
         next_of(&mut self.network, &self.listeners, &mut self.ready, place)
     }
@@ -67,7 +71,8 @@ impl<N: Network + Drop, D: Dir + Drop, A: Allocator + Copy> InLoop<N, D, A> {
     // Takes a connection in that came to this source.
     fn admit<R: Wait>(&mut self, rt: &R, place: usize, stream: N::Stream) -> Result<(), AllocError>
         requires { N.Stream.origin stream ≡ CameAt place }
-        ensures { Stays self.old self.new }
+        ensures stays { Stays self.old self.new }
+        ensures takes { TakesIn self.old self.new }
     {
         let Some(key) = self.connections.make_room()? else {
             return Ok(());
@@ -85,10 +90,12 @@ impl<N: Network + Drop, D: Dir + Drop, A: Allocator + Copy> InLoop<N, D, A> {
         Ok(())
     }
 
-    // Puts a connection at its key, where none is.
+    // Puts a connection that comes at this time at its key, where none is.
     fn put<R: Wait>(&mut self, rt: &R, key: usize, connection: Connection<N::Stream, A>)
-        requires { IsServed self.old.sources connection }
-        ensures { Stays self.old self.new }
+        requires served { IsServed self.old.sources connection }
+        requires now { connection.came ≡ self.old.time }
+        ensures stays { Stays self.old self.new }
+        ensures takes { TakesIn self.old self.new }
     {
         if let Some(other) = self.connections.put(key, connection) {
             let ConnectionParts { stream: _, peer } = other.into_parts();

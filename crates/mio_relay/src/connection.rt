@@ -42,8 +42,8 @@ const MOST_PIECES: usize = 4;
 /// How long a client has to show the key, in milliseconds.
 const TIME_FOR_PING: u64 = 10_000;
 
-/// A client's stream with its session. Contracts see where and when the stream came in and what went over it, the session, and whether the
-/// stream failed or takes no bytes for now.
+/// A client's stream with its session. Contracts see where and when the stream came in and what went over it, the session, whether the
+/// stream failed, and whether it answered that it takes no bytes for now, or that its client has ended its sending.
 ///
 /// It is no `Drop`, as its session isn't: `into_parts` ends it.
 pub struct Connection<S: Wire, A: Allocator> {
@@ -68,6 +68,7 @@ pub struct Connection<S: Wire, A: Allocator> {
 }
 
 impl<S: Wire, A: Allocator> Model for Connection<S, A> {
+    ghost use Rattle.std.specs.Prelude.{◌≡◌, true};
     ghost use Rattle.mio_relay.specs.Connections.{ConnectionState};
 
     ghost Value = { ConnectionState };
@@ -78,9 +79,13 @@ impl<S: Wire, A: Allocator> Model for Connection<S, A> {
       traffic = S.traffic c.stream;
       peer = c.peer;
       is_broken = c.is_broken;
-      is_blocked = c.is_blocked;
-      has_ended = c.has_ended;
+      is_blocked = S.refuses c.stream;
+      has_ended = S.has_ended c.stream;
     } };
+
+    // What is known of the stream is what it answered.
+    ghost invariant = { λ c. (c.is_blocked ≡ true → S.refuses c.stream ≡ true)
+        × (c.has_ended ≡ true → S.has_ended c.stream ≡ true) };
 }
 
 /// What a connection was made of.
@@ -92,7 +97,7 @@ pub struct ConnectionParts<S: Wire, A: Allocator> {
 impl<S: Wire, A: Allocator + Copy> Connection<S, A> {
     /// A stream that was just accepted, with its session, at the source with this place, and at this time in milliseconds.
     pub fn new(stream: S, peer: Peer<A>, source: usize, time: u64) -> Self
-        ensures { result ≡ record { origin = S.origin stream; came = time; traffic = S.traffic stream; peer = peer; is_broken = false; is_blocked = false; has_ended = false } }
+        ensures { result ≡ record { origin = S.origin stream; came = time; traffic = S.traffic stream; peer = peer; is_broken = false; is_blocked = S.refuses stream; has_ended = S.has_ended stream } }
     {
         Connection {
             stream,
@@ -125,7 +130,7 @@ impl<S: Wire, A: Allocator + Copy> Connection<S, A> {
 
     /// The network says that bytes can be read, or the end; or that bytes can be written.
     pub fn note(&mut self, is_readable: bool, is_writable: bool, is_ended: bool)
-        ensures { self.new ≡ record self.old { is_blocked = self.new.is_blocked } }
+        ensures { self.new ≡ self.old }
     {
         if is_readable {
             self.is_readable = true;
@@ -170,6 +175,7 @@ impl<S: Wire, A: Allocator + Copy> Connection<S, A> {
         // Each message that was demanded got its number, unless the connection is to be closed.
         ensures numbered { OnOk result ((numbers.new + length self.old.peer.session.asked ≡ numbers.old + length self.new.peer.session.asked)
             ⊎ (self.new.is_broken ≡ true)) }
+        ensures drawn { numbers.old ≤ numbers.new }
     {
         for _pieces in 0..MOST_PIECES {
             if !self.wants_reading() {
@@ -194,6 +200,7 @@ impl<S: Wire, A: Allocator + Copy> Connection<S, A> {
         ensures received { OnOk result (IsReceived self.old self.new) }
         ensures numbered { OnOk result ((numbers.new + length self.old.peer.session.asked ≡ numbers.old + length self.new.peer.session.asked)
             ⊎ (self.new.is_broken ≡ true)) }
+        ensures drawn { numbers.old ≤ numbers.new }
     {
         let n = self.read_piece(piece);
         if n == 0 {
@@ -288,6 +295,7 @@ impl<S: Wire, A: Allocator + Copy> Connection<S, A> {
         ensures waits { self.new.peer.waits ≡ self.old.peer.waits }
         ensures written { IsWrittenOn self.old self.new }
     {
+        self.is_blocked = false;
         match self.stream.put(self.peer.outgoing(), Duration::ZERO) {
             Moved::Some(n) => self.peer.sent(n),
             Moved::None => self.is_blocked = true,

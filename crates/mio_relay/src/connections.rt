@@ -1,9 +1,10 @@
 //! The connections of a loop, by their keys.
 
-ghost use Rattle.std.specs.Prelude.{ℕ, ◌≡◌, ◌≤◌, ◌+◌, [], List, Option, false, true, length, slice_index_or, IfSome, IsSomeAnd};
+ghost use Rattle.std.specs.Prelude.{ℕ, ◌≡◌, ◌≤◌, ◌+◌, [], List, Option, false, true, length, slice_index_or, IfSome, IsSomeAnd, OnOk};
 ghost use Rattle.buffer_lanes.specs.Lanes.{KeepsLanes, NoneLater};
 ghost use Rattle.mio_relay.specs.Holding.{HoldsMost, held_in, most_held};
 ghost use Rattle.mio_relay.specs.Connections.{AreFlushed, AreFlushedBelow, AreInTime, AreInTimeBelow, AreServed, AreSettled, AreSettledBelow, GoOn, GoesOn, ConnectionState, HoldsFlushed, HoldsInTime, HoldsNone, IsServed, MayClose, Served};
+ghost use Rattle.mio_relay.specs.Turning.{AreNumbered, EachKey, at_key, MayGet, MayLose, StandOn, StandsOn};
 
 use crate::connection::{Connection, ConnectionParts, NoNumber};
 use crate::holding::{heaviest_of, held_in};
@@ -56,7 +57,8 @@ impl<S: Wire + Drop, A: Allocator + Copy> Connections<S, A> {
 
     /// Makes room for one more, and gives the key that it is to have; `None` where there is none. The error is want of memory.
     pub fn make_room(&mut self) -> Result<Option<usize>, AllocError>
-        ensures { GoOn self.old self.new }
+        ensures goes { GoOn self.old self.new }
+        ensures stands { StandOn self.old self.new }
     {
         self.keys.reserve(1)?;
         let key = self.keys.vacant_key();
@@ -71,10 +73,10 @@ impl<S: Wire + Drop, A: Allocator + Copy> Connections<S, A> {
         }
     }
 
-    /// Puts a connection at this key, which `make_room` gave, and gives back what can't stay: the one that was there, or the new one
-    /// where there is no room.
+    /// Puts a connection at this key, which `make_room` gave, and gives it back where it can't stay: there is no room, or one is there.
     pub fn put(&mut self, key: usize, connection: Connection<S, A>) -> Option<Connection<S, A>>
-        ensures { (sources : List Served) → AreServed sources self.old → IsServed sources connection → AreServed sources self.new }
+        ensures served { (sources : List Served) → AreServed sources self.old → IsServed sources connection → AreServed sources self.new }
+        ensures gets { EachKey (MayGet connection) self.old self.new }
     {
         match self.keys.insert(()) {
             Ok(given) if given == key => {}
@@ -83,7 +85,7 @@ impl<S: Wire + Drop, A: Allocator + Copy> Connections<S, A> {
         let Some(slot) = self.slots.get_mut(key) else {
             return Some(connection);
         };
-        slot.replace(connection)
+        put_in(slot, connection)
     }
 
     /// Takes the connection at this key, if there is one that is to be closed at this time.
@@ -93,6 +95,7 @@ impl<S: Wire + Drop, A: Allocator + Copy> Connections<S, A> {
         ensures settled { AreSettled self.old → AreSettled self.new }
         ensures flushed { AreFlushed self.old → AreFlushed self.new }
         ensures over { IfSome result (MayClose time) }
+        ensures loses { EachKey (MayLose time) self.old self.new }
         ensures in_time { AreInTimeBelow time key self.old → AreInTimeBelow time (key + 1) self.new }
     {
         let Some(slot) = self.slots.get_mut(key) else {
@@ -122,6 +125,7 @@ impl<S: Wire + Drop, A: Allocator + Copy> Connections<S, A> {
     /// The connection at this key is broken off, since it holds most of what isn't whole.
     pub fn shed(&mut self, key: usize)
         ensures goes { GoOn self.old self.new }
+        ensures stands { StandOn self.old self.new }
         ensures keys { length self.new ≡ length self.old }
         ensures settled { AreSettled self.old → AreSettled self.new }
         ensures flushed { AreFlushed self.old → AreFlushed self.new }
@@ -136,7 +140,8 @@ impl<S: Wire + Drop, A: Allocator + Copy> Connections<S, A> {
 
     /// The network says this of the connection at this key.
     pub fn note(&mut self, key: usize, is_readable: bool, is_writable: bool, is_ended: bool)
-        ensures { GoOn self.old self.new }
+        ensures goes { GoOn self.old self.new }
+        ensures stands { StandOn self.old self.new }
     {
         let Some(slot) = self.slots.get_mut(key) else {
             return;
@@ -163,6 +168,9 @@ impl<S: Wire + Drop, A: Allocator + Copy> Connections<S, A> {
         numbers: &mut Numbers,
     ) -> Result<(), NoNumber>
         ensures goes { GoOn self.old self.new }
+        ensures stands { StandOn self.old self.new }
+        ensures numbered { OnOk result (AreNumbered numbers.old numbers.new (at_key self.old key) (at_key self.new key)) }
+        ensures drawn { numbers.old ≤ numbers.new }
         ensures lanes { KeepsLanes lanes.old lanes.new }
     {
         let Some(slot) = self.slots.get_mut(key) else {
@@ -180,6 +188,7 @@ impl<S: Wire + Drop, A: Allocator + Copy> Connections<S, A> {
         lanes: &mut Lanes<D, A>,
     )
         ensures goes { GoOn self.old self.new }
+        ensures stands { StandOn self.old self.new }
         ensures lanes { lanes.new ≡ lanes.old }
         ensures keys { length self.new ≡ length self.old }
         ensures settled { NoneLater lanes.old.later → AreSettledBelow key self.old → AreSettledBelow (key + 1) self.new }
@@ -193,6 +202,7 @@ impl<S: Wire + Drop, A: Allocator + Copy> Connections<S, A> {
     /// Writes what is outgoing to the connection at this key.
     pub fn write<R: Wait>(&mut self, key: usize, rt: &R)
         ensures goes { GoOn self.old self.new }
+        ensures stands { StandOn self.old self.new }
         ensures settled { AreSettled self.old → AreSettled self.new }
         ensures keys { length self.new ≡ length self.old }
         ensures flushed { AreFlushedBelow key self.old → AreFlushedBelow (key + 1) self.new }
@@ -219,6 +229,19 @@ impl<S: Wire + Drop, A: Allocator + Copy> Connections<S, A> {
     }
 }
 
+// Puts the connection there, and gives it back where one is.
+fn put_in<S: Wire, A: Allocator + Copy>(
+    slot: &mut Option<Connection<S, A>>,
+    connection: Connection<S, A>,
+) -> Option<Connection<S, A>>
+    ensures { MayGet connection slot.old slot.new }
+{
+    if slot.is_some() {
+        return Some(connection);
+    }
+    slot.replace(connection)
+}
+
 // Takes the connection, if there is one that is to be closed at this time.
 fn take_slot<S: Wire, A: Allocator + Copy>(
     slot: &mut Option<Connection<S, A>>,
@@ -228,6 +251,7 @@ fn take_slot<S: Wire, A: Allocator + Copy>(
     ensures settled { HoldsNone slot.old → HoldsNone slot.new }
     ensures flushed { HoldsFlushed slot.old → HoldsFlushed slot.new }
     ensures over { IfSome result (MayClose time) }
+    ensures loses { MayLose time slot.old slot.new }
     ensures in_time { HoldsInTime time slot.new }
 {
     if is_over_at(slot, time) {
@@ -250,6 +274,7 @@ fn is_over_at<S: Wire, A: Allocator + Copy>(slot: &Option<Connection<S, A>>, tim
 
 fn shed_slot<S: Wire, A: Allocator + Copy>(slot: &mut Option<Connection<S, A>>)
     ensures goes { GoesOn slot.old slot.new }
+    ensures stands { StandsOn slot.old slot.new }
     ensures settled { HoldsNone slot.old → HoldsNone slot.new }
     ensures flushed { HoldsFlushed slot.old → HoldsFlushed slot.new }
     ensures in_time { (time : ℕ) → HoldsInTime time slot.old → HoldsInTime time slot.new }
@@ -265,7 +290,8 @@ fn note_slot<S: Wire, A: Allocator + Copy>(
     is_writable: bool,
     is_ended: bool,
 )
-    ensures { GoesOn slot.old slot.new }
+    ensures goes { GoesOn slot.old slot.new }
+    ensures stands { StandsOn slot.old slot.new }
 {
     if let Some(connection) = slot {
         connection.note(is_readable, is_writable, is_ended);
@@ -281,6 +307,9 @@ fn read_slot<S: Wire, R: Wait, D: Dir + Drop, A: Allocator + Copy>(
     numbers: &mut Numbers,
 ) -> Result<(), NoNumber>
     ensures goes { GoesOn slot.old slot.new }
+    ensures stands { StandsOn slot.old slot.new }
+    ensures numbered { OnOk result (AreNumbered numbers.old numbers.new slot.old slot.new) }
+    ensures drawn { numbers.old ≤ numbers.new }
     ensures lanes { KeepsLanes lanes.old lanes.new }
 {
     match slot {
@@ -296,6 +325,7 @@ fn settle_slot<S: Wire, R: Wait, D: Dir + Drop, A: Allocator + Copy>(
     lanes: &mut Lanes<D, A>,
 )
     ensures goes { GoesOn slot.old slot.new }
+    ensures stands { StandsOn slot.old slot.new }
     ensures lanes { lanes.new ≡ lanes.old }
     ensures settled { NoneLater lanes.old.later → HoldsNone slot.new }
 {
@@ -306,6 +336,7 @@ fn settle_slot<S: Wire, R: Wait, D: Dir + Drop, A: Allocator + Copy>(
 
 fn write_slot<S: Wire, R: Wait, A: Allocator + Copy>(slot: &mut Option<Connection<S, A>>, rt: &R)
     ensures goes { GoesOn slot.old slot.new }
+    ensures stands { StandsOn slot.old slot.new }
     ensures settled { HoldsNone slot.old → HoldsNone slot.new }
     ensures flushed { HoldsFlushed slot.new }
 {

@@ -8,7 +8,8 @@ ghost use Rattle.relay_ports.specs.Setups.{CanRun};
 ghost use Rattle.buffer_lanes.specs.Lanes.{AppendsWait, NoneLater};
 ghost use Rattle.mio_relay.specs.Connections.{AreFlushed, AreInTime, AreServed, AreSettled, sources_of};
 ghost use Rattle.mio_relay.specs.Holding.{held_in, most_held};
-ghost use Rattle.mio_relay.specs.Loops.{OnlyLaterWait, Rests, Stays};
+ghost use Rattle.mio_relay.specs.Loops.{OnlyLaterWait, Rests, Stays, TakesIn};
+ghost use Rattle.mio_relay.specs.Turning.{AreTurned};
 ghost use Rattle.mio_relay.specs.Faults.{IsReason, IsTold, fault_in, of_network, told_of};
 
 use crate::bound::{BoundRelay, OpenRelay};
@@ -80,6 +81,7 @@ impl<N: Network + Drop, D: Dir + Drop, A: Allocator> Model for InLoop<N, D, A> {
       connections = l.connections;
       buffers = map (λ buffer. arc_value buffer) l.buffers.items;
       lanes = l.lanes;
+      numbers = l.numbers;
       time = l.time;
       fault = l.fault;
       refusal = N.refusal l.network;
@@ -258,6 +260,14 @@ impl<N: Network + Drop, D: Dir + Drop, A: Allocator + Copy> InLoop<N, D, A> {
         self.clients = clients;
     }
 
+    /// From now on it is told of messages that buffers refuse and of chunks that they drop, by this teller, whose places are the
+    /// buffers, in their order.
+    pub fn tell_of_buffers(&mut self, buffers: &Teller<A>)
+        ensures { self.new ≡ self.old }
+    {
+        self.lanes.tell_by(buffers);
+    }
+
     /// Waits for sockets for at most ten milliseconds, and does what is to be done: takes connections in, reads at most four
     /// pieces from each, appends each message's entries to its buffers, makes one sync for each buffer that needs one, and then
     /// answers.
@@ -282,6 +292,8 @@ impl<N: Network + Drop, D: Dir + Drop, A: Allocator + Copy> InLoop<N, D, A> {
         ensures held { OnOk result (held_in self.new.connections ≤ most_held) }
         // Where the network refuses to wait, that is the error.
         ensures refused { IfSome self.old.refusal (λ fault. result ≡ Err (of_network fault)) }
+        // Connections came in at this time, and went only where they might be closed at this time.
+        ensures turned { AreTurned self.new.time self.old.connections self.new.connections }
     {
         let turned = self.turn_once(rt);
         self.fault = match &turned {
@@ -301,6 +313,7 @@ impl<N: Network + Drop, D: Dir + Drop, A: Allocator + Copy> InLoop<N, D, A> {
         ensures in_time { OnOk result (AreInTime self.new.time self.new.connections) }
         ensures held { OnOk result (held_in self.new.connections ≤ most_held) }
         ensures refused { IfSome self.old.refusal (λ fault. result ≡ Err (of_network fault)) }
+        ensures turned { AreTurned self.new.time self.old.connections self.new.connections }
     {
         self.wait()?;
         self.set_time();
@@ -320,7 +333,8 @@ impl<N: Network + Drop, D: Dir + Drop, A: Allocator + Copy> InLoop<N, D, A> {
     }
 
     fn set_time(&mut self)
-        ensures { Stays self.old self.new }
+        ensures stays { Stays self.old self.new }
+        ensures same { self.new.connections ≡ self.old.connections }
     {
         self.time = self.network.now_after(self.time);
         self.lanes.set_time(self.time);
@@ -329,6 +343,7 @@ impl<N: Network + Drop, D: Dir + Drop, A: Allocator + Copy> InLoop<N, D, A> {
     // Reads what came, unless appends wait for their receipts.
     fn take_in<R: Wait>(&mut self, rt: &R) -> Result<(), NoNumber>
         ensures stays { Stays self.old self.new }
+        ensures takes { TakesIn self.old self.new }
         ensures held { AppendsWait self.old.lanes.waiting → (result ≡ Ok tt) × (self.new ≡ self.old) }
     {
         if self.lanes.have_pendings() {
@@ -341,6 +356,7 @@ impl<N: Network + Drop, D: Dir + Drop, A: Allocator + Copy> InLoop<N, D, A> {
     #[tactic(auto, using(crate::proofs::Staying::only_later))]
     fn store<R: Wait>(&mut self, rt: &R)
         ensures stays { Stays self.old self.new }
+        ensures takes { TakesIn self.old self.new }
         ensures redeemed { OnlyLaterWait self.new.lanes }
     {
         self.lanes.queue_due(rt);
@@ -349,6 +365,7 @@ impl<N: Network + Drop, D: Dir + Drop, A: Allocator + Copy> InLoop<N, D, A> {
 
     fn renew<R: Wait>(&mut self, rt: &R)
         ensures stays { Stays self.old self.new }
+        ensures takes { TakesIn self.old self.new }
         ensures rests { Rests self.old self.new }
     {
         self.lanes.renew(rt);

@@ -1,10 +1,11 @@
 //! The connections of a loop: what is ready, read, answered, written and closed.
 
-ghost use Rattle.std.specs.Prelude.{◌≡◌, ◌≤◌, ◌+◌, Err, length, IfErr, IfSome};
+ghost use Rattle.std.specs.Prelude.{◌≡◌, ◌≤◌, ◌+◌, Err, length, IfErr, IfSome, OnOk};
 ghost use Rattle.buffer_lanes.specs.Lanes.{NoneLater};
 ghost use Rattle.mio_relay.specs.Faults.{IsReason, of_network};
 ghost use Rattle.mio_relay.specs.Holding.{ShedsMost, held_in, most_held};
-ghost use Rattle.mio_relay.specs.Loops.{Rests, Stays};
+ghost use Rattle.mio_relay.specs.Loops.{Rests, Stays, TakesIn};
+ghost use Rattle.mio_relay.specs.Turning.{AreNumbered, at_key, EachKey, MayLose, StandOn};
 ghost use Rattle.mio_relay.specs.Connections.{AreFlushed, AreFlushedBelow, AreInTime, AreInTimeBelow, AreSettled, AreSettledBelow, GoOn};
 
 use crate::connection::{Connection, ConnectionParts, NoNumber};
@@ -29,6 +30,7 @@ impl<N: Network + Drop, D: Dir + Drop, A: Allocator + Copy> InLoop<N, D, A> {
         ensures stays { Stays self.old self.new }
         ensures came { IfErr result (IsReason self.new.lanes.fault) }
         ensures refused { IfSome self.old.refusal (λ fault. result ≡ Err (of_network fault)) }
+        ensures stands { StandOn self.old.connections self.new.connections }
     {
         let most = if self.is_busy() { 0 } else { LONGEST_WAIT };
         match self
@@ -58,14 +60,16 @@ impl<N: Network + Drop, D: Dir + Drop, A: Allocator + Copy> InLoop<N, D, A> {
 
     // Notes what the network said.
     fn note_all(&mut self)
-        ensures { Stays self.old self.new }
+        ensures stays { Stays self.old self.new }
+        ensures stands { StandOn self.old.connections self.new.connections }
     {
         note_all(&self.notes, &mut self.ready, &mut self.connections);
     }
 
     // Reads what came from each connection, a few pieces at most. The error is that the numbers of deliveries have run out.
     pub(crate) fn read_all<R: Wait>(&mut self, rt: &R) -> Result<(), NoNumber>
-        ensures { Stays self.old self.new }
+        ensures stays { Stays self.old self.new }
+        ensures takes { TakesIn self.old self.new }
     {
         for key in 0..self.connections.key_end() {
             self.read_from(rt, key)?;
@@ -74,7 +78,9 @@ impl<N: Network + Drop, D: Dir + Drop, A: Allocator + Copy> InLoop<N, D, A> {
     }
 
     fn read_from<R: Wait>(&mut self, rt: &R, key: usize) -> Result<(), NoNumber>
-        ensures { Stays self.old self.new }
+        ensures stays { Stays self.old self.new }
+        ensures takes { TakesIn self.old self.new }
+        ensures numbered { OnOk result (AreNumbered self.old.numbers self.new.numbers (at_key self.old.connections key) (at_key self.new.connections key)) }
     {
         self.connections.read(
             key,
@@ -89,6 +95,7 @@ impl<N: Network + Drop, D: Dir + Drop, A: Allocator + Copy> InLoop<N, D, A> {
     // Ends the deliveries that have what they wait for.
     pub(crate) fn settle_all<R: Wait>(&mut self, rt: &R)
         ensures stays { Stays self.old self.new }
+        ensures takes { TakesIn self.old self.new }
         ensures lanes { self.new.lanes ≡ self.old.lanes }
         ensures settled { NoneLater self.old.lanes.later → AreSettled self.new.connections }
     {
@@ -99,6 +106,7 @@ impl<N: Network + Drop, D: Dir + Drop, A: Allocator + Copy> InLoop<N, D, A> {
 
     fn settle_at<R: Wait>(&mut self, rt: &R, key: usize)
         ensures stays { Stays self.old self.new }
+        ensures takes { TakesIn self.old self.new }
         ensures lanes { self.new.lanes ≡ self.old.lanes }
         ensures keys { length self.new.connections ≡ length self.old.connections }
         ensures settled { NoneLater self.old.lanes.later → AreSettledBelow key self.old.connections → AreSettledBelow (key + 1) self.new.connections }
@@ -110,6 +118,7 @@ impl<N: Network + Drop, D: Dir + Drop, A: Allocator + Copy> InLoop<N, D, A> {
     // Writes what is outgoing.
     pub(crate) fn write_all<R: Wait>(&mut self, rt: &R)
         ensures stays { Stays self.old self.new }
+        ensures takes { TakesIn self.old self.new }
         ensures lanes { self.new.lanes ≡ self.old.lanes }
         ensures settled { AreSettled self.old.connections → AreSettled self.new.connections }
         ensures flushed { AreFlushed self.new.connections }
@@ -121,6 +130,7 @@ impl<N: Network + Drop, D: Dir + Drop, A: Allocator + Copy> InLoop<N, D, A> {
 
     fn write_to<R: Wait>(&mut self, rt: &R, key: usize)
         ensures stays { Stays self.old self.new }
+        ensures takes { TakesIn self.old self.new }
         ensures lanes { self.new.lanes ≡ self.old.lanes }
         ensures settled { AreSettled self.old.connections → AreSettled self.new.connections }
         ensures keys { length self.new.connections ≡ length self.old.connections }
@@ -132,6 +142,7 @@ impl<N: Network + Drop, D: Dir + Drop, A: Allocator + Copy> InLoop<N, D, A> {
     // Closes the connections that are over at this time.
     pub(crate) fn close_all<R: Wait>(&mut self, rt: &R)
         ensures stays { Stays self.old self.new }
+        ensures loses { EachKey (MayLose self.old.time) self.old.connections self.new.connections }
         ensures rests { Rests self.old self.new }
         ensures time { self.new.time ≡ self.old.time }
         ensures in_time { AreInTime self.old.time self.new.connections }
@@ -143,6 +154,7 @@ impl<N: Network + Drop, D: Dir + Drop, A: Allocator + Copy> InLoop<N, D, A> {
 
     fn close<R: Wait>(&mut self, rt: &R, key: usize)
         ensures stays { Stays self.old self.new }
+        ensures loses { EachKey (MayLose self.old.time) self.old.connections self.new.connections }
         ensures rests { Rests self.old self.new }
         ensures time { self.new.time ≡ self.old.time }
         ensures keys { length self.new.connections ≡ length self.old.connections }
@@ -159,6 +171,8 @@ impl<N: Network + Drop, D: Dir + Drop, A: Allocator + Copy> InLoop<N, D, A> {
     // While connections hold too much of what isn't whole, breaks off the one that holds most of it: the next turn closes it.
     pub(crate) fn shed<R: Wait>(&mut self, rt: &R)
         ensures stays { Stays self.old self.new }
+        ensures stands { StandOn self.old.connections self.new.connections }
+        ensures time { self.new.time ≡ self.old.time }
         ensures rests { Rests self.old self.new }
         ensures in_time { AreInTime self.old.time self.old.connections → AreInTime self.new.time self.new.connections }
         ensures held { held_in self.new.connections ≤ most_held }
@@ -175,6 +189,8 @@ impl<N: Network + Drop, D: Dir + Drop, A: Allocator + Copy> InLoop<N, D, A> {
     // Breaks off a connection that holds no less of what isn't whole than any other.
     fn shed_one(&mut self)
         ensures stays { Stays self.old self.new }
+        ensures stands { StandOn self.old.connections self.new.connections }
+        ensures time { self.new.time ≡ self.old.time }
         ensures rests { Rests self.old self.new }
         ensures in_time { AreInTime self.old.time self.old.connections → AreInTime self.new.time self.new.connections }
         ensures most { ShedsMost self.old.connections self.new.connections }
@@ -202,7 +218,8 @@ fn note_all<S: Wire + Drop, A: Allocator + Copy>(
     ready: &mut [bool],
     connections: &mut Connections<S, A>,
 )
-    ensures { GoOn connections.old connections.new }
+    ensures goes { GoOn connections.old connections.new }
+    ensures stands { StandOn connections.old connections.new }
 {
     for note in notes {
         note_one(note, ready, connections);
@@ -215,7 +232,8 @@ fn note_one<S: Wire + Drop, A: Allocator + Copy>(
     ready: &mut [bool],
     connections: &mut Connections<S, A>,
 )
-    ensures { GoOn connections.old connections.new }
+    ensures goes { GoOn connections.old connections.new }
+    ensures stands { StandOn connections.old connections.new }
 {
     match note.spot {
         Spot::Listener(place) => {

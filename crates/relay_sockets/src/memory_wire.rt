@@ -109,6 +109,10 @@ impl<A: Allocator> Wire for MemoryWire<A> {
 
     ghost traffic = { λ w. record { taken = Some w.taken.items; given = Some (take w.at w.incoming.items) } };
 
+    ghost refuses = { λ w. w.is_full };
+
+    ghost has_ended = { λ w. w.is_ended };
+
     fn get(&mut self, piece: &mut [u8], _most: Duration) -> Moved {
         if self.is_broken {
             return Moved::Broken;

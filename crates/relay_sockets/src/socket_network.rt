@@ -41,11 +41,15 @@ pub struct SocketListener {
     number: usize,
 }
 
-/// A connection that came in, and the number of its listener.
+/// A connection that came in, the number of its listener, and what it answered last.
 #[derive(Drop)]
 pub struct SocketWire {
     stream: TcpStream,
     listener: usize,
+    // It took no byte for now when it was last written to.
+    is_full: bool,
+    // It was read until its other end had ended its sending.
+    has_ended: bool,
 }
 
 impl<R: Net + Clock + Drop, A: Allocator + Copy> SocketNetwork<R, A> {
@@ -181,6 +185,8 @@ impl<R: Net + Clock, A: Allocator + Copy> Network for SocketNetwork<R, A> {
             Accepted::Stream(stream) => Accepted::Stream(SocketWire {
                 stream,
                 listener: listener.number,
+                is_full: false,
+                has_ended: false,
             }),
             Accepted::Again => Accepted::Again,
             Accepted::Empty => Accepted::Empty,
@@ -231,13 +237,23 @@ impl Wire for SocketWire {
 
     ghost origin = { λ w. CameAt w.listener };
 
+    ghost refuses = { λ w. w.is_full };
+
+    ghost has_ended = { λ w. w.has_ended };
+
     fn get(&mut self, piece: &mut [u8], _most: Duration) -> Moved {
         let mut stream = &self.stream;
-        wire::got(stream.read(piece))
+        let got = wire::got(stream.read(piece));
+        if let Moved::Ended = got {
+            self.has_ended = true;
+        }
+        got
     }
 
     fn put(&mut self, bytes: &[u8], _most: Duration) -> Moved {
         let mut stream = &self.stream;
-        wire::put(stream.write(bytes))
+        let put = wire::put(stream.write(bytes));
+        self.is_full = matches!(put, Moved::None);
+        put
     }
 }

@@ -2,7 +2,7 @@
 //! beside the socket, and `disconnect` to break a connection off.
 
 ghost use Rattle.relay_sockets.specs.Traffics.{IsReadFrom, IsReadOff, IsWrittenTo, taking, unknown_traffic};
-ghost use Rattle.std.specs.Prelude.{◌≡◌};
+ghost use Rattle.std.specs.Prelude.{ℕ, ◌≡◌, false, true};
 
 use crate::clock::{Time, now_after};
 use crate::dialer::{Dialer, Unreached};
@@ -35,6 +35,8 @@ pub struct SystemDialer<R, A: Allocator> {
 pub struct SystemWire<S, A: Allocator> {
     stream: S,
     asked: Endpoint<A>,
+    // It took no byte for now when it was last written to.
+    is_full: bool,
 }
 
 impl<R: Net + Clock, A: Allocator + Copy> SystemDialer<R, A> {
@@ -120,7 +122,11 @@ impl<R: Net + Clock, A: Allocator + Copy> Dialer for SystemDialer<R, A> {
     ) -> Result<Result<SystemWire<R::Stream, A>, Unreached>, AllocError> {
         let asked = Endpoint::new(self.alloc, host, port)?;
         match dial(&self.rt, host, port, until) {
-            Ok(stream) => Ok(Ok(SystemWire { stream, asked })),
+            Ok(stream) => Ok(Ok(SystemWire {
+                stream,
+                asked,
+                is_full: false,
+            })),
             Err(why) => Ok(Err(why)),
         }
     }
@@ -131,9 +137,12 @@ impl<S: Read + Write + OpenStream + AsRawFd, A: Allocator> Wire for SystemWire<S
 
     ghost origin = { λ w. WentTo w.asked };
 
+    ghost refuses = { λ w. w.is_full };
+
     fn get(&mut self, piece: &mut [u8], most: Duration) -> Moved
         ensures origin { self.new.asked ≡ self.old.asked }
         ensures bytes { IsReadFrom unknown_traffic unknown_traffic piece.new result }
+        ensures refuses { self.new.is_full ≡ self.old.is_full }
         ensures stream { IsReadOff (S.Read.remaining self.old.stream) (S.Read.remaining self.new.stream) piece.new result }
     {
         if self.stream.set_read_timeout(wait_of(most)).is_err() {
@@ -145,12 +154,16 @@ impl<S: Read + Write + OpenStream + AsRawFd, A: Allocator> Wire for SystemWire<S
     fn put(&mut self, bytes: &[u8], most: Duration) -> Moved
         ensures origin { self.new.asked ≡ self.old.asked }
         ensures bytes { IsWrittenTo unknown_traffic unknown_traffic bytes.now result }
+        ensures refused { result ≡ Moved.None → self.new.is_full ≡ true }
+        ensures took { (n : ℕ) → result ≡ Moved.Some n → self.new.is_full ≡ false }
         ensures stream { IsWrittenTo (taking (S.Write.contents self.old.stream)) (taking (S.Write.contents self.new.stream)) bytes.now result }
     {
         if self.stream.set_write_timeout(wait_of(most)).is_err() {
             return Moved::Broken;
         }
-        wire::put(self.stream.write(bytes))
+        let put = wire::put(self.stream.write(bytes));
+        self.is_full = matches!(put, Moved::None);
+        put
     }
 
     fn break_off(&self) {

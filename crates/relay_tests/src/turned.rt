@@ -183,6 +183,10 @@ impl<'a, H: Hub, W: Wire> Wire for HubWire<'a, H, W> {
 
     ghost traffic = { λ w. W.traffic w.wire };
 
+    ghost refuses = { λ w. W.refuses w.wire };
+
+    ghost has_ended = { λ w. W.has_ended w.wire };
+
     fn get(&mut self, piece: &mut [u8], most: Duration) -> Moved {
         if !self.hub.go_on() {
             return Moved::Broken;

@@ -20,6 +20,7 @@ loop-demand-init g c =
       session = refl;
       lanes = record { terms = refl; timings = refl; fault = λ fault is. is };
       numbered = ap (λ (l : List (Demand _)). c.args.numbers.now + length (asked_in (map wanted l))) all;
+      drawn = omega arith;
       closes = ap (λ (l : List (Demand _)). c.args.self.now.closing || wants_close (map wanted l)) all;
       closed = λ was. was;
       waits = stays_waiting _ _ refl;
@@ -45,6 +46,7 @@ loop-demand-preserved-in-Continue-1 g c =
       session = c.deliver.ensures.session ∙ c.loop-demand.invariant.session;
       lanes = keeps_on _ _ _ c.loop-demand.invariant.lanes c.deliver.ensures.lanes;
       numbered = omega (arith, one.1, drawn, c.loop-demand.invariant.numbered);
+      drawn = omega (arith, c.deliver.ensures.drawn, c.loop-demand.invariant.drawn);
       closes = ap (λ (b : Bool). b || wants_close (map wanted left')) c.deliver.ensures.closing
           ∙ ap (λ (b : Bool). c.loop-demand.self.closing || b) (sym one.0) ∙ c.loop-demand.invariant.closes;
       closed = λ was. c.deliver.ensures.closing ∙ c.loop-demand.invariant.closed was;
@@ -65,6 +67,7 @@ loop-demand-preserved g c =
       session = ap (λ (p : PeerState). p.session) same ∙ c.loop-demand.invariant.session;
       lanes = c.loop-demand.invariant.lanes;
       numbered = omega (arith, one.1, c.loop-demand.invariant.numbered);
+      drawn = c.loop-demand.invariant.drawn;
       closes = ap (λ (p : PeerState). p.closing || wants_close (map wanted left')) same
           ∙ sym (or_true c.loop-demand.self.closing) ∙ ap (λ (b : Bool). c.loop-demand.self.closing || b) (sym one.0) ∙ c.loop-demand.invariant.closes;
       closed = λ was. ap (λ (p : PeerState). p.closing) same;

@@ -1,4 +1,4 @@
-use Rattle.std.proofs.Common.{◌≡◌, ◌+◌, ◌||◌, true, length, map}
+use Rattle.std.proofs.Common.{◌≡◌, ◌≤◌, ◌+◌, ◌||◌, true, length, map}
 use Rattle.std.specs.List.{All}
 use Rattle.forward_core.specs.Demands.{asked_in, wanted}
 use Rattle.forward_core.specs.Server.{IsAskedIn}
@@ -14,6 +14,7 @@ invariant-loop-demand g l = record {
   session : l.self.session ≡ l.initial.self.session;
   lanes : KeepsLanes l.initial.lanes l.lanes;
   numbered : l.numbers + length (asked_in (map wanted (into_iter_items l.rest))) ≡ l.initial.numbers + length (asked_in (map wanted l.fn.demands.items));
+  drawn : l.initial.numbers ≤ l.numbers;
   closes : (l.self.closing || wants_close (map wanted (into_iter_items l.rest))) ≡ (l.initial.self.closing || wants_close (map wanted l.fn.demands.items));
   closed : l.initial.self.closing ≡ true → l.self.closing ≡ true;
   waits : GoOnWaiting l.initial.self.waits l.self.waits;

@@ -1,4 +1,4 @@
-use Rattle.std.proofs.Common.{inl, inr, refl}
+use Rattle.std.proofs.Common.{arith, inl, inr, refl}
 use Rattle.mio_relay.proofs.Reading.{lanes_more, may_at_first, numbered_more, received_more, same_more}
 use Rattle.mio_relay.proofs.connection.Connection.read.Goals as goal
 
@@ -12,6 +12,7 @@ loop-pieces-preserved g c =
       only = inl (may_at_first _ _ was.only may);
       received = received_more _ _ _ _ was.received may c.in_ok-receive_piece.ensures.received;
       numbered = numbered_more c.args.self.now c.loop-pieces.self c.receive_piece.new.self _ _ _ may was.numbered c.in_ok-receive_piece.ensures.numbered;
+      drawn = omega (arith, was.drawn, c.receive_piece.ensures.drawn);
     }
 
 pub returns-in_err-receive_piece-clause-same : goal.returns-in_err-receive_piece-clause-same

@@ -1,4 +1,4 @@
-use Rattle.std.proofs.Common.{◌≡◌, ◌+◌, ◌⊎◌, true, length}
+use Rattle.std.proofs.Common.{◌≡◌, ◌≤◌, ◌+◌, ◌⊎◌, true, length}
 use Rattle.buffer_lanes.specs.Lanes.{KeepsLanes}
 use Rattle.mio_relay.specs.Connections.{AreReceived, IsSameConnection, MayRead}
 use Rattle.mio_relay.proofs.connection.Connection.read.Given as goal
@@ -10,4 +10,5 @@ invariant-loop-pieces g l = record {
   only : MayRead l.initial.self ⊎ (l.self ≡ l.initial.self);
   received : AreReceived l._pieces l.initial.self l.self;
   numbered : (l.numbers + length l.initial.self.peer.session.asked ≡ l.initial.numbers + length l.self.peer.session.asked) ⊎ (l.self.is_broken ≡ true);
+  drawn : l.initial.numbers ≤ l.numbers;
 }

@@ -1,14 +1,15 @@
-use Rattle.std.proofs.Common.{◌∙◌, List, ap, subst, sym}
+use Rattle.std.proofs.Common.{◌≤◌, ◌∙◌, List, ap, refl, subst, sym}
 use Rattle.std.specs.Prelude.{IsSomeAnd, slice_get}
 use Rattle.relay_sockets.specs.Endpoints.{Endpoint}
 use Rattle.mio_relay.specs.Connections.{AreListening, BeginsAt, ConnectionState, Hosted, sources_in}
 use Rattle.buffer_lanes.specs.Lanes.{KeepsLanes}
 use Rattle.mio_relay.specs.Loops.{LoopState}
 use Rattle.mio_relay.proofs.Slots.{begins_served}
+use Rattle.mio_relay.proofs.Turning.{takes_more, takes_standing}
 use Rattle.mio_relay.proofs.in_loop.InLoop.admit.Goals as goal
 
-pub put-requires : goal.put-requires
-put-requires g c =
+pub put-requires-clause-served : goal.put-requires-clause-served
+put-requires-clause-served g c =
     let came = ap (λ (x : ConnectionState). x.origin) c.new.ensures ∙ c.watch.ensures.origin ∙ c.requires in
     let begins = rw c.in-Some-2.is at c.in_ok-peer.ensures in
     let there = subst (λ (l : List Hosted). IsSomeAnd (slice_get l c.args.place) (λ h. BeginsAt h.source c.draw-nonce.result c.in-Some-2.peer)) c.deref.ensures.value begins in
@@ -18,14 +19,18 @@ put-requires g c =
 pub invariant_of-self-2 : goal.invariant_of-self-2
 invariant_of-self-2 g c = (
   subst (λ (b : List Endpoint). AreListening b c.self.inside.listeners.items) (sym c.watch.ensures.bound) c.self.invariant.0,
-  c.make_room.ensures (sources_in c.self.inside.listeners.items) c.self.invariant.1,
+  c.make_room.ensures.goes (sources_in c.self.inside.listeners.items) c.self.invariant.1,
   c.self.invariant.2,
 )
 
-pub returns : goal.returns
-returns g c = record {
-  bound = c.put.ensures.bound ∙ c.watch.ensures.bound ∙ ap (λ (l : LoopState _). l.bound) c.self.view_is;
-  sources = c.put.ensures.sources ∙ ap (λ (l : LoopState _). l.sources) c.self.view_is;
-  buffers = c.put.ensures.buffers ∙ ap (λ (l : LoopState _). l.buffers) c.self.view_is;
-  lanes = subst (λ (l : LoopState _). KeepsLanes l.lanes c.put.new.self.lanes) c.self.view_is c.put.ensures.lanes;
+pub returns-clause-stays : goal.returns-clause-stays
+returns-clause-stays g c = record {
+  bound = c.put.ensures.stays.bound ∙ c.watch.ensures.bound ∙ ap (λ (l : LoopState _). l.bound) c.self.view_is;
+  sources = c.put.ensures.stays.sources ∙ ap (λ (l : LoopState _). l.sources) c.self.view_is;
+  buffers = c.put.ensures.stays.buffers ∙ ap (λ (l : LoopState _). l.buffers) c.self.view_is;
+  lanes = subst (λ (l : LoopState _). KeepsLanes l.lanes c.put.new.self.lanes) c.self.view_is c.put.ensures.stays.lanes;
+  numbers = subst (λ (l : LoopState _). l.numbers ≤ c.put.new.self.numbers) c.self.view_is c.put.ensures.stays.numbers;
 }
+
+pub returns-clause-takes : goal.returns-clause-takes
+returns-clause-takes g c = takes_more _ _ _ (takes_standing _ _ _ c.self.view_is refl c.make_room.ensures.stands) c.put.ensures.takes

@@ -1,8 +1,10 @@
 use Rattle.std.proofs.Common.{◌∙◌, ◌+◌, ℕ, ap, arith, length, refl, subst}
 use Rattle.mio_relay.specs.Connections.{AreInTimeBelow, HoldsInTime}
 use Rattle.mio_relay.specs.Loops.{LoopState}
+use Rattle.mio_relay.specs.Turning.{EachKey, MayLose}
 use Rattle.mio_relay.proofs.Slots.{all_in_time, none_below}
 use Rattle.mio_relay.proofs.Staying.{rests_more, rests_same, stays_more, stays_same}
+use Rattle.mio_relay.proofs.Turning.{lose_none, lose_on}
 use Rattle.mio_relay.proofs.in_loop.InLoop.close_all.Goals as goal
 
 pub loop-key-preserved : goal.loop-key-preserved
@@ -11,6 +13,9 @@ loop-key-preserved g c =
     record {
       stays = stays_more c.args.self.now c.loop-key.self c.close.new.self was.stays c.close.ensures.stays;
       rests = rests_more c.args.self.now c.loop-key.self c.close.new.self was.rests c.close.ensures.rests;
+      loses =
+          lose_on c.args.self.now.time c.args.self.now.connections c.loop-key.self.connections c.close.new.self.connections was.loses
+          (subst (λ (t : ℕ). EachKey (MayLose t) c.loop-key.self.connections c.close.new.self.connections) was.time c.close.ensures.loses);
       time = c.close.ensures.time ∙ was.time;
       keys = c.close.ensures.keys ∙ was.keys;
       in_time =
@@ -22,6 +27,7 @@ pub loop-key-init : goal.loop-key-init
 loop-key-init g c = record {
   stays = stays_same c.args.self.now;
   rests = rests_same c.args.self.now;
+  loses = lose_none c.args.self.now.time c.args.self.now.connections c.args.self.now.connections refl;
   time = refl;
   keys = refl;
   in_time = none_below (HoldsInTime c.args.self.now.time) c.args.self.now.connections;

@@ -1,8 +1,12 @@
-use Rattle.std.proofs.Common.{ap}
+use Rattle.std.proofs.Common.{ap, refl}
 use Rattle.buffer_lanes.specs.Lanes.{LanesState}
 use Rattle.mio_relay.proofs.Staying.{rests_on}
+use Rattle.mio_relay.proofs.Turning.{takes_none}
 use Rattle.mio_relay.proofs.in_loop.InLoop.renew.Goals as goal
 
 pub returns-clause-rests : goal.returns-clause-rests
 returns-clause-rests g c =
     rests_on _ _ _ c.self.view_is (ap (λ (l : LanesState _). l.waiting) c.renew.ensures.rest) (ap (λ (l : LanesState _). l.later) c.renew.ensures.rest) (λ all. all) (λ all. all)
+
+pub returns-clause-takes : goal.returns-clause-takes
+returns-clause-takes g c = takes_none _ _ _ c.self.view_is refl refl

@@ -4,6 +4,7 @@ use Rattle.buffer_lanes.specs.Lanes.{NoneLater}
 use Rattle.mio_relay.specs.Connections.{AreFlushed, AreInTime, AreSettled}
 use Rattle.mio_relay.specs.Holding.{held_in, most_held}
 use Rattle.mio_relay.specs.Loops.{LoopState, OnlyLaterWait}
+use Rattle.mio_relay.specs.Turning.{AreTurned}
 use Rattle.mio_relay.proofs.in_loop.InLoop.turn.Goals as goal
 
 pub returns-clause-settled : goal.returns-clause-settled
@@ -25,3 +26,7 @@ returns-clause-in_time g c =
 pub returns-clause-held : goal.returns-clause-held
 returns-clause-held g c =
     subst (λ (l : LoopState _). OnOk c.turn_once-turned.result (held_in l.connections ≤ most_held)) (sym c.self.view_is) c.turn_once-turned.ensures.held
+
+pub returns-clause-turned : goal.returns-clause-turned
+returns-clause-turned g c =
+    subst (λ (l : LoopState _). AreTurned l.time c.args.self.now.connections l.connections) (sym c.self.view_is) c.turn_once-turned.ensures.turned

@@ -1,15 +1,17 @@
 use Rattle.std.proofs.Common.{◌∙◌, ℕ, ap, subst, sym}
 use Rattle.buffer_lanes.specs.Lanes.{LanesState, NoneLater}
 use Rattle.mio_relay.specs.Connections.{AreInTime}
+use Rattle.mio_relay.proofs.Refusing.{went_well}
 use Rattle.mio_relay.proofs.Slots.{on_ok}
 use Rattle.mio_relay.proofs.Staying.{only_later_still, rests_more, stays_more}
+use Rattle.mio_relay.proofs.Turning.{takes_more, turned_by, turned_none}
 use Rattle.mio_relay.proofs.in_loop.InLoop.turn_once.Goals as goal
 
 pub returns-clause-stays : goal.returns-clause-stays
 returns-clause-stays g c =
     let old = c.args.self.now in
-    let timed = stays_more old c.wait.new.self c.set_time.new.self c.wait.ensures.stays c.set_time.ensures in
-    let accepted = stays_more old c.set_time.new.self c.accept_all.new.self timed c.accept_all.ensures in
+    let timed = stays_more old c.wait.new.self c.set_time.new.self c.wait.ensures.stays c.set_time.ensures.stays in
+    let accepted = stays_more old c.set_time.new.self c.accept_all.new.self timed c.accept_all.ensures.stays in
     let taken = stays_more old c.accept_all.new.self c.take_in-read.new.self accepted c.take_in-read.ensures.stays in
     let stored = stays_more old c.take_in-read.new.self c.store.new.self taken c.store.ensures.stays in
     let ended = stays_more old c.store.new.self c.settle_all.new.self stored c.settle_all.ensures.stays in
@@ -48,3 +50,29 @@ returns-clause-in_time g c =
 
 pub returns-clause-held : goal.returns-clause-held
 returns-clause-held g c = on_ok c.match-fault.result _ c.shed.ensures.held
+
+pub returns-in_err-wait-clause-turned : goal.returns-in_err-wait-clause-turned
+returns-in_err-wait-clause-turned g c = turned_none c.wait.new.self.time c.args.self.now.connections c.wait.new.self.connections c.wait.ensures.stands
+
+pub returns-clause-turned : goal.returns-clause-turned
+returns-clause-turned g c =
+    let taken = takes_more c.set_time.new.self c.accept_all.new.self c.take_in-read.new.self c.accept_all.ensures.takes c.take_in-read.ensures.takes in
+    let stored = takes_more c.set_time.new.self c.take_in-read.new.self c.store.new.self taken c.store.ensures.takes in
+    let ended = takes_more c.set_time.new.self c.store.new.self c.settle_all.new.self stored c.settle_all.ensures.takes in
+    let renewed = takes_more c.set_time.new.self c.settle_all.new.self c.renew.new.self ended c.renew.ensures.takes in
+    let written = takes_more c.set_time.new.self c.renew.new.self c.write_all.new.self renewed c.write_all.ensures.takes in
+    turned_by c.args.self.now c.wait.new.self c.set_time.new.self c.write_all.new.self c.close_all.new.self c.shed.new.self c.wait.ensures.stands c.set_time.ensures.same written
+    c.close_all.ensures.loses c.close_all.ensures.time c.shed.ensures.stands c.shed.ensures.time
+
+pub returns-in_err-read-clause-turned : goal.returns-in_err-read-clause-turned
+returns-in_err-read-clause-turned g c =
+    let taken = takes_more c.set_time.new.self c.accept_all.new.self c.take_in-read.new.self c.accept_all.ensures.takes c.take_in-read.ensures.takes in
+    let stored = takes_more c.set_time.new.self c.take_in-read.new.self c.store.new.self taken c.store.ensures.takes in
+    let ended = takes_more c.set_time.new.self c.store.new.self c.settle_all.new.self stored c.settle_all.ensures.takes in
+    let renewed = takes_more c.set_time.new.self c.settle_all.new.self c.renew.new.self ended c.renew.ensures.takes in
+    let written = takes_more c.set_time.new.self c.renew.new.self c.write_all.new.self renewed c.write_all.ensures.takes in
+    turned_by c.args.self.now c.wait.new.self c.set_time.new.self c.write_all.new.self c.close_all.new.self c.shed.new.self c.wait.ensures.stands c.set_time.ensures.same written
+    c.close_all.ensures.loses c.close_all.ensures.time c.shed.ensures.stands c.shed.ensures.time
+
+pub returns-clause-refused : goal.returns-clause-refused
+returns-clause-refused g c = went_well c.args.self.now.refusal c.wait.result _ c.match-fault.result c.in_ok-wait.was c.wait.ensures.refused
