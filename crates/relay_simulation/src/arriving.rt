@@ -31,6 +31,7 @@ impl<'n, D: Disk + Drop> Run<'n, D> {
             self.judge.fail(format!(in alloc; "message {} isn't taken in", link.message)?);
         }
         if link.client.outgoing().is_empty() {
+            self.begun.push(at)?;
             note_delivery(rt, alloc, site, link, &mut self.judge)?;
         }
         Ok(())
@@ -84,12 +85,21 @@ fn note_delivery<R: Wait, D: Disk + Drop>(
     judge.tell(format!(in alloc; "begin {}", link.message)?)?;
     let delivery = judge.next_delivery();
     link.delivery = Some(delivery);
-    if !link.peer.as_ref().is_some_and(|peer| peer.is_waiting()) {
+    if !link.is_waiting() {
         site.refuse(format!(in alloc; "message {} is refused", link.message)?);
     }
     for buffer in &branches.buffers {
         let tag = branches.tag.as_bytes();
-        note_append(rt, alloc, site, judge, delivery, buffer.0, tag, &message)?;
+        note_append(
+            rt,
+            alloc,
+            site,
+            judge,
+            delivery,
+            buffer.0,
+            tag,
+            &link.entries,
+        )?;
     }
     Ok(())
 }
@@ -119,7 +129,7 @@ fn note_append<R: Wait, D: Disk + Drop>(
     delivery: u64,
     buffer: usize,
     tag: &[u8],
-    message: &Message<Global>,
+    entries: &[u8],
 ) -> Result<(), AllocError> {
     let next = site.chunks.next_of(buffer);
     let serial = if site.is_live(rt, buffer, next) {
@@ -131,7 +141,7 @@ fn note_append<R: Wait, D: Disk + Drop>(
     let append = Appended {
         delivery,
         line,
-        bytes: Vec::from_slice(alloc, message.entries.as_bytes())?,
+        bytes: Vec::from_slice(alloc, entries)?,
         is_synced: false,
     };
     site.chunks.append(alloc, buffer, serial, tag, append)

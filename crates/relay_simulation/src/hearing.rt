@@ -22,13 +22,24 @@ impl<'n, D: Disk + Drop> Run<'n, D> {
         }
         let name = link.chunk();
         match link.hear(self.alloc, most)? {
-            Heard::Wait => Ok(()),
+            Heard::Wait => {
+                if link.is_unheard() {
+                    self.judge.fail(format!(in self.alloc;
+                        "message {} isn't acknowledged",
+                        link.message
+                    )?);
+                }
+                Ok(())
+            }
             Heard::Fault(fault) => {
                 self.judge
                     .fail(format!(in self.alloc; "an answer is refused: {fault}")?);
                 Ok(())
             }
-            Heard::Seen(evidence) => self.see(rt, name, evidence),
+            Heard::Seen(evidence) => {
+                link.is_over = true;
+                self.see(rt, name, evidence)
+            }
         }
     }
 
@@ -74,7 +85,7 @@ impl<'n, D: Disk + Drop> Run<'n, D> {
             evidence.waste();
             return Ok(());
         };
-        let gone = self.let_go(rt, name, evidence);
+        let gone = self.let_go(rt, name, evidence)?;
         self.tell_gone(name, gone, "seen", "purge")
     }
 }

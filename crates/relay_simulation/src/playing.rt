@@ -7,7 +7,7 @@ use crate::stock::give_all_back;
 use buffer_lanes::Lanes;
 use custody_core::is_kept_as;
 use loss_checker::{Answer, Plan};
-use simulated_relays::{Disk, Link, Site};
+use simulated_relays::{Device, Disk, Link, Site};
 use std::alloc::{AllocError, Global};
 use std::sync::Wait;
 use std::time::Clock;
@@ -33,6 +33,7 @@ pub fn play<R: Wait + Clock, D: Disk + Drop>(
         judge: Judge::new(alloc, plan.net()),
         sites: Vec::new(alloc),
         links: Vec::new(alloc),
+        begun: Vec::new(alloc),
         held: Vec::new(alloc),
         spare,
         events: 0,
@@ -81,7 +82,7 @@ impl<'n, D: Disk + Drop> Run<'n, D> {
         let Some(site) = self.sites.get_mut(at) else {
             return Ok(());
         };
-        if !site.open(rt, self.alloc, None)? {
+        if !site.open(rt, self.alloc, Device::Sound)? {
             self.judge
                 .fail(format!(in self.alloc; "relay {number} doesn't open")?);
         }
@@ -113,7 +114,7 @@ impl<'n, D: Disk + Drop> Run<'n, D> {
             let is_refusing = self.sites.get(at).is_some_and(|site| site.is_refusing());
             if is_refusing || !refuses {
                 let keep = self.keep();
-                self.restart(rt, at, keep, None)?;
+                self.restart(rt, at, keep, Device::Sound)?;
             }
         }
         Ok(())
@@ -160,8 +161,8 @@ impl<'n, D: Disk + Drop> Run<'n, D> {
     fn restart_at_times<R: Wait>(&mut self, rt: &R, site: usize) -> Result<(), AllocError> {
         if self.dice.once_in(2) {
             let keep = self.keep();
-            let passes = self.passes();
-            return self.restart(rt, site, keep, passes);
+            let device = self.device();
+            return self.restart(rt, site, keep, device);
         }
         Ok(())
     }
@@ -185,6 +186,7 @@ impl<'n, D: Disk + Drop> Run<'n, D> {
             judge,
             sites,
             links,
+            begun: _,
             held,
             mut spare,
             events: _,

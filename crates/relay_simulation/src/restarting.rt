@@ -6,7 +6,7 @@ use crate::sending::ENTRY_LEN;
 use crate::stock::take_stock;
 use crate::storing::tell_queued;
 use disk_files::Keep;
-use simulated_relays::{Chunk, Disk, Name, SinkContent, Site, Stage};
+use simulated_relays::{Chunk, Device, Disk, Name, SinkContent, Site, Stage};
 use std::alloc::{AllocError, Global};
 use std::sync::Wait;
 
@@ -23,21 +23,23 @@ impl<'n, D: Disk + Drop> Run<'n, D> {
         }
     }
 
-    /// How many calls each device of a relay passes before it fails all others; `None` where it fails none.
-    pub fn passes(&mut self) -> Option<u64> {
-        if self.dice.once_in(3) {
-            return Some(self.dice.below(120) as u64);
+    /// Which calls each device of a relay fails: at times all behind some, or one.
+    pub fn device(&mut self) -> Device {
+        let passes = self.dice.below(120) as u64;
+        match self.dice.below(6) {
+            0 => Device::FailsAfter(passes),
+            1 => Device::FailsOnce(passes),
+            _ => Device::Sound,
         }
-        None
     }
 
-    /// A relay stops, so that its folders keep so much, and opens again, over devices that fail each call behind so many.
+    /// A relay stops, so that its folders keep so much, and opens again over such devices.
     pub fn restart<R: Wait>(
         &mut self,
         rt: &R,
         at: usize,
         keep: Keep,
-        passes: Option<u64>,
+        device: Device,
     ) -> Result<(), AllocError> {
         let alloc = self.alloc;
         self.cut_off(rt, at);
@@ -49,9 +51,9 @@ impl<'n, D: Disk + Drop> Run<'n, D> {
             self.judge.fail(what);
         }
         compare_sinks(alloc, site, sinks, &mut self.judge)?;
-        if open_again(rt, alloc, site, &mut self.judge)? && passes.is_some() {
+        if open_again(rt, alloc, site, &mut self.judge)? && device != Device::Sound {
             let _ = site.stop(rt, alloc, Keep::Greatest)?;
-            open_over(rt, alloc, site, passes, &mut self.judge)?;
+            open_over(rt, alloc, site, device, &mut self.judge)?;
         }
         Ok(())
     }
@@ -85,15 +87,15 @@ impl<'n, D: Disk + Drop> Run<'n, D> {
     }
 }
 
-// Opens the relay over devices that fail each call behind so many; `false` where it doesn't open, which is wrong.
+// Opens the relay over such devices; `false` where it doesn't open, which is wrong.
 fn open_over<R: Wait, D: Disk + Drop>(
     rt: &R,
     alloc: Global,
     site: &mut Site<D>,
-    passes: Option<u64>,
+    device: Device,
     judge: &mut Judge<'_>,
 ) -> Result<bool, AllocError> {
-    let is_open = site.open(rt, alloc, passes)?;
+    let is_open = site.open(rt, alloc, device)?;
     if !is_open {
         judge.fail(format!(in alloc; "relay {} doesn't open", site.number)?);
     }
@@ -107,7 +109,7 @@ fn open_again<R: Wait, D: Disk + Drop>(
     site: &mut Site<D>,
     judge: &mut Judge<'_>,
 ) -> Result<bool, AllocError> {
-    if !open_over(rt, alloc, site, None, judge)? {
+    if !open_over(rt, alloc, site, Device::Sound, judge)? {
         return Ok(false);
     }
     if take_stock(rt, alloc, site, judge)? {

@@ -15,6 +15,8 @@ pub struct Run<'n, D: Disk + Drop> {
     pub judge: Judge<'n>,
     pub sites: Vec<Site<D>>,
     pub links: Vec<Link>,
+    /// The connections whose messages are there, by the order in which they came.
+    pub begun: Vec<usize>,
     pub held: Vec<Held<D>>,
     /// No buffers: what is left of connections at the end ends there.
     pub spare: Lanes<D, Global>,
@@ -82,18 +84,67 @@ impl<'n, D: Disk + Drop> Run<'n, D> {
         true
     }
 
-    /// Lets the chunk of a claim go on this evidence, if the claim is there; `None` where it isn't, and else whether the buffer did so.
+    /// Lets the chunk of a claim go on this evidence, if the claim is there; `None` where it isn't,
+    /// and else whether the buffer did so. Another chunk that is claimed has to stay on it.
     pub fn let_go<R: Wait>(
         &mut self,
         rt: &R,
         name: Name,
         evidence: Evidence<Global>,
-    ) -> Option<bool> {
+    ) -> Result<Option<bool>, AllocError> {
+        let Some(evidence) = self.misdirect(rt, name, evidence)? else {
+            return Ok(None);
+        };
         let Some(held) = self.take_held(name) else {
             evidence.waste();
-            return None;
+            return Ok(None);
         };
-        Some(held.purge(rt, evidence))
+        Ok(Some(held.purge(rt, evidence)))
+    }
+
+    // Offers the evidence to a chunk that is claimed, if that is another one; `None` where that
+    // goes on it.
+    fn misdirect<R: Wait>(
+        &mut self,
+        rt: &R,
+        name: Name,
+        evidence: Evidence<Global>,
+    ) -> Result<Option<Evidence<Global>>, AllocError> {
+        let count = self.held.len();
+        let at = self.dice.below(count);
+        match self.held.get(at).map(|held| held.name()) {
+            Some(other) if other != name => self.misuse(rt, other, evidence),
+            _ => Ok(Some(evidence)),
+        }
+    }
+
+    /// Offers a claimed chunk an evidence that it may not go on; `None` where it does, which is
+    /// wrong.
+    pub fn misuse<R: Wait>(
+        &mut self,
+        rt: &R,
+        name: Name,
+        evidence: Evidence<Global>,
+    ) -> Result<Option<Evidence<Global>>, AllocError> {
+        let Some(held) = self.take_held(name) else {
+            return Ok(Some(evidence));
+        };
+        match held.offer(rt, evidence) {
+            Ok(()) => {
+                let number = self.number(name.site);
+                self.judge.fail(format!(in self.alloc;
+                    "chunk {number}/{}/{} goes on what doesn't show that it may",
+                    name.buffer, name.serial
+                )?);
+                Ok(None)
+            }
+            Err((held, evidence)) => {
+                if let Err(failed) = self.held.push(held) {
+                    failed.value.give_back(rt);
+                }
+                Ok(Some(evidence))
+            }
+        }
     }
 
     /// Tells that a chunk went, where it did: by these two steps. Where its buffer refused, the chunk may have gone or not.

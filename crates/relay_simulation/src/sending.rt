@@ -86,12 +86,15 @@ impl<'n, D: Disk + Drop> Run<'n, D> {
             return Ok(());
         };
         let bytes = Vec::from_slice(self.alloc, client.outgoing())?;
+        let entries = Vec::from_slice(self.alloc, letter.entries.as_bytes())?;
         self.links.push_reserved(Link {
             sender,
             message,
             to,
             source,
             bytes,
+            entries,
+            asks: letter.asks,
             client,
             peer: None,
             delivery: None,

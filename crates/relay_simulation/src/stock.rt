@@ -53,6 +53,12 @@ fn kept<R: Wait, D: Disk + Drop>(
     }
     match (chunk.stage, site.is_live(rt, buffer, serial)) {
         (Stage::Gone, true) => {
+            if chunk.is_synced {
+                judge.fail(format!(in alloc;
+                    "chunk {}/{buffer}/{serial} comes back",
+                    site.number
+                )?);
+            }
             judge.take_out(chunk.went);
             chunk.stage = Stage::Queued;
             *undone = true;
@@ -73,10 +79,15 @@ fn kept<R: Wait, D: Disk + Drop>(
     Ok(Some(chunk))
 }
 
-// Takes out the appends of the chunk from this one on.
+// Takes out the appends of the chunk from this one on; with the first of them that it was queued.
 fn take_out_from(judge: &mut Judge<'_>, chunk: &Chunk, from: usize) {
     for append in chunk.appends.iter().skip(from) {
         judge.take_out(append.line);
+    }
+    if from == 0
+        && let Some(line) = chunk.queued
+    {
+        judge.take_out(line);
     }
 }
 
@@ -138,6 +149,12 @@ fn look_at_all<R: Wait, D: Disk + Drop>(
     all: &[Held<D>],
 ) -> Result<bool, AllocError> {
     let mut undone = false;
+    if all.len() != site.chunks.count_live(buffer) {
+        judge.fail(format!(in alloc;
+            "not all of buffer {buffer} of relay {} is queued",
+            site.number
+        )?);
+    }
     for held in all {
         let claim = held.as_claim();
         let bytes = body(rt, alloc, held)?;

@@ -2,52 +2,118 @@
 
 use crate::judge::Judge;
 use crate::run::Run;
-use simulated_relays::{Chunks, Disk, Link, Stage};
+use simulated_relays::{Chunks, Device, Disk, Link, Site, Stage};
 use std::alloc::{AllocError, Global};
 use std::sync::Wait;
 
 impl<'n, D: Disk + Drop> Run<'n, D> {
-    /// A relay queues what is staged, where that is due, and makes its receipts and answers, unless it is stopped in between. Receipts
-    /// may be wanting, as where there is no memory for them.
+    /// A relay queues what is staged, where that is due, and makes its receipts and answers; or it
+    /// stops in between. Receipts may be wanting, as where there is no memory for them.
     pub fn store<R: Wait>(&mut self, rt: &R, at: usize) -> Result<(), AllocError> {
-        let alloc = self.alloc;
-        let part = self.dice.below(8);
+        let part = self.dice.below(12);
         let is_due = self.dice.once_in(2);
         let Some(site) = self.sites.get_mut(at) else {
             return Ok(());
         };
-        let Some(open) = &mut site.open else {
-            return Ok(());
-        };
         if is_due {
-            open.lanes.queue_due(rt);
-            tell_queued(alloc, site.number, &mut site.chunks, &mut self.judge)?;
+            queue(rt, self.alloc, site, &mut self.judge)?;
         }
-        if part == 0 {
-            return Ok(());
-        }
-        if part != 3 {
-            open.lanes.redeem(rt);
-            if open.lanes.fault().is_none() {
-                site.chunks.sync();
+        match part {
+            0 => {}
+            1 => {
+                redeem(rt, site);
+                let keep = self.keep();
+                return self.restart(rt, at, keep, Device::Sound);
             }
-        }
-        if part == 1 {
-            return Ok(());
-        }
-        for link in self.links.iter_mut() {
-            if link.to == at
-                && let Some(peer) = &mut link.peer
-            {
-                peer.settle(rt, alloc, &mut open.lanes);
-                note_answer(alloc, link, &mut site.chunks, &mut self.judge)?;
+            _ => {
+                if part != 3 {
+                    redeem(rt, site);
+                }
+                self.answer(rt, at, part != 3)?;
             }
         }
         if part == 2 {
-            open.lanes.renew(rt);
+            self.renew(rt, at);
         }
         Ok(())
     }
+
+    // Deliveries that have their receipts are answered, in their order: all that ask for it, where
+    // receipts were made for all.
+    fn answer<R: Wait>(&mut self, rt: &R, at: usize, are_made: bool) -> Result<(), AllocError> {
+        let Some(site) = self.sites.get_mut(at) else {
+            return Ok(());
+        };
+        for begun in &self.begun {
+            if let Some(link) = self.links.get_mut(*begun)
+                && link.to == at
+            {
+                settle(rt, self.alloc, site, link, are_made, &mut self.judge)?;
+            }
+        }
+        Ok(())
+    }
+
+    // Journals are written anew.
+    fn renew<R: Wait>(&mut self, rt: &R, at: usize) {
+        if let Some(site) = self.sites.get_mut(at)
+            && let Some(open) = &mut site.open
+        {
+            open.lanes.renew(rt);
+        }
+    }
+}
+
+// What is staged is queued, which syncs its journal.
+fn queue<R: Wait, D: Disk + Drop>(
+    rt: &R,
+    alloc: Global,
+    site: &mut Site<D>,
+    judge: &mut Judge<'_>,
+) -> Result<(), AllocError> {
+    let Some(open) = &mut site.open else {
+        return Ok(());
+    };
+    open.lanes.queue_due(rt);
+    if open.lanes.fault().is_none() {
+        site.chunks.sync_staged();
+    }
+    tell_queued(alloc, site.number, &mut site.chunks, judge)
+}
+
+// Receipts are made, for which each journal with an append that isn't synced is synced.
+fn redeem<R: Wait, D: Disk + Drop>(rt: &R, site: &mut Site<D>) {
+    let Some(open) = &mut site.open else {
+        return;
+    };
+    open.lanes.redeem(rt);
+    if open.lanes.fault().is_none() {
+        site.chunks.sync_appended();
+    }
+}
+
+// The delivery of a connection is answered if its receipts are there.
+fn settle<R: Wait, D: Disk + Drop>(
+    rt: &R,
+    alloc: Global,
+    site: &mut Site<D>,
+    link: &mut Link,
+    are_made: bool,
+    judge: &mut Judge<'_>,
+) -> Result<(), AllocError> {
+    let is_owed = are_made && link.asks && link.is_waiting();
+    let Some(open) = &mut site.open else {
+        return Ok(());
+    };
+    if let Some(peer) = &mut link.peer {
+        peer.settle(rt, alloc, &mut open.lanes);
+    }
+    let has_failed = open.lanes.fault().is_some();
+    note_answer(alloc, link, &mut site.chunks, judge)?;
+    if is_owed && !link.is_answered && !has_failed {
+        judge.fail(format!(in alloc; "message {} isn't answered", link.message)?);
+    }
+    Ok(())
 }
 
 // Whether the relay has answered is asked: then the answer is told, and no stop may lose what it is of.
@@ -84,7 +150,8 @@ pub fn tell_queued(
         if chunk.stage == Stage::Staged {
             chunk.stage = Stage::Queued;
             let (buffer, serial) = (chunk.buffer, chunk.serial);
-            judge.tell(format!(in alloc; "enqueue {number}/{buffer}/{serial}")?)?;
+            let line = judge.tell(format!(in alloc; "enqueue {number}/{buffer}/{serial}")?)?;
+            chunk.queued = Some(line);
         }
     }
     Ok(())

@@ -31,11 +31,24 @@ impl<'n, D: Disk + Drop> Run<'n, D> {
             return Ok(());
         };
         let Some(held) = Held::claim(rt, site, buffer, shared) else {
-            return Ok(());
+            return self.miss_queued(site, buffer);
         };
         let name = held.name();
         self.held.push_reserved(held);
         self.tell_of("claim", name, Stage::Claimed)
+    }
+
+    // Nothing was claimed of a buffer, which is wrong where a chunk of it is queued.
+    fn miss_queued(&mut self, site: usize, buffer: usize) -> Result<(), AllocError> {
+        if let Some(site) = self.sites.get(site)
+            && site.chunks.has_in(buffer, Stage::Queued)
+        {
+            self.judge.fail(format!(in self.alloc;
+                "no chunk of buffer {buffer} of relay {} is claimed",
+                site.number
+            )?);
+        }
+        Ok(())
     }
 
     /// A worker goes on with its chunk: it is delivered, given up, or given back, as when no answer came in time or no server is there.
@@ -46,8 +59,8 @@ impl<'n, D: Disk + Drop> Run<'n, D> {
             }
             return Ok(());
         }
-        if self.dice.once_in(4) && self.gives_up(name) {
-            return self.expire(rt, name);
+        if self.dice.once_in(4) {
+            return self.give_up(rt, name);
         }
         match self.aim(name) {
             Some(Aim::Sink) => self.write(rt, name),
@@ -83,14 +96,31 @@ impl<'n, D: Disk + Drop> Run<'n, D> {
         }
     }
 
-    // The chunk is given up.
-    fn expire<R: Wait>(&mut self, rt: &R, name: Name) -> Result<(), AllocError> {
+    // The chunk is given up where its output does that. Else the buffer has to refuse that, or that
+    // it was sent where that isn't enough.
+    fn give_up<R: Wait>(&mut self, rt: &R, name: Name) -> Result<(), AllocError> {
+        let is_sent = self.dice.once_in(2) && !self.goes_unasked(name);
         let Some(held) = self.held(name) else {
             return Ok(());
         };
-        let evidence = Evidence::expired(held.as_claim());
-        let gone = self.let_go(rt, name, evidence);
-        self.tell_gone(name, gone, "", "discard")
+        let evidence = if is_sent {
+            Evidence::written(held.as_claim())
+        } else {
+            Evidence::expired(held.as_claim())
+        };
+        if !is_sent && self.gives_up(name) {
+            let gone = self.let_go(rt, name, evidence)?;
+            return self.tell_gone(name, gone, "", "discard");
+        }
+        if let Some(evidence) = self.misuse(rt, name, evidence)? {
+            evidence.waste();
+        }
+        Ok(())
+    }
+
+    // Whether the chunk is to go as soon as it is sent.
+    fn goes_unasked(&self, name: Name) -> bool {
+        matches!(self.aim(name), Some(Aim::Relay { asks: false, .. }))
     }
 
     // The chunk is written to its sink.
@@ -107,7 +137,7 @@ impl<'n, D: Disk + Drop> Run<'n, D> {
             evidence.waste();
             return self.tell_of("write", name, Stage::Claimed);
         }
-        let gone = self.let_go(rt, name, evidence);
+        let gone = self.let_go(rt, name, evidence)?;
         self.tell_gone(name, gone, "write", "purge")
     }
 
@@ -154,7 +184,7 @@ impl<'n, D: Disk + Drop> Run<'n, D> {
             return Ok(());
         };
         let evidence = Evidence::written(held.as_claim());
-        let gone = self.let_go(rt, name, evidence);
+        let gone = self.let_go(rt, name, evidence)?;
         self.tell_gone(name, gone, "", "done")
     }
 

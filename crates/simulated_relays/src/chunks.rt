@@ -23,7 +23,8 @@ pub struct Appended {
     pub is_synced: bool,
 }
 
-/// A chunk of a buffer. The line is that of the step by which it went.
+/// A chunk of a buffer, with the lines of the step that queued it and of that by which it went, and
+/// whether a stop can't undo what was told of it.
 #[derive(Drop)]
 pub struct Chunk {
     pub buffer: usize,
@@ -31,7 +32,9 @@ pub struct Chunk {
     pub tag: Vec<u8>,
     pub appends: Vec<Appended>,
     pub stage: Stage,
+    pub queued: Option<usize>,
     pub went: usize,
+    pub is_synced: bool,
 }
 
 /// How what was found of a chunk differs from what was told.
@@ -60,6 +63,19 @@ impl Chunk {
         } else {
             Found::Wrong
         }
+    }
+
+    // No stop undoes what was told of it.
+    fn sync(&mut self) {
+        self.is_synced = true;
+        for append in self.appends.iter_mut() {
+            append.is_synced = true;
+        }
+    }
+
+    // Whether a stop loses none of its appends.
+    fn is_stored(&self) -> bool {
+        self.appends.iter().all(|append| append.is_synced)
     }
 
     /// Whether a stop may lose the whole chunk.
@@ -134,7 +150,9 @@ impl Chunks {
             tag: Vec::from_slice(alloc, tag)?,
             appends,
             stage: Stage::Staged,
+            queued: None,
             went: 0,
+            is_synced: false,
         })?;
         if let Some(next) = self.next.get_mut(buffer) {
             *next = serial.saturating_add(1);
@@ -147,6 +165,7 @@ impl Chunks {
         if let Some(chunk) = self.find(buffer, serial) {
             chunk.stage = stage;
             chunk.went = line;
+            chunk.is_synced = false;
         }
     }
 
@@ -159,11 +178,56 @@ impl Chunks {
         }
     }
 
-    /// What the buffers hold is synced.
+    /// What was told of all buffers is synced.
     pub fn sync(&mut self) {
         for chunk in self.all.iter_mut() {
-            for append in chunk.appends.iter_mut() {
-                append.is_synced = true;
+            chunk.sync();
+        }
+    }
+
+    /// Each buffer is synced that has an append that wasn't.
+    pub fn sync_appended(&mut self) {
+        for buffer in 0..BUFFERS {
+            if self.has_unsynced(buffer) {
+                self.sync_buffer(buffer);
+            }
+        }
+    }
+
+    /// Each buffer is synced that has a staged chunk.
+    pub fn sync_staged(&mut self) {
+        for buffer in 0..BUFFERS {
+            if self.has_in(buffer, Stage::Staged) {
+                self.sync_buffer(buffer);
+            }
+        }
+    }
+
+    /// Whether a buffer has a chunk in this stage.
+    pub fn has_in(&self, buffer: usize, stage: Stage) -> bool {
+        self.all
+            .iter()
+            .any(|chunk| chunk.buffer == buffer && chunk.stage == stage)
+    }
+
+    /// How many chunks a buffer has that didn't go.
+    pub fn count_live(&self, buffer: usize) -> usize {
+        self.all
+            .iter()
+            .filter(|chunk| chunk.buffer == buffer && chunk.stage != Stage::Gone)
+            .count()
+    }
+
+    fn has_unsynced(&self, buffer: usize) -> bool {
+        self.all
+            .iter()
+            .any(|chunk| chunk.buffer == buffer && !chunk.is_stored())
+    }
+
+    fn sync_buffer(&mut self, buffer: usize) {
+        for chunk in self.all.iter_mut() {
+            if chunk.buffer == buffer {
+                chunk.sync();
             }
         }
     }

@@ -3,8 +3,16 @@
 use disk_files::{Dir, DirError, FileName, Fuse, Keep, MemoryDir};
 use std::alloc::Global;
 
-/// So many calls never fail.
-pub const NO_END: u64 = u64::MAX;
+/// Which calls to a folder its device fails.
+#[derive(Clone, Copy, PartialEq, Eq)]
+pub enum Device {
+    /// None.
+    Sound,
+    /// Each call behind so many.
+    FailsAfter(u64),
+    /// The call behind so many, and no other.
+    FailsOnce(u64),
+}
 
 /// A folder that can be stopped, and whose device can fail.
 pub trait Disk: Dir {
@@ -14,21 +22,25 @@ pub trait Disk: Dir {
     /// What a stop leaves that keeps so much, over a device that doesn't fail.
     fn stopped(self, keep: Keep) -> Self;
 
-    /// The folder over a device that fails each call behind so many.
-    fn failing(self, passes: u64) -> Self;
+    /// The folder over this device.
+    fn over(self, device: Device) -> Self;
 }
 
 impl Disk for Fuse<MemoryDir<Global>> {
     fn fresh(alloc: Global) -> Self {
-        Fuse::after(MemoryDir::new(alloc), NO_END)
+        Fuse::after(MemoryDir::new(alloc), u64::MAX)
     }
 
     fn stopped(self, keep: Keep) -> Self {
-        Fuse::after(self.into_inner().stop(keep), NO_END)
+        Fuse::after(self.into_inner().stop(keep), u64::MAX)
     }
 
-    fn failing(self, passes: u64) -> Self {
-        Fuse::after(self.into_inner(), passes)
+    fn over(self, device: Device) -> Self {
+        match device {
+            Device::Sound => self,
+            Device::FailsAfter(passes) => Fuse::after(self.into_inner(), passes),
+            Device::FailsOnce(passes) => Fuse::once(self.into_inner(), passes),
+        }
     }
 }
 

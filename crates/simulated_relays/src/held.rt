@@ -93,19 +93,39 @@ impl<D: Disk + Drop> Held<D> {
         shared.give_back(rt, claim);
     }
 
-    /// Lets the chunk go on this evidence; `false` where the buffer refuses: then it is given back.
-    pub fn purge<R: Wait>(self, rt: &R, evidence: Evidence<Global>) -> bool {
+    /// Lets the chunk go on this evidence; where the buffer refuses, both come back.
+    pub fn offer<R: Wait>(
+        self,
+        rt: &R,
+        evidence: Evidence<Global>,
+    ) -> Result<(), (Held<D>, Evidence<Global>)> {
         let Held {
-            site: _,
-            buffer: _,
+            site,
+            buffer,
             shared,
             claim,
         } = self;
         match shared.purge(rt, claim, evidence) {
-            Ok(()) => true,
+            Ok(()) => Ok(()),
             Err((_, claim, evidence)) => {
+                let held = Held {
+                    site,
+                    buffer,
+                    shared,
+                    claim,
+                };
+                Err((held, evidence))
+            }
+        }
+    }
+
+    /// The same; `false` where the buffer refuses: then it is given back.
+    pub fn purge<R: Wait>(self, rt: &R, evidence: Evidence<Global>) -> bool {
+        match self.offer(rt, evidence) {
+            Ok(()) => true,
+            Err((held, evidence)) => {
                 evidence.waste();
-                shared.give_back(rt, claim);
+                held.give_back(rt);
                 false
             }
         }

@@ -12,7 +12,7 @@ mod site;
 
 pub use chunks::{Appended, Chunk, Chunks, Found, Stage};
 pub use closing::SinkContent;
-pub use disk::Disk;
+pub use disk::{Device, Disk};
 pub use held::{Held, Name};
 pub use link::{Link, Sender};
 pub use site::{OpenSite, Site};

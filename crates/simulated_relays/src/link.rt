@@ -26,6 +26,9 @@ pub struct Link {
     pub source: usize,
     /// The whole message.
     pub bytes: Vec<u8>,
+    /// Its entries, and whether it asks for an acknowledgement.
+    pub entries: Vec<u8>,
+    pub asks: bool,
     pub client: ClientSession<Global>,
     pub peer: Option<Peer<Global>>,
     /// The delivery that was opened of it.
@@ -70,6 +73,8 @@ impl Link {
             to: _,
             source: _,
             bytes: _,
+            entries: _,
+            asks: _,
             client: _,
             peer,
             delivery: _,
@@ -80,6 +85,11 @@ impl Link {
         if let Some(peer) = peer {
             peer.end(rt, lanes);
         }
+    }
+
+    /// Whether a delivery of its message waits.
+    pub fn is_waiting(&self) -> bool {
+        self.peer.as_ref().is_some_and(|peer| peer.is_waiting())
     }
 
     /// Whether the relay has answered since this was asked last.
@@ -113,6 +123,11 @@ impl Link {
         self.peer
             .as_ref()
             .is_some_and(|peer| !peer.outgoing().is_empty())
+    }
+
+    /// Whether all of an answer came to the sender: what it hears then isn't in it.
+    pub fn is_unheard(&self) -> bool {
+        self.is_answered && !self.is_answering()
     }
 
     /// What of an answer is under way; none where the relay's end is gone.

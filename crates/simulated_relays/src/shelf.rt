@@ -2,7 +2,7 @@
 
 ghost use Rattle.std.specs.Prelude.{None};
 
-use crate::disk::{Disk, NO_END, copy_of};
+use crate::disk::{Device, Disk, copy_of};
 use relay_buffers::{Folders, PlacedDir};
 use relay_conf::BufferKind;
 use std::alloc::{AllocError, Global};
@@ -21,8 +21,8 @@ pub struct Named<D> {
 pub struct Shelf<D> {
     alloc: Global,
     dirs: RefCell<Vec<Option<Named<D>>>>,
-    // So many calls to each folder that is taken pass; those behind them fail.
-    passes: u64,
+    // Over which each folder is that is taken.
+    device: Device,
     // What was in the folders that were taken since, where their devices may fail.
     copies: RefCell<Vec<Option<Named<D>>>>,
 }
@@ -33,14 +33,14 @@ impl<D: Disk + Drop> Shelf<D> {
         Shelf {
             alloc,
             dirs: RefCell::new(Vec::new(alloc)),
-            passes: NO_END,
+            device: Device::Sound,
             copies: RefCell::new(Vec::new(alloc)),
         }
     }
 
-    /// Of folders that are taken from now on, so many calls pass.
-    pub fn set_passes(&mut self, passes: u64) {
-        self.passes = passes;
+    /// Folders that are taken from now on are over such devices.
+    pub fn set_device(&mut self, device: Device) {
+        self.device = device;
         self.copies = RefCell::new(Vec::new(self.alloc));
     }
 
@@ -67,13 +67,13 @@ impl<D: Disk + Drop> Shelf<D> {
             Some(dir) => dir,
             None => D::fresh(self.alloc),
         };
-        if self.passes == NO_END {
+        if self.device == Device::Sound {
             return Ok(dir);
         }
         if let Ok(copy) = copy_of(self.alloc, &mut dir) {
             put_in(&self.copies, Vec::from_slice(self.alloc, name)?, copy)?;
         }
-        Ok(dir.failing(self.passes))
+        Ok(dir.over(self.device))
     }
 }
 

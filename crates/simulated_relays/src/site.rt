@@ -2,7 +2,7 @@
 
 use crate::chunks::Chunks;
 use crate::closing::{SinkContent, close_buffers, close_sinks, names_of, paths_of};
-use crate::disk::{Disk, NO_END};
+use crate::disk::{Device, Disk};
 use crate::opening::open_site;
 use crate::shelf::Shelf;
 use ack_receipt::{Numbers, SharedBuffer};
@@ -125,16 +125,16 @@ impl<D: Disk + Drop> Site<D> {
         }
     }
 
-    /// Opens it, over devices that fail each call behind so many, where there is a number, and the others never;
-    /// `false` where it doesn't open.
+    /// Opens it over such devices, or over sound ones where it doesn't open so; `false` where it
+    /// doesn't open over these.
     pub fn open<R: Wait>(
         &mut self,
         rt: &R,
         alloc: Global,
-        passes: Option<u64>,
+        device: Device,
     ) -> Result<bool, AllocError> {
-        self.is_failing = passes.is_some();
-        if self.open_over(rt, alloc, passes.unwrap_or(NO_END))? {
+        self.is_failing = device != Device::Sound;
+        if self.open_over(rt, alloc, device)? {
             return Ok(true);
         }
         if !self.is_failing {
@@ -143,17 +143,17 @@ impl<D: Disk + Drop> Site<D> {
         self.is_failing = false;
         self.shelf.restore()?;
         self.sinks.restore()?;
-        self.open_over(rt, alloc, NO_END)
+        self.open_over(rt, alloc, Device::Sound)
     }
 
     fn open_over<R: Wait>(
         &mut self,
         rt: &R,
         alloc: Global,
-        passes: u64,
+        device: Device,
     ) -> Result<bool, AllocError> {
-        self.shelf.set_passes(passes);
-        self.sinks.set_passes(passes);
+        self.shelf.set_device(device);
+        self.sinks.set_device(device);
         let opened = open_site(alloc, self.number, &self.conf, &self.shelf, &self.sinks)?;
         let Some(open) = opened else {
             return Ok(false);
