@@ -1,0 +1,6 @@
+mod Fed
+mod Files
+mod Generations
+mod Held
+mod Items
+mod Owners

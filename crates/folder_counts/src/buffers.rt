@@ -1,0 +1,97 @@
+//! Buffers, by the generations of their journals.
+
+ghost use Rattle.std.specs.Prelude.{◌≡◌, bytes_eq};
+ghost use Rattle.folder_counts.specs.Groups.{is_unsealed, outranks};
+
+use crate::counts::ChunkCounts;
+use std::marker::Model;
+
+/// What is found in a journal.
+#[derive(Clone, Copy, Debug, PartialEq, Eq)]
+pub enum Found {
+    /// It is sealed: its live chunks, how many bytes are torn at its end, and the next serial.
+    Chunks {
+        chunks: ChunkCounts,
+        torn: u64,
+        next: u64,
+    },
+    /// Its whole records end before a Seal.
+    Unsealed,
+    /// Something stands in it that no buffer writes.
+    Damaged,
+    /// It isn't read to its end.
+    Unread,
+}
+
+/// A buffer, by the generation of its journal that counts: the greatest that isn't unsealed, where there is one.
+#[derive(Drop)]
+pub struct Buffer<'a> {
+    path: &'a str,
+    file: &'a str,
+    number: u32,
+    found: Found,
+}
+
+impl<'a> Model for Buffer<'a> {
+    ghost use Rattle.folder_counts.specs.Views.{BufferView};
+
+    ghost Value = { BufferView };
+
+    ghost view = { λ b. record { path = b.path.now; file = b.file.now; number = b.number; found = b.found } };
+}
+
+impl<'a> Buffer<'a> {
+    /// The buffer of this path, and what is found in the file of this name and number.
+    pub(crate) fn new(path: &'a str, file: &'a str, number: u32, found: Found) -> Buffer<'a>
+        ensures { result ≡ record { path = path.now; file = file.now; number = number; found = found } }
+    {
+        Buffer {
+            path,
+            file,
+            number,
+            found,
+        }
+    }
+
+    /// What the names of its journal begin with.
+    pub fn path(&self) -> &'a str
+        ensures { result.now ≡ self.now.path }
+    {
+        self.path
+    }
+
+    /// The name of the file.
+    pub fn file(&self) -> &'a str
+        ensures { result.now ≡ self.now.file }
+    {
+        self.file
+    }
+
+    /// What is found in it.
+    pub fn found(&self) -> Found
+        ensures { result ≡ self.now.found }
+    {
+        self.found
+    }
+
+    /// Whether the path is this one.
+    pub(crate) fn is_of(&self, path: &str) -> bool
+        ensures { result ≡ bytes_eq self.now.path path.now }
+    {
+        self.path == path
+    }
+
+    /// Whether this generation counts in place of that one.
+    pub(crate) fn outranks(&self, held: &Buffer<'_>) -> bool
+        ensures { result ≡ outranks self.now held.now }
+    {
+        !is_unsealed(self.found) && (is_unsealed(held.found) || held.number < self.number)
+    }
+}
+
+// Whether a journal's records end before a Seal.
+fn is_unsealed(found: Found) -> bool
+    ensures { result ≡ is_unsealed found }
+{
+    matches!(found, Found::Unsealed)
+}

@@ -1,0 +1,106 @@
+//! A sink's file, counted.
+
+ghost use Rattle.std.specs.Prelude.{◌≡◌, ℕ, List, [], IfOk, IfSome};
+ghost use Rattle.folder_counts.specs.Counts.{damaged_file, unread_file};
+ghost use Rattle.folder_counts.specs.Findings.{IsInSink};
+ghost use Rattle.folder_counts.specs.Held.{IsHeldAfter};
+
+use crate::counts::{NO_FILES, SinkCounts, plus};
+use crate::feeding::{Feed, Stop, feed_all};
+use event_modes::drop_front;
+use sink_series::count_events;
+use std::alloc::Allocator;
+use std::io::Read;
+
+/// The most bytes that the item of an event has.
+const LONGEST_ITEM: usize = 16_779_264;
+
+/// A sink's file that is damaged.
+const DAMAGED_FILE: SinkCounts = SinkCounts {
+    files: 1,
+    damaged: 1,
+    ..NO_FILES
+};
+
+/// A sink's file that isn't read to its end.
+pub(crate) const UNREAD_FILE: SinkCounts = SinkCounts {
+    files: 1,
+    unread: 1,
+    ..NO_FILES
+};
+
+/// What the sink's file that the reader has left counts to. Of its bytes are held a piece and those of one event. The error is `Memory`, or
+/// `Unread` where the reader fails.
+pub(crate) fn count_sink<A: Allocator + Copy, R: Read>(
+    alloc: A,
+    input: &mut R,
+) -> Result<SinkCounts, Stop>
+    ensures { IfOk result (λ counts. IfSome (R.remaining input.old) (λ bytes. IsInSink bytes counts)) }
+{
+    let mut held = Held::new(alloc);
+    match feed_all(alloc, &mut held, input) {
+        Ok(()) => Ok(held.counts()),
+        Err(Stop::Damaged) => Ok(DAMAGED_FILE),
+        Err(stop) => Err(stop),
+    }
+}
+
+// What is held of a file between two pieces, and what was counted before.
+#[derive(Drop)]
+struct Held<A: Allocator> {
+    alloc: A,
+    // How many events were counted.
+    events: u64,
+    // How many bytes their items have.
+    taken: u64,
+    // The bytes behind them, with which no event begins.
+    bytes: Vec<u8, A>,
+}
+
+impl<A: Allocator + Copy> Held<A> {
+    fn new(alloc: A) -> Held<A>
+        ensures { IsHeldAfter result.events result.taken result.bytes.items [] }
+    {
+        Held {
+            alloc,
+            events: 0,
+            taken: 0,
+            bytes: Vec::new(alloc),
+        }
+    }
+
+    // What a file counts to of which no more follows.
+    fn counts(&self) -> SinkCounts
+        ensures { (bytes : List ℕ) → IsHeldAfter self.now.events self.now.taken self.now.bytes.items bytes → IsInSink bytes result }
+    {
+        SinkCounts {
+            files: 1,
+            events: self.events,
+            bytes: self.taken,
+            torn: self.bytes.len() as u64,
+            ..NO_FILES
+        }
+    }
+}
+
+impl<A: Allocator + Copy> Feed for Held<A> {
+    ghost use Rattle.folder_counts.specs.Findings.{EndsLong};
+    ghost use Rattle.folder_counts.specs.Held.{IsHeldAfter};
+
+    ghost is_after = { λ h seen. IsHeldAfter h.events h.taken h.bytes.items seen };
+
+    ghost is_damaged = { EndsLong };
+
+    fn feed(&mut self, piece: &[u8]) -> Result<(), Stop> {
+        self.bytes.extend_from_slice(piece)?;
+        let counted = count_events(self.alloc, &self.bytes)?;
+        let used = self.bytes.len().saturating_sub(counted.torn);
+        self.events = plus(self.events, counted.events as u64)?;
+        self.taken = plus(self.taken, used as u64)?;
+        drop_front(&mut self.bytes, used);
+        if self.bytes.len() > LONGEST_ITEM {
+            return Err(Stop::Damaged);
+        }
+        Ok(())
+    }
+}
