@@ -140,6 +140,11 @@ class Relay:
         with open(self.said + ".err") as text:
             return "\n".join(self.lines()) + text.read()
 
+    def resident(self):
+        """How many bytes of memory it has."""
+        with open("/proc/%d/status" % self.process.pid) as status:
+            return next(int(line.split()[1]) * 1024 for line in status if line.startswith("VmRSS:"))
+
     def kill(self):
         if self.process is not None:
             self.process.kill()
