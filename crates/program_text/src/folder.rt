@@ -1,5 +1,6 @@
 //! Files, by paths from the working folder.
 
+use crate::counted::CountedRead;
 use crate::opening::Open;
 use std::fs::File;
 use std::io;
@@ -72,9 +73,9 @@ pub struct NamedFile<'a> {
     file: File,
 }
 
-impl Read for NamedFile<'_> {
-    fn read(&mut self, buf: &mut [u8]) -> io::Result<usize> {
-        let got = self.file.read(buf);
+impl CountedRead for NamedFile<'_> {
+    fn read(&mut self, piece: &mut [u8]) -> io::Result<usize> {
+        let got = self.file.read(piece);
         if let Err(e) = &got {
             self.folder.say(&self.path, e);
         }
@@ -90,13 +91,13 @@ pub struct FileText<'a> {
     file: Option<NamedFile<'a>>,
 }
 
-impl Read for FileText<'_> {
-    fn read(&mut self, buf: &mut [u8]) -> io::Result<usize> {
+impl CountedRead for FileText<'_> {
+    fn read(&mut self, piece: &mut [u8]) -> io::Result<usize> {
         if self.file.is_none() {
             self.file = Some(self.folder.open(self.path)?);
         }
         match &mut self.file {
-            Some(file) => file.read(buf),
+            Some(file) => file.read(piece),
             None => Err(io::Error::from(ErrorKind::NotFound)),
         }
     }

@@ -2,6 +2,7 @@
 //! names, output that is written whole, and the version.
 #![tactic(auto)]
 
+mod counted;
 mod digits;
 mod folder;
 mod opening;
@@ -10,6 +11,7 @@ mod reading;
 mod status;
 mod version;
 
+pub use counted::CountedRead;
 pub use digits::put_hex;
 pub use folder::{FileText, Folder, NamedFile};
 pub use opening::Open;

@@ -2,8 +2,8 @@
 
 ghost use Rattle.std.specs.Prelude.{◌≡◌, IfOk};
 
+use crate::counted::CountedRead;
 use std::io;
-use std::io::Read;
 
 /// Opens the configurations that a plan names.
 pub trait Open {
@@ -13,7 +13,7 @@ pub trait Open {
     ghost text_of: { Self → List ℕ → Option (List ℕ) };
 
     /// What reads a text.
-    type Reader: Read + Drop;
+    type Reader: CountedRead + Drop;
 
     /// A reader of the text of this name, from its beginning. An error says that it can't be read.
     fn open(&self, name: &str) -> io::Result<Self::Reader>

@@ -1,13 +1,14 @@
 //! Texts that are read whole.
 
-ghost use Rattle.std.specs.Prelude.{◌≡◌, ◌≢◌, ◌<◌, ◌≤◌, length, IfOk};
+ghost use Rattle.std.specs.Prelude.{◌≡◌, ◌≢◌, ◌<◌, ◌≤◌, ◌+◌, length, IfOk};
 ghost use Rattle.std.specs.IoError.{error_kind};
 ghost use Rattle.program_text.specs.Texts.{IsTextOf};
 
+use crate::counted::CountedRead;
 use crate::opening::Open;
 use std::alloc::{AllocError, AllocFailed, Allocator};
 use std::io;
-use std::io::{ErrorKind, Read};
+use std::io::ErrorKind;
 
 /// How often a reader is called at most. One that hasn't ended then is one that fails.
 pub const MOST_READS: u32 = 16_777_216;
@@ -77,20 +78,21 @@ pub fn read_named<A: Allocator + Copy, O: Open>(
     }
 }
 
-/// All that the reader has left, up to `MOST_BYTES`.
-pub fn read_whole<A: Allocator + Copy, R: Read>(
+/// All that the reader has left, up to `MOST_BYTES`; it is called `MOST_READS` times at most.
+pub fn read_whole<A: Allocator + Copy, R: CountedRead>(
     alloc: A,
     input: &mut R,
 ) -> Result<Vec<u8, A>, ReadFault>
     ensures whole { IfOk result (λ text. IsTextOf (R.remaining input.old) text.items) }
     ensures bound { IfOk result (λ text. length text.items ≤ 1073741824) }
+    ensures calls { R.calls input.new ≤ R.calls input.old + 16777216 }
 {
     let mut piece = Vec::from_elem(alloc, 0, PIECE)?;
     read_pieces(alloc, &mut piece, input)
 }
 
 // All that the reader has left, read by pieces of this length.
-fn read_pieces<A: Allocator + Copy, R: Read>(
+fn read_pieces<A: Allocator + Copy, R: CountedRead>(
     alloc: A,
     piece: &mut [u8],
     input: &mut R,
@@ -98,6 +100,7 @@ fn read_pieces<A: Allocator + Copy, R: Read>(
     requires { 0 < length piece.old }
     ensures whole { IfOk result (λ text. IsTextOf (R.remaining input.old) text.items) }
     ensures bound { IfOk result (λ text. length text.items ≤ 1073741824) }
+    ensures calls { R.calls input.new ≤ R.calls input.old + 16777216 }
 {
     let mut text = Vec::new(alloc);
     for _ in 0..MOST_READS {
