@@ -5,16 +5,16 @@ ghost use Rattle.conf_listing.specs.Answers.{IsAnswer, IsStop, PrintsAdapted};
 
 use crate::conf::adapt_conf;
 use crate::outcome::AdaptedConf;
-use program_text::{ReadFault, Status, put_last, read_whole};
+use program_text::{CountedRead, ReadFault, Status, put_last, read_whole};
 use relay_reading::{ConfStop, print_conf_stop};
 use std::alloc::{AllocError, Allocator};
-use std::io::{Read, Write};
+use std::io::Write;
 
 /// Prints the configuration that `conf` gives in the form that a relay reads, with a comment for each of its lines that doesn't stand as it
 /// was. Where something of it changes what the relay does and isn't accepted, by a name among these words, a line for each such thing is
 /// printed in its place. Where the text has a fault, or what would be printed has one, the line of that is printed, under the line of the
 /// original that it comes from.
-pub fn run_adapt<A: Allocator + Copy, B: Allocator, R: Read, W: Write>(
+pub fn run_adapt<A: Allocator + Copy, B: Allocator, R: CountedRead, W: Write>(
     alloc: A,
     conf: &mut R,
     accepted: &[String<B>],
@@ -36,7 +36,7 @@ struct Said<A: Allocator> {
 }
 
 // What is said of the text that is read.
-fn adapt_read<A: Allocator + Copy, B: Allocator, R: Read>(
+fn adapt_read<A: Allocator + Copy, B: Allocator, R: CountedRead>(
     alloc: A,
     conf: &mut R,
     accepted: &[String<B>],

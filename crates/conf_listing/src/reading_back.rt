@@ -11,7 +11,6 @@ use relay_conf::Relay;
 use relay_faults::RelayFault;
 use relay_reading::{ConfStop, read_relay};
 use std::alloc::Allocator;
-use std::io::Cursor;
 
 /// The relay that the lines of an adapted configuration describe. Else why there is none, under the line of the original that the line with
 /// the fault comes from.
@@ -23,7 +22,7 @@ pub(crate) fn read_back<A: Allocator + Copy>(
     ensures relay { IfOk result (IsRelayOfText lines.now.items) }
     ensures stop { IfErr result (IsStopOfLines lines.now.items) }
 {
-    match read_relay(alloc, &mut Cursor::new(lines)) {
+    match read_relay(alloc, &mut lines.as_slice()) {
         Ok(relay) => Ok(relay),
         Err(stop) => Err(in_original(adapted, stop)),
     }

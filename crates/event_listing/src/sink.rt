@@ -6,10 +6,10 @@ ghost use Rattle.event_listing.specs.Reading.{is_ended, PrintsFile, PrintsPiece}
 use crate::choice::Choice;
 use crate::lines::print_held;
 use event_modes::drop_front;
-use program_text::{MOST_READS, OutputFault, PIECE, ReadFault, put_all};
+use program_text::{CountedRead, MOST_READS, OutputFault, PIECE, ReadFault, put_all};
 use std::alloc::{AllocError, Allocator};
 use std::io;
-use std::io::{ErrorKind, Read, Write};
+use std::io::{ErrorKind, Write};
 
 /// The most bytes that the item of an event has: its first byte, its tag as a str, and its time and record.
 pub(crate) const LONGEST_ITEM: usize = 16_779_264;
@@ -57,7 +57,7 @@ impl Stop {
 
 /// Prints the chosen events that a sink's file holds, in their order. It holds a piece, the bytes of one event, and the lines of those that end in the
 /// piece.
-pub(crate) fn print_sink<A: Allocator + Copy, B: Allocator, R: Read, W: Write>(
+pub(crate) fn print_sink<A: Allocator + Copy, B: Allocator, R: CountedRead, W: Write>(
     alloc: A,
     choice: &Choice<B>,
     input: &mut R,
@@ -72,7 +72,7 @@ pub(crate) fn print_sink<A: Allocator + Copy, B: Allocator, R: Read, W: Write>(
 }
 
 // The same, by pieces of this length.
-fn print_pieces<A: Allocator + Copy, B: Allocator, R: Read, W: Write>(
+fn print_pieces<A: Allocator + Copy, B: Allocator, R: CountedRead, W: Write>(
     alloc: A,
     choice: &Choice<B>,
     piece: &mut [u8],

@@ -8,9 +8,9 @@ ghost use Rattle.folder_counts.specs.Held.{IsHeldAfter};
 use crate::counts::{NO_FILES, SinkCounts, plus};
 use crate::feeding::{Feed, Stop, feed_all};
 use event_modes::drop_front;
+use program_text::CountedRead;
 use sink_series::count_events;
 use std::alloc::Allocator;
-use std::io::Read;
 
 /// The most bytes that the item of an event has.
 const LONGEST_ITEM: usize = 16_779_264;
@@ -31,7 +31,7 @@ pub(crate) const UNREAD_FILE: SinkCounts = SinkCounts {
 
 /// What the sink's file that the reader has left counts to. Of its bytes are held a piece and those of one event. The error is `Memory`, or
 /// `Unread` where the reader fails.
-pub(crate) fn count_sink<A: Allocator + Copy, R: Read>(
+pub(crate) fn count_sink<A: Allocator + Copy, R: CountedRead>(
     alloc: A,
     input: &mut R,
 ) -> Result<SinkCounts, Stop>

@@ -2,10 +2,10 @@
 
 ghost use Rattle.std.specs.Prelude.{◌≡◌, ◌≢◌, ◌<◌, ◌++◌, [], Err, IfSome, OnOk, length};
 
-use program_text::{MOST_READS, PIECE, ReadFault};
+use program_text::{CountedRead, MOST_READS, PIECE, ReadFault};
 use std::alloc::{AllocError, Allocator};
 use std::io;
-use std::io::{ErrorKind, Read};
+use std::io::ErrorKind;
 
 /// Why a file isn't read to its end.
 #[derive(Clone, Copy, Debug, PartialEq, Eq)]
@@ -58,7 +58,7 @@ pub(crate) trait Feed {
 }
 
 /// Feeds all that the reader has left, in pieces of 65,536 bytes.
-pub(crate) fn feed_all<A: Allocator, F: Feed, R: Read>(
+pub(crate) fn feed_all<A: Allocator, F: Feed, R: CountedRead>(
     alloc: A,
     fed: &mut F,
     input: &mut R,
@@ -72,7 +72,11 @@ pub(crate) fn feed_all<A: Allocator, F: Feed, R: Read>(
 }
 
 // The same, in pieces of this length.
-fn feed_pieces<F: Feed, R: Read>(piece: &mut [u8], fed: &mut F, input: &mut R) -> Result<(), Stop>
+fn feed_pieces<F: Feed, R: CountedRead>(
+    piece: &mut [u8],
+    fed: &mut F,
+    input: &mut R,
+) -> Result<(), Stop>
     requires room { 0 < length piece.old }
     requires start { F.is_after fed.old [] }
     ensures whole { OnOk result (IfSome (R.remaining input.old) (F.is_after fed.new)) }

@@ -11,12 +11,12 @@ use crate::counts::{ChunkCounts, NO_CHUNKS};
 use crate::feeding::{Feed, Stop, feed_all};
 use buffer_state::{ChunkFacts, Chunks, LiveChunks, Stage};
 use chunk_journal::{Outline, ReplayError};
+use program_text::CountedRead;
 use std::alloc::{AllocError, Allocator};
-use std::io::Read;
 
 /// What is found in the journal that the reader has left. Of its bytes are held a piece, a record that isn't whole, and what the live chunks are
 /// without their entries. The error is `Memory`, or `Unread` where the reader fails.
-pub(crate) fn count_journal<A: Allocator + Copy, R: Read>(
+pub(crate) fn count_journal<A: Allocator + Copy, R: CountedRead>(
     alloc: A,
     input: &mut R,
 ) -> Result<Found, Stop>

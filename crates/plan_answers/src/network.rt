@@ -1,6 +1,6 @@
 //! A plan is read whole and the checker's line printed; behind an answer steps are taken, and their listing is printed.
 
-ghost use Rattle.std.specs.Prelude.{◌≡◌, length, map, string_bytes, IfOk, IfErr};
+ghost use Rattle.std.specs.Prelude.{◌≡◌, ◌≤◌, ◌+◌, length, map, string_bytes, IfOk, IfErr};
 ghost use Rattle.std.specs.List.{AllZip};
 ghost use Rattle.plan_lines.specs.Plans.{texts as texts_of};
 ghost use Rattle.plan_answers.specs.Networks.{answer_line, answer_status, joined_status, unread_line as unread_line_of, AreReplayed, IsAnswered, IsPlanRead, IsStopOf, PrintsCheck, PrintsReplay, PrintsStop, StopsWith};
@@ -10,20 +10,22 @@ ghost use Rattle.program_text.specs.Texts.{IsTextOf};
 use crate::replay::{Said, replay};
 use loss_checker::{Answer, Plan, PlanError, check, conf_names};
 use program_text::{
-    Open, OutputFault, ReadFault, Status, put_all, put_last, read_named, read_whole,
+    CountedRead, Open, OutputFault, ReadFault, Status, put_all, put_last, read_named, read_whole,
 };
 use std::alloc::{AllocError, Allocator};
-use std::io::{Read, Write};
+use std::io::Write;
 
 /// Prints what the checker says of the plan that `net` gives, with the configurations that it names: its answer, or
-/// the plan's first fault. Each text is read whole before a fault of the plan is looked for.
-pub fn run_check<A: Allocator + Copy, R: Read, O: Open, W: Write>(
+/// the plan's first fault. Each text is read whole before a fault of the plan is looked for, by 16,777,216 calls of its
+/// reader at most.
+pub fn run_check<A: Allocator + Copy, R: CountedRead, O: Open, W: Write>(
     alloc: A,
     net: &mut R,
     files: &O,
     out: &mut W,
 ) -> Status
-    ensures { PrintsCheck A (R.remaining net.old) (O.text_of files.now) (W.contents out.old) (W.contents out.new) result }
+    ensures printed { PrintsCheck A (R.remaining net.old) (O.text_of files.now) (W.contents out.old) (W.contents out.new) result }
+    ensures calls { R.calls net.new ≤ R.calls net.old + 16777216 }
 {
     match read_checked(alloc, net, files) {
         Ok(checked) => put_last(out, checked.line.as_bytes(), status_of(checked.answer)),
@@ -35,14 +37,18 @@ pub fn run_check<A: Allocator + Copy, R: Read, O: Open, W: Write>(
 /// what becomes of the events that were acknowledged, or why a step isn't taken; nothing of the steps is read before. In the world
 /// that the steps lead to, whatever a sink holds a client sent; where the answer is yes, each event that was acknowledged is held under a
 /// tag that it may bear, and kept along each branch of its way if the plan asks for that. So behind a yes each is printed as held.
-pub fn run_replay<A: Allocator + Copy, R: Read, S: Read, O: Open, W: Write>(
+///
+/// Each of the two readers is called 16,777,216 times at most.
+pub fn run_replay<A: Allocator + Copy, R: CountedRead, S: CountedRead, O: Open, W: Write>(
     alloc: A,
     net: &mut R,
     steps: &mut S,
     files: &O,
     out: &mut W,
 ) -> Status
-    ensures { PrintsReplay A (R.remaining net.old) (O.text_of files.now) (S.remaining steps.old) (W.contents out.old) (W.contents out.new) result }
+    ensures printed { PrintsReplay A (R.remaining net.old) (O.text_of files.now) (S.remaining steps.old) (W.contents out.old) (W.contents out.new) result }
+    ensures net_calls { R.calls net.new ≤ R.calls net.old + 16777216 }
+    ensures step_calls { S.calls steps.new ≤ S.calls steps.old + 16777216 }
 {
     let checked = match read_checked(alloc, net, files) {
         Ok(checked) => checked,
@@ -98,7 +104,7 @@ struct Checked<A: Allocator> {
 }
 
 // The plan of the texts that are read, and the checker's answer.
-fn read_checked<A: Allocator + Copy, R: Read, O: Open>(
+fn read_checked<A: Allocator + Copy, R: CountedRead, O: Open>(
     alloc: A,
     net: &mut R,
     files: &O,
@@ -107,6 +113,7 @@ fn read_checked<A: Allocator + Copy, R: Read, O: Open>(
     ensures earned { IfOk result (λ checked. IsYesEarned checked.plan checked.answer) }
     ensures line { IfOk result (λ checked. string_bytes checked.line ≡ answer_line checked.answer) }
     ensures stop { IfErr result (IsStopOf A (R.remaining net.old) (O.text_of files.now)) }
+    ensures calls { R.calls net.new ≤ R.calls net.old + 16777216 }
 {
     let plan = read_plan(alloc, net, files)?;
     let answer = check(alloc, &plan)?;
@@ -115,13 +122,14 @@ fn read_checked<A: Allocator + Copy, R: Read, O: Open>(
 }
 
 /// The plan of the texts that are read, or why there is none.
-pub fn read_plan<A: Allocator + Copy, R: Read, O: Open>(
+pub fn read_plan<A: Allocator + Copy, R: CountedRead, O: Open>(
     alloc: A,
     net: &mut R,
     files: &O,
 ) -> Result<Plan<A>, Stop>
     ensures plan { IfOk result (IsPlanRead (R.remaining net.old) (O.text_of files.now)) }
     ensures stop { IfErr result (IsStopOf A (R.remaining net.old) (O.text_of files.now)) }
+    ensures calls { R.calls net.new ≤ R.calls net.old + 16777216 }
 {
     let text = read_whole(alloc, net)?;
     let names = conf_names(alloc, &text)?;
@@ -160,12 +168,13 @@ pub fn read_confs<A: Allocator + Copy, O: Open>(
 }
 
 // What becomes of the steps that are read, in the network of the plan, whichever answer the plan has.
-fn replay_read<A: Allocator + Copy, S: Read>(
+fn replay_read<A: Allocator + Copy, S: CountedRead>(
     alloc: A,
     plan: &Plan<A>,
     steps: &mut S,
 ) -> Result<Said<A>, ReadFault>
-    ensures { (found : Answer) → IsYesEarned plan.now found → IfOk result (λ said. AreReplayed plan.now found (S.remaining steps.old) said.lines.items said.status) }
+    ensures replayed { (found : Answer) → IsYesEarned plan.now found → IfOk result (λ said. AreReplayed plan.now found (S.remaining steps.old) said.lines.items said.status) }
+    ensures calls { S.calls steps.new ≤ S.calls steps.old + 16777216 }
 {
     let text = read_whole(alloc, steps)?;
     let said = replay(alloc, plan, &text)?;

@@ -6,10 +6,9 @@ ghost use Rattle.plan_lines.specs.Plans.{IsRelayOfText};
 ghost use Rattle.relay_reading.specs.Stops.{IsRelayRead, IsConfStop, IsTextStop};
 
 use conf_text::{ConfError, ConfFault};
-use program_text::{ReadFault, read_whole};
+use program_text::{CountedRead, ReadFault, read_whole};
 use relay_conf::{Relay, RelayError, RelayFault};
 use std::alloc::Allocator;
-use std::io::Read;
 
 /// Why a configuration isn't read.
 #[derive(Clone, Copy, Debug, PartialEq, Eq)]
@@ -35,7 +34,7 @@ impl From<ReadFault> for ConfStop {
 
 /// The relay that the text describes, each of whose buffers is that of one output. Else the first fault of the text, or of what it
 /// says; or the text isn't read.
-pub fn read_relay<A: Allocator + Copy, R: Read>(
+pub fn read_relay<A: Allocator + Copy, R: CountedRead>(
     alloc: A,
     input: &mut R,
 ) -> Result<Relay<A>, ConfStop>

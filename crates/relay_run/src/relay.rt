@@ -12,13 +12,13 @@ use crate::voice::Voice;
 use conf_values::whole_number;
 use loop_core::LoopFault;
 use mio_relay::BoundRelay;
-use program_text::{Status, put_all, put_last};
+use program_text::{CountedRead, Status, put_all, put_last};
 use relay_conf::Relay;
 use relay_ports::RelaySetup;
 use relay_reading::{print_conf_stop, read_relay};
 use relay_sockets::{NetFault, Network, SocketNetwork};
 use std::alloc::Global;
-use std::io::{Read, Write};
+use std::io::Write;
 use std::marker::Model;
 use std::net::{Net, TcpListener, TcpStream};
 use std::random::RandomSource;
@@ -65,7 +65,7 @@ where
 
     /// Runs the relay of this configuration under this number until a fault: prints `ready` and the port of each source once
     /// clients can connect, and in the end the fault. `None` where the number is none: then nothing is read or printed.
-    pub fn run_relay<I: Read, W: Write>(
+    pub fn run_relay<I: CountedRead, W: Write>(
         &self,
         conf: &mut I,
         number: &str,
@@ -82,7 +82,7 @@ where
     }
 
     // Runs the relay of this configuration, or prints why there is none.
-    fn run_conf<I: Read, W: Write>(&self, conf: &mut I, number: u32, out: &mut W) -> Status
+    fn run_conf<I: CountedRead, W: Write>(&self, conf: &mut I, number: u32, out: &mut W) -> Status
         ensures { PrintsRelay self.now number (I.remaining conf.old) (W.contents out.old) (W.contents out.new) result }
     {
         let alloc = self.rt.alloc();

@@ -16,10 +16,10 @@ use labelled_check::{LabelledCheck, check_dropping};
 use loss_checker::{BrokenRule, Plan, PlanError, conf_names};
 use plan_answers::{Stop, print_stop, read_confs};
 use plan_warnings::{put_stale_reaches, put_warnings};
-use program_text::{Open, ReadFault, Status, put_last, read_whole};
+use program_text::{CountedRead, Open, ReadFault, Status, put_last, read_whole};
 use rule_advice::Texts;
 use std::alloc::{AllocError, Allocator};
-use std::io::{Read, Write};
+use std::io::Write;
 use text_lines::lines;
 
 /// Labels the plan that `net` gives, by this name in what is printed, at whose named matches events may go on purpose: in place of the
@@ -27,7 +27,7 @@ use text_lines::lines;
 /// and warnings of what may keep events from arriving; or every place where a rule is broken, and behind them, the shortest first, what each broken
 /// rule means, what mends it, and steps that lose an acknowledged event, where some were found. Of a plan without relays or clients,
 /// of a fault, and of names that mean no match, it says so in `faults`. Each text is read whole before a fault of the plan is looked for.
-pub fn run_check<A: Allocator + Copy, R: Read, O: Open, W: Write, F: Write>(
+pub fn run_check<A: Allocator + Copy, R: CountedRead, O: Open, W: Write, F: Write>(
     alloc: A,
     name: &str,
     net: &mut R,
@@ -44,7 +44,14 @@ pub fn run_check<A: Allocator + Copy, R: Read, O: Open, W: Write, F: Write>(
 
 /// The same of the plan with its configurations adapted, as `relayctl adapt` prints them. Where something of them isn't accepted, by a
 /// name among these words, it prints what in place of an answer; and says in `faults` that one of them has a fault.
-pub fn run_adapted_check<A: Allocator + Copy, B: Allocator, R: Read, O: Open, W: Write, F: Write>(
+pub fn run_adapted_check<
+    A: Allocator + Copy,
+    B: Allocator,
+    R: CountedRead,
+    O: Open,
+    W: Write,
+    F: Write,
+>(
     alloc: A,
     name: &str,
     net: &mut R,
@@ -88,7 +95,7 @@ enum Check<A: Allocator> {
 }
 
 // What is said of the texts that are read.
-fn check_read<A: Allocator + Copy, R: Read, O: Open>(
+fn check_read<A: Allocator + Copy, R: CountedRead, O: Open>(
     alloc: A,
     name: &str,
     net: &mut R,
@@ -105,7 +112,7 @@ fn check_read<A: Allocator + Copy, R: Read, O: Open>(
 }
 
 // The same with the configurations adapted.
-fn check_adapted<A: Allocator + Copy, B: Allocator, R: Read, O: Open>(
+fn check_adapted<A: Allocator + Copy, B: Allocator, R: CountedRead, O: Open>(
     alloc: A,
     name: &str,
     net: &mut R,

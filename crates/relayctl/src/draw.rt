@@ -5,10 +5,10 @@ use labelled_check::check_labelled;
 use loss_checker::{PlanError, conf_names};
 use plan_answers::{Stop, print_stop, read_confs};
 use plan_drawing::{draw_dot, draw_text};
-use program_text::{Open, ReadFault, Status, put_last, read_whole};
+use program_text::{CountedRead, Open, ReadFault, Status, put_last, read_whole};
 use rule_advice::Texts;
 use std::alloc::Allocator;
-use std::io::{Read, Write};
+use std::io::Write;
 use text_lines::lines;
 
 /// How a plan is drawn.
@@ -22,7 +22,7 @@ pub enum Drawing {
 
 /// Labels the plan that `net` gives, by this name in what is printed, and prints a picture of it, in which each place where a rule is
 /// broken has a mark. Of a fault it says so in `faults`. Each text is read whole before a fault of the plan is looked for.
-pub fn run_draw<A: Allocator + Copy, R: Read, O: Open, W: Write, F: Write>(
+pub fn run_draw<A: Allocator + Copy, R: CountedRead, O: Open, W: Write, F: Write>(
     alloc: A,
     name: &str,
     drawing: Drawing,
@@ -39,7 +39,7 @@ pub fn run_draw<A: Allocator + Copy, R: Read, O: Open, W: Write, F: Write>(
 }
 
 // The picture of the texts that are read, or what is said of the plan's fault.
-fn draw_read<A: Allocator + Copy, R: Read, O: Open>(
+fn draw_read<A: Allocator + Copy, R: CountedRead, O: Open>(
     alloc: A,
     name: &str,
     drawing: Drawing,

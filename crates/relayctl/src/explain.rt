@@ -9,16 +9,16 @@ use crate::drops::{put_drops, say_missing};
 use deliberate_drops::{DropError, DropName, DroppedPlanError, plan_with_drops};
 use loss_checker::{Answer, Plan, PlanError, check, conf_names};
 use plan_answers::{Stop, print_stop, read_confs};
-use program_text::{Open, ReadFault, Status, put_last, read_whole};
+use program_text::{CountedRead, Open, ReadFault, Status, put_last, read_whole};
 use rule_advice::{Texts, explain, explain_fault};
 use std::alloc::{AllocError, Allocator};
-use std::io::{Read, Write};
+use std::io::Write;
 
 /// Prints the checker's answer to the plan that `net` gives, by this name in what is printed, at whose named matches events may go on purpose: in
 /// place of the outputs of each stands a sink that keeps. Behind a yes it prints the matches at which events may go; behind a no what the broken
 /// rule means, what mends it, and steps that lose an acknowledged event, where some were found. Or it prints the plan's first fault, and what that
 /// means and what mends it, or which of the names mean no match. Each text is read whole before a fault of the plan is looked for.
-pub fn run_explain<A: Allocator + Copy, R: Read, O: Open, W: Write>(
+pub fn run_explain<A: Allocator + Copy, R: CountedRead, O: Open, W: Write>(
     alloc: A,
     name: &str,
     net: &mut R,
@@ -42,7 +42,7 @@ pub(crate) struct Said<A: Allocator> {
 }
 
 // What is said of the texts that are read.
-fn explain_read<A: Allocator + Copy, R: Read, O: Open>(
+fn explain_read<A: Allocator + Copy, R: CountedRead, O: Open>(
     alloc: A,
     name: &str,
     net: &mut R,

@@ -7,13 +7,13 @@ ghost use Rattle.relayctl.specs.Labels.{IsLabelledPlan, IsWithoutLabels, PrintsF
 use label_plan::{labelled_text, without_labels};
 use loss_checker::conf_names;
 use plan_answers::{Stop, print_stop, read_confs, stop_of};
-use program_text::{Open, ReadFault, Status, put_last, read_whole};
+use program_text::{CountedRead, Open, ReadFault, Status, put_last, read_whole};
 use std::alloc::Allocator;
-use std::io::{Read, Write};
+use std::io::Write;
 
 /// Prints the plan that `net` gives with the labels and reaches that it lacks, each as a line behind its own; or that no such lines were
 /// found, or the plan's first fault. Each text is read whole before a fault of the plan is looked for.
-pub fn run_label<A: Allocator + Copy, R: Read, O: Open, W: Write>(
+pub fn run_label<A: Allocator + Copy, R: CountedRead, O: Open, W: Write>(
     alloc: A,
     net: &mut R,
     files: &O,
@@ -29,7 +29,7 @@ pub fn run_label<A: Allocator + Copy, R: Read, O: Open, W: Write>(
 }
 
 /// The same of the plan without its own labels and reaches.
-pub fn run_fresh_label<A: Allocator + Copy, R: Read, O: Open, W: Write>(
+pub fn run_fresh_label<A: Allocator + Copy, R: CountedRead, O: Open, W: Write>(
     alloc: A,
     net: &mut R,
     files: &O,
@@ -44,7 +44,10 @@ pub fn run_fresh_label<A: Allocator + Copy, R: Read, O: Open, W: Write>(
 }
 
 // The text of the plan that is read, without its labels and reaches.
-fn fresh_read<A: Allocator + Copy, R: Read>(alloc: A, net: &mut R) -> Result<Vec<u8, A>, ReadFault>
+fn fresh_read<A: Allocator + Copy, R: CountedRead>(
+    alloc: A,
+    net: &mut R,
+) -> Result<Vec<u8, A>, ReadFault>
     ensures { IfOk result (IsWithoutLabels (R.remaining net.old)) }
 {
     let text = read_whole(alloc, net)?;
@@ -52,7 +55,7 @@ fn fresh_read<A: Allocator + Copy, R: Read>(alloc: A, net: &mut R) -> Result<Vec
 }
 
 // The text of the plan that is read, with the labels and reaches that it lacks.
-fn label_read<A: Allocator + Copy, R: Read, O: Open>(
+fn label_read<A: Allocator + Copy, R: CountedRead, O: Open>(
     alloc: A,
     net: &mut R,
     files: &O,

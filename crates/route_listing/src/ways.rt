@@ -11,17 +11,17 @@ ghost use Rattle.tag_pattern.specs.Prefixes.{entered_tag};
 ghost use Rattle.tag_pattern.specs.Parts.{most_tag_bytes};
 
 use crate::outputs::put_buffer;
-use program_text::{Status, put_last};
+use program_text::{CountedRead, Status, put_last};
 use relay_conf::{BufferNo, Relay, Source};
 use relay_reading::{print_conf_stop, read_relay};
 use route_graph::{Routes, Way};
 use std::alloc::{AllocError, Allocator};
-use std::io::{Read, Write};
+use std::io::Write;
 use tag_pattern::{Prefix, Tag, TagError};
 
 /// Prints where each tag goes that comes to a source of the relay that `conf` describes: a line for each source and each tag, with the
 /// outputs in the order first reached. Or it prints the first fault of the configuration.
-pub fn run_ways<A: Allocator + Copy, B: Allocator, R: Read, W: Write>(
+pub fn run_ways<A: Allocator + Copy, B: Allocator, R: CountedRead, W: Write>(
     alloc: A,
     conf: &mut R,
     tags: &[String<B>],

@@ -1,6 +1,6 @@
 //! A hex text is read by pieces, and each message in it is listed as soon as it is whole.
 
-ghost use Rattle.std.specs.Prelude.{◌≡◌, ◌<◌, ◌++◌, ℕ, List, [], length, None, MatchResult};
+ghost use Rattle.std.specs.Prelude.{◌≡◌, ◌<◌, ◌≤◌, ◌+◌, ◌++◌, ℕ, List, [], length, None, MatchResult};
 ghost use Rattle.event_modes.specs.Stream.{Arrival, Splits};
 ghost use Rattle.stream_listing.specs.Listing.{lines_of, PrintsListing};
 ghost use Rattle.stream_listing.specs.Decoding.{IsHeld, StopsAt, Lists, IsLast, IsLastAtEnd, PrintsLast};
@@ -8,21 +8,24 @@ ghost use Rattle.stream_listing.specs.Decoding.{IsHeld, StopsAt, Lists, IsLast, 
 use crate::hex_text::{HexFault, HexText};
 use crate::lines::put_message;
 use event_modes::{Feed, FeedError, ModeFault, Next};
-use program_text::{MOST_READS, OutputFault, PIECE, ReadFault, Status, put_all, put_last};
+use program_text::{
+    CountedRead, MOST_READS, OutputFault, PIECE, ReadFault, Status, put_all, put_last,
+};
 use std::alloc::{AllocError, Allocator};
 use std::io;
-use std::io::{ErrorKind, Read, Write};
+use std::io::{ErrorKind, Write};
 
 /// Lists the messages of a hex text: the lines of each as soon as it is whole.
 ///
-/// The status is `Done` at the end of the text, `No` after a fault of the stream, and `Usage` after bad hex, and where memory ran
+/// The reader is called `MOST_READS` times at most. The status is `Done` at the end of the text, `No` after a fault of the stream, and `Usage` after bad hex, and where memory ran
 /// out or the reader or the writer failed.
-pub fn run_decode<A: Allocator + Copy, R: Read, W: Write>(
+pub fn run_decode<A: Allocator + Copy, R: CountedRead, W: Write>(
     alloc: A,
     input: &mut R,
     out: &mut W,
 ) -> Status
-    ensures { PrintsListing (R.remaining input.old) (W.contents out.old) (W.contents out.new) result }
+    ensures printed { PrintsListing (R.remaining input.old) (W.contents out.old) (W.contents out.new) result }
+    ensures calls { R.calls input.new ≤ R.calls input.old + 16777216 }
 {
     match Vec::from_elem(alloc, 0, PIECE) {
         Ok(mut piece) => decode_pieces(alloc, &mut piece, input, out),
@@ -179,14 +182,15 @@ fn end<A: Allocator, W: Write>(alloc: A, stop: Stop, out: &mut W) -> Status
 }
 
 // Lists what comes in pieces.
-fn decode_pieces<A: Allocator + Copy, R: Read, W: Write>(
+fn decode_pieces<A: Allocator + Copy, R: CountedRead, W: Write>(
     alloc: A,
     piece: &mut [u8],
     input: &mut R,
     out: &mut W,
 ) -> Status
     requires { 0 < length piece.old }
-    ensures { PrintsListing (R.remaining input.old) (W.contents out.old) (W.contents out.new) result }
+    ensures printed { PrintsListing (R.remaining input.old) (W.contents out.old) (W.contents out.new) result }
+    ensures calls { R.calls input.new ≤ R.calls input.old + 16777216 }
 {
     let mut decoder = Decoder::new(alloc);
     for _ in 0..MOST_READS {

@@ -1,8 +1,8 @@
 //! Listings of texts that come slowly or without an end, and at a writer that fails.
 
-use program_text::Status;
+use program_text::{CountedRead, Status};
 use std::io;
-use std::io::{ErrorKind, Read, Write};
+use std::io::{ErrorKind, Write};
 use std::test::Fail;
 use stream_listing::run_decode;
 
@@ -52,7 +52,7 @@ struct Slow<'a> {
     fails: bool,
 }
 
-impl Read for Slow<'_> {
+impl CountedRead for Slow<'_> {
     fn read(&mut self, buf: &mut [u8]) -> io::Result<usize> {
         self.is_interrupted = !self.is_interrupted;
         if self.is_interrupted {
@@ -79,7 +79,7 @@ struct Endless {
     calls: u64,
 }
 
-impl Read for Endless {
+impl CountedRead for Endless {
     fn read(&mut self, _: &mut [u8]) -> io::Result<usize> {
         self.calls = self.calls.saturating_add(1);
         Err(io::Error::from(ErrorKind::Interrupted))

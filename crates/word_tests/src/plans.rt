@@ -1,9 +1,9 @@
 //! Texts that come without an end.
 
 use plan_answers::{run_check, run_replay};
-use program_text::{Open, Status};
+use program_text::{CountedRead, Open, Status};
 use std::io;
-use std::io::{ErrorKind, Read};
+use std::io::ErrorKind;
 use std::test::Fail;
 use stream_listing::run_decode;
 
@@ -53,7 +53,7 @@ struct Text {
     rest: &'static [u8],
 }
 
-impl Read for Text {
+impl CountedRead for Text {
     fn read(&mut self, buf: &mut [u8]) -> io::Result<usize> {
         self.rest.read(buf)
     }
@@ -65,7 +65,7 @@ struct Endless {
     calls: u64,
 }
 
-impl Read for Endless {
+impl CountedRead for Endless {
     fn read(&mut self, buf: &mut [u8]) -> io::Result<usize> {
         self.calls = self.calls.saturating_add(1);
         match buf.first_mut() {

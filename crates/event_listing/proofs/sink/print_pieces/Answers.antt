@@ -11,7 +11,7 @@ pub loop-init : goal.loop-init
 loop-init g c = record {
   read = [];
   text = [];
-  consumed = Consumes-nil (g.R.Read.remaining c.args.input.now);
+  consumed = Consumes-nil (g.R.CountedRead.remaining c.args.input.now);
   written = Appends-nil (g.W.Write.contents c.args.out.now);
   printed = prints_none c.args.choice.now c.new-held.result.bytes.items c.new-held.ensures.bytes;
   at_is = omega (arith, c.new-held.ensures.at, ap length c.new-held.ensures.bytes);
@@ -20,13 +20,13 @@ loop-init g c = record {
 pub returns-in-Ok-eq0 : goal.returns-in-Ok-eq0
 returns-in-Ok-eq0 g c =
     let so_far = c.loop.invariant in
-    let input = g.R.Read.remaining in
+    let input = g.R.CountedRead.remaining in
     let out = g.W.Write.contents in
-    let read = subst (λ r. ReadConsumes (input c.loop.input) (input c.read.new.self) r c.read.new.buf) c.in-Ok-eq0.is c.read.ensures.bytes in
+    let read = subst (λ r. ReadConsumes (input c.loop.input) (input c.read.new.self) r c.read.new.piece) c.in-Ok-eq0.is c.read.ensures.bytes in
     let zero : c.in-Ok-eq0.field-0 ≡ 0 = search rules in
-    let some : 0 < length c.read.new.buf = omega (arith, c.requires, c.loop.auto.piece, c.read.auto.buf) in
+    let some : 0 < length c.read.new.piece = omega (arith, c.requires, c.loop.auto.piece, c.read.auto.piece) in
     let nothing : Consumes (input c.loop.input) (input c.read.new.self) [] =
-    subst (λ n. Consumes (input c.loop.input) (input c.read.new.self) (take n c.read.new.buf)) zero read.0 in
+    subst (λ n. Consumes (input c.loop.input) (input c.read.new.self) (take n c.read.new.piece)) zero read.0 in
     let behind : c.len.result ≡ length c.loop.held.bytes.items = search rules in
     file_ended c.args.choice.now (input c.args.input.now) (input c.read.new.self) (out c.args.out.now) (out c.loop.out) so_far.read so_far.text c.loop.held.bytes.items c.loop.held.at c.len.result
     (subst (Consumes (input c.args.input.now) (input c.read.new.self)) (append-nil so_far.read)
@@ -36,9 +36,9 @@ returns-in-Ok-eq0 g c =
 pub returns-in-Err-print : goal.returns-in-Err-print
 returns-in-Err-print g c =
     let so_far = c.loop.invariant in
-    let input = g.R.Read.remaining in
+    let input = g.R.CountedRead.remaining in
     let out = g.W.Write.contents in
-    let piece = take c.in-Ok.n c.read.new.buf in
+    let piece = take c.in-Ok.n c.read.new.piece in
     file_cut c.args.choice.now (input c.args.input.now) (input c.read.new.self) (out c.args.out.now) (out c.loop.out) (out c.print.new.out) so_far.read piece so_far.text c.loop.held.bytes.items
     c.loop.held.at (c.print.new.self.at, c.print.new.self.bytes.items) c.in-Err-print.stop
     (Consumes-trans (input c.args.input.now) (input c.loop.input) (input c.read.new.self) so_far.read piece so_far.consumed c.in-Ok.ensures.bytes.0)
@@ -46,19 +46,19 @@ returns-in-Err-print g c =
 
 pub returns-then-len-gt-LONGEST_ITEM : goal.returns-then-len-gt-LONGEST_ITEM
 returns-then-len-gt-LONGEST_ITEM g c =
-    let input = g.R.Read.remaining in
+    let input = g.R.CountedRead.remaining in
     let out = g.W.Write.contents in
     let left = c.print.new.self.bytes.items in
     let same : c.len-in-Ok.result ≡ length left = search rules in
     let long : longest_item < length left = omega arith in
     piece_long c.args.choice.now (input c.args.input.now) (input c.read.new.self) (out c.args.out.now) (out c.print.new.out) left c.print.new.self.at
     (piece_more c.args.choice.now (input c.args.input.now) (input c.loop.input) (input c.read.new.self) (out c.args.out.now) (out c.loop.out) (out c.print.new.out) c.loop.held.bytes.items
-    (take c.in-Ok.n c.read.new.buf) left c.loop.held.at c.print.new.self.at c.print.result c.in_default.field-0 c.loop.invariant c.in-Ok.ensures.bytes.0 c.print.ensures c.in_default.is)
+    (take c.in-Ok.n c.read.new.piece) left c.loop.held.at c.print.new.self.at c.print.result c.in_default.field-0 c.loop.invariant c.in-Ok.ensures.bytes.0 c.print.ensures c.in_default.is)
     long
 
 pub loop-preserved : goal.loop-preserved
 loop-preserved g c =
-    let input = g.R.Read.remaining in
+    let input = g.R.CountedRead.remaining in
     let out = g.W.Write.contents in
     let chosen = c.args.choice.now in
     let known = input c.args.input.now in
@@ -69,7 +69,7 @@ loop-preserved g c =
       | in-Ok+in_default+else-len-gt-LONGEST_ITEM w ↦
           subst (λ o. FileOn chosen known now old (out o) c.match-read.held.bytes.items c.match-read.held.at) (sym w.out-is)
           (subst (λ h. FileOn chosen known now old (out w.print.new.out) h.bytes.items h.at) (sym w.held-is)
-          (piece_more chosen known (input c.loop.input) now old (out c.loop.out) (out w.print.new.out) c.loop.held.bytes.items (take w.in-Ok.n c.read.new.buf) w.print.new.self.bytes.items c.loop.held.at
+          (piece_more chosen known (input c.loop.input) now old (out c.loop.out) (out w.print.new.out) c.loop.held.bytes.items (take w.in-Ok.n c.read.new.piece) w.print.new.self.bytes.items c.loop.held.at
           w.print.new.self.at w.print.result w.in_default.field-0 so_far w.in-Ok.ensures.bytes.0 w.print.ensures w.in_default.is))
       | in-Err w ↦
           let kept : FileOn chosen known now old (out c.loop.out) c.loop.held.bytes.items c.loop.held.at = record {
@@ -87,7 +87,7 @@ loop-preserved g c =
 pub returns-in-Err-2 : goal.returns-in-Err-2
 returns-in-Err-2 g c =
     let so_far = c.loop.invariant in
-    let input = g.R.Read.remaining in
+    let input = g.R.CountedRead.remaining in
     let out = g.W.Write.contents in
     file_stopped c.args.choice.now (input c.args.input.now) (input c.read.new.self) (out c.args.out.now) (out c.loop.out) so_far.read so_far.text c.loop.held.bytes.items c.of_reader.result
     (Consumes-kept (input c.args.input.now) (input c.loop.input) (input c.read.new.self) so_far.read so_far.consumed c.in-Err-2.ensures.bytes) so_far.written so_far.printed
@@ -95,6 +95,6 @@ returns-in-Err-2 g c =
 pub returns : goal.returns
 returns g c =
     let so_far = c.loop.invariant in
-    let input = g.R.Read.remaining in
+    let input = g.R.CountedRead.remaining in
     let out = g.W.Write.contents in
     file_stopped c.args.choice.now (input c.args.input.now) (input c.loop.input) (out c.args.out.now) (out c.loop.out) so_far.read so_far.text c.loop.held.bytes.items Read so_far.consumed so_far.written so_far.printed

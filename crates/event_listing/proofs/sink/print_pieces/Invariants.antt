@@ -3,4 +3,4 @@ use Rattle.event_listing.proofs.sink.print_pieces.Given as goal
 
 abbrev pub invariant-loop : goal.invariant-loop
 invariant-loop g l =
-    FileOn l.choice (g.R.Read.remaining l.fn.input) (g.R.Read.remaining l.input) (g.W.Write.contents l.fn.out) (g.W.Write.contents l.out) l.held.bytes.items l.held.at
+    FileOn l.choice (g.R.CountedRead.remaining l.fn.input) (g.R.CountedRead.remaining l.input) (g.W.Write.contents l.fn.out) (g.W.Write.contents l.out) l.held.bytes.items l.held.at

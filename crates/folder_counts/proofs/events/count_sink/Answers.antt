@@ -6,5 +6,5 @@ use Rattle.folder_counts.proofs.events.count_sink.Goals as goal
 pub returns-in-Ok : goal.returns-in-Ok
 returns-in-Ok g c =
     let held = c.feed_all.new.fed in
-    if_known (λ bytes. IsHeldAfter held.events held.taken held.bytes.items bytes) (λ bytes. IsInSink bytes c.counts.result) (g.R.Read.remaining c.args.input.now) c.in-Ok.ensures.whole
+    if_known (λ bytes. IsHeldAfter held.events held.taken held.bytes.items bytes) (λ bytes. IsInSink bytes c.counts.result) (g.R.CountedRead.remaining c.args.input.now) c.in-Ok.ensures.whole
     (λ bytes on. c.counts.ensures bytes on)

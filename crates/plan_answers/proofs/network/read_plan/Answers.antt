@@ -17,7 +17,7 @@ returns-in-Ok-clause-plan g c =
     record {
       text = text;
       confs = confs;
-      read = are_read (g.R.Read.remaining c.args.net.now) (g.O.Open.text_of c.args.files.now) text c.deref-2.result.now confs c.in_ok-text.ensures.whole names c.in_ok-confs.ensures.texts;
+      read = are_read (g.R.CountedRead.remaining c.args.net.now) (g.O.Open.text_of c.args.files.now) text c.deref-2.result.now confs c.in_ok-text.ensures.whole names c.in_ok-confs.ensures.texts;
       plan_is = said;
     }
 
@@ -31,11 +31,11 @@ returns g c =
     (subst (λ v. IsRefusal g.row.A.Denot c.deref-3.result.now (texts_of v) c.in-Err.fault) c.deref-4.ensures.value c.in-Err.ensures.refused) in
     record {
       plan = tt;
-      stop = refused_stop g.row.A.Denot (g.R.Read.remaining c.args.net.now) (g.O.Open.text_of c.args.files.now) c.in-Err.fault c.stop_of.result
+      stop = refused_stop g.row.A.Denot (g.R.CountedRead.remaining c.args.net.now) (g.O.Open.text_of c.args.files.now) c.in-Err.fault c.stop_of.result
           (record {
             text = text;
             confs = confs;
-            read = are_read (g.R.Read.remaining c.args.net.now) (g.O.Open.text_of c.args.files.now) text c.deref-2.result.now confs c.in_ok-text.ensures.whole names c.in_ok-confs.ensures.texts;
+            read = are_read (g.R.CountedRead.remaining c.args.net.now) (g.O.Open.text_of c.args.files.now) text c.deref-2.result.now confs c.in_ok-text.ensures.whole names c.in_ok-confs.ensures.texts;
             refused = said;
           })
           c.stop_of.ensures;

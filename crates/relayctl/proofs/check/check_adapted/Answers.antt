@@ -10,7 +10,7 @@ use Rattle.relayctl.proofs.check.check_adapted.Goals as goal
 
 pub returns-in-Texts : goal.returns-in-Texts
 returns-in-Texts g c =
-    let net = g.R.Read.remaining c.args.net.now in
+    let net = g.R.CountedRead.remaining c.args.net.now in
     let named = g.O.Open.text_of c.args.files.now in
     let text = c.in_ok-text.text.items in
     let confs = texts_of c.in_ok-confs.confs.items in
@@ -27,7 +27,7 @@ returns-in-Texts g c =
 
 pub returns : goal.returns
 returns g c =
-    let net = g.R.Read.remaining c.args.net.now in
+    let net = g.R.CountedRead.remaining c.args.net.now in
     let named = g.O.Open.text_of c.args.files.now in
     let text = c.in_ok-text.text.items in
     let confs = texts_of c.in_ok-confs.confs.items in

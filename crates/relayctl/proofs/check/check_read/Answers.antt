@@ -8,7 +8,7 @@ use Rattle.relayctl.proofs.check.check_read.Goals as goal
 
 pub returns : goal.returns
 returns g c =
-    let net = g.R.Read.remaining c.args.net.now in
+    let net = g.R.CountedRead.remaining c.args.net.now in
     let named = g.O.Open.text_of c.args.files.now in
     let text = c.in_ok-text.text.items in
     let confs = texts_of c.in_ok-confs.confs.items in

@@ -11,7 +11,7 @@ use Rattle.relayctl.proofs.explain.explain_read.Goals as goal
 
 pub returns-in-Ok : goal.returns-in-Ok
 returns-in-Ok g c =
-    let net = g.R.Read.remaining c.args.net.now in
+    let net = g.R.CountedRead.remaining c.args.net.now in
     let named = g.O.Open.text_of c.args.files.now in
     let text = c.in_ok-text.text.items in
     let confs = texts_of c.in_ok-confs.confs.items in
@@ -23,7 +23,7 @@ returns-in-Ok g c =
 
 pub returns-in-Err-Plan : goal.returns-in-Err-Plan
 returns-in-Err-Plan g c =
-    let net = g.R.Read.remaining c.args.net.now in
+    let net = g.R.CountedRead.remaining c.args.net.now in
     let named = g.O.Open.text_of c.args.files.now in
     let text = c.in_ok-text.text.items in
     let confs = texts_of c.in_ok-confs.confs.items in
@@ -40,7 +40,7 @@ returns-in-Err-Plan g c =
 
 pub returns : goal.returns
 returns g c =
-    let net = g.R.Read.remaining c.args.net.now in
+    let net = g.R.CountedRead.remaining c.args.net.now in
     let named = g.O.Open.text_of c.args.files.now in
     let text = c.in_ok-text.text.items in
     let confs = texts_of c.in_ok-confs.confs.items in

@@ -13,11 +13,13 @@ run_pool-done-requires-sync-C g c κs = let k : IsSync Carrier.the_field.row = C
 
 pub invariant_of-result : goal.invariant_of-result
 invariant_of-result g c =
-    let same = c.self.view_is ∙ sym c.of-of.ensures in
-    (_, ended_at _ _ c.deref.result.now c.of-of.result.value.job.terms c.self.inside.carrier c.of-of.result.value.carrier _ c.telling-retries.result
-    (settings_of c.of-of.result.value.job.output).retry c.self.inside.threads (settings_of c.of-of.result.value.job.output).flush_thread_count c.run_pool-done.result
-    (c.deref.ensures ∙ c.self.invariant.0 ∙ ap (λ (p : PoolState). p.job.terms) same)
-    (ap (λ (p : PoolState). p.carrier) same)
-    (c.telling-retries.ensures ∙ c.new.ensures ∙ c.self.invariant.2 ∙ ap (λ (p : PoolState). (settings_of p.job.output).retry) same)
-    (c.self.invariant.1 ∙ ap (λ (p : PoolState). (settings_of p.job.output).flush_thread_count) same)
-    c.run_pool-done.ensures)
+    let same = c.self.view_is ∙ sym c.of-of.ensures in (
+      _,
+      ended_at _ _ c.deref.result.now c.of-of.result.value.job.terms c.self.inside.carrier c.of-of.result.value.carrier _ c.telling-retries.result
+          (settings_of c.of-of.result.value.job.output).retry c.self.inside.threads (settings_of c.of-of.result.value.job.output).flush_thread_count c.run_pool-done.result
+          (c.deref.ensures ∙ c.self.invariant.0 ∙ ap (λ (p : PoolState). p.job.terms) same)
+          (ap (λ (p : PoolState). p.carrier) same)
+          (c.telling-retries.ensures ∙ c.new.ensures ∙ c.self.invariant.2 ∙ ap (λ (p : PoolState). (settings_of p.job.output).retry) same)
+          (c.self.invariant.1 ∙ ap (λ (p : PoolState). (settings_of p.job.output).flush_thread_count) same)
+          c.run_pool-done.ensures,
+    )
