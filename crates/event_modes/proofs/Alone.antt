@@ -10,7 +10,7 @@ use Rattle.msgpack_bytes.specs.declared.format.Container.{Container}
 use Rattle.msgpack_bytes.specs.declared.format.Container.TheVariants as container
 use Rattle.msgpack_bytes.specs.Format.{big_endian, items_in, shape_of}
 use Rattle.msgpack_bytes.specs.Item.{Sizes, IsScalarHeader, IsContainerHeader, IsScalar, Row, Item, longest, IsItemWithin}
-use Rattle.msgpack_bytes.specs.Kinds.{IsText, Unsigned}
+use Rattle.msgpack_bytes.specs.Kinds.{IsText, Unsigned, Positive}
 use Rattle.msgpack_bytes.specs.Containers.{IsPart, IsArray}
 use Rattle.event_modes.specs.Entry.{IsEventTime, IsTime, IsRecord}
 use Rattle.event_modes.specs.Message.{Single}
@@ -137,6 +137,18 @@ seconds_found (x ∷ more) h e m = record {
   );
   map = m;
   whole = ap (λ (b : ℕ). b ∷ more) e ∙ ap (λ (z : List ℕ). 0xce ∷ z) (cut_at more 4 (omega arith));
+}
+
+pub one_byte_found : (bytes : List ℕ) → 1 < length bytes → get_or bytes 0 0 < 0x80 → BeginsMap (get_or bytes 1 0) → BeginsEvent bytes
+one_byte_found [] h e m = absurd (omega arith)
+one_byte_found (x ∷ []) h e m = absurd (omega arith)
+one_byte_found (x ∷ y ∷ more) h e m = record {
+  time = x ∷ [];
+  first = y;
+  rest = more;
+  is_time = inl (pos x, Positive x e refl refl);
+  map = m;
+  whole = refl;
 }
 
 -- the two parts of an event

@@ -76,7 +76,7 @@ fn cut(bytes: &[u8], start: usize, size: usize) -> Option<(&[u8], &[u8])>
     Some(rest.split_at(size))
 }
 
-// Whether an EventTime of ten bytes or seconds of four stand there, and behind them the first byte of a map.
+// Whether an EventTime of ten bytes, or seconds of four or in one byte, stand there, and behind them the first byte of a map.
 fn begins_event(bytes: &[u8]) -> bool
     ensures { IsTrue result → BeginsEvent bytes.now }
 {
@@ -85,6 +85,9 @@ fn begins_event(bytes: &[u8]) -> bool
     }
     if bytes.len() > 5 && bytes[0] == 0xce {
         return begins_map(bytes[5]);
+    }
+    if bytes.len() > 1 && bytes[0] < 0x80 {
+        return begins_map(bytes[1]);
     }
     false
 }
