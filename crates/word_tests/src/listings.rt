@@ -53,7 +53,7 @@ struct Slow<'a> {
 }
 
 impl CountedRead for Slow<'_> {
-    fn read(&mut self, buf: &mut [u8]) -> io::Result<usize> {
+    fn read(&mut self, piece: &mut [u8]) -> io::Result<usize> {
         self.is_interrupted = !self.is_interrupted;
         if self.is_interrupted {
             return Err(io::Error::from(ErrorKind::Interrupted));
@@ -64,10 +64,10 @@ impl CountedRead for Slow<'_> {
             }
             return Ok(0);
         };
-        if buf.is_empty() {
+        if piece.is_empty() {
             return Ok(0);
         }
-        buf[0] = *byte;
+        piece[0] = *byte;
         self.rest = rest;
         Ok(1)
     }
@@ -80,6 +80,8 @@ struct Endless {
 }
 
 impl CountedRead for Endless {
+    ghost calls = { λ endless. endless.calls };
+
     fn read(&mut self, _: &mut [u8]) -> io::Result<usize> {
         self.calls = self.calls.saturating_add(1);
         Err(io::Error::from(ErrorKind::Interrupted))

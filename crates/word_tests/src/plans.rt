@@ -54,8 +54,8 @@ struct Text {
 }
 
 impl CountedRead for Text {
-    fn read(&mut self, buf: &mut [u8]) -> io::Result<usize> {
-        self.rest.read(buf)
+    fn read(&mut self, piece: &mut [u8]) -> io::Result<usize> {
+        self.rest.read(piece)
     }
 }
 
@@ -66,9 +66,11 @@ struct Endless {
 }
 
 impl CountedRead for Endless {
-    fn read(&mut self, buf: &mut [u8]) -> io::Result<usize> {
+    ghost calls = { λ endless. endless.calls };
+
+    fn read(&mut self, piece: &mut [u8]) -> io::Result<usize> {
         self.calls = self.calls.saturating_add(1);
-        match buf.first_mut() {
+        match piece.first_mut() {
             Some(byte) => {
                 *byte = b' ';
                 Ok(1)
