@@ -11,15 +11,16 @@ use Rattle.relay_conf.specs.declared.buffer.BufferSettings.{BufferSettings}
 use Rattle.relay_ports.specs.declared.buffered.BufferedOutput.{BufferedOutput}
 use Rattle.relay_ports.specs.Outputs.{AreTakesOf, number_of, settings_of}
 
--- a buffer as it was opened: what it takes at most, the name of its files, and its chunks
+-- a buffer as it was opened: what it takes at most, how long its journal is never too long, the name of its files, and its chunks
 pub record Opened : Type 0 where
   pub limits : Limits
+  pub renewed_past : ℕ
   pub name : List ℕ
   pub chunks : State
 
 -- what is remembered of this buffer
 abbrev pub opened_as : {D : Type 0} → Held D → Opened
-opened_as buffer = record { limits = buffer.limits; name = buffer.journal.path; chunks = buffer.chunks }
+opened_as buffer = record { limits = buffer.limits; renewed_past = buffer.renewed_past; name = buffer.journal.path; chunks = buffer.chunks }
 
 -- a buffer that is shared: its terms, and the buffer itself as it was opened
 pub record Shared (D A : Type 0) : Type 0 where
@@ -30,14 +31,20 @@ pub record Shared (D A : Type 0) : Type 0 where
 abbrev pub limits_of : {A : Type 0} → BufferSettings A → Limits
 limits_of settings = record { chunk = settings.chunk_limit_size; total = settings.total_limit_size }
 
+-- past how many bytes the journal of such a buffer may be written anew: 16 MiB in memory, and 256 MiB on a disk
+abbrev pub renewed_past_of : {A : Type 0} → BufferKind A → ℕ
+renewed_past_of Memory = 16777216
+renewed_past_of (File path) = 268435456
+
 -- the files of a buffer that has files are named by its path
 abbrev pub IsNamedBy : {A : Type 0} → BufferKind A → (name : List ℕ) → Type 0
 IsNamedBy Memory name = Unit {0}
 IsNamedBy (File path) name = name ≡ string_bytes path
 
--- a buffer was opened as these settings say: with their limits, and by their name
+-- a buffer was opened as these settings say: with their limits, and by their kind and their name
 pub record IsSetAs {A : Type 0} (settings : BufferSettings A) (buffer : Opened) : Type 0 where
   pub limits : buffer.limits ≡ limits_of settings
+  pub renewed_past : buffer.renewed_past ≡ renewed_past_of settings.kind
   pub name : IsNamedBy settings.kind buffer.name
 
 -- the buffer is of this output of the relay with this number: it has the output's number, and its chunks go as the output's settings say

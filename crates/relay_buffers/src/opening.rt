@@ -5,7 +5,7 @@ ghost use Rattle.disk_files.specs.Disk.{reads};
 ghost use Rattle.disk_files.specs.Moments.{now as now_of};
 ghost use Rattle.journal_files.specs.Folders.{Opens};
 ghost use Rattle.buffer_lanes.specs.Schedules.{staged_at};
-ghost use Rattle.relay_buffers.specs.Owners.{IsBufferOf, IsPlanned, IsScheduledBy, IsSetAs, limits_of, opened_as};
+ghost use Rattle.relay_buffers.specs.Owners.{IsBufferOf, IsPlanned, IsScheduledBy, IsSetAs, limits_of, opened_as, renewed_past_of};
 ghost use Rattle.relay_buffers.specs.Buffers.{AreBuffersOf, ArePlaced, ArePlanned, IsOpenIn};
 ghost use Rattle.relay_ports.specs.Outputs.{settings_of};
 
@@ -159,7 +159,8 @@ fn open_buffer<D: Dir + Drop, A: Allocator + Copy, F: Folders<D, A>>(
 
 // What the configuration says of a buffer, as the buffer takes it.
 fn store_settings<A: Allocator>(settings: &BufferSettings<A>) -> Settings
-    ensures { result.limits ≡ limits_of settings.now }
+    ensures limits { result.limits ≡ limits_of settings.now }
+    ensures renewed_past { result.renewed_past ≡ renewed_past_of settings.now.kind }
 {
     let limits = Limits {
         chunk: settings.chunk_limit_size,
