@@ -148,6 +148,7 @@ impl<D: Dir + Drop, A: Allocator + Copy> Lanes<D, A> {
     ) -> bool
         requires { HasEntries delivery.now buffers.now }
         ensures kept { KeepsLanes self.old self.new }
+        ensures time { self.new.time ≡ self.old.time }
         ensures later { self.new.later ≡ self.old.later }
         ensures appended { IsTrue result → (buffer : BufferNo) → Contains buffers.now buffer
             → EndsWith delivery.now.number (listed_at self.new.waiting buffer) }
@@ -182,6 +183,7 @@ impl<D: Dir + Drop, A: Allocator + Copy> Lanes<D, A> {
     fn append_each<R: Wait>(&mut self, rt: &R, buffers: &[BufferNo], delivery: &Delivery<A>) -> bool
         requires { HasEntries delivery.now buffers.now }
         ensures kept { KeepsLanes self.old self.new }
+        ensures time { self.new.time ≡ self.old.time }
         ensures later { self.new.later ≡ self.old.later }
         ensures appended { IsTrue result → (buffer : BufferNo) → Contains buffers.now buffer
             → EndsWith delivery.now.number (listed_at self.new.waiting buffer) }

@@ -55,6 +55,7 @@ impl<A: Allocator + Copy> Waiting<A> {
         requires made { reserved.asked ≡ asked_of delivery.message }
         requires entries { HasEntries delivery buffers.items }
         ensures kept { KeepsLanes lanes.old lanes.new }
+        ensures time { lanes.new.time ≡ lanes.old.time }
         ensures waits { IfOk result (λ waiting. waiting ≡ record { awaited = awaited_by delivery; receipts = delivery.receipts; buffers = buffers.items }) }
         ensures appended { IfOk result (λ waiting. (buffer : BufferNo) → Contains buffers.items buffer
             → EndsWith delivery.number (listed_at lanes.new.waiting buffer)) }

@@ -85,6 +85,7 @@ impl<A: Allocator + Copy> Peer<A> {
     ) -> Result<(), LoopFault>
         ensures entry { self.new.entry ≡ self.old.entry }
         ensures lanes { KeepsLanes lanes.old lanes.new }
+        ensures time { lanes.new.time ≡ lanes.old.time }
         // No piece is passed over: it is read, unless the session met a fault before.
         ensures read { OnOk result (IsRead piece.now self.old.session self.new.session
             ⊎ ((self.old.session.phase ≡ Over) × (self.new.session ≡ self.old.session))) }
@@ -123,6 +124,7 @@ impl<A: Allocator + Copy> Peer<A> {
         requires { All (λ demand. IsAskedIn self.old.session.asked (wanted demand)) demands.items }
         ensures entry { self.new.entry ≡ self.old.entry }
         ensures lanes { KeepsLanes lanes.old lanes.new }
+        ensures time { lanes.new.time ≡ lanes.old.time }
         ensures session { self.new.session ≡ self.old.session }
         ensures numbered { OnOk result (numbers.new ≡ numbers.old + length (asked_in (map wanted demands.items))) }
         ensures drawn { numbers.old ≤ numbers.new }
@@ -161,6 +163,7 @@ impl<A: Allocator + Copy> Peer<A> {
         ensures entry { self.new.entry ≡ self.old.entry }
         ensures session { self.new.session ≡ self.old.session }
         ensures lanes { KeepsLanes lanes.old lanes.new }
+        ensures time { lanes.new.time ≡ lanes.old.time }
         ensures numbered { OnOk result (numbers.new ≡ numbers.old + 1) }
         ensures drawn { numbers.old ≤ numbers.new }
         ensures closing { self.new.closing ≡ self.old.closing }

@@ -1,9 +1,10 @@
 -- What stays of a loop, where its connections or its network alone change.
-use Rattle.std.proofs.Common.{◌≡◌, ◌∙◌, arith, Bool, List, [], ap, map, refl, subst, sym}
+use Rattle.std.proofs.Common.{ℕ, ◌≡◌, ◌∙◌, arith, Bool, List, [], ap, map, refl, subst, sym}
+use Rattle.std.specs.List.{All}
 use Rattle.ack_receipt.specs.Deliveries.{Pended}
 use Rattle.relay_conf.specs.declared.output.BufferNo.{BufferNo}
-use Rattle.buffer_lanes.specs.Lanes.{AreRedeemed, AreRedeemedAt, LanesState, later_at, listed_at}
-use Rattle.buffer_lanes.specs.Schedules.{timing_of}
+use Rattle.buffer_lanes.specs.Lanes.{AreQueued, AreRedeemed, AreRedeemedAt, LanesState, later_at, listed_at}
+use Rattle.buffer_lanes.specs.Schedules.{IsNoneDue, Plan, timing_of}
 use Rattle.mio_relay.specs.Connections.{AreFlushed, AreSettled}
 use Rattle.mio_relay.specs.Loops.{LoopState, OnlyLaterWait, Rests, Stays}
 
@@ -26,9 +27,24 @@ stays_on {A} inside now new is bound sources buffers lanes numbers =
 
 -- no delivery waits that didn't, and nothing is outgoing that a stream would take
 pub rests_on : {A : Type 0} (inside now new : LoopState A) → inside ≡ now → new.lanes.waiting ≡ inside.lanes.waiting → new.lanes.later ≡ inside.lanes.later
+    → new.lanes.plans ≡ inside.lanes.plans → new.lanes.time ≡ inside.lanes.time → new.lanes.short ≡ inside.lanes.short
     → (AreSettled inside.connections → AreSettled new.connections) → (AreFlushed inside.connections → AreFlushed new.connections) → Rests now new
-rests_on {A} inside now new is waiting later settled flushed =
-    subst (λ (l : LoopState A). Rests l new) is (record { waiting = waiting; later = later; settled = settled; flushed = flushed })
+rests_on {A} inside now new is waiting later plans time short settled flushed =
+    subst (λ (l : LoopState A). Rests l new) is
+    (record { waiting = waiting; later = later; settled = settled; flushed = flushed; plans = plans; time = time; short = short })
+
+-- the same, where its lanes are as they were
+pub rests_with : {A : Type 0} (inside now new : LoopState A) → inside ≡ now → new.lanes ≡ inside.lanes
+    → (AreSettled inside.connections → AreSettled new.connections) → (AreFlushed inside.connections → AreFlushed new.connections) → Rests now new
+rests_with {A} inside now new is lanes settled flushed =
+    rests_on inside now new is (ap (λ (l : LanesState A). l.waiting) lanes) (ap (λ (l : LanesState A). l.later) lanes)
+    (ap (λ (l : LanesState A). l.plans) lanes) (ap (λ (l : LanesState A). l.time) lanes) (ap (λ (l : LanesState A). l.short) lanes) settled flushed
+
+-- no staged chunk is to be queued, as long as none comes, and it is the same time
+pub queued_still : {A : Type 0} (old new : LanesState A) → new.plans ≡ old.plans → new.time ≡ old.time → new.short ≡ old.short → AreQueued old → AreQueued new
+queued_still old new plans time short all whole =
+    subst (λ (p : List Plan). All (IsNoneDue new.time) p) (sym plans)
+    (subst (λ (t : ℕ). All (IsNoneDue t) old.plans) (sym time) (all (sym short ∙ whole)))
 
 -- appends wait where receipts come later alone, after a redeeming
 pub only_later : {A : Type 0} (old new : LanesState A) → ((buffer : BufferNo) → AreRedeemedAt buffer old new) → OnlyLaterWait new
@@ -61,6 +77,9 @@ rests_more old between new first next = record {
   later = next.later ∙ first.later;
   settled = λ all. next.settled (first.settled all);
   flushed = λ all. next.flushed (first.flushed all);
+  plans = next.plans ∙ first.plans;
+  time = next.time ∙ first.time;
+  short = next.short ∙ first.short;
 }
 
 -- where nothing is done, all stays
@@ -69,4 +88,4 @@ stays_same l = record { bound = refl; sources = refl; buffers = refl; lanes = re
 
 -- and rests
 pub rests_same : {A : Type 0} (l : LoopState A) → Rests l l
-rests_same l = record { waiting = refl; later = refl; settled = λ all. all; flushed = λ all. all }
+rests_same l = record { waiting = refl; later = refl; settled = λ all. all; flushed = λ all. all; plans = refl; time = refl; short = refl }

@@ -198,27 +198,32 @@ pub turned_none : (time : ℕ) (old new : List (Option ConnectionState)) → Sta
 turned_none time old new stand = record { stood = new; came = λ k. inl (stand k); left = λ k. inl (stands_same (at_key new k)) }
 
 -- a call that takes connections in
-pub takes_by : {A : Type 0} (inside now new : LoopState A) → inside ≡ now → new.time ≡ inside.time → EachKey (ComesOn inside.time) inside.connections new.connections → TakesIn now new
-takes_by {A} inside now new is time connections = subst (λ (l : LoopState A). TakesIn l new) is (record { time = time; connections = connections })
+pub takes_by : {A : Type 0} (inside now new : LoopState A) → inside ≡ now → new.time ≡ inside.time → new.lanes.time ≡ inside.lanes.time
+    → EachKey (ComesOn inside.time) inside.connections new.connections → TakesIn now new
+takes_by {A} inside now new is time theirs connections =
+    subst (λ (l : LoopState A). TakesIn l new) is (record { time = time; lanes_time = theirs; connections = connections })
 
 -- one by which all stand on
-pub takes_standing : {A : Type 0} (inside now new : LoopState A) → inside ≡ now → new.time ≡ inside.time → StandOn inside.connections new.connections → TakesIn now new
-takes_standing inside now new is time stand = takes_by inside now new is time (λ k. inl (stand k))
+pub takes_standing : {A : Type 0} (inside now new : LoopState A) → inside ≡ now → new.time ≡ inside.time → new.lanes.time ≡ inside.lanes.time
+    → StandOn inside.connections new.connections → TakesIn now new
+takes_standing inside now new is time theirs stand = takes_by inside now new is time theirs (λ k. inl (stand k))
 
 -- one that leaves all as it is
-pub takes_none : {A : Type 0} (inside now new : LoopState A) → inside ≡ now → new.time ≡ inside.time → new.connections ≡ inside.connections → TakesIn now new
-takes_none inside now new is time same = takes_standing inside now new is time (each_same StandsOn inside.connections new.connections stands_same same)
+pub takes_none : {A : Type 0} (inside now new : LoopState A) → inside ≡ now → new.time ≡ inside.time → new.lanes.time ≡ inside.lanes.time
+    → new.connections ≡ inside.connections → TakesIn now new
+takes_none inside now new is time theirs same = takes_standing inside now new is time theirs (each_same StandsOn inside.connections new.connections stands_same same)
 
 -- one by which a connection got a key
-pub takes_one : {A : Type 0} (inside now new : LoopState A) (one : ConnectionState) → inside ≡ now → new.time ≡ inside.time → one.came ≡ inside.time
-    → EachKey (MayGet one) inside.connections new.connections → TakesIn now new
-takes_one inside now new one is time came gets =
-    takes_by inside now new is time (λ k. gets_now inside.time one (at_key inside.connections k) (at_key new.connections k) came (gets k))
+pub takes_one : {A : Type 0} (inside now new : LoopState A) (one : ConnectionState) → inside ≡ now → new.time ≡ inside.time → new.lanes.time ≡ inside.lanes.time
+    → one.came ≡ inside.time → EachKey (MayGet one) inside.connections new.connections → TakesIn now new
+takes_one inside now new one is time theirs came gets =
+    takes_by inside now new is time theirs (λ k. gets_now inside.time one (at_key inside.connections k) (at_key new.connections k) came (gets k))
 
 -- over two calls
 pub takes_more : {A : Type 0} (old between new : LoopState A) → TakesIn old between → TakesIn between new → TakesIn old new
 takes_more old between new first next = record {
   time = next.time ∙ first.time;
+  lanes_time = next.lanes_time ∙ first.lanes_time;
   connections = λ k.
       let then_ = subst (λ (t : ℕ). ComesOn t (at_key between.connections k) (at_key new.connections k)) first.time (next.connections k) in
       comes_on old.time (at_key old.connections k) (at_key between.connections k) (at_key new.connections k) (first.connections k) then_;
@@ -226,4 +231,4 @@ takes_more old between new first next = record {
 
 -- where nothing is done
 pub takes_same : {A : Type 0} (l : LoopState A) → TakesIn l l
-takes_same l = takes_none l l l refl refl refl
+takes_same l = takes_none l l l refl refl refl refl

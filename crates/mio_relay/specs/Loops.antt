@@ -39,19 +39,23 @@ pub record Stays {A : Type 0} (old new : LoopState A) : Type 0 where
   pub lanes : KeepsLanes old.lanes new.lanes
   pub numbers : old.numbers ≤ new.numbers
 
--- What a call does before connections are closed: it is the same time, and each connection goes on;
--- others came in at this time.
+-- What a call does before connections are closed: it is the same time, for the buffers too, and each
+-- connection goes on; others came in at this time.
 pub record TakesIn {A : Type 0} (old new : LoopState A) : Type 0 where
   pub time : new.time ≡ old.time
+  pub lanes_time : new.lanes.time ≡ old.lanes.time
   pub connections : EachKey (ComesOn old.time) old.connections new.connections
 
 -- no delivery waits that didn't: the same appends wait, and the same buffers' receipts come later, and where none waited none does; nor is anything outgoing
--- that a stream would take, where nothing was
+-- that a stream would take, where nothing was; and the same chunks are staged at the same time of the buffers
 pub record Rests {A : Type 0} (old new : LoopState A) : Type 0 where
   pub waiting : new.lanes.waiting ≡ old.lanes.waiting
   pub later : new.lanes.later ≡ old.lanes.later
   pub settled : AreSettled old.connections → AreSettled new.connections
   pub flushed : AreFlushed old.connections → AreFlushed new.connections
+  pub plans : new.lanes.plans ≡ old.lanes.plans
+  pub time : new.lanes.time ≡ old.lanes.time
+  pub short : new.lanes.short ≡ old.lanes.short
 
 -- appends wait for their receipts only at buffers whose receipts come later
 abbrev pub OnlyLaterWait : {A : Type 0} → LanesState A → Type 0

@@ -168,6 +168,7 @@ impl<S: Wire, A: Allocator + Copy> Connection<S, A> {
     ) -> Result<(), NoNumber>
         ensures same { IsSameConnection self.old self.new }
         ensures lanes { KeepsLanes lanes.old lanes.new }
+        ensures time { lanes.new.time ≡ lanes.old.time }
         // Nothing is read of a connection that wants no reading.
         ensures only { MayRead self.old ⊎ ((result ≡ Ok tt) × (self.new ≡ self.old)) }
         // Each piece that came was received, in order, and no more than a turn has for one connection.
@@ -197,6 +198,7 @@ impl<S: Wire, A: Allocator + Copy> Connection<S, A> {
     ) -> Result<(), NoNumber>
         ensures same { IsSameConnection self.old self.new }
         ensures lanes { KeepsLanes lanes.old lanes.new }
+        ensures time { lanes.new.time ≡ lanes.old.time }
         ensures received { OnOk result (IsReceived self.old self.new) }
         ensures numbered { OnOk result ((numbers.new + length self.old.peer.session.asked ≡ numbers.old + length self.new.peer.session.asked)
             ⊎ (self.new.is_broken ≡ true)) }

@@ -172,6 +172,7 @@ impl<S: Wire + Drop, A: Allocator + Copy> Connections<S, A> {
         ensures numbered { OnOk result (AreNumbered numbers.old numbers.new (at_key self.old key) (at_key self.new key)) }
         ensures drawn { numbers.old ≤ numbers.new }
         ensures lanes { KeepsLanes lanes.old lanes.new }
+        ensures time { lanes.new.time ≡ lanes.old.time }
     {
         let Some(slot) = self.slots.get_mut(key) else {
             return Ok(());
@@ -311,6 +312,7 @@ fn read_slot<S: Wire, R: Wait, D: Dir + Drop, A: Allocator + Copy>(
     ensures numbered { OnOk result (AreNumbered numbers.old numbers.new slot.old slot.new) }
     ensures drawn { numbers.old ≤ numbers.new }
     ensures lanes { KeepsLanes lanes.old lanes.new }
+    ensures time { lanes.new.time ≡ lanes.old.time }
 {
     match slot {
         Some(connection) => connection.read(rt, alloc, piece, lanes, numbers),

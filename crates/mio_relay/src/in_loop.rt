@@ -5,7 +5,7 @@ ghost use Rattle.std.specs.Arc.{arc_value};
 ghost use Rattle.relay_buffers.specs.Buffers.{AreBuffersOf};
 ghost use Rattle.relay_ports.specs.Outputs.{outputs_in};
 ghost use Rattle.relay_ports.specs.Setups.{CanRun};
-ghost use Rattle.buffer_lanes.specs.Lanes.{AppendsWait, NoneLater};
+ghost use Rattle.buffer_lanes.specs.Lanes.{AppendsWait, AreQueued, NoneLater};
 ghost use Rattle.mio_relay.specs.Connections.{AreFlushed, AreInTime, AreServed, AreSettled, sources_of};
 ghost use Rattle.mio_relay.specs.Holding.{held_in, most_held};
 ghost use Rattle.mio_relay.specs.Loops.{OnlyLaterWait, Rests, Stays, TakesIn};
@@ -282,6 +282,9 @@ impl<N: Network + Drop, D: Dir + Drop, A: Allocator + Copy> InLoop<N, D, A> {
         ensures faultless { OnOk result (self.new.lanes.fault ≡ None) }
         ensures came { IfErr result (IsReason self.new.lanes.fault) }
         ensures ended { self.new.fault ≡ fault_in result }
+        // What is to be queued at this time is, unless there was no memory for it or a device refused it.
+        ensures queued { OnOk result (AreQueued self.new.lanes) }
+        ensures timed { OnOk result (self.new.lanes.time ≡ self.new.time) }
         // Each append has its receipt, but for those of buffers whose receipts come later.
         ensures redeemed { OnOk result (OnlyLaterWait self.new.lanes) }
         // What is outgoing was written, as far as the clients take it.
@@ -308,6 +311,8 @@ impl<N: Network + Drop, D: Dir + Drop, A: Allocator + Copy> InLoop<N, D, A> {
         ensures settled { OnOk result (NoneLater self.new.lanes.later → AreSettled self.new.connections) }
         ensures faultless { OnOk result (self.new.lanes.fault ≡ None) }
         ensures came { IfErr result (IsReason self.new.lanes.fault) }
+        ensures queued { OnOk result (AreQueued self.new.lanes) }
+        ensures timed { OnOk result (self.new.lanes.time ≡ self.new.time) }
         ensures redeemed { OnOk result (OnlyLaterWait self.new.lanes) }
         ensures flushed { OnOk result (AreFlushed self.new.connections) }
         ensures in_time { OnOk result (AreInTime self.new.time self.new.connections) }
@@ -335,6 +340,7 @@ impl<N: Network + Drop, D: Dir + Drop, A: Allocator + Copy> InLoop<N, D, A> {
     fn set_time(&mut self)
         ensures stays { Stays self.old self.new }
         ensures same { self.new.connections ≡ self.old.connections }
+        ensures timed { self.new.lanes.time ≡ self.new.time }
     {
         self.time = self.network.now_after(self.time);
         self.lanes.set_time(self.time);
@@ -357,6 +363,7 @@ impl<N: Network + Drop, D: Dir + Drop, A: Allocator + Copy> InLoop<N, D, A> {
     fn store<R: Wait>(&mut self, rt: &R)
         ensures stays { Stays self.old self.new }
         ensures takes { TakesIn self.old self.new }
+        ensures queued { AreQueued self.new.lanes }
         ensures redeemed { OnlyLaterWait self.new.lanes }
     {
         self.lanes.queue_due(rt);

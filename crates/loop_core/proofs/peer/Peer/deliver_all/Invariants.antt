@@ -13,6 +13,7 @@ invariant-loop-demand g l = record {
   entry : l.self.entry ≡ l.initial.self.entry;
   session : l.self.session ≡ l.initial.self.session;
   lanes : KeepsLanes l.initial.lanes l.lanes;
+  time : l.lanes.time ≡ l.initial.lanes.time;
   numbered : l.numbers + length (asked_in (map wanted (into_iter_items l.rest))) ≡ l.initial.numbers + length (asked_in (map wanted l.fn.demands.items));
   drawn : l.initial.numbers ≤ l.numbers;
   closes : (l.self.closing || wants_close (map wanted (into_iter_items l.rest))) ≡ (l.initial.self.closing || wants_close (map wanted l.fn.demands.items));

@@ -1,4 +1,4 @@
-use Rattle.std.proofs.Common.{arith, inl, inr, refl}
+use Rattle.std.proofs.Common.{◌∙◌, arith, inl, inr, refl}
 use Rattle.mio_relay.proofs.Reading.{lanes_more, may_at_first, numbered_more, received_more, same_more}
 use Rattle.mio_relay.proofs.connection.Connection.read.Goals as goal
 
@@ -9,6 +9,7 @@ loop-pieces-preserved g c =
     record {
       same = same_more _ _ _ was.same c.in_ok-receive_piece.ensures.same;
       lanes = lanes_more _ _ _ was.lanes c.in_ok-receive_piece.ensures.lanes;
+      time = c.in_ok-receive_piece.ensures.time ∙ was.time;
       only = inl (may_at_first _ _ was.only may);
       received = received_more _ _ _ _ was.received may c.in_ok-receive_piece.ensures.received;
       numbered = numbered_more c.args.self.now c.loop-pieces.self c.receive_piece.new.self _ _ _ may was.numbered c.in_ok-receive_piece.ensures.numbered;

@@ -33,4 +33,4 @@ returns-clause-stays g c = record {
 }
 
 pub returns-clause-takes : goal.returns-clause-takes
-returns-clause-takes g c = takes_more _ _ _ (takes_standing _ _ _ c.self.view_is refl c.make_room.ensures.stands) c.put.ensures.takes
+returns-clause-takes g c = takes_more _ _ _ (takes_standing _ _ _ c.self.view_is refl refl c.make_room.ensures.stands) c.put.ensures.takes

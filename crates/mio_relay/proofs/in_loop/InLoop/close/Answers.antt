@@ -4,7 +4,7 @@ use Rattle.relay_sockets.specs.Endpoints.{Endpoint}
 use Rattle.mio_relay.specs.Connections.{AreInTimeBelow, AreListening}
 use Rattle.mio_relay.specs.Loops.{LoopState}
 use Rattle.mio_relay.specs.Turning.{EachKey, MayLose}
-use Rattle.mio_relay.proofs.Staying.{rests_on, stays_on}
+use Rattle.mio_relay.proofs.Staying.{rests_with, stays_on}
 use Rattle.mio_relay.proofs.in_loop.InLoop.close.Goals as goal
 
 pub invariant_of-self : goal.invariant_of-self
@@ -22,10 +22,10 @@ returns-in-Some-clause-stays g c = stays_on _ _ _ c.self.view_is c.close.ensures
 
 pub returns-in-Some-clause-rests : goal.returns-in-Some-clause-rests
 returns-in-Some-clause-rests g c =
-    rests_on _ _ _ c.self.view_is (ap (λ (l : LanesState _). l.waiting) c.end.ensures) (ap (λ (l : LanesState _). l.later) c.end.ensures) c.take.ensures.settled c.take.ensures.flushed
+    rests_with _ _ _ c.self.view_is c.end.ensures c.take.ensures.settled c.take.ensures.flushed
 
 pub returns-in_default-clause-rests : goal.returns-in_default-clause-rests
-returns-in_default-clause-rests g c = rests_on _ _ _ c.self.view_is refl refl c.take.ensures.settled c.take.ensures.flushed
+returns-in_default-clause-rests g c = rests_with _ _ _ c.self.view_is refl c.take.ensures.settled c.take.ensures.flushed
 
 pub returns-in-Some-clause-in_time : goal.returns-in-Some-clause-in_time
 returns-in-Some-clause-in_time g c =

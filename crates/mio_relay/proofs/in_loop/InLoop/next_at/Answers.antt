@@ -9,4 +9,4 @@ returns-clause-came g c =
     c.self.invariant.0 c.next_of.ensures.came
 
 pub returns-clause-takes : goal.returns-clause-takes
-returns-clause-takes g c = takes_none _ _ _ c.self.view_is refl refl
+returns-clause-takes g c = takes_none _ _ _ c.self.view_is refl refl refl

@@ -25,8 +25,9 @@ returns-in_default-clause-stays g c = stays_on _ _ _ c.self.view_is refl refl re
 
 pub returns-in-Some-clause-takes : goal.returns-in-Some-clause-takes
 returns-in-Some-clause-takes g c =
-    takes_one _ _ _ c.args.connection c.self.view_is refl (c.requires.now ∙ sym (ap (λ (l : LoopState _). l.time) c.self.view_is)) c.put.ensures.gets
+    takes_one _ _ _ c.args.connection c.self.view_is refl (ap (λ (l : LanesState _). l.time) c.end.ensures)
+    (c.requires.now ∙ sym (ap (λ (l : LoopState _). l.time) c.self.view_is)) c.put.ensures.gets
 
 pub returns-in_default-clause-takes : goal.returns-in_default-clause-takes
 returns-in_default-clause-takes g c =
-    takes_one _ _ _ c.args.connection c.self.view_is refl (c.requires.now ∙ sym (ap (λ (l : LoopState _). l.time) c.self.view_is)) c.put.ensures.gets
+    takes_one _ _ _ c.args.connection c.self.view_is refl refl (c.requires.now ∙ sym (ap (λ (l : LoopState _). l.time) c.self.view_is)) c.put.ensures.gets

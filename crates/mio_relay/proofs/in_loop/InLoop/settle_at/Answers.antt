@@ -16,4 +16,4 @@ invariant_of-self g c =
     (c.self.invariant.0, c.settle.ensures.goes _ c.self.invariant.1, ap (λ (l : LanesState _). l.terms) c.settle.ensures.lanes ∙ c.self.invariant.2)
 
 pub returns-clause-takes : goal.returns-clause-takes
-returns-clause-takes g c = takes_standing _ _ _ c.self.view_is refl c.settle.ensures.stands
+returns-clause-takes g c = takes_standing _ _ _ c.self.view_is refl (ap (λ (l : LanesState _). l.time) c.settle.ensures.lanes) c.settle.ensures.stands

@@ -3,7 +3,7 @@ use Rattle.mio_relay.specs.Connections.{AreInTime}
 use Rattle.mio_relay.specs.Holding.{ShedsMost}
 use Rattle.mio_relay.specs.Loops.{LoopState}
 use Rattle.mio_relay.specs.Turning.{StandOn}
-use Rattle.mio_relay.proofs.Staying.{rests_on, stays_on}
+use Rattle.mio_relay.proofs.Staying.{rests_with, stays_on}
 use Rattle.mio_relay.proofs.in_loop.InLoop.shed_one.Goals as goal
 
 pub invariant_of-self : goal.invariant_of-self
@@ -13,7 +13,7 @@ pub returns-clause-stays : goal.returns-clause-stays
 returns-clause-stays g c = stays_on _ _ _ c.self.view_is refl refl refl refl refl
 
 pub returns-clause-rests : goal.returns-clause-rests
-returns-clause-rests g c = rests_on _ _ _ c.self.view_is refl refl c.shed.ensures.settled c.shed.ensures.flushed
+returns-clause-rests g c = rests_with _ _ _ c.self.view_is refl c.shed.ensures.settled c.shed.ensures.flushed
 
 pub returns-clause-in_time : goal.returns-clause-in_time
 returns-clause-in_time g c =

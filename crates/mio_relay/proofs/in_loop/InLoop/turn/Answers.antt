@@ -1,6 +1,6 @@
-use Rattle.std.proofs.Common.{◌≤◌, subst, sym}
+use Rattle.std.proofs.Common.{◌≡◌, ◌≤◌, subst, sym}
 use Rattle.std.specs.Prelude.{OnOk}
-use Rattle.buffer_lanes.specs.Lanes.{NoneLater}
+use Rattle.buffer_lanes.specs.Lanes.{AreQueued, NoneLater}
 use Rattle.mio_relay.specs.Connections.{AreFlushed, AreInTime, AreSettled}
 use Rattle.mio_relay.specs.Holding.{held_in, most_held}
 use Rattle.mio_relay.specs.Loops.{LoopState, OnlyLaterWait}
@@ -14,6 +14,14 @@ returns-clause-settled g c =
 pub returns-clause-redeemed : goal.returns-clause-redeemed
 returns-clause-redeemed g c =
     subst (λ (l : LoopState _). OnOk c.turn_once-turned.result (OnlyLaterWait l.lanes)) (sym c.self.view_is) c.turn_once-turned.ensures.redeemed
+
+pub returns-clause-queued : goal.returns-clause-queued
+returns-clause-queued g c =
+    subst (λ (l : LoopState _). OnOk c.turn_once-turned.result (AreQueued l.lanes)) (sym c.self.view_is) c.turn_once-turned.ensures.queued
+
+pub returns-clause-timed : goal.returns-clause-timed
+returns-clause-timed g c =
+    subst (λ (l : LoopState _). OnOk c.turn_once-turned.result (l.lanes.time ≡ l.time)) (sym c.self.view_is) c.turn_once-turned.ensures.timed
 
 pub returns-clause-flushed : goal.returns-clause-flushed
 returns-clause-flushed g c =

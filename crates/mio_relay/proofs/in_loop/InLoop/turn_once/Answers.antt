@@ -3,7 +3,7 @@ use Rattle.buffer_lanes.specs.Lanes.{LanesState, NoneLater}
 use Rattle.mio_relay.specs.Connections.{AreInTime}
 use Rattle.mio_relay.proofs.Refusing.{went_well}
 use Rattle.mio_relay.proofs.Slots.{on_ok}
-use Rattle.mio_relay.proofs.Staying.{only_later_still, rests_more, stays_more}
+use Rattle.mio_relay.proofs.Staying.{only_later_still, queued_still, rests_more, stays_more}
 use Rattle.mio_relay.proofs.Turning.{takes_more, turned_by, turned_none}
 use Rattle.mio_relay.proofs.in_loop.InLoop.turn_once.Goals as goal
 
@@ -39,6 +39,31 @@ returns-clause-redeemed g c =
     rests.later ∙ ap (λ (l : LanesState _). l.later) c.write_all.ensures.lanes ∙ c.renew.ensures.rests.later
     ∙ ap (λ (l : LanesState _). l.later) c.settle_all.ensures.lanes in
     on_ok c.match-fault.result _ (only_later_still c.store.new.self.lanes c.shed.new.self.lanes waiting later c.store.ensures.redeemed)
+
+pub returns-clause-queued : goal.returns-clause-queued
+returns-clause-queued g c =
+    let rests = rests_more c.write_all.new.self c.close_all.new.self c.shed.new.self c.close_all.ensures.rests c.shed.ensures.rests in
+    let plans =
+    rests.plans ∙ ap (λ (l : LanesState _). l.plans) c.write_all.ensures.lanes ∙ c.renew.ensures.rests.plans
+    ∙ ap (λ (l : LanesState _). l.plans) c.settle_all.ensures.lanes in
+    let time =
+    rests.time ∙ ap (λ (l : LanesState _). l.time) c.write_all.ensures.lanes ∙ c.renew.ensures.rests.time
+    ∙ ap (λ (l : LanesState _). l.time) c.settle_all.ensures.lanes in
+    let short =
+    rests.short ∙ ap (λ (l : LanesState _). l.short) c.write_all.ensures.lanes ∙ c.renew.ensures.rests.short
+    ∙ ap (λ (l : LanesState _). l.short) c.settle_all.ensures.lanes in
+    on_ok c.match-fault.result _ (queued_still c.store.new.self.lanes c.shed.new.self.lanes plans time short c.store.ensures.queued)
+
+pub returns-clause-timed : goal.returns-clause-timed
+returns-clause-timed g c =
+    let rests = rests_more c.write_all.new.self c.close_all.new.self c.shed.new.self c.close_all.ensures.rests c.shed.ensures.rests in
+    let taken = takes_more c.set_time.new.self c.accept_all.new.self c.take_in-read.new.self c.accept_all.ensures.takes c.take_in-read.ensures.takes in
+    let stored = takes_more c.set_time.new.self c.take_in-read.new.self c.store.new.self taken c.store.ensures.takes in
+    let ended = takes_more c.set_time.new.self c.store.new.self c.settle_all.new.self stored c.settle_all.ensures.takes in
+    let renewed = takes_more c.set_time.new.self c.settle_all.new.self c.renew.new.self ended c.renew.ensures.takes in
+    let written = takes_more c.set_time.new.self c.renew.new.self c.write_all.new.self renewed c.write_all.ensures.takes in
+    on_ok c.match-fault.result _
+    (rests.time ∙ written.lanes_time ∙ c.set_time.ensures.timed ∙ sym written.time ∙ sym c.close_all.ensures.time ∙ sym c.shed.ensures.time)
 
 pub returns-clause-flushed : goal.returns-clause-flushed
 returns-clause-flushed g c = on_ok c.match-fault.result _ (c.shed.ensures.rests.flushed (c.close_all.ensures.rests.flushed c.write_all.ensures.flushed))

@@ -14,4 +14,4 @@ pub returns-clause-flushed : goal.returns-clause-flushed
 returns-clause-flushed g c = λ below. c.write.ensures.flushed (subst (λ (l : LoopState _). AreFlushedBelow c.args.key l.connections) (sym c.self.view_is) below)
 
 pub returns-clause-takes : goal.returns-clause-takes
-returns-clause-takes g c = takes_standing _ _ _ c.self.view_is refl c.write.ensures.stands
+returns-clause-takes g c = takes_standing _ _ _ c.self.view_is refl refl c.write.ensures.stands
