@@ -3,7 +3,7 @@
 use crate::script::{Act, Answer, Failing, OPENING, Row, Sitting, WIDE, Went, play, sit, sit_all};
 use buffer_state::{Limits, Stage};
 use buffer_store::BufferFault;
-use disk_files::{Dir, DirError, Keep, MemoryDir};
+use disk_files::{Dir, DirError, Keep, MemoryDir, Writing};
 use std::alloc::Global;
 
 static STEPS: [Sitting; 3] = [
@@ -247,7 +247,7 @@ static FOLDERS: [Folder; 4] = [
 
 fn put_file<D: Dir>(dir: &mut D, name: &[u8], bytes: &[u8]) -> Result<(), DirError> {
     let file = dir.create(name, bytes.len())?;
-    dir.append(file, bytes)
+    dir.append(file, bytes, Writing::Through)
 }
 
 // How the buffer goes on where this folder, which is empty, has the file.

@@ -16,6 +16,16 @@ use thiserror::Error;
 #[derive(Clone, Copy, Debug, PartialEq, Eq)]
 pub struct FileNo(pub usize);
 
+/// When bytes that are added to a file are handed to the system.
+#[derive(Clone, Copy, Debug, PartialEq, Eq)]
+pub enum Writing {
+    /// Before the call returns: write-through.
+    Through,
+    /// With the next call for the folder that isn't such an append to the same file, at the latest:
+    /// write-back. A process that is killed before takes them with it.
+    Back,
+}
+
 /// Why a folder refuses a call.
 #[derive(Clone, Copy, Debug, Drop, PartialEq, Eq, Error)]
 pub enum DirError {
@@ -167,7 +177,7 @@ pub trait Dir {
         ensures only { OnErr result ((result ≡ Err DirError.Memory) ⊎ (result ≡ Err DirError.Fault)) };
 
     /// Adds bytes at an open file's end. After a `Fault` a beginning of them may be there.
-    fn append(&mut self, file: FileNo, bytes: &[u8]) -> Result<(), DirError>
+    fn append(&mut self, file: FileNo, bytes: &[u8], writing: Writing) -> Result<(), DirError>
         requires open { IsSome (opened self.old file) }
         requires room { length bytes.now ≤ bytes_left self.old file }
         ensures device { CallsDevice is_honest history fails_after fault_count self.old self.new result }

@@ -1,6 +1,6 @@
 //! A folder of one of two kinds.
 
-use crate::{Dir, DirError, FileName, FileNo};
+use crate::{Dir, DirError, FileName, FileNo, Writing};
 use std::alloc::{AllocError, Allocator};
 
 /// A folder of one of two kinds: what holds of the folder that it has holds of it.
@@ -57,10 +57,10 @@ impl<L: Dir, R: Dir> Dir for EitherDir<L, R> {
         }
     }
 
-    fn append(&mut self, file: FileNo, bytes: &[u8]) -> Result<(), DirError> {
+    fn append(&mut self, file: FileNo, bytes: &[u8], writing: Writing) -> Result<(), DirError> {
         match self {
-            EitherDir::Left(dir) => dir.append(file, bytes),
-            EitherDir::Right(dir) => dir.append(file, bytes),
+            EitherDir::Left(dir) => dir.append(file, bytes, writing),
+            EitherDir::Right(dir) => dir.append(file, bytes, writing),
         }
     }
 

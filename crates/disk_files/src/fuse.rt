@@ -4,7 +4,7 @@ ghost use Rattle.std.specs.Prelude.{◌≡◌, ◌≢◌, ◌⊎◌, ◌↔◌, 
 ghost use Rattle.disk_files.specs.Fuse.{blows, next_of};
 ghost use Rattle.disk_files.specs.Faults.{Rises};
 
-use crate::{Dir, DirError, FileName, FileNo};
+use crate::{Dir, DirError, FileName, FileNo, Writing};
 use std::alloc::{AllocError, Allocator};
 
 #[derive(Clone, Copy, Debug, PartialEq, Eq)]
@@ -133,9 +133,9 @@ impl<D: Dir> Dir for Fuse<D> {
         self.inner.list(alloc)
     }
 
-    fn append(&mut self, file: FileNo, bytes: &[u8]) -> Result<(), DirError> {
+    fn append(&mut self, file: FileNo, bytes: &[u8], writing: Writing) -> Result<(), DirError> {
         self.pass()?;
-        self.inner.append(file, bytes)
+        self.inner.append(file, bytes, writing)
     }
 
     fn sync(&mut self, file: FileNo) -> Result<(), DirError> {

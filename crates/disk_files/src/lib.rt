@@ -11,7 +11,7 @@ mod memory_file;
 mod past;
 mod real;
 
-pub use dir::{Dir, DirError, FileName, FileNo};
+pub use dir::{Dir, DirError, FileName, FileNo, Writing};
 pub use either::EitherDir;
 pub use fuse::Fuse;
 pub use keep::Keep;

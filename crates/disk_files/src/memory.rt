@@ -14,7 +14,7 @@ use crate::memory_file::{
     stop_each, sweep, unlink_at, was_removed_in,
 };
 use crate::past::Past;
-use crate::{Dir, DirError, FileName, FileNo, Keep};
+use crate::{Dir, DirError, FileName, FileNo, Keep, Writing};
 use std::alloc::{AllocError, Allocator};
 
 /// A folder in memory, which keeps what was written as a disk does, and can be stopped at any moment.
@@ -164,7 +164,7 @@ impl<A: Allocator + Copy> Dir for MemoryDir<A> {
         Ok(names_of(alloc, &self.files)?)
     }
 
-    fn append(&mut self, file: FileNo, bytes: &[u8]) -> Result<(), DirError> {
+    fn append(&mut self, file: FileNo, bytes: &[u8], _: Writing) -> Result<(), DirError> {
         self.note();
         grow_at(&mut self.files, file.0, bytes);
         self.last = last_of(self.last, file.0, bytes);

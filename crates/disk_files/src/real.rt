@@ -5,13 +5,16 @@ ghost use Rattle.disk_files.specs.declared.dir.FileNo.{FileNo};
 ghost use Rattle.disk_files.specs.Faults.{HasCause, Rises};
 ghost use Rattle.disk_files.specs.Real.{open_name};
 
-use crate::{Dir, DirError, FileName, FileNo};
+use crate::{Dir, DirError, FileName, FileNo, Writing};
 use std::alloc::{AllocError, AllocFailed, Allocator};
 use std::fs::{OpenFile as _, OpenOptions};
 use std::io::{ErrorKind, Write};
 use std::os::unix::fs::FileExt;
 use std::rt::Files;
 use std::{fs, io};
+
+/// How many bytes are held back at most before they are written.
+const MOST_HELD: usize = 65_536;
 
 #[derive(Drop)]
 struct OpenFile<F, A: Allocator> {
@@ -29,6 +32,9 @@ pub struct RealDir<R: Files, A: Allocator> {
     alloc: A,
     path: String<A>,
     files: Vec<Option<OpenFile<R::File, A>>, A>,
+    // What was added to a file and isn't written yet, and the place of that file.
+    held: Vec<u8, A>,
+    holder: usize,
     faults: u64,
 }
 
@@ -77,6 +83,8 @@ where
             alloc,
             path,
             files: Vec::new(alloc),
+            held: Vec::new(alloc),
+            holder: 0,
             faults: 0,
         }
     }
@@ -141,6 +149,45 @@ where
             Err(error) if error.kind() == ErrorKind::OutOfMemory => Err(DirError::Memory),
             Err(_) => Err(self.refuse(DirError::Fault)),
         }
+    }
+
+    // Holds bytes back for the file at a place, behind those that are held for it. `false` where they are
+    // too many, or there is no memory for them: then they aren't held.
+    fn hold(&mut self, at: usize, bytes: &[u8]) -> Result<bool, DirError>
+        ensures files { (j : ℕ) → open_name (slice_get self.new.files.items j) ≡ open_name (slice_get self.old.files.items j) }
+        ensures cause { HasCause self.old.faults self.new.faults result }
+        ensures only { OnErr result (result ≡ Err DirError.Fault) }
+    {
+        if self.holder != at {
+            self.write_held()?;
+            self.holder = at;
+        }
+        Ok(bytes.len() < MOST_HELD && self.held.extend_from_slice(bytes).is_ok())
+    }
+
+    // Writes what is held back. After a `Fault` a beginning of it may be written, and none of it is held.
+    fn write_held(&mut self) -> Result<(), DirError>
+        ensures files { (j : ℕ) → open_name (slice_get self.new.files.items j) ≡ open_name (slice_get self.old.files.items j) }
+        ensures cause { HasCause self.old.faults self.new.faults result }
+        ensures only { OnErr result (result ≡ Err DirError.Fault) }
+    {
+        match self.hand_over() {
+            Ok(()) => Ok(()),
+            Err(_) => Err(self.refuse(DirError::Fault)),
+        }
+    }
+
+    // Hands what is held back to the system, and holds none of it any more.
+    fn hand_over(&mut self) -> io::Result<()>
+        ensures files { (j : ℕ) → open_name (slice_get self.new.files.items j) ≡ open_name (slice_get self.old.files.items j) }
+        ensures faults { self.new.faults ≡ self.old.faults }
+    {
+        if self.held.is_empty() {
+            return Ok(());
+        }
+        let written = write_there(&mut self.files, self.holder, &self.held);
+        self.held.clear();
+        written
     }
 
     // Syncs the folder itself, which holds the names of its files.
@@ -243,6 +290,23 @@ fn write_at<F: Write, A: Allocator>(
     }
 }
 
+// The same, where a file is open there.
+fn write_there<F: Write, A: Allocator>(
+    files: &mut Vec<Option<OpenFile<F, A>>, A>,
+    at: usize,
+    bytes: &[u8],
+) -> io::Result<()>
+    ensures { (j : ℕ) → open_name (slice_get files.new.items j) ≡ open_name (slice_get files.old.items j) }
+{
+    if at >= files.len() {
+        return Ok(());
+    }
+    match &mut files[at] {
+        Some(open) => open.file.write_all(bytes),
+        None => Ok(()),
+    }
+}
+
 // Notes that the folder was synced since the file at a place was made or opened.
 fn settle_at<F, A: Allocator>(files: &mut Vec<Option<OpenFile<F, A>>, A>, at: usize)
     requires { IsSome (open_name (slice_get files.old.items at)) }
@@ -314,7 +378,15 @@ where
         }
     }
 
-    fn append(&mut self, file: FileNo, bytes: &[u8]) -> Result<(), DirError> {
+    fn append(&mut self, file: FileNo, bytes: &[u8], writing: Writing) -> Result<(), DirError> {
+        let is_behind = !self.held.is_empty();
+        if (writing == Writing::Back || is_behind) && self.hold(file.0, bytes)? {
+            if writing == Writing::Back && self.held.len() < MOST_HELD {
+                return Ok(());
+            }
+            return self.write_held();
+        }
+        self.write_held()?;
         match write_at(&mut self.files, file.0, bytes) {
             Ok(()) => Ok(()),
             Err(_) => Err(self.refuse(DirError::Fault)),
@@ -322,6 +394,7 @@ where
     }
 
     fn sync(&mut self, file: FileNo) -> Result<(), DirError> {
+        self.write_held()?;
         let open = open_at(&self.files, file.0);
         let is_settled = open.is_settled;
         // A settled file has only grown since: a later read needs its bytes and its length alone.
@@ -341,6 +414,7 @@ where
     }
 
     fn read_at(&mut self, file: FileNo, at: usize, into: &mut [u8]) -> Result<usize, DirError> {
+        self.write_held()?;
         match read_all(&open_at(&self.files, file.0).file, at, into) {
             Ok(n) => Ok(n),
             Err(_) => Err(self.refuse(DirError::Fault)),
@@ -348,6 +422,7 @@ where
     }
 
     fn length(&mut self, file: FileNo) -> Result<usize, DirError> {
+        self.write_held()?;
         match open_at(&self.files, file.0).file.metadata() {
             Ok(metadata) => Ok(metadata.len() as usize),
             Err(_) => Err(self.refuse(DirError::Fault)),
@@ -355,10 +430,13 @@ where
     }
 
     fn close(&mut self, file: FileNo) {
+        // As uncertain as all that wasn't synced.
+        let _ = self.hand_over();
         close_at(&mut self.files, file.0);
     }
 
     fn remove(&mut self, file: FileNo) -> Result<(), DirError> {
+        self.write_held()?;
         let path = open_at(&self.files, file.0).path.as_str();
         if fs::remove_file(&self.rt, path).is_err() {
             return Err(self.refuse(DirError::Fault));

@@ -1,6 +1,6 @@
 //! Folders: what a stop leaves, what a fuse fails, and folders of the system.
 
-use disk_files::{Dir, DirError, EitherDir, FileNo, Fuse, Keep, MemoryDir, RealDir};
+use disk_files::{Dir, DirError, EitherDir, FileNo, Fuse, Keep, MemoryDir, RealDir, Writing};
 use std::alloc::Global;
 use std::fs;
 use std::rt::Files;
@@ -9,9 +9,9 @@ use std::test::Fail;
 // A new file of this name gets four bytes; `reserve` doesn't touch the device.
 fn write_new<D: Dir>(dir: &mut D, name: &[u8]) -> Result<(), DirError> {
     let file = dir.create(name, 2)?;
-    dir.append(file, b"ab")?;
+    dir.append(file, b"ab", Writing::Through)?;
     dir.reserve(file, 2)?;
-    dir.append(file, b"cd")?;
+    dir.append(file, b"cd", Writing::Through)?;
     dir.sync(file)
 }
 
@@ -81,7 +81,7 @@ fn open<D: Dir>(dir: &mut D, name: &[u8]) -> Option<DirError> {
 fn append<D: Dir>(dir: &mut D, name: &[u8], bytes: &[u8]) -> Result<(), DirError> {
     let file = dir.open(name)?;
     dir.reserve(file, bytes.len())?;
-    dir.append(file, bytes)
+    dir.append(file, bytes, Writing::Through)
 }
 
 fn sync<D: Dir>(dir: &mut D, name: &[u8]) -> Result<(), DirError> {
@@ -429,7 +429,7 @@ fn real_files(rt: HostRuntime) -> Result<(), Fail> {
 // Makes a file and removes it, and says where it stood.
 fn come_and_go<D: Dir>(dir: &mut D) -> Result<FileNo, DirError> {
     let file = dir.create(b"a", 1)?;
-    dir.append(file, b"x")?;
+    dir.append(file, b"x", Writing::Through)?;
     dir.remove(file)?;
     Ok(file)
 }

@@ -1,6 +1,6 @@
 //! Numbered files in folders.
 
-use disk_files::{Dir, DirError, Fuse, MemoryDir};
+use disk_files::{Dir, DirError, Fuse, MemoryDir, Writing};
 use numbered_files::{Family, names_differ, numbers, read_file};
 use std::alloc::{AllocError, Global};
 
@@ -121,7 +121,7 @@ fn reads<D: Dir + Drop>(alloc: Global, dir: D) -> Result<bool, DirError> {
 fn reads_in<D: Dir>(alloc: Global, dir: &mut D) -> Result<bool, DirError> {
     let file = dir.create(b"buf.0000000001.sink", 5)?;
     let before = read_file(alloc, dir, file)?.is_empty();
-    dir.append(file, b"hello")?;
+    dir.append(file, b"hello", Writing::Through)?;
     Ok(before && read_file(alloc, dir, file)?.as_slice() == b"hello".as_slice())
 }
 

@@ -1,7 +1,7 @@
 //! Sinks: their bytes, receipts, contents and failures.
 
 use crate::folders::made;
-use disk_files::{Dir, DirError, EitherDir, Keep, MemoryDir, RealDir};
+use disk_files::{Dir, DirError, EitherDir, Keep, MemoryDir, RealDir, Writing};
 use event_modes::Entries;
 use numbered_files::read_file;
 use sink_series::{
@@ -40,7 +40,7 @@ fn write<D: Dir>(
 // Adds a file.
 fn put<D: Dir>(dir: &mut D, name: &[u8], bytes: &[u8]) -> Result<(), SeriesFault> {
     let file = dir.create(name, bytes.len())?;
-    dir.append(file, bytes)?;
+    dir.append(file, bytes, Writing::Through)?;
     Ok(dir.sync(file)?)
 }
 

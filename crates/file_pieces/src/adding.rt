@@ -13,7 +13,7 @@ use crate::places::read_span;
 use crate::reading::read_exact;
 use crate::runs::{Run, run_of};
 use chunk_journal::Extent;
-use disk_files::{Dir, FileNo};
+use disk_files::{Dir, FileNo, Writing};
 use std::alloc::Allocator;
 
 /// Adds pieces to an open file that has room for them, what they take from another file by no more bytes at once than `buffer` has.
@@ -67,7 +67,7 @@ fn add_told<D: Dir>(dir: &mut D, to: FileNo, bytes: &[u8]) -> Result<(), PieceEr
     requires room { length bytes.now ≤ D.bytes_left dir.old to }
     ensures { (from : FileNo) → Adds D.is_honest D.history D.opened D.bytes_left D.fault_count from to (length bytes.now) HasAny (λ _. bytes.now) dir.old dir.new result }
 {
-    match dir.append(to, bytes) {
+    match dir.append(to, bytes, Writing::Through) {
         Ok(()) => Ok(()),
         Err(_) => Err(PieceError::Fault),
     }

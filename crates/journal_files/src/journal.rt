@@ -154,7 +154,7 @@ impl<A: Allocator + Copy> Journal<A> {
         // Called for their laws alone.
         places_follow();
         leads_in_order();
-        let told = dir.append(self.file, &self.ready);
+        let told = dir.append(self.file, &self.ready, self.placing.writing());
         self.len += self.ready.len() as u64;
         self.ready.clear();
         self.placing.place(&mut self.places);

@@ -25,7 +25,7 @@ use crate::placing::Placing;
 use crate::spelling::{Told, tell_chunks};
 use buffer_state::Chunks;
 use chunk_journal::Places;
-use disk_files::{Dir, DirError, FileNo};
+use disk_files::{Dir, DirError, FileNo, Writing};
 use file_pieces::{Piece, PieceError, add_pieces, room_of};
 use numbered_files::Family;
 use std::alloc::{AllocError, Allocator};
@@ -238,6 +238,6 @@ fn seal_with<D: Dir>(dir: &mut D, file: FileNo, bytes: &[u8]) -> Result<(), DirE
     ensures cause { HasCause (D.fault_count dir.old) (D.fault_count dir.new) result }
     ensures only { OnErr result (result ≡ Err DirError.Fault) }
 {
-    dir.append(file, bytes)?;
+    dir.append(file, bytes, Writing::Through)?;
     dir.sync(file)
 }

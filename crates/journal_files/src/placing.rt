@@ -6,6 +6,7 @@ ghost use Rattle.chunk_journal.specs.Spelled.{record_of};
 ghost use Rattle.journal_files.specs.Placings.{CanPlace, MovesBy, placing_of};
 
 use chunk_journal::{Extent, Places, Record};
+use disk_files::Writing;
 use std::alloc::{AllocError, Allocator};
 
 /// What a record does to the places of entries.
@@ -20,6 +21,15 @@ pub enum Placing {
 }
 
 impl Placing {
+    /// How a record that does this is written. One that adds entries may wait for its sync, since nobody
+    /// is answered for them before.
+    pub(crate) fn writing(&self) -> Writing {
+        match self {
+            Placing::Adds { .. } => Writing::Back,
+            Placing::Stays | Placing::Drops { .. } => Writing::Through,
+        }
+    }
+
     /// What this record does, where its bytes end there. The error is want of memory, of a number for the place too.
     pub(crate) fn of<B: Allocator>(item: &Record<'_, B>, end: u64) -> Result<Placing, AllocError>
         ensures { IfOk result (λ placing. placing ≡ placing_of (record_of item.now) end) }

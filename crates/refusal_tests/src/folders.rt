@@ -3,7 +3,7 @@
 use crate::files::tell_left;
 use crate::told::Told;
 use crate::trial::{Heap, Trial, refused_in_turn};
-use disk_files::{Dir, DirError, FileName, MemoryDir};
+use disk_files::{Dir, DirError, FileName, MemoryDir, Writing};
 use numbered_files::{Family, numbers, read_file};
 use refusing_alloc::Refusing;
 use std::alloc::{AllocError, Global};
@@ -103,7 +103,7 @@ struct Folder<'a> {
 
 fn fill<D: Dir>(heap: Heap<'_>, dir: &mut D, files: u32) -> Result<(), DirError> {
     let first = dir.create(b"buf.0000000001.sink", 9)?;
-    dir.append(first, b"nine byte")?;
+    dir.append(first, b"nine byte", Writing::Through)?;
     for number in 0..files {
         let name = family().name(heap, number)?;
         if number > 1 {

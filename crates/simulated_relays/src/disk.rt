@@ -1,6 +1,6 @@
 //! A folder in memory that can be stopped, and whose device can fail.
 
-use disk_files::{Dir, DirError, FileName, Fuse, Keep, MemoryDir};
+use disk_files::{Dir, DirError, FileName, Fuse, Keep, MemoryDir, Writing};
 use std::alloc::Global;
 
 /// Which calls to a folder its device fails.
@@ -70,6 +70,6 @@ fn content<D: Dir>(
 // Makes a file of this name that holds these bytes.
 fn put<D: Dir>(dir: &mut D, name: &FileName<Global>, bytes: &[u8]) -> Result<(), DirError> {
     let file = dir.create(name.as_bytes(), bytes.len())?;
-    dir.append(file, bytes)?;
+    dir.append(file, bytes, Writing::Through)?;
     dir.sync(file)
 }

@@ -22,7 +22,7 @@ use crate::event::SinkEvent;
 use crate::fault::SeriesFault;
 use crate::reading::read_events;
 use crate::stored::Prepared;
-use disk_files::{Dir, DirError, FileNo};
+use disk_files::{Dir, DirError, FileNo, Writing};
 use event_modes::Entries;
 use numbered_files::{Family, numbers, read_file};
 use std::alloc::{AllocError, Allocator};
@@ -163,7 +163,7 @@ pub(crate) fn put_synced<D: Dir>(dir: &mut D, file: FileNo, bytes: &[u8]) -> Res
     ensures cause { HasDirCause (D.fault_count dir.old) (D.fault_count dir.new) result }
     ensures only { OnErr result (result ≡ Err DirError.Fault) }
 {
-    dir.append(file, bytes)?;
+    dir.append(file, bytes, Writing::Through)?;
     dir.sync(file)
 }
 

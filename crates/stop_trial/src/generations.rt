@@ -4,7 +4,7 @@ use crate::playing::open;
 use crate::tally::{Failing, STOPS, Stop, Tally, on_device, stopped};
 use buffer_state::Stage;
 use buffer_store::{Buffer, BufferFault};
-use disk_files::{Dir, DirError, MemoryDir};
+use disk_files::{Dir, DirError, MemoryDir, Writing};
 use std::alloc::Global;
 use std::io;
 
@@ -21,7 +21,7 @@ const CALLS: u64 = 40;
 
 fn put<D: Dir>(dir: &mut D, name: &[u8], bytes: &[u8]) -> Result<(), DirError> {
     let file = dir.create(name, bytes.len())?;
-    dir.append(file, bytes)?;
+    dir.append(file, bytes, Writing::Through)?;
     dir.sync(file)
 }
 
