@@ -39,4 +39,5 @@ returns g c =
             refused = said;
           })
           c.stop_of.ensures;
+      calls = c.in_ok-text.ensures.calls;
     }
