@@ -62,6 +62,7 @@ enum Act {
     Create,
     Open,
     Append(&'static [u8]),
+    Hold(&'static [u8]),
     Sync,
     Close,
     Remove,
@@ -78,10 +79,15 @@ fn open<D: Dir>(dir: &mut D, name: &[u8]) -> Option<DirError> {
     dir.open(name).err()
 }
 
-fn append<D: Dir>(dir: &mut D, name: &[u8], bytes: &[u8]) -> Result<(), DirError> {
+fn append<D: Dir>(
+    dir: &mut D,
+    name: &[u8],
+    bytes: &[u8],
+    writing: Writing,
+) -> Result<(), DirError> {
     let file = dir.open(name)?;
     dir.reserve(file, bytes.len())?;
-    dir.append(file, bytes, Writing::Through)
+    dir.append(file, bytes, writing)
 }
 
 fn sync<D: Dir>(dir: &mut D, name: &[u8]) -> Result<(), DirError> {
@@ -104,7 +110,8 @@ fn do_act<D: Dir>(dir: &mut D, name: &[u8], act: Act) -> Option<DirError> {
     match act {
         Act::Create => create(dir, name),
         Act::Open => open(dir, name),
-        Act::Append(bytes) => append(dir, name, bytes).err(),
+        Act::Append(bytes) => append(dir, name, bytes, Writing::Through).err(),
+        Act::Hold(bytes) => append(dir, name, bytes, Writing::Back).err(),
         Act::Sync => sync(dir, name).err(),
         Act::Close => close(dir, name).err(),
         Act::Remove => remove(dir, name).err(),
@@ -349,13 +356,23 @@ fn no_folder<R: Files + Alloc>(rt: &R, path: &str) {
     let _ = fs::remove_dir_all(rt, path);
 }
 
-// A folder of the system gets one file more, and counts what it refuses.
-static REAL: [Row; 10] = [
+// A folder of the system gets one file more, and counts what it refuses. What was held back is in its
+// place, whichever call hands it over: a sync, a close, an append that is handed over at once, or one to
+// another file.
+static REAL: [Row; 18] = [
     (b"b.sink", Act::Create, None),
-    (b"b.sink", Act::Append(b"hel"), None),
+    (b"b.sink", Act::Append(b"h"), None),
+    (b"b.sink", Act::Hold(b"e"), None),
+    (b"b.sink", Act::Hold(b"l"), None),
     (b"b.sink", Act::Sync, None),
+    (b"b.sink", Act::Hold(b"l"), None),
     (b"b.sink", Act::Close, None),
-    (b"b.sink", Act::Append(b"lo"), None),
+    (b"b.sink", Act::Hold(b"o"), None),
+    (b"b.sink", Act::Append(b", "), None),
+    (b"c.sink", Act::Create, None),
+    (b"b.sink", Act::Hold(b"you"), None),
+    (b"c.sink", Act::Hold(b"gone"), None),
+    (b"c.sink", Act::Remove, None),
     (b"b.sink", Act::Sync, None),
     (b"b.sink", Act::Create, Some(DirError::NameTaken)),
     (b"a.journal", Act::Open, Some(DirError::NoSuchFile)),
@@ -421,7 +438,7 @@ fn real_files(rt: HostRuntime) -> Result<(), Fail> {
     // A value made anew finds the file as it was written, also one that has what came back of a refusal.
     let theirs = refused(rt.clone()?, "disk_files_test/made/b.sink/x")?;
     let anew = made(theirs, "disk_files_test/made")?;
-    assert!(rt; has_one(alloc, anew, b"b.sink", b"hello")?);
+    assert!(rt; has_one(alloc, anew, b"b.sink", b"hello, you")?);
     fs::remove_dir_all(&rt, "disk_files_test")?;
     Ok(())
 }
