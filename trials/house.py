@@ -100,7 +100,7 @@ class Relay:
         self.said = os.path.join(room, name + ".out")
         with open(self.conf, "w") as text:
             text.write(conf)
-        self.process = None
+        self.process = self.environment = None
 
     def start(self, wait=60.0, is_limited=False):
         """Starts it, and waits until it is ready. Where its files are limited later, a write past the limit
@@ -108,6 +108,7 @@ class Relay:
         words = [self.program, "relay", self.conf, str(self.number), self.folder]
         with open(self.said, "w") as out, open(self.said + ".err", "a") as err:
             outputs = {"stdout": out, "stderr": err}
+            outputs["env"] = self.environment
             self.process = subprocess.Popen(words, **outputs, restore_signals=not is_limited)
         until = time.monotonic() + wait
         while time.monotonic() < until:
