@@ -22,10 +22,12 @@ class Noted(Relay):
         super().__init__(room.program, room.path, name, number, conf)
         self.name, self.library, self.lives = name, room.library, []
 
-    def start(self):
+    def start(self, last=0):
+        """Starts it, and waits until it is ready. Behind so many notes it kills itself, unless that is 0."""
         path = "%s.%d.notes" % (self.folder, len(self.lives))
         self.lives.append(Life(self.name, path))
         self.environment = {**os.environ, "LD_PRELOAD": self.library, "NOTING_FILE": path}
+        self.environment["NOTING_LAST"] = str(last)
         return super().start()
 
     def kill(self):
@@ -71,26 +73,30 @@ class NotedRoom(Room):
 
     def read_notes(self):
         """All that was noted, in order, and the names of files that don't hold it."""
-        lives = [life for relay in self.relays for life in relay.lives]
-        changed = []
-        for life in lives:
-            life.read()
-            changed += cut_to_left(life)
+        lives, changed = [], []
+        for relay in self.relays:
+            for life in relay.lives:
+                life.read()
+            changed += cut_to_left(relay.lives)
+            lives += relay.lives
         return in_order(lives), changed
 
-    def judge(self, name, notes):
-        return Judgement(self, name, notes)
+    def tell(self, notes):
+        return told_of(Plan(os.path.join(self.path, "plan")), notes)
+
+    def judge(self, name, telling):
+        return Judgement(self, name, telling)
 
 
 class Judgement:
     """What was noted, as it is told, and what a replay says of it."""
 
-    def __init__(self, room, name, notes):
-        self.telling = told_of(Plan(os.path.join(room.path, "plan")), notes)
-        room.write(name + ".steps", "\n".join(self.telling.lines) + "\n")
+    def __init__(self, room, name, telling):
+        self.telling = telling
+        room.write(name + ".steps", "\n".join(telling.lines) + "\n")
         out, self.status = room.in_it(room.program, "replay", "plan", name + ".steps")
         self.said = out.splitlines() or ["nothing"]
-        self.faults = self.telling.faults
+        self.faults = telling.faults
 
     def is_taken(self):
         """Whether each step was taken."""

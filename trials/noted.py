@@ -28,7 +28,7 @@ class Life:
 
     def __init__(self, relay, path):
         self.relay, self.path = relay, path
-        self.left = None
+        self.left = {}
         self.notes = []
 
     def read(self):
@@ -65,31 +65,31 @@ def left_in(folder):
     return found
 
 
-def cut_to_left(life):
-    """Cuts what a kill kept from being written off the writes that it cut off, and says which files don't hold
-    what was noted. A file that was removed meanwhile counts as it was."""
-    names, files = {}, {}
-    for note in life.notes:
-        if note.call == OPENED:
-            names[note.file] = life.name_of(note.data)
-            files.setdefault(names[note.file], [])
-        elif note.call == CLOSES:
-            names.pop(note.file, None)
-        elif note.call == GOES and note.file in names:
-            files[names[note.file]].append(note)
-    return [name for name, writes in files.items() if not holds(life, name, writes)]
-
-
-def holds(life, name, writes):
-    if life.left is None or name not in life.left:
-        return True
-    size, digest = life.left[name]
-    noted = b"".join(note.gone() for note in writes)
-    if writes and writes[-1].result is None and len(noted) > size:
-        last = writes[-1]
-        last.result = len(last.data) - (len(noted) - size)
-        noted = noted[:size]
-    return hashlib.sha256(noted).hexdigest() == digest
+def cut_to_left(lives):
+    """Cuts what a kill kept from being written off the writes that it cut off, and says which files of a relay
+    didn't hold what was noted, at the end of one of its lives."""
+    noted, wrong = {}, []
+    for life in lives:
+        open_files, writes = {}, {}
+        for note in life.notes:
+            if note.call == OPENED:
+                name = open_files[note.file] = life.name_of(note.data)
+                if note.value & os.O_CREAT:
+                    noted[name] = b""
+            elif note.call == CLOSES:
+                open_files.pop(note.file, None)
+            elif note.call == GOES and note.file in open_files:
+                writes.setdefault(open_files[note.file], []).append(note)
+        for name, (size, digest) in life.left.items():
+            its = writes.get(name, [])
+            bytes_of_all = noted.get(name, b"") + b"".join(note.gone() for note in its)
+            if its and its[-1].result is None:
+                its[-1].result = len(its[-1].data) - max(len(bytes_of_all) - size, 0)
+                bytes_of_all = bytes_of_all[:size]
+            noted[name] = bytes_of_all
+            if hashlib.sha256(bytes_of_all).hexdigest() != digest:
+                wrong.append(name)
+    return wrong
 
 
 def ends_of(data):

@@ -3,11 +3,13 @@
 
    NOTING_FILE names the file that the notes are added to. A note is written by one call of the system, so that a kill loses none that
    was made. What comes in is noted behind its call, what goes out before it, and what came of that behind it: so of two notes the one
-   that may be the cause stands at the earlier moment, through all processes of a machine, which share the monotonic clock. */
+   that may be the cause stands at the earlier moment, through all processes of a machine, which share the monotonic clock. Behind the
+   note with the number in NOTING_LAST, counted from 1, the program kills itself. */
 #define _GNU_SOURCE
 #include <errno.h>
 #include <fcntl.h>
 #include <netinet/in.h>
+#include <signal.h>
 #include <stdarg.h>
 #include <stdint.h>
 #include <stdlib.h>
@@ -33,6 +35,8 @@ struct note {
 enum kind { OTHER, SOCKET, FILE_OF_RELAY };
 
 static int notes = -1;
+/* How many notes there are, and which of them is the last; 0 where none is to be. */
+static unsigned long count, last;
 static unsigned char kinds[1 << 16];
 static __thread uint32_t thread;
 
@@ -46,12 +50,14 @@ static void note(enum call call, int file, int64_t value, const void *bytes, siz
     struct iovec parts[2] = {{&head, sizeof head}, {(void *)bytes, size}};
     /* A recording with a hole tells nothing. */
     if (syscall(SYS_writev, notes, parts, 2) != (long)(sizeof head + size)) abort();
+    if (__atomic_add_fetch(&count, 1, __ATOMIC_SEQ_CST) == last) kill(getpid(), SIGKILL);
     errno = kept;
 }
 
 __attribute__((constructor)) static void begin(void) {
-    const char *path = getenv("NOTING_FILE");
+    const char *path = getenv("NOTING_FILE"), *number = getenv("NOTING_LAST");
     if (!path) return;
+    if (number) last = strtoul(number, NULL, 10);
     int made = (int)syscall(SYS_openat, AT_FDCWD, path, O_WRONLY | O_CREAT | O_APPEND | O_CLOEXEC, 0644);
     if (made < 0) abort();
     /* Away from the numbers that the program's own files get. */

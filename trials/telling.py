@@ -189,10 +189,10 @@ class Telling:
         elif kind == SEAL:
             journal.is_sealed = True
             has = buffer.chunks
-            alike = chunks.keys() == has.keys() and all(chunks[n].is_as(has[n]) for n in has)
-            if not alike or serial != buffer.next:
-                names = buffer.name(serial), sorted(has), sorted(chunks)
-                self.fault("a generation of the buffer of %s begins otherwise than was told: %r, %r", *names)
+            is_kept = lambda n: n in has and n in chunks and chunks[n].is_as(has[n])
+            other = sorted(n for n in has.keys() | chunks.keys() if not is_kept(n))
+            if other or serial != buffer.next:
+                self.fault("a generation before %s doesn't begin as told: %r", buffer.name(serial), other)
 
     def set_stage(self, buffer, serial, stage):
         if serial in buffer.chunks:
