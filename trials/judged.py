@@ -1,4 +1,5 @@
-"""Relays whose calls are noted, and what the step machine says of what they did: standard library alone."""
+"""Relays whose calls are noted, and what the step machine says of what they did: standard library
+alone."""
 import collections, os, subprocess
 from house import Relay, Room
 from noted import Life, cut_to_left, left_in
@@ -23,7 +24,8 @@ class Noted(Relay):
         self.name, self.library, self.lives = name, room.library, []
 
     def start(self, last=0):
-        """Starts it, and waits until it is ready. Behind so many notes it kills itself, unless that is 0."""
+        """Starts it, and waits until it is ready. Behind so many notes it kills itself, unless
+        that is 0."""
         path = "%s.%d.notes" % (self.folder, len(self.lives))
         self.lives.append(Life(self.name, path))
         self.environment = {**os.environ, "LD_PRELOAD": self.library, "NOTING_FILE": path}
@@ -119,4 +121,5 @@ class Judgement:
 
     def sinks(self):
         """What was told of each sink."""
-        return {place: collections.Counter(its) for place, its in self.telling.stored.items() if its}
+        stored = self.telling.stored.items()
+        return {place: collections.Counter(its) for place, its in stored if its}

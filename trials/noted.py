@@ -9,8 +9,9 @@ NAME = re.compile(r"(.+)\.(\d{10})\.(journal|sink)$")
 
 
 class Note:
-    """A call of a relay. Of what goes out, and of a sync, `result` is what it returned and `back` when: None
-    where a kill came before that was noted. `told` has the steps that it was told as."""
+    """A call of a relay. Of what goes out, and of a sync, `result` is what it returned and `back`
+    when: None where a kill came before that was noted. `told` has the steps that it was told
+    as."""
 
     def __init__(self, life, moment, value, thread, file, call, data):
         self.life, self.moment, self.value, self.thread = life, moment, value, thread
@@ -24,7 +25,8 @@ class Note:
 
 
 class Life:
-    """One process of a relay, from its start to its kill: its notes, and what its folder had after it."""
+    """One process of a relay, from its start to its kill: its notes, and what its folder had
+    after it."""
 
     def __init__(self, relay, path):
         self.relay, self.path = relay, path
@@ -66,8 +68,8 @@ def left_in(folder):
 
 
 def cut_to_left(lives):
-    """Cuts what a kill kept from being written off the writes that it cut off, and says which files of a relay
-    didn't hold what was noted, at the end of one of its lives."""
+    """Cuts what a kill kept from being written off the writes that it cut off, and says which
+    files of a relay didn't hold what was noted, at the end of one of its lives."""
     noted, wrong = {}, []
     for life in lives:
         open_files, writes = {}, {}
@@ -122,7 +124,8 @@ def is_text(first):
 
 
 def entries_in(data):
-    """Entries one after another, as they are stored: the byte 92, and the time and the record as they came."""
+    """Entries one after another, as they are stored: the byte 92, and the time and the record as
+    they came."""
     entries, at = [], 0
     while at < len(data):
         places, at = items_of(data, at)
@@ -132,7 +135,8 @@ def entries_in(data):
 
 
 class Message:
-    """A message of the Forward Protocol: its tag, its entries as they are stored, and the chunk of its option."""
+    """A message of the Forward Protocol: its tag, its entries as they are stored, and the chunk
+    of its option."""
 
     def __init__(self, data):
         places, _ = items_of(data)
@@ -153,7 +157,8 @@ class Message:
 
 
 def values_in(held):
-    """The values that are whole at the beginning of these bytes, each with its bytes, and what is behind."""
+    """The values that are whole at the beginning of these bytes, each with its bytes, and what is
+    behind."""
     found, at = [], 0
     while at < len(held):
         try:
@@ -166,8 +171,8 @@ def values_in(held):
 
 
 def records_in(held):
-    """The records that are whole at the beginning of these bytes of a journal, and what is behind. A record is
-    its kind, its serial, and of an Append its tag and its entries."""
+    """The records that are whole at the beginning of these bytes of a journal, and what is
+    behind. A record is its kind, its serial, and of an Append its tag and its entries."""
     found, at = [], 0
     while at + 4 <= len(held):
         size = struct.unpack_from(">I", held, at)[0]

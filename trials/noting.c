@@ -1,10 +1,12 @@
-/* Notes the calls by which a program is seen from outside, for trials/told: a library that is loaded before libc, whose functions it
-   stands in front of.
+/* Notes the calls by which a program is seen from outside, for trials/told: a library that is
+   loaded before libc, whose functions it stands in front of.
 
-   NOTING_FILE names the file that the notes are added to. A note is written by one call of the system, so that a kill loses none that
-   was made. What comes in is noted behind its call, what goes out before it, and what came of that behind it: so of two notes the one
-   that may be the cause stands at the earlier moment, through all processes of a machine, which share the monotonic clock. Behind the
-   note with the number in NOTING_LAST, counted from 1, the program kills itself. */
+   NOTING_FILE names the file that the notes are added to. A note is written by one call of the
+   system, so that a kill loses none that was made. What comes in is noted behind its call, what
+   goes out before it, and what came of that behind it: so of two notes the one that may be the
+   cause stands at the earlier moment, through all processes of a machine, which share the
+   monotonic clock. Behind the note with the number in NOTING_LAST, counted from 1, the program
+   kills itself. */
 #define _GNU_SOURCE
 #include <errno.h>
 #include <fcntl.h>
@@ -20,7 +22,7 @@
 #include <time.h>
 #include <unistd.h>
 
-/* trials/told.py has the same numbers. */
+/* trials/noted.py has the same numbers. */
 enum call { STARTED = 1, OPENED, CONNECTED, ACCEPTED, CAME, GOES, SYNCS, CLOSES, RETURNED };
 
 struct note {
@@ -46,7 +48,8 @@ static void note(enum call call, int file, int64_t value, const void *bytes, siz
     struct timespec now;
     clock_gettime(CLOCK_MONOTONIC, &now);
     if (!thread) thread = (uint32_t)syscall(SYS_gettid);
-    struct note head = {(uint64_t)now.tv_sec * 1000000000u + (uint64_t)now.tv_nsec, value, thread, (uint32_t)size, file, call};
+    uint64_t moment = (uint64_t)now.tv_sec * 1000000000u + (uint64_t)now.tv_nsec;
+    struct note head = {moment, value, thread, (uint32_t)size, file, call};
     struct iovec parts[2] = {{&head, sizeof head}, {(void *)bytes, size}};
     /* A recording with a hole tells nothing. */
     if (syscall(SYS_writev, notes, parts, 2) != (long)(sizeof head + size)) abort();
@@ -58,7 +61,8 @@ __attribute__((constructor)) static void begin(void) {
     const char *path = getenv("NOTING_FILE"), *number = getenv("NOTING_LAST");
     if (!path) return;
     if (number) last = strtoul(number, NULL, 10);
-    int made = (int)syscall(SYS_openat, AT_FDCWD, path, O_WRONLY | O_CREAT | O_APPEND | O_CLOEXEC, 0644);
+    int how = O_WRONLY | O_CREAT | O_APPEND | O_CLOEXEC;
+    int made = (int)syscall(SYS_openat, AT_FDCWD, path, how, 0644);
     if (made < 0) abort();
     /* Away from the numbers that the program's own files get. */
     notes = fcntl(made, F_DUPFD_CLOEXEC, 900);
@@ -67,7 +71,9 @@ __attribute__((constructor)) static void begin(void) {
     note(STARTED, -1, getpid(), NULL, 0);
 }
 
-static enum kind kind_of(int file) { return file >= 0 && file < (int)sizeof kinds ? kinds[file] : OTHER; }
+static enum kind kind_of(int file) {
+    return file >= 0 && file < (int)sizeof kinds ? kinds[file] : OTHER;
+}
 
 static void set_kind(int file, enum kind kind) {
     if (file >= 0 && file < (int)sizeof kinds) kinds[file] = kind;
@@ -143,21 +149,28 @@ int accept4(int listener, struct sockaddr *other, socklen_t *size, int flags) {
     return file;
 }
 
-int accept(int listener, struct sockaddr *other, socklen_t *size) { return accept4(listener, other, size, 0); }
+int accept(int listener, struct sockaddr *other, socklen_t *size) {
+    return accept4(listener, other, size, 0);
+}
 
 static ssize_t came(int file, const void *bytes, ssize_t count) {
     if (count > 0 && kind_of(file) == SOCKET) note(CAME, file, count, bytes, (size_t)count);
     return count;
 }
 
-ssize_t read(int file, void *bytes, size_t size) { return came(file, bytes, syscall(SYS_read, file, bytes, size)); }
+ssize_t read(int file, void *bytes, size_t size) {
+    return came(file, bytes, syscall(SYS_read, file, bytes, size));
+}
 
-ssize_t recvfrom(int file, void *bytes, size_t size, int flags, struct sockaddr *other, socklen_t *length) {
+ssize_t recvfrom(int file, void *bytes, size_t size, int flags, struct sockaddr *other,
+                 socklen_t *length) {
     ssize_t count = syscall(SYS_recvfrom, file, bytes, size, flags, other, length);
     return flags & MSG_PEEK ? count : came(file, bytes, count);
 }
 
-ssize_t recv(int file, void *bytes, size_t size, int flags) { return recvfrom(file, bytes, size, flags, NULL, NULL); }
+ssize_t recv(int file, void *bytes, size_t size, int flags) {
+    return recvfrom(file, bytes, size, flags, NULL, NULL);
+}
 
 static ssize_t returned(int file, ssize_t count) {
     if (kind_of(file) != OTHER) note(RETURNED, file, count, NULL, 0);
@@ -173,12 +186,15 @@ ssize_t write(int file, const void *bytes, size_t size) {
     return returned(file, syscall(SYS_write, file, bytes, size));
 }
 
-ssize_t sendto(int file, const void *bytes, size_t size, int flags, const struct sockaddr *other, socklen_t length) {
+ssize_t sendto(int file, const void *bytes, size_t size, int flags, const struct sockaddr *other,
+               socklen_t length) {
     goes(file, bytes, size);
     return returned(file, syscall(SYS_sendto, file, bytes, size, flags, other, length));
 }
 
-ssize_t send(int file, const void *bytes, size_t size, int flags) { return sendto(file, bytes, size, flags, NULL, 0); }
+ssize_t send(int file, const void *bytes, size_t size, int flags) {
+    return sendto(file, bytes, size, flags, NULL, 0);
+}
 
 static int synced(int file, long number) {
     if (kind_of(file) != OTHER) note(SYNCS, file, 0, NULL, 0);

@@ -57,9 +57,11 @@ class PlannedRelay:
         self.number = number
         with open(conf) as text:
             top = sections_of(text.read())
-        self.prefixes = {int(each.get("port")): each.get("add_tag_prefix") for each in top.all("source")}
+        sources = [(int(each.get("port")), each) for each in top.all("source")]
+        self.prefixes = {port: each.get("add_tag_prefix") for port, each in sources}
         outputs = top.all("match", "store")
-        self.outputs = [Output(each) for each in outputs if each.get("@type") in ("file", "forward")]
+        has_buffer = lambda each: each.get("@type") in ("file", "forward")
+        self.outputs = [Output(each) for each in outputs if has_buffer(each)]
 
 
 class Plan:

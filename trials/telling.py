@@ -1,7 +1,8 @@
-"""What was noted of a run of relays, told as the steps of docs/CHECKING.md: standard library alone.
+"""What was noted of a run of relays, told as the steps of docs/CHECKING.md: standard library
+alone.
 
-Nothing is judged here but what the steps can't say: where what was noted isn't what was told before, that is a
-fault. Whether the steps are allowed, `relaynet replay` says.
+Nothing is judged here but what the steps can't say: where what was noted isn't what was told
+before, that is a fault. Whether the steps are allowed, `relaynet replay` says.
 """
 import base64, binascii, struct
 from noted import APPEND, PURGE, QUEUE, SEAL
@@ -33,7 +34,8 @@ class Buffer:
 
 
 class Journal:
-    """A generation of a buffer's journal: what it tells before its Seal, and how far it was written and synced."""
+    """A generation of a buffer's journal: what it tells before its Seal, and how far it was
+    written and synced."""
 
     def __init__(self, buffer):
         self.buffer, self.rest = buffer, b""
@@ -69,7 +71,8 @@ class Coming:
 
 
 class Going:
-    """A connection that a relay made: the message that it carries, once that is told, and whether it was answered."""
+    """A connection that a relay made: the message that it carries, once that is told, and whether
+    it was answered."""
 
     def __init__(self, server):
         self.server = server
@@ -96,7 +99,8 @@ class Told:
 
 
 class Telling:
-    """Notes of all relays in the order of their moments, told as lines. `faults` has what was noted and can't be."""
+    """Notes of all relays in the order of their moments, told as lines. `faults` has what was
+    noted and can't be."""
 
     def __init__(self, plan):
         self.plan = plan
@@ -112,8 +116,9 @@ class Telling:
         self.faults.append(words % values)
 
     def take_all(self, notes):
-        does = {STARTED: self.started, OPENED: self.opened, CONNECTED: self.connected, ACCEPTED: self.accepted}
-        does.update({CAME: self.came, GOES: self.goes, SYNCS: self.syncs, CLOSES: self.closes})
+        does = {STARTED: self.started, OPENED: self.opened, CLOSES: self.closes}
+        does.update({CONNECTED: self.connected, ACCEPTED: self.accepted})
+        does.update({CAME: self.came, GOES: self.goes, SYNCS: self.syncs})
         for note in notes:
             before = len(self.lines)
             does[note.call](self.relays[note.life.relay], note)
@@ -192,7 +197,8 @@ class Telling:
             is_kept = lambda n: n in has and n in chunks and chunks[n].is_as(has[n])
             other = sorted(n for n in has.keys() | chunks.keys() if not is_kept(n))
             if other or serial != buffer.next:
-                self.fault("a generation before %s doesn't begin as told: %r", buffer.name(serial), other)
+                name = buffer.name(serial)
+                self.fault("a generation before %s doesn't begin as told: %r", name, other)
 
     def set_stage(self, buffer, serial, stage):
         if serial in buffer.chunks:
@@ -226,7 +232,8 @@ class Telling:
             self.set_stage(buffer, serial, "claimed")
 
     def purge(self, relay, note, buffer, serial):
-        """A chunk goes. What its thread synced into a sink before is told here, where it's seen which chunk that was."""
+        """A chunk goes. What its thread synced into a sink before is told here, where it's seen
+        which chunk that was."""
         self.claim(buffer, serial)
         written, events = relay.stored.pop(note.thread, (None, []))
         if written is buffer:
@@ -248,9 +255,11 @@ class Telling:
         self.stored.setdefault((relay.number, buffer.output.sink), []).extend(events)
 
     def end_sinks(self, relay):
-        """What a process wrote to sinks before its end, and no purge followed: it's of a chunk that has it."""
+        """What a process wrote to sinks before its end, and no purge followed: it's of a chunk
+        that has it."""
         left = list(relay.stored.values())
-        left += [(each.buffer, events_in(each.written)) for each in relay.files.values() if isinstance(each, Sink)]
+        sinks = [each for each in relay.files.values() if isinstance(each, Sink)]
+        left += [(each.buffer, events_in(each.written)) for each in sinks]
         for buffer, events in left:
             if not events:
                 continue
@@ -279,7 +288,8 @@ class Telling:
                 self.arrives(relay, by, Message(data))
 
     def arrives(self, relay, by, message):
-        """A message was read whole: what was forwarded over this connection, or else what a client sent."""
+        """A message was read whole: what was forwarded over this connection, or else what a
+        client sent."""
         prefix = relay.prefixes[by.port]
         tag = prefix.encode() + b"." + message.tag if prefix else message.tag
         by.courier = by.courier or self.couriers.get(by.ends)
@@ -294,7 +304,8 @@ class Telling:
     def send(self, relay, port, message):
         folder = next(name for name, each in self.relays.items() if each is relay)
         client = self.plan.clients.index((folder, port))
-        self.tell("send %d %s %s", client, message.tag.decode(), " ".join(map(bytes.hex, message.entries)))
+        entries = " ".join(map(bytes.hex, message.entries))
+        self.tell("send %d %s %s", client, message.tag.decode(), entries)
         self.messages += 1
         return self.messages - 1
 
@@ -309,25 +320,28 @@ class Telling:
         return number
 
     def answers(self, relay, note, to):
-        """Answers that are written whole. One is right where each append of its message was synced before."""
+        """Answers that are written whole. One is right where each append of its message was
+        synced before."""
         values, to.sent = values_in(to.sent + note.gone())
         for value, _ in values:
             if not isinstance(value, dict) or b"ack" not in value:
                 continue
-            asked = [each for each in to.deliveries if each.is_open and each.message.chunk == value[b"ack"]]
-            if not asked:
+            has_asked = lambda each: each.is_open and each.message.chunk == value[b"ack"]
+            asked = next(filter(has_asked, to.deliveries), None)
+            if asked is None:
                 self.fault("an answer that no message asked for")
-                continue
-            self.begin(asked[0])
-            self.tell("ack %d", asked[0].place)
-            self.end(to, asked[0])
-            for journal, size in asked[0].appends.values():
-                if not any(back <= note.moment and size <= synced for back, synced in journal.syncs):
-                    self.fault("delivery %d was answered, and an append wasn't synced", asked[0].place)
+            else:
+                self.answer(note, to, asked)
 
-    def end(self, by, delivery):
+    def answer(self, note, to, delivery):
+        self.begin(delivery)
+        self.tell("ack %d", delivery.place)
         delivery.is_open = False
-        by.deliveries.remove(delivery)
+        to.deliveries.remove(delivery)
+        for journal, size in delivery.appends.values():
+            is_shown = lambda back, synced: back <= note.moment and size <= synced
+            if not any(is_shown(*sync) for sync in journal.syncs):
+                self.fault("delivery %d was answered, and an append wasn't synced", delivery.place)
 
     # Connections that went
 
@@ -356,7 +370,8 @@ class Telling:
             self.fault("a message of chunk %s doesn't have its events", buffer.name(serial))
 
     def chunk_of(self, relay, to, message):
-        """The chunk that a message names or, where it asks for no answer, one that it has the events of."""
+        """The chunk that a message names or, where it asks for no answer, one that it has the
+        events of."""
         if message.chunk is not None:
             number, place, serial = named(message.chunk)
             fits = number == relay.number and place < len(relay.buffers)
@@ -380,8 +395,8 @@ class Telling:
                     by.is_seen = True
 
     def closes(self, relay, note):
-        """A connection ends: of one that came, what wasn't answered is given up; of one that went, the chunk that
-        awaits an answer is given back."""
+        """A connection ends: of one that came, what wasn't answered is given up; of one that
+        went, the chunk that awaits an answer is given back."""
         of = relay.files.pop(note.file, None)
         if isinstance(of, Coming):
             for each in of.deliveries:
