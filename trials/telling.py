@@ -10,6 +10,11 @@ from noted import ACCEPTED, CAME, CLOSES, CONNECTED, GOES, NAME, OPENED, STARTED
 from noted import Message, ends_of, events_in, is_array, records_in, values_in
 
 
+# So many messages were read at most before the records of the first of them are written: those of one
+# turn of a relay's loop.
+MOST_UNWRITTEN = 2000
+
+
 class Chunk:
     def __init__(self, tag, stage="staged"):
         self.tag, self.entries, self.stage = tag, [], stage
@@ -91,7 +96,7 @@ class Told:
 
     def begin(self):
         """What a process begins with."""
-        self.files, self.just_read, self.stored = {}, [], {}
+        self.files, self.unwritten, self.stored = {}, [], {}
 
     def buffer_of(self, path, is_journal):
         has = lambda output: output.path if is_journal else output.is_file and output.sink
@@ -206,11 +211,10 @@ class Telling:
 
     def append(self, relay, note, journal, serial, tag, entries):
         buffer = journal.buffer
-        for each in relay.just_read:
-            is_its = each.tag == tag and each.message.entries == entries
-            if is_its and each.is_open and buffer.place not in each.appends:
-                break
-        else:
+        has = lambda each: each.tag == tag and each.message.entries == entries
+        is_its = lambda each: has(each) and each.is_open and buffer.place not in each.appends
+        each = next(filter(is_its, relay.unwritten), None)
+        if each is None:
             self.fault("an append to %s of no message that was read", buffer.name(serial))
             return
         self.begin(each)
@@ -282,7 +286,7 @@ class Telling:
         if isinstance(by, Going):
             self.hears(by, [value for value, _ in values])
             return
-        relay.just_read = []
+        relay.unwritten = [each for each in relay.unwritten[-MOST_UNWRITTEN:] if each.is_open]
         for value, data in values:
             if is_array(data[0]) and value[0] != b"PING":
                 self.arrives(relay, by, Message(data))
@@ -299,7 +303,7 @@ class Telling:
             number = self.forwarded(by, message)
         delivery = Delivery(message, number, tag, by)
         by.deliveries.append(delivery)
-        relay.just_read.append(delivery)
+        relay.unwritten.append(delivery)
 
     def send(self, relay, port, message):
         folder = next(name for name, each in self.relays.items() if each is relay)
