@@ -34,3 +34,43 @@ returns-clause-stays g c = record {
 
 pub returns-clause-takes : goal.returns-clause-takes
 returns-clause-takes g c = takes_more _ _ _ (takes_standing _ _ _ c.self.view_is refl refl c.make_room.ensures.stands) c.put.ensures.takes
+
+pub invariant_of-self-in_default : goal.invariant_of-self-in_default
+invariant_of-self-in_default g c =
+    (c.self.invariant.0, c.make_room.ensures.goes (sources_in c.self.inside.listeners.items) c.self.invariant.1, c.self.invariant.2)
+
+pub invariant_of-self-then-is_err : goal.invariant_of-self-then-is_err
+invariant_of-self-then-is_err g c = (
+  subst (λ (b : List Endpoint). AreListening b c.self.inside.listeners.items) (sym c.watch.ensures.bound) c.self.invariant.0,
+  c.make_room.ensures.goes (sources_in c.self.inside.listeners.items) c.self.invariant.1,
+  c.self.invariant.2,
+)
+
+pub invariant_of-self-in_err-peer : goal.invariant_of-self-in_err-peer
+invariant_of-self-in_err-peer g c = (
+  subst (λ (b : List Endpoint). AreListening b c.self.inside.listeners.items) (sym c.watch.ensures.bound) c.self.invariant.0,
+  c.make_room.ensures.goes (sources_in c.self.inside.listeners.items) c.self.invariant.1,
+  c.self.invariant.2,
+)
+
+pub invariant_of-self-in_default-2 : goal.invariant_of-self-in_default-2
+invariant_of-self-in_default-2 g c = (
+  subst (λ (b : List Endpoint). AreListening b c.self.inside.listeners.items) (sym c.watch.ensures.bound) c.self.invariant.0,
+  c.make_room.ensures.goes (sources_in c.self.inside.listeners.items) c.self.invariant.1,
+  c.self.invariant.2,
+)
+
+pub returns-in_err-key-clause-takes : goal.returns-in_err-key-clause-takes
+returns-in_err-key-clause-takes g c = takes_standing _ _ _ c.self.view_is refl refl c.make_room.ensures.stands
+
+pub returns-in_default-clause-takes : goal.returns-in_default-clause-takes
+returns-in_default-clause-takes g c = takes_standing _ _ _ c.self.view_is refl refl c.make_room.ensures.stands
+
+pub returns-then-is_err-clause-takes : goal.returns-then-is_err-clause-takes
+returns-then-is_err-clause-takes g c = takes_standing _ _ _ c.self.view_is refl refl c.make_room.ensures.stands
+
+pub returns-in_err-peer-clause-takes : goal.returns-in_err-peer-clause-takes
+returns-in_err-peer-clause-takes g c = takes_standing _ _ _ c.self.view_is refl refl c.make_room.ensures.stands
+
+pub returns-in_default-2-clause-takes : goal.returns-in_default-2-clause-takes
+returns-in_default-2-clause-takes g c = takes_standing _ _ _ c.self.view_is refl refl c.make_room.ensures.stands
