@@ -105,4 +105,4 @@ Carrier-send =
     )
 
 pub Pool-send : IsSend Pool.the_field.row
-Pool-send = let c = Carrier-send in let ts = Teller-here-send in let ty = Teller-here-sync in search (Shared-send, Shared-sync, maps.crosses, crosses, past.crosses, sendable) depth 60 fits 20000
+Pool-send = let c = Carrier-send in let ts = Teller-here-send in let ty = Teller-here-sync in search (Shared-send, Shared-sync, maps.crosses, crosses, past.crosses, sendable) depth 120 fits 100000
