@@ -9,6 +9,9 @@ use Rattle.std.specs.declared.alloc.Allocator as alloc
 use Rattle.std_heap.specs.contracts.Global as Heap
 use Rattle.std_heap.specs.contracts.GlobalAllocator.TheImpl.{ghosts}
 use Rattle.disk_files.specs.declared.dir.Dir as dir
+use Rattle.disk_files.proofs.either.EitherDir.TheSendSync as either
+use Rattle.disk_files.proofs.real.OpenFile.TheSendSync as opened_file
+use Rattle.disk_files.proofs.real.RealDir.TheSendSync as real
 use Rattle.disk_files.proofs.past.Past.TheLaws.TheKnot as past
 use Rattle.sink_series.proofs.answers.Answers.TheLaws.TheKnot as answers
 use Rattle.sink_series.proofs.begun.Begun.TheLaws.TheKnot as begun
@@ -105,4 +108,4 @@ Carrier-send =
     )
 
 pub Pool-send : IsSend Pool.the_field.row
-Pool-send = let c = Carrier-send in let ts = Teller-here-send in let ty = Teller-here-sync in search (Shared-send, Shared-sync, maps.crosses, crosses, past.crosses, sendable) depth 120 fits 100000
+Pool-send = let c = Carrier-send in let ts = Teller-here-send in let ty = Teller-here-sync in search (Shared-send, Shared-sync, either.the_field_send, real.the_field_send, opened_file.the_field_send, maps.crosses, crosses, past.crosses, sendable) depth 60 fits 20000
