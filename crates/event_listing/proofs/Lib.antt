@@ -1,4 +1,5 @@
 mod Held
+pub mod Items
 mod Listed
 mod Pieces
 mod Printed

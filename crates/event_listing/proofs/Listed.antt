@@ -1,6 +1,6 @@
 -- What is printed of events, one after another.
 use Rattle.std.proofs.Common.{ℕ, List, [], ◌∷◌, ◌++◌, sym, ap, ◌∙◌}
-use Rattle.std.specs.List.{AllByRecursion, AllZip, concat}
+use Rattle.std.specs.List.{AllZip, concat}
 use Rattle.std.proofs.lemmas.List.Folds.{concat-append}
 use Rattle.program_text.specs.Listings.{AreListed}
 
@@ -17,7 +17,3 @@ listed_append P xs more text behind first second = record {
   each = zip_append P xs more first.listings second.listings first.each second.each;
   text_is = ap (λ t. t ++ behind) first.text_is ∙ ap (λ t. concat first.listings ++ t) second.text_is ∙ sym (concat-append first.listings second.listings);
 }
-
-pub each_append : {X : Type 0} (P : X → Type 0) (xs more : List X) → AllByRecursion P xs → AllByRecursion P more → AllByRecursion P (xs ++ more)
-each_append P [] more all behind = behind
-each_append P (x ∷ xs) more all behind = (all.0, each_append P xs more all.1 behind)

@@ -9,3 +9,4 @@ mod sink;
 
 pub use choice::Choice;
 pub use files::run_events;
+pub use sink::LONGEST_ITEM;

@@ -12,7 +12,7 @@ use std::io;
 use std::io::{ErrorKind, Write};
 
 /// The most bytes that the item of an event has: its first byte, its tag as a str, and its time and record.
-pub(crate) const LONGEST_ITEM: usize = 16_779_264;
+pub const LONGEST_ITEM: usize = 16_779_264;
 
 /// Where the events of a file end.
 #[derive(Clone, Copy)]

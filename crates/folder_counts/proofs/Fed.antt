@@ -5,6 +5,7 @@ use Rattle.std.specs.Io.KnownBytes.{Consumes, IsAtEnd, Keeps}
 use Rattle.std.proofs.KnownBytes.{Consumes-nil, Consumes-trans, Consumes-kept, Consumes-whole}
 use Rattle.std.proofs.Math.Seq.{take-append_seam}
 use Rattle.chunk_journal.specs.Meaning.{IsDamaged}
+use Rattle.event_listing.proofs.Items.{known_is}
 use Rattle.journal_files.proofs.Heard.{damaged_front}
 
 -- what was read so far was fed
@@ -34,12 +35,6 @@ module _ {S : Type 0} (after : S → List ℕ → Type 0) (known : Option (List 
   pub fed_whole : (now later : Option (List ℕ)) (fed : S) → FedOn after known now fed → Consumes now later [] → IsAtEnd later → IfSome known (after fed)
   fed_whole now later fed on nothing end =
       Consumes-whole known later on.read (after fed) (subst (Consumes known later) (append-nil on.read) (Consumes-trans known now later on.read [] on.consumed nothing)) end on.so_far
-
--- what holds of what was read, whatever follows, holds of the bytes where they are known
-known_is : (known now : Option (List ℕ)) (read : List ℕ) (P : List ℕ → Type 0) → Consumes known now read → ((more : List ℕ) → P (read ++ more)) → IfSome known P
-known_is None now read P consumed holds = tt
-known_is (Some bytes) None read P consumed holds = absurd consumed
-known_is (Some bytes) (Some more) read P consumed holds = subst P (sym consumed) (holds more)
 
 -- the piece shows that the file is damaged
 pub fed_damaged : {S : Type 0} (after : S → List ℕ → Type 0) (damaged : List ℕ → Type 0) (known now later : Option (List ℕ)) (fed : S) (piece : List ℕ) → FedOn after known now fed → Consumes now later piece

@@ -5,7 +5,7 @@ use Rattle.std.proofs.lemmas.Grind.{fold-append}
 use Rattle.std.proofs.lemmas.List.{map-append}
 use Rattle.folder_listing.specs.Files.{Named}
 use Rattle.folder_counts.specs.Folders.{name_of, folder_with, no_folder, AreCounted, Counted, IsCounted, OfBuffer, OfSink, Takes}
-use Rattle.folder_counts.proofs.Items.{each_append}
+use Rattle.event_listing.proofs.Items.{each_append}
 use Rattle.folder_counts.specs.Views.{BufferView, FolderView, SinkView}
 
 pub none_counted : (named : List ℕ → Option (List ℕ)) (folder : FolderView) → folder ≡ no_folder → AreCounted named [] folder

@@ -4,7 +4,7 @@ use Rattle.std.proofs.Math.Seq.{drop-append_seam}
 use Rattle.std.proofs.lemmas.List.{length-append}
 use Rattle.sink_series.specs.Events.{IsEvent, run_of, BeginsNone, Counts}
 use Rattle.event_listing.specs.Reading.{longest_item}
-use Rattle.folder_counts.proofs.Items.{each_append, none_further, nothing_begins, run_append}
+use Rattle.event_listing.proofs.Items.{each_append, none_further, nothing_begins, run_append}
 use Rattle.folder_counts.specs.Counts.{file_of}
 use Rattle.folder_counts.specs.Findings.{CountsEvents, EndsLong, IsInSink, Whole}
 use Rattle.folder_counts.specs.Held.{IsHeldAfter}

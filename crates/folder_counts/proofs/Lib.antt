@@ -2,5 +2,4 @@ mod Fed
 mod Files
 mod Generations
 mod Held
-mod Items
 mod Owners

@@ -7,13 +7,11 @@ ghost use Rattle.folder_counts.specs.Held.{IsHeldAfter};
 
 use crate::counts::{NO_FILES, SinkCounts, plus};
 use crate::feeding::{Feed, Stop, feed_all};
+use event_listing::LONGEST_ITEM;
 use event_modes::drop_front;
 use program_text::CountedRead;
 use sink_series::count_events;
 use std::alloc::Allocator;
-
-/// The most bytes that the item of an event has.
-const LONGEST_ITEM: usize = 16_779_264;
 
 /// A sink's file that is damaged.
 const DAMAGED_FILE: SinkCounts = SinkCounts {

@@ -1,5 +1,7 @@
--- The items of events: how long they are, and one behind another.
-use Rattle.std.proofs.Common.{ℕ, List, [], ◌∷◌, ◌++◌, ◌≡◌, ◌<◌, ◌≤◌, length, take, drop, sym, ap, ◌∙◌, arith, inl, inr, append_assoc}
+-- Items of events in bytes that are read piece by piece: how long they are, and one behind another.
+use Rattle.std.proofs.Common.{ℕ, List, [], ◌∷◌, ◌++◌, ◌≡◌, ◌<◌, ◌≤◌, length, take, drop, sym, ap, ◌∙◌, subst, arith, inl, inr, append_assoc, Option, Some, None}
+use Rattle.std.specs.Prelude.{IfSome}
+use Rattle.std.specs.Io.KnownBytes.{Consumes}
 use Rattle.std.specs.List.{AllByRecursion}
 use Rattle.std.proofs.Math.Seq.{take-append_seam}
 use Rattle.std.proofs.lemmas.Bool.{lt-ltb, le-ltb, cases_lt}
@@ -50,3 +52,9 @@ nothing_begins event rest is same = absurd (cc same)
 pub each_append : {X : Type 0} (P : X → Type 0) (xs more : List X) → AllByRecursion P xs → AllByRecursion P more → AllByRecursion P (xs ++ more)
 each_append P [] more all behind = behind
 each_append P (x ∷ xs) more all behind = (all.0, each_append P xs more all.1 behind)
+
+-- what holds of what was read, whatever follows, holds of the bytes where they are known
+pub known_is : (known now : Option (List ℕ)) (read : List ℕ) (P : List ℕ → Type 0) → Consumes known now read → ((more : List ℕ) → P (read ++ more)) → IfSome known P
+known_is None now read P consumed holds = tt
+known_is (Some bytes) None read P consumed holds = absurd consumed
+known_is (Some bytes) (Some more) read P consumed holds = subst P (sym consumed) (holds more)
