@@ -3,5 +3,11 @@ pub mod Findings
 pub mod Folders
 pub mod Groups
 pub mod Held
+pub mod Limits
+pub mod Lines
+pub mod Metrics
 pub mod Names
+pub mod Object
+pub mod Order
+pub mod Status
 pub mod Views

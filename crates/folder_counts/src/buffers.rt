@@ -1,9 +1,13 @@
 //! Buffers, by the generations of their journals.
 
 ghost use Rattle.std.specs.Prelude.{◌≡◌, bytes_eq};
+ghost use Rattle.std.specs.Cmp.Lexicographic.{slice_cmp};
+ghost use Rattle.std.specs.Ordering.{nat_cmp};
 ghost use Rattle.folder_counts.specs.Groups.{is_unsealed, outranks};
+ghost use Rattle.folder_counts.specs.Limits.{chunks_in, is_sound};
 
-use crate::counts::ChunkCounts;
+use crate::counts::{ChunkCounts, NO_CHUNKS};
+use std::cmp::Ordering;
 use std::marker::Model;
 
 /// What is found in a journal.
@@ -74,6 +78,27 @@ impl<'a> Buffer<'a> {
         self.found
     }
 
+    /// Its live chunks; none where no journal of it is whole.
+    pub fn chunks(&self) -> ChunkCounts
+        ensures { result ≡ chunks_in self.now.found }
+    {
+        chunks_in(self.found)
+    }
+
+    /// Whether its journal is read, and not damaged.
+    pub fn is_sound(&self) -> bool
+        ensures { result ≡ is_sound self.now.found }
+    {
+        is_sound(self.found)
+    }
+
+    /// The order of both by their paths.
+    pub(crate) fn order(&self, other: &Buffer<'_>) -> Ordering
+        ensures { result ≡ slice_cmp nat_cmp self.now.path other.now.path }
+    {
+        self.path.cmp(other.path)
+    }
+
     /// Whether the path is this one.
     pub(crate) fn is_of(&self, path: &str) -> bool
         ensures { result ≡ bytes_eq self.now.path path.now }
@@ -94,4 +119,21 @@ fn is_unsealed(found: Found) -> bool
     ensures { result ≡ is_unsealed found }
 {
     matches!(found, Found::Unsealed)
+}
+
+// The live chunks that are found.
+fn chunks_in(found: Found) -> ChunkCounts
+    ensures { result ≡ chunks_in found }
+{
+    match found {
+        Found::Chunks { chunks, .. } => chunks,
+        Found::Unsealed | Found::Damaged | Found::Unread => NO_CHUNKS,
+    }
+}
+
+// Whether a journal is read, and not damaged.
+fn is_sound(found: Found) -> bool
+    ensures { result ≡ is_sound found }
+{
+    matches!(found, Found::Chunks { .. } | Found::Unsealed)
 }

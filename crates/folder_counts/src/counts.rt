@@ -2,6 +2,7 @@
 
 ghost use Rattle.std.specs.Prelude.{◌≡◌, ◌+◌, IfOk};
 ghost use Rattle.folder_counts.specs.Counts.{chunks_sum, sinks_sum};
+ghost use Rattle.folder_counts.specs.Limits.{chunks_of};
 
 use std::alloc::AllocError;
 
@@ -37,6 +38,13 @@ impl ChunkCounts {
             entries: plus(self.entries, other.entries)?,
             bytes: plus(self.bytes, other.bytes)?,
         })
+    }
+
+    /// How many chunks they are. The error is want of memory for a number of 2^64 or more.
+    pub(crate) fn number(self) -> Result<u64, AllocError>
+        ensures { IfOk result (λ number. number ≡ chunks_of self) }
+    {
+        plus(self.staged, self.queued)
     }
 }
 

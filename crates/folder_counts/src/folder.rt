@@ -5,6 +5,8 @@ ghost use Rattle.folder_listing.specs.Files.{named_of};
 ghost use Rattle.folder_counts.specs.Findings.{IsInJournal, IsInSink};
 ghost use Rattle.folder_counts.specs.Folders.{folder_with, no_folder, AreCounted, IsCounted, OfBuffer, OfSink, Takes};
 ghost use Rattle.folder_counts.specs.Groups.{buffers_with, sinks_with};
+ghost use Rattle.folder_counts.specs.Order.{buffer_is_before, sink_is_before, IsInOrder};
+ghost use Rattle.std.specs.List.Sorted.{IsPermutation, IsSortedBy};
 
 use crate::buffers::{Buffer, Found};
 use crate::counts::SinkCounts;
@@ -18,7 +20,7 @@ use program_text::Open;
 use std::alloc::{AllocError, Allocator};
 use std::marker::Model;
 
-/// The buffers and the sinks of a folder, each in the order of their first files.
+/// The buffers and the sinks of a folder, each in the order of their first files until they are sorted.
 #[derive(Drop)]
 pub struct FolderCounts<'a, A: Allocator> {
     buffers: Vec<Buffer<'a>, A>,
@@ -60,6 +62,14 @@ impl<'a, A: Allocator> FolderCounts<'a, A> {
         &self.sinks
     }
 
+    /// Puts the buffers and the sinks in the order of their paths.
+    pub fn sort(&mut self)
+        ensures { IsInOrder self.old self.new }
+    {
+        sort_buffers(&mut self.buffers);
+        sort_sinks(&mut self.sinks);
+    }
+
     // Counts the file of this kind and name, and takes it. The error is want of memory.
     fn take<B: Allocator + Copy, O: Open>(
         &mut self,
@@ -95,6 +105,22 @@ impl<'a, A: Allocator> FolderCounts<'a, A> {
     {
         put_sink(&mut self.sinks, sink)
     }
+}
+
+// Puts buffers in the order of their paths.
+fn sort_buffers(buffers: &mut [Buffer<'_>])
+    ensures same { IsPermutation buffers.old buffers.new }
+    ensures rise { IsSortedBy buffer_is_before buffers.new }
+{
+    buffers.sort_unstable_by(|a, b| a.order(b));
+}
+
+// Puts sinks in the order of their paths.
+fn sort_sinks(sinks: &mut [Sink<'_>])
+    ensures same { IsPermutation sinks.old sinks.new }
+    ensures rise { IsSortedBy sink_is_before sinks.new }
+{
+    sinks.sort_unstable_by(|a, b| a.order(b));
 }
 
 // Takes one generation of a buffer more.

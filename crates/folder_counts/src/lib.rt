@@ -1,4 +1,4 @@
-//! What the journals and sinks in a relay's data folder hold, counted: of each buffer and of each sink. Files are read in pieces.
+//! The word `status`: what the journals and sinks in a relay's data folder hold, counted for each buffer and each sink. Files are read in pieces.
 #![tactic(auto)]
 
 mod buffers;
@@ -7,10 +7,17 @@ mod events;
 mod feeding;
 mod folder;
 mod journal;
+mod limits;
+mod lines;
+mod metrics;
 mod names;
+mod object;
 mod sinks;
+mod status;
 
 pub use buffers::{Buffer, Found};
 pub use counts::{ChunkCounts, NO_CHUNKS, NO_FILES, SinkCounts};
 pub use folder::{FolderCounts, count_folder};
+pub use limits::Limits;
 pub use sinks::Sink;
+pub use status::{Form, run_status};

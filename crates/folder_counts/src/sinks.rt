@@ -1,10 +1,14 @@
 //! Sinks, by their files.
 
 ghost use Rattle.std.specs.Prelude.{◌≡◌, bytes_eq, IfOk};
+ghost use Rattle.std.specs.Cmp.Lexicographic.{slice_cmp};
+ghost use Rattle.std.specs.Ordering.{nat_cmp};
 ghost use Rattle.folder_counts.specs.Groups.{joined};
+ghost use Rattle.folder_counts.specs.Limits.{is_sink_sound};
 
 use crate::counts::SinkCounts;
 use std::alloc::AllocError;
+use std::cmp::Ordering;
 use std::marker::Model;
 
 /// A sink, by its files.
@@ -67,6 +71,20 @@ impl<'a> Sink<'a> {
         ensures { result ≡ self.now.counts }
     {
         self.counts
+    }
+
+    /// Whether all its files are read, and none is damaged.
+    pub fn is_sound(&self) -> bool
+        ensures { result ≡ is_sink_sound self.now }
+    {
+        self.counts.damaged == 0 && self.counts.unread == 0
+    }
+
+    /// The order of both by their paths.
+    pub(crate) fn order(&self, other: &Sink<'_>) -> Ordering
+        ensures { result ≡ slice_cmp nat_cmp self.now.path other.now.path }
+    {
+        self.path.cmp(other.path)
     }
 
     /// Whether the path is this one.

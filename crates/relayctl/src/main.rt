@@ -10,6 +10,7 @@ mod explain;
 mod faults;
 mod label;
 mod listing;
+mod status;
 mod words;
 
 use check::{lent_names, run_adapted_check, run_check};
@@ -25,6 +26,7 @@ use plan_answers::{Stop, print_stop};
 use plan_ways::run_plan_ways;
 use program_text::{Folder, ReadFault, Status, print_version, put_last, read_whole};
 use route_listing::run_ways;
+use status::print_status;
 use std::alloc::{AllocError, Allocator};
 use std::io::{ErrorKind, Write};
 use std::process::ExitCode;
@@ -32,10 +34,10 @@ use std::{env, io};
 use words::{CheckWords, Word, read_word};
 
 const USAGE: &str =
-    "usage: relayctl check NET [--drop MATCH].. [--drops FILE].. | check --adapt NET [--accept NAME].. [--drop MATCH].. [--drops FILE].. | label [--fresh] NET | explain NET [--drop MATCH].. [--drops FILE].. | draw NET [--dot] | ways CONF TAG.. | ways --plan NET TAG.. | adapt CONF [--accept NAME].. | show DIR | events PATH.. [--tag PATTERN].. [--since TIME] [--until TIME] | --help | --version";
+    "usage: relayctl check NET [--drop MATCH].. [--drops FILE].. | check --adapt NET [--accept NAME].. [--drop MATCH].. [--drops FILE].. | label [--fresh] NET | explain NET [--drop MATCH].. [--drops FILE].. | draw NET [--dot] | ways CONF TAG.. | ways --plan NET TAG.. | adapt CONF [--accept NAME].. | show DIR | status DIR [--max-bytes N] [--max-chunks N] [--json | --prometheus] | events PATH.. [--tag PATTERN].. [--since TIME] [--until TIME] | --help | --version";
 
 const HELP: &str =
-    "usage: relayctl check NET [--drop MATCH].. [--drops FILE].. | check --adapt NET [--accept NAME].. [--drop MATCH].. [--drops FILE].. | label [--fresh] NET | explain NET [--drop MATCH].. [--drops FILE].. | draw NET [--dot] | ways CONF TAG.. | ways --plan NET TAG.. | adapt CONF [--accept NAME].. | show DIR | events PATH.. [--tag PATTERN].. [--since TIME] [--until TIME] | --help | --version
+    "usage: relayctl check NET [--drop MATCH].. [--drops FILE].. | check --adapt NET [--accept NAME].. [--drop MATCH].. [--drops FILE].. | label [--fresh] NET | explain NET [--drop MATCH].. [--drops FILE].. | draw NET [--dot] | ways CONF TAG.. | ways --plan NET TAG.. | adapt CONF [--accept NAME].. | show DIR | status DIR [--max-bytes N] [--max-chunks N] [--json | --prometheus] | events PATH.. [--tag PATTERN].. [--since TIME] [--until TIME] | --help | --version
 
 check NET        labels the plan NET, and prints `yes`, with warnings of what may keep events from
                  arriving, or every rule that is broken then, each with what it means, what mends
@@ -59,6 +61,9 @@ adapt CONF       prints the configuration CONF, as it runs in Fluentd, in the fo
                  reads, or what of it changes what the relay does; --accept NAME accepts that
 show DIR         prints which chunks the journals in a relay's data folder DIR hold,
                  and how many events its sinks hold
+status DIR       prints what each buffer and each sink in a relay's data folder DIR holds, and what
+                 all buffers hold together; --max-bytes N, --max-chunks N: the status is 1 where a
+                 buffer holds more; --json, --prometheus: in these forms
 events PATH..    prints the events that sinks hold, each as a line of JSON; PATH is a file of a
                  sink, as all.0000000001.sink, or a relay's data folder; --tag PATTERN: those
                  whose tag matches; --since TIME: not those before; --until TIME: those before
@@ -111,6 +116,7 @@ fn run<A: Allocator>(rt: &HostRuntime, word: Option<Word<'_, A>>) -> Status {
             run_adapt(rt.alloc(), &mut folder.text(conf), accepted, out)
         }
         Some(Word::Show(path)) => show_folder(rt, path, out),
+        Some(Word::Status(asked)) => print_status(rt, asked, out),
         Some(Word::Events(asked)) => print_events(rt, &asked, out),
         None => usage(rt),
     }

@@ -2,6 +2,7 @@
 
 use crate::draw::Drawing;
 use crate::events::{EventWords, event_words};
+use crate::status::{StatusWords, status_words};
 use std::alloc::{AllocError, Allocator};
 
 /// What the program is asked to do; a path is taken from the working folder.
@@ -29,6 +30,8 @@ pub enum Word<'a, A: Allocator> {
     Adapt(&'a str, &'a [String]),
     /// Show what the journals in the data folder at this path hold.
     Show(&'a str),
+    /// Count what the journals and sinks in a data folder hold.
+    Status(StatusWords<'a>),
     /// Print events that sinks hold.
     Events(EventWords<'a, A>),
 }
@@ -76,6 +79,7 @@ fn other_word<A: Allocator>(words: &[String]) -> Option<Word<'_, A>> {
         "ways" => ways_word(behind),
         "adapt" => adapt_word(behind),
         "show" => Some(Word::Show(only_path(behind)?)),
+        "status" => Some(Word::Status(status_words(behind)?)),
         "--help" if behind.is_empty() => Some(Word::Help),
         "--version" if behind.is_empty() => Some(Word::Version),
         _ => None,

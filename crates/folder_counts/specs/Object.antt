@@ -1,0 +1,102 @@
+-- What a folder holds, as a JSON object (RFC 8259): the tokens of its text.
+use Rattle.std.specs.Prelude.{ℕ, ◌≡◌, cond, List, [], ◌∷◌, ◌++◌, codes, decimal, fold, Option}
+use Rattle.json.specs.Print.{print}
+use Rattle.json.specs.Token.{Token, begin_object, end_object, begin_array, end_array, key, string, number}
+use Rattle.json.specs.Written.{Written}
+use Rattle.program_text.specs.Lines.{line}
+use Rattle.folder_counts.specs.Limits.{chunks_in, chunks_of, is_above}
+use Rattle.folder_counts.specs.Lines.{total_of}
+use Rattle.folder_counts.specs.Views.{BufferView, FolderView, SinkView}
+use Rattle.folder_counts.specs.declared.buffers.Found.{Found}
+use Rattle.folder_counts.specs.declared.buffers.Found.TheVariants.{Chunks, Unsealed, Damaged, Unread}
+use Rattle.folder_counts.specs.declared.counts.ChunkCounts.{ChunkCounts}
+use Rattle.folder_counts.specs.declared.counts.SinkCounts.{SinkCounts}
+use Rattle.folder_counts.specs.declared.limits.Limits.{Limits}
+
+-- a writer has these tokens now, behind what it had before all of them
+pub record Becomes (old new : Written) (tokens : List Token) : Type 0 where
+  pub before : new.before ≡ old.before
+  pub tokens_are : new.tokens ≡ tokens
+
+-- tokens, and behind them a member whose value is a number
+abbrev pub with_number : List Token → List ℕ → ℕ → List Token
+with_number tokens name value = (tokens ++ key name ∷ []) ++ number (decimal value) ∷ []
+
+-- a member whose value is a text
+abbrev pub with_word : List Token → List ℕ → List ℕ → List Token
+with_word tokens name word = (tokens ++ key name ∷ []) ++ string word ∷ []
+
+-- the beginning of an object that has a name
+abbrev pub with_name : List Token → List ℕ → List Token
+with_name tokens name = with_word (tokens ++ begin_object ∷ []) (codes "name") name
+
+-- the members of what chunks count to
+abbrev pub with_chunks : List Token → ChunkCounts → List Token
+with_chunks tokens chunks =
+    with_number (with_number (with_number (with_number tokens (codes "staged") chunks.staged) (codes "queued") chunks.queued) (codes "entries") chunks.entries) (codes "bytes") chunks.bytes
+
+-- the word for what is found in a journal
+abbrev pub state_word : Found → List ℕ
+state_word (Chunks chunks torn next) = codes "whole"
+state_word Unsealed = codes "unsealed"
+state_word Damaged = codes "damaged"
+state_word Unread = codes "unread"
+
+-- the members of the numbers that are found in a journal, where it is whole
+abbrev pub with_numbers : List Token → Found → List Token
+with_numbers tokens (Chunks chunks torn next) = with_number (with_number (with_chunks tokens chunks) (codes "torn") torn) (codes "next") next
+with_numbers tokens Unsealed = tokens
+with_numbers tokens Damaged = tokens
+with_numbers tokens Unread = tokens
+
+-- the members of what is found in a journal
+abbrev pub with_found : List Token → Found → List Token
+with_found tokens found = with_numbers (with_word tokens (codes "state") (state_word found)) found
+
+-- the object of a buffer
+abbrev pub with_buffer : List Token → BufferView → List Token
+with_buffer tokens buffer = with_found (with_name tokens buffer.path) buffer.found ++ end_object ∷ []
+
+-- the member of these buffers
+abbrev pub with_buffers : List Token → List BufferView → List Token
+with_buffers tokens buffers = fold with_buffer ((tokens ++ key (codes "buffers") ∷ []) ++ begin_array ∷ []) buffers ++ end_array ∷ []
+
+-- the members of what files of a sink count to
+abbrev pub with_counts : List Token → SinkCounts → List Token
+with_counts tokens counts =
+    with_number (with_number (with_number (with_number (with_number (with_number tokens (codes "files") counts.files) (codes "events") counts.events) (codes "bytes") counts.bytes) (codes "torn") counts.torn)
+    (codes "damaged") counts.damaged) (codes "unread") counts.unread
+
+-- the object of a sink
+abbrev pub with_sink : List Token → SinkView → List Token
+with_sink tokens sink = with_word (with_counts (with_name tokens sink.path) sink.counts) (codes "newest") sink.newest ++ end_object ∷ []
+
+-- the member of these sinks
+abbrev pub with_sinks : List Token → List SinkView → List Token
+with_sinks tokens sinks = fold with_sink ((tokens ++ key (codes "sinks") ∷ []) ++ begin_array ∷ []) sinks ++ end_array ∷ []
+
+-- the member of what these buffers hold together
+abbrev pub with_total : List Token → List BufferView → List Token
+with_total tokens buffers = with_chunks ((tokens ++ key (codes "total") ∷ []) ++ begin_object ∷ []) (total_of buffers) ++ end_object ∷ []
+
+-- the object of a number of a buffer that is above its limit; nothing of another
+abbrev pub with_above : List Token → List ℕ → List ℕ → Option ℕ → ℕ → List Token
+with_above tokens name word most value = cond (is_above most value) (with_number (with_name tokens name) word value ++ end_object ∷ []) tokens
+
+-- the objects of the limits that a buffer is above
+abbrev pub with_over : Limits → List Token → BufferView → List Token
+with_over limits tokens buffer =
+    with_above (with_above tokens buffer.path (codes "bytes") limits.bytes (chunks_in buffer.found).bytes) buffer.path (codes "chunks") limits.chunks (chunks_of (chunks_in buffer.found))
+
+-- the member of the limits that these buffers are above
+abbrev pub with_overs : List Token → Limits → List BufferView → List Token
+with_overs tokens limits buffers = fold (with_over limits) ((tokens ++ key (codes "over") ∷ []) ++ begin_array ∷ []) buffers ++ end_array ∷ []
+
+-- the object of a folder
+abbrev pub with_status : List Token → Limits → FolderView → List Token
+with_status tokens limits folder =
+    with_overs (with_total (with_sinks (with_buffers (tokens ++ begin_object ∷ []) folder.buffers) folder.sinks) folder.buffers) limits folder.buffers ++ end_object ∷ []
+
+-- its text, in a line
+abbrev pub status_object : Limits → FolderView → List ℕ
+status_object limits folder = line (print (with_status [] limits folder))

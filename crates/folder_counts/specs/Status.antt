@@ -1,0 +1,43 @@
+-- What is printed of a data folder's status.
+use Rattle.std.specs.Prelude.{ℕ, ◌≡◌, ◌⊎◌, List, Option}
+use Rattle.folder_listing.specs.Files.{Named}
+use Rattle.program_text.specs.Lines.{memory_line}
+use Rattle.program_text.specs.Output.{IsPrinted}
+use Rattle.program_text.specs.declared.status.Status.{Status}
+use Rattle.program_text.specs.declared.status.Status.TheVariants.{Usage}
+use Rattle.folder_counts.specs.Folders.{AreCounted}
+use Rattle.folder_counts.specs.Limits.{status_of}
+use Rattle.folder_counts.specs.Lines.{status_lines}
+use Rattle.folder_counts.specs.Metrics.{status_metrics}
+use Rattle.folder_counts.specs.Object.{status_object}
+use Rattle.folder_counts.specs.Order.{IsInOrder}
+use Rattle.folder_counts.specs.Views.{FolderView}
+use Rattle.folder_counts.specs.declared.limits.Limits.{Limits}
+use Rattle.folder_counts.specs.declared.status.Form.{Form}
+use Rattle.folder_counts.specs.declared.status.Form.TheVariants.{Lines, Object, Metrics}
+
+-- the text of a folder in a form
+abbrev pub text_of : Limits → Form → FolderView → List ℕ
+text_of limits Lines folder = status_lines limits folder
+text_of limits Object folder = status_object limits folder
+text_of limits Metrics folder = status_metrics folder
+
+-- These files are counted, and this is the text of what they hold, in the order of names, and the status that it means.
+pub record IsSaid (named : List ℕ → Option (List ℕ)) (files : List Named) (limits : Limits) (form : Form) (text : List ℕ) (status : Status) : Type 0 where
+  pub counted : FolderView
+  pub folder : FolderView
+  pub are_counted : AreCounted named files counted
+  pub in_order : IsInOrder counted folder
+  pub text_is : text ≡ text_of limits form folder
+  pub status_is : status ≡ status_of limits folder
+
+-- what these files hold is printed
+pub record PrintsSaid (named : List ℕ → Option (List ℕ)) (files : List Named) (limits : Limits) (form : Form) (old new : Option (List ℕ)) (status : Status) : Type 0 where
+  pub text : List ℕ
+  pub meant : Status
+  pub said : IsSaid named files limits form text meant
+  pub printed : IsPrinted old new text meant status
+
+-- all that `status` does to a writer, and its status: the text of what the files hold, or that memory ran out
+abbrev pub PrintsStatus : (List ℕ → Option (List ℕ)) → List Named → Limits → Form → Option (List ℕ) → Option (List ℕ) → Status → Type 0
+PrintsStatus named files limits form old new status = PrintsSaid named files limits form old new status ⊎ IsPrinted old new memory_line Usage status

@@ -1,0 +1,126 @@
+//! The word `status`: which folder, which limits, and in which form it is printed.
+
+use folder_counts::{Form, Limits, run_status};
+use folder_listing::DataFolder;
+use program_text::{ReadFault, Status, put_last};
+use std::io::Write;
+
+/// What stands behind `status`.
+#[derive(Clone, Copy)]
+pub struct StatusWords<'a> {
+    /// The path of the data folder.
+    pub path: &'a str,
+    /// How much a buffer may hold: what stands behind `--max-bytes` and `--max-chunks`.
+    pub limits: Limits,
+    /// The form in which it is printed: `--json` or `--prometheus`, or lines.
+    pub form: Form,
+}
+
+// What an option waits for.
+#[derive(Clone, Copy, Debug, PartialEq, Eq)]
+enum Awaited {
+    // Nothing: none stands in front.
+    Nothing,
+    // The most bytes.
+    Bytes,
+    // The most chunks.
+    Chunks,
+}
+
+// What was read so far of the words behind `status`.
+#[derive(Drop)]
+struct StatusReader<'a> {
+    path: Option<&'a str>,
+    bytes: Option<u64>,
+    chunks: Option<u64>,
+    form: Option<Form>,
+    awaited: Awaited,
+}
+
+/// Reads what stands behind `status`, in any order: a path, `--max-bytes` and `--max-chunks`, each once and with a number below 2^64, and `--json` or
+/// `--prometheus`. `None` where something is missing or can't stand there.
+pub fn status_words(words: &[String]) -> Option<StatusWords<'_>> {
+    let mut reader = StatusReader {
+        path: None,
+        bytes: None,
+        chunks: None,
+        form: None,
+        awaited: Awaited::Nothing,
+    };
+    for word in words {
+        if !reader.take(word) {
+            return None;
+        }
+    }
+    reader.finish()
+}
+
+impl<'a> StatusReader<'a> {
+    // Takes the next word; false where it can't stand here.
+    fn take(&mut self, word: &'a str) -> bool {
+        match self.awaited {
+            Awaited::Nothing => return self.begin(word),
+            Awaited::Bytes => self.bytes = number_of(word),
+            Awaited::Chunks => self.chunks = number_of(word),
+        }
+        self.awaited = Awaited::Nothing;
+        number_of(word).is_some()
+    }
+
+    // Takes a word behind none that waits for one.
+    fn begin(&mut self, word: &'a str) -> bool {
+        match word {
+            "--max-bytes" if self.bytes.is_none() => self.awaited = Awaited::Bytes,
+            "--max-chunks" if self.chunks.is_none() => self.awaited = Awaited::Chunks,
+            "--json" if self.form.is_none() => self.form = Some(Form::Object),
+            "--prometheus" if self.form.is_none() => self.form = Some(Form::Metrics),
+            path if !path.as_bytes().starts_with(b"--") && self.path.is_none() => {
+                self.path = Some(path);
+            }
+            _ => return false,
+        }
+        true
+    }
+
+    // What was asked; none where something is missing.
+    fn finish(self) -> Option<StatusWords<'a>> {
+        if self.awaited != Awaited::Nothing {
+            return None;
+        }
+        let limits = Limits {
+            bytes: self.bytes,
+            chunks: self.chunks,
+        };
+        Some(StatusWords {
+            path: self.path?,
+            limits,
+            form: self.form.unwrap_or(Form::Lines),
+        })
+    }
+}
+
+// The number that these digits are.
+fn number_of(word: &str) -> Option<u64> {
+    if !word.as_bytes().iter().all(|byte| byte.is_ascii_digit()) {
+        return None;
+    }
+    match word.parse::<u64>() {
+        Ok(number) => Some(number),
+        Err(_) => None,
+    }
+}
+
+/// Prints what the journals and sinks of a data folder hold. Where there are none, that is said on standard error.
+pub fn print_status<W: Write>(rt: &HostRuntime, asked: StatusWords<'_>, out: &mut W) -> Status {
+    let folder = DataFolder::new(rt, asked.path);
+    match folder.files(rt.alloc()) {
+        Ok(files) => {
+            if files.is_empty() {
+                let _ = eprintln!(rt; "{}: no journals and no sinks are there", asked.path);
+            }
+            run_status(rt.alloc(), &files, &folder, asked.limits, asked.form, out)
+        }
+        Err(ReadFault::Memory) => put_last(out, b"fault memory\n", Status::Usage),
+        Err(ReadFault::Read) => put_last(out, b"fault read\n", Status::Usage),
+    }
+}
