@@ -1,6 +1,6 @@
 -- A file that is fed piece by piece.
-use Rattle.std.proofs.Common.{ℕ, List, [], ◌++◌, ◌≡◌, length, refl, sym, subst, append_assoc, append-nil, Option, Some, None}
-use Rattle.std.specs.Prelude.{IfSome}
+use Rattle.std.proofs.Common.{ℕ, List, [], ◌++◌, ◌≡◌, length, refl, sym, subst, append_assoc, append-nil, Option, Some, None, Result, Ok, Err}
+use Rattle.std.specs.Prelude.{IfOk, IfSome}
 use Rattle.std.specs.Io.KnownBytes.{Consumes, IsAtEnd, Keeps}
 use Rattle.std.proofs.KnownBytes.{Consumes-nil, Consumes-trans, Consumes-kept, Consumes-whole}
 use Rattle.std.proofs.Math.Seq.{take-append_seam}
@@ -52,3 +52,16 @@ damaged_on seen piece more damaged =
 pub if_known : (P Q : List ℕ → Type 0) (known : Option (List ℕ)) → IfSome known P → ((bytes : List ℕ) → P bytes → Q bytes) → IfSome known Q
 if_known P Q None is follows = tt
 if_known P Q (Some bytes) is follows = follows bytes is
+
+-- what holds of all bytes holds of those that are known
+pub each_known : (P : List ℕ → Type 0) (known : Option (List ℕ)) → ((bytes : List ℕ) → P bytes) → IfSome known P
+each_known P None holds = tt
+each_known P (Some bytes) holds = holds bytes
+
+-- what is found behind all that was fed is found in the bytes where they are known
+pub finished_so : {S E : Type 0} (is_in : List ℕ → S → Type 0) (after : List ℕ → Type 0) (known : Option (List ℕ)) (result : Result S E) → IfSome known after
+    → ((bytes : List ℕ) → after bytes → IfOk result (λ found. is_in bytes found)) → IfOk result (λ found. IfSome known (λ bytes. is_in bytes found))
+finished_so is_in after None (Ok found) all finds = tt
+finished_so is_in after None (Err e) all finds = tt
+finished_so is_in after (Some bytes) (Ok found) all finds = finds bytes all
+finished_so is_in after (Some bytes) (Err e) all finds = tt

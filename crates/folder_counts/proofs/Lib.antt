@@ -1,5 +1,4 @@
 mod Fed
 mod Files
-mod Generations
 mod Held
 mod Owners

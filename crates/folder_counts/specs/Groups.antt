@@ -21,10 +21,14 @@ outranks next held = not (is_unsealed next.found) && (is_unsealed held.found || 
 abbrev pub newer : BufferView → BufferView → BufferView
 newer held next = if outranks next held then next else held
 
--- Buffers, of each path one, with one generation more.
+-- Parts that have paths, of each path one, with one more: it is joined to the one that has its path, and else stands behind all.
+abbrev pub with_part : {X : Type 0} → (X → List ℕ) → (X → X → X) → List X → X → List X
+with_part path both held next =
+    option_map_or (λ i. slice_set held i (both (slice_index_or held i next) next)) (position (λ one. bytes_eq (path one) (path next)) held) (held ++ next ∷ [])
+
+-- buffers with one generation more
 abbrev pub buffers_with : List BufferView → BufferView → List BufferView
-buffers_with held next =
-    option_map_or (λ i. slice_set held i (newer (slice_index_or held i next) next)) (position (λ one. bytes_eq one.path next.path) held) (held ++ next ∷ [])
+buffers_with = with_part (λ buffer. buffer.path) newer
 
 -- a sink with the files of another: the one of the greatest number is the newest
 abbrev pub joined : SinkView → SinkView → SinkView
@@ -35,7 +39,6 @@ joined held next = record {
   counts = sinks_sum held.counts next.counts;
 }
 
--- Sinks, of each path one, with the files of one more.
+-- sinks with the files of one more
 abbrev pub sinks_with : List SinkView → SinkView → List SinkView
-sinks_with held next =
-    option_map_or (λ i. slice_set held i (joined (slice_index_or held i next) next)) (position (λ one. bytes_eq one.path next.path) held) (held ++ next ∷ [])
+sinks_with = with_part (λ sink. sink.path) joined

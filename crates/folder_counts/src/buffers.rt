@@ -1,13 +1,12 @@
 //! Buffers, by the generations of their journals.
 
-ghost use Rattle.std.specs.Prelude.{◌≡◌, bytes_eq};
-ghost use Rattle.std.specs.Cmp.Lexicographic.{slice_cmp};
-ghost use Rattle.std.specs.Ordering.{nat_cmp};
+ghost use Rattle.std.specs.Prelude.{◌≡◌};
 ghost use Rattle.folder_counts.specs.Groups.{is_unsealed, outranks};
 ghost use Rattle.folder_counts.specs.Limits.{chunks_in, is_sound};
 
 use crate::counts::{ChunkCounts, NO_CHUNKS};
-use std::cmp::Ordering;
+use crate::parts::Part;
+use std::alloc::AllocError;
 use std::marker::Model;
 
 /// What is found in a journal.
@@ -92,25 +91,38 @@ impl<'a> Buffer<'a> {
         is_sound(self.found)
     }
 
-    /// The order of both by their paths.
-    pub(crate) fn order(&self, other: &Buffer<'_>) -> Ordering
-        ensures { result ≡ slice_cmp nat_cmp self.now.path other.now.path }
+    // The same once more.
+    fn same(&self) -> Buffer<'a>
+        ensures { result ≡ self.now }
     {
-        self.path.cmp(other.path)
+        Buffer::new(self.path, self.file, self.number, self.found)
     }
 
-    /// Whether the path is this one.
-    pub(crate) fn is_of(&self, path: &str) -> bool
-        ensures { result ≡ bytes_eq self.now.path path.now }
-    {
-        self.path == path
-    }
-
-    /// Whether this generation counts in place of that one.
-    pub(crate) fn outranks(&self, held: &Buffer<'_>) -> bool
+    // Whether this generation counts in place of that one.
+    fn outranks(&self, held: &Buffer<'_>) -> bool
         ensures { result ≡ outranks self.now held.now }
     {
         !is_unsealed(self.found) && (is_unsealed(held.found) || held.number < self.number)
+    }
+}
+
+impl<'a> Part for Buffer<'a> {
+    ghost use Rattle.folder_counts.specs.Groups.{newer};
+
+    ghost path_of = { λ b. b.path };
+
+    ghost both = { newer };
+
+    fn path(&self) -> &str {
+        self.path
+    }
+
+    fn joined(&self, next: &Buffer<'a>) -> Result<Buffer<'a>, AllocError> {
+        if next.outranks(self) {
+            Ok(next.same())
+        } else {
+            Ok(self.same())
+        }
     }
 }
 

@@ -1,51 +1,34 @@
-//! A sink's file, counted.
+//! A sink's file, counted: of its bytes are held a piece and those of one event.
 
-ghost use Rattle.std.specs.Prelude.{◌≡◌, ℕ, List, [], IfOk, IfSome};
+ghost use Rattle.std.specs.Prelude.{◌≡◌, ℕ, List, []};
 ghost use Rattle.folder_counts.specs.Counts.{damaged_file, unread_file};
 ghost use Rattle.folder_counts.specs.Findings.{IsInSink};
 ghost use Rattle.folder_counts.specs.Held.{IsHeldAfter};
 
 use crate::counts::{NO_FILES, SinkCounts, plus};
-use crate::feeding::{Feed, Stop, feed_all};
+use crate::feeding::{Feed, Stop};
 use event_listing::LONGEST_ITEM;
 use event_modes::drop_front;
-use program_text::CountedRead;
 use sink_series::count_events;
-use std::alloc::Allocator;
+use std::alloc::{AllocError, Allocator};
 
-/// A sink's file that is damaged.
+// A sink's file that is damaged.
 const DAMAGED_FILE: SinkCounts = SinkCounts {
     files: 1,
     damaged: 1,
     ..NO_FILES
 };
 
-/// A sink's file that isn't read to its end.
-pub(crate) const UNREAD_FILE: SinkCounts = SinkCounts {
+// A sink's file that isn't read to its end.
+const UNREAD_FILE: SinkCounts = SinkCounts {
     files: 1,
     unread: 1,
     ..NO_FILES
 };
 
-/// What the sink's file that the reader has left counts to. Of its bytes are held a piece and those of one event. The error is `Memory`, or
-/// `Unread` where the reader fails.
-pub(crate) fn count_sink<A: Allocator + Copy, R: CountedRead>(
-    alloc: A,
-    input: &mut R,
-) -> Result<SinkCounts, Stop>
-    ensures { IfOk result (λ counts. IfSome (R.remaining input.old) (λ bytes. IsInSink bytes counts)) }
-{
-    let mut held = Held::new(alloc);
-    match feed_all(alloc, &mut held, input) {
-        Ok(()) => Ok(held.counts()),
-        Err(Stop::Damaged) => Ok(DAMAGED_FILE),
-        Err(stop) => Err(stop),
-    }
-}
-
-// What is held of a file between two pieces, and what was counted before.
+/// What is held of a file between two pieces, and what was counted before.
 #[derive(Drop)]
-struct Held<A: Allocator> {
+pub(crate) struct Held<A: Allocator> {
     alloc: A,
     // How many events were counted.
     events: u64,
@@ -56,7 +39,8 @@ struct Held<A: Allocator> {
 }
 
 impl<A: Allocator + Copy> Held<A> {
-    fn new(alloc: A) -> Held<A>
+    /// Before the first piece.
+    pub(crate) fn new(alloc: A) -> Held<A>
         ensures { IsHeldAfter result.events result.taken result.bytes.items [] }
     {
         Held {
@@ -82,12 +66,16 @@ impl<A: Allocator + Copy> Held<A> {
 }
 
 impl<A: Allocator + Copy> Feed for Held<A> {
-    ghost use Rattle.folder_counts.specs.Findings.{EndsLong};
+    ghost use Rattle.folder_counts.specs.Findings.{EndsLong, IsInSink};
     ghost use Rattle.folder_counts.specs.Held.{IsHeldAfter};
+
+    type Finding = SinkCounts;
 
     ghost is_after = { λ h seen. IsHeldAfter h.events h.taken h.bytes.items seen };
 
     ghost is_damaged = { EndsLong };
+
+    ghost is_in = { IsInSink };
 
     fn feed(&mut self, piece: &[u8]) -> Result<(), Stop> {
         self.bytes.extend_from_slice(piece)?;
@@ -100,5 +88,17 @@ impl<A: Allocator + Copy> Feed for Held<A> {
             return Err(Stop::Damaged);
         }
         Ok(())
+    }
+
+    fn finish(self) -> Result<SinkCounts, AllocError> {
+        Ok(self.counts())
+    }
+
+    fn damaged() -> SinkCounts {
+        DAMAGED_FILE
+    }
+
+    fn unread() -> SinkCounts {
+        UNREAD_FILE
     }
 }

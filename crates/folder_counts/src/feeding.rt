@@ -1,8 +1,8 @@
 //! A file that is read in pieces.
 
-ghost use Rattle.std.specs.Prelude.{◌≡◌, ◌≢◌, ◌<◌, ◌++◌, [], Err, IfSome, OnOk, length};
+ghost use Rattle.std.specs.Prelude.{◌≡◌, ◌≢◌, ◌<◌, ◌++◌, [], Err, IfOk, IfSome, OnOk, length};
 
-use program_text::{CountedRead, MOST_READS, PIECE, ReadFault};
+use program_text::{CountedRead, MOST_READS, Open, PIECE, ReadFault};
 use std::alloc::{AllocError, Allocator};
 use std::io;
 use std::io::ErrorKind;
@@ -41,9 +41,12 @@ impl Stop {
     }
 }
 
-/// What takes the pieces of a file, one after another.
-pub(crate) trait Feed {
+/// What takes the pieces of a file, one after another, and says in the end what is found in it.
+pub(crate) trait Feed: Sized {
     ghost use Rattle.std.specs.Prelude.{List, ℕ};
+
+    /// What is found in a file.
+    type Finding;
 
     // these bytes were fed
     ghost is_after: { Self → List ℕ → Type 0 };
@@ -51,14 +54,68 @@ pub(crate) trait Feed {
     // a file of these bytes is damaged
     ghost is_damaged: { List ℕ → Type 0 };
 
+    // this is found in a file of these bytes
+    ghost is_in: { List ℕ → Self.Finding → Type 0 };
+
     /// Takes the next piece. `Damaged` where what was fed is damaged, whatever follows.
     fn feed(&mut self, piece: &[u8]) -> Result<(), Stop>
         ensures fed { OnOk result ((seen : List ℕ) → is_after self.old seen → is_after self.new (seen ++ piece.now)) }
         ensures damaged { (seen more : List ℕ) → is_after self.old seen → result ≡ Err Stop.Damaged → is_damaged ((seen ++ piece.now) ++ more) };
+
+    /// What is found in a file that was fed whole. The error is want of memory.
+    fn finish(self) -> Result<Self::Finding, AllocError>
+        ensures { (bytes : List ℕ) → is_after self bytes
+            → IfOk result (λ found. is_in bytes found) };
+
+    /// What is found in a file that is damaged.
+    fn damaged() -> Self::Finding
+        ensures { (bytes : List ℕ) → is_damaged bytes → is_in bytes result };
+
+    /// What is found in a file that isn't read to its end.
+    fn unread() -> Self::Finding
+        ensures { (bytes : List ℕ) → is_in bytes result };
 }
 
-/// Feeds all that the reader has left, in pieces of 65,536 bytes.
-pub(crate) fn feed_all<A: Allocator, F: Feed, R: CountedRead>(
+/// What is found in the file of this name. The error is want of memory.
+pub(crate) fn found_in<A: Allocator, F: Feed + Drop, O: Open>(
+    alloc: A,
+    fed: F,
+    name: &str,
+    files: &O,
+) -> Result<F::Finding, AllocError>
+    requires { F.is_after fed [] }
+    ensures { IfOk result (λ found. IfSome (O.text_of files.now name.now)
+        (λ bytes. F.is_in bytes found)) }
+{
+    match files.open(name) {
+        Ok(mut reader) => found_by(alloc, fed, &mut reader),
+        Err(e) => match Stop::of_reader(&e) {
+            Stop::Memory => Err(AllocError),
+            _ => Ok(F::unread()),
+        },
+    }
+}
+
+// What is found in the file that the reader has left.
+fn found_by<A: Allocator, F: Feed + Drop, R: CountedRead>(
+    alloc: A,
+    fed: F,
+    input: &mut R,
+) -> Result<F::Finding, AllocError>
+    requires { F.is_after fed [] }
+    ensures { IfOk result (λ found. IfSome (R.remaining input.old) (λ bytes. F.is_in bytes found)) }
+{
+    let mut fed = fed;
+    match feed_all(alloc, &mut fed, input) {
+        Ok(()) => fed.finish(),
+        Err(Stop::Damaged) => Ok(F::damaged()),
+        Err(Stop::Unread) => Ok(F::unread()),
+        Err(Stop::Memory) => Err(AllocError),
+    }
+}
+
+// Feeds all that the reader has left, in pieces of 65,536 bytes.
+fn feed_all<A: Allocator, F: Feed, R: CountedRead>(
     alloc: A,
     fed: &mut F,
     input: &mut R,

@@ -1,20 +1,17 @@
 //! The files of a data folder, counted one after another.
 
-ghost use Rattle.std.specs.Prelude.{◌≡◌, bytes_eq, map, position, IfOk, IfSome, OnOk};
+ghost use Rattle.std.specs.Prelude.{◌≡◌, map, IfOk, OnOk};
 ghost use Rattle.folder_listing.specs.Files.{named_of};
-ghost use Rattle.folder_counts.specs.Findings.{IsInJournal, IsInSink};
 ghost use Rattle.folder_counts.specs.Folders.{folder_with, no_folder, AreCounted, IsCounted, OfBuffer, OfSink, Takes};
-ghost use Rattle.folder_counts.specs.Groups.{buffers_with, sinks_with};
-ghost use Rattle.folder_counts.specs.Order.{buffer_is_before, sink_is_before, IsInOrder};
-ghost use Rattle.std.specs.List.Sorted.{IsPermutation, IsSortedBy};
+ghost use Rattle.folder_counts.specs.Order.{IsInOrder};
 
-use crate::buffers::{Buffer, Found};
-use crate::counts::SinkCounts;
-use crate::events::{UNREAD_FILE, count_sink};
-use crate::feeding::Stop;
-use crate::journal::count_journal;
+use crate::buffers::Buffer;
+use crate::events::Held;
+use crate::feeding::found_in;
 use crate::names::owner_of;
+use crate::parts::{put_part, sort_parts};
 use crate::sinks::Sink;
+use chunk_journal::Outline;
 use folder_listing::{DataFile, Kind};
 use program_text::Open;
 use std::alloc::{AllocError, Allocator};
@@ -66,8 +63,8 @@ impl<'a, A: Allocator> FolderCounts<'a, A> {
     pub fn sort(&mut self)
         ensures { IsInOrder self.old self.new }
     {
-        sort_buffers(&mut self.buffers);
-        sort_sinks(&mut self.sinks);
+        sort_parts(&mut self.buffers);
+        sort_parts(&mut self.sinks);
     }
 
     // Counts the file of this kind and name, and takes it. The error is want of memory.
@@ -96,80 +93,15 @@ impl<'a, A: Allocator> FolderCounts<'a, A> {
     fn put_buffer(&mut self, buffer: Buffer<'a>) -> Result<(), AllocError>
         ensures { OnOk result (self.new ≡ folder_with self.old (OfBuffer buffer.entry)) }
     {
-        put_buffer(&mut self.buffers, buffer)
+        put_part(&mut self.buffers, buffer)
     }
 
     // Takes one file of a sink more. The error is want of memory.
     fn put_sink(&mut self, sink: Sink<'a>) -> Result<(), AllocError>
         ensures { OnOk result (self.new ≡ folder_with self.old (OfSink sink.entry)) }
     {
-        put_sink(&mut self.sinks, sink)
+        put_part(&mut self.sinks, sink)
     }
-}
-
-// Puts buffers in the order of their paths.
-fn sort_buffers(buffers: &mut [Buffer<'_>])
-    ensures same { IsPermutation buffers.old buffers.new }
-    ensures rise { IsSortedBy buffer_is_before buffers.new }
-{
-    buffers.sort_unstable_by(|a, b| a.order(b));
-}
-
-// Puts sinks in the order of their paths.
-fn sort_sinks(sinks: &mut [Sink<'_>])
-    ensures same { IsPermutation sinks.old sinks.new }
-    ensures rise { IsSortedBy sink_is_before sinks.new }
-{
-    sinks.sort_unstable_by(|a, b| a.order(b));
-}
-
-// Takes one generation of a buffer more.
-fn put_buffer<'a, A: Allocator>(
-    buffers: &mut Vec<Buffer<'a>, A>,
-    next: Buffer<'a>,
-) -> Result<(), AllocError>
-    ensures { OnOk result (buffers.new.items ≡ buffers_with buffers.old.items next.entry) }
-{
-    match buffer_at(buffers, next.path()) {
-        None => buffers.push(next)?,
-        Some(i) => {
-            if next.outranks(&buffers[i]) {
-                buffers[i] = next;
-            }
-        }
-    }
-    Ok(())
-}
-
-// Where the buffer of this path stands.
-fn buffer_at(buffers: &[Buffer<'_>], path: &str) -> Option<usize>
-    ensures { result ≡ position (λ one. bytes_eq one.path path.now) buffers.now }
-{
-    buffers.iter().position(|one| one.is_of(path))
-}
-
-// Takes the files of one sink more.
-fn put_sink<'a, A: Allocator>(
-    sinks: &mut Vec<Sink<'a>, A>,
-    next: Sink<'a>,
-) -> Result<(), AllocError>
-    ensures { OnOk result (sinks.new.items ≡ sinks_with sinks.old.items next.entry) }
-{
-    match sink_at(sinks, next.path()) {
-        None => sinks.push(next)?,
-        Some(i) => {
-            let both = sinks[i].joined(&next)?;
-            sinks[i] = both;
-        }
-    }
-    Ok(())
-}
-
-// Where the sink of this path stands.
-fn sink_at(sinks: &[Sink<'_>], path: &str) -> Option<usize>
-    ensures { result ≡ position (λ one. bytes_eq one.path path.now) sinks.now }
-{
-    sinks.iter().position(|one| one.is_of(path))
 }
 
 /// The buffers and the sinks that these files make, each file read in pieces of 65,536 bytes. Of a file are held a piece, one record or event that
@@ -197,38 +129,9 @@ fn count_buffer<'a, A: Allocator + Copy, O: Open>(
     ensures is { IfOk result (λ buffer. IsCounted (O.text_of files.now) (OfBuffer buffer)) }
     ensures name { IfOk result (λ buffer. buffer.file ≡ name.now) }
 {
-    let found = found_in(alloc, name, files)?;
+    let found = found_in(alloc, Outline::new(alloc), name, files)?;
     let (path, number) = owner_of(Kind::Journal, name);
     Ok(Buffer::new(path, name, number, found))
-}
-
-// What is found in the journal of this name. The error is want of memory.
-fn found_in<A: Allocator + Copy, O: Open>(
-    alloc: A,
-    name: &str,
-    files: &O,
-) -> Result<Found, AllocError>
-    ensures { IfOk result (λ found. IfSome (O.text_of files.now name.now) (λ bytes. IsInJournal bytes found)) }
-{
-    match read_journal(alloc, name, files) {
-        Ok(found) => Ok(found),
-        Err(Stop::Memory) => Err(AllocError),
-        Err(_) => Ok(Found::Unread),
-    }
-}
-
-// The same, or why it isn't read.
-fn read_journal<A: Allocator + Copy, O: Open>(
-    alloc: A,
-    name: &str,
-    files: &O,
-) -> Result<Found, Stop>
-    ensures { IfOk result (λ found. IfSome (O.text_of files.now name.now) (λ bytes. IsInJournal bytes found)) }
-{
-    match files.open(name) {
-        Ok(mut reader) => count_journal(alloc, &mut reader),
-        Err(e) => Err(Stop::of_reader(&e)),
-    }
 }
 
 // The sink that has only the file of this name. The error is want of memory.
@@ -240,36 +143,7 @@ fn count_part<'a, A: Allocator + Copy, O: Open>(
     ensures is { IfOk result (λ sink. IsCounted (O.text_of files.now) (OfSink sink)) }
     ensures name { IfOk result (λ sink. sink.newest ≡ name.now) }
 {
-    let counts = counts_in(alloc, name, files)?;
+    let counts = found_in(alloc, Held::new(alloc), name, files)?;
     let (path, number) = owner_of(Kind::Sink, name);
     Ok(Sink::new(path, name, number, counts))
-}
-
-// What the sink's file of this name counts to. The error is want of memory.
-fn counts_in<A: Allocator + Copy, O: Open>(
-    alloc: A,
-    name: &str,
-    files: &O,
-) -> Result<SinkCounts, AllocError>
-    ensures { IfOk result (λ counts. IfSome (O.text_of files.now name.now) (λ bytes. IsInSink bytes counts)) }
-{
-    match read_sink(alloc, name, files) {
-        Ok(counts) => Ok(counts),
-        Err(Stop::Memory) => Err(AllocError),
-        Err(_) => Ok(UNREAD_FILE),
-    }
-}
-
-// The same, or why it isn't read.
-fn read_sink<A: Allocator + Copy, O: Open>(
-    alloc: A,
-    name: &str,
-    files: &O,
-) -> Result<SinkCounts, Stop>
-    ensures { IfOk result (λ counts. IfSome (O.text_of files.now name.now) (λ bytes. IsInSink bytes counts)) }
-{
-    match files.open(name) {
-        Ok(mut reader) => count_sink(alloc, &mut reader),
-        Err(e) => Err(Stop::of_reader(&e)),
-    }
 }

@@ -1,6 +1,6 @@
-//! A journal, counted.
+//! A journal, counted: of its bytes are held a piece, a record that isn't whole, and what the live chunks are without their entries.
 
-ghost use Rattle.std.specs.Prelude.{◌≡◌, ℕ, List, IfOk, IfSome};
+ghost use Rattle.std.specs.Prelude.{◌≡◌, ℕ, List, IfOk};
 ghost use Rattle.buffer_state.specs.Shown.{seen};
 ghost use Rattle.chunk_journal.specs.Feeding.{IsAfter};
 ghost use Rattle.folder_counts.specs.Counts.{one_chunk, state_counts};
@@ -8,35 +8,23 @@ ghost use Rattle.folder_counts.specs.Findings.{IsInJournal};
 
 use crate::buffers::Found;
 use crate::counts::{ChunkCounts, NO_CHUNKS};
-use crate::feeding::{Feed, Stop, feed_all};
+use crate::feeding::{Feed, Stop};
 use buffer_state::{ChunkFacts, Chunks, LiveChunks, Stage};
 use chunk_journal::{Outline, ReplayError};
-use program_text::CountedRead;
 use std::alloc::{AllocError, Allocator};
-
-/// What is found in the journal that the reader has left. Of its bytes are held a piece, a record that isn't whole, and what the live chunks are
-/// without their entries. The error is `Memory`, or `Unread` where the reader fails.
-pub(crate) fn count_journal<A: Allocator + Copy, R: CountedRead>(
-    alloc: A,
-    input: &mut R,
-) -> Result<Found, Stop>
-    ensures { IfOk result (λ found. IfSome (R.remaining input.old) (λ bytes. IsInJournal bytes found)) }
-{
-    let mut outline = Outline::new(alloc);
-    match feed_all(alloc, &mut outline, input) {
-        Ok(()) => Ok(found_in(outline)?),
-        Err(Stop::Damaged) => Ok(Found::Damaged),
-        Err(stop) => Err(stop),
-    }
-}
 
 impl<A: Allocator + Copy> Feed for Outline<A> {
     ghost use Rattle.chunk_journal.specs.Feeding.{IsAfter};
     ghost use Rattle.chunk_journal.specs.Meaning.{IsDamaged};
+    ghost use Rattle.folder_counts.specs.Findings.{IsInJournal};
+
+    type Finding = Found;
 
     ghost is_after = { IsAfter };
 
     ghost is_damaged = { IsDamaged };
+
+    ghost is_in = { IsInJournal };
 
     fn feed(&mut self, piece: &[u8]) -> Result<(), Stop> {
         if self.fed().checked_add(piece.len() as u64).is_none() {
@@ -47,6 +35,18 @@ impl<A: Allocator + Copy> Feed for Outline<A> {
             Err(ReplayError::BadRecord) => Err(Stop::Damaged),
             Err(ReplayError::Memory | ReplayError::NotSealed) => Err(Stop::Memory),
         }
+    }
+
+    fn finish(self) -> Result<Found, AllocError> {
+        found_in(self)
+    }
+
+    fn damaged() -> Found {
+        Found::Damaged
+    }
+
+    fn unread() -> Found {
+        Found::Unread
     }
 }
 

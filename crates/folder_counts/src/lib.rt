@@ -12,6 +12,7 @@ mod lines;
 mod metrics;
 mod names;
 mod object;
+mod parts;
 mod sinks;
 mod status;
 

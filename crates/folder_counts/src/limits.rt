@@ -2,7 +2,14 @@
 
 ghost use Rattle.std.specs.Prelude.{◌≡◌};
 ghost use Rattle.std.specs.List.{list_any};
-ghost use Rattle.folder_counts.specs.Limits.{are_sound, chunks_of, has_passed, is_above, is_any_passed, status_of};
+ghost use Rattle.folder_counts.specs.Limits.{
+  are_sound,
+  chunks_of,
+  has_passed,
+  is_above,
+  is_any_passed,
+  status_of,
+};
 
 use crate::buffers::Buffer;
 use crate::counts::ChunkCounts;
@@ -29,8 +36,8 @@ pub(crate) fn is_above(most: Option<u64>, number: u64) -> bool
     }
 }
 
-/// The status that a folder means: `Usage` where a journal that counts, or a file of a sink, is damaged or isn't read; else `No` where a buffer
-/// holds more than it may; else `Done`.
+/// The status that a folder means: `Usage` where a journal that counts, or a file of a sink, is
+/// damaged or isn't read; else `No` where a buffer holds more than it may; else `Done`.
 pub(crate) fn status_of<A: Allocator>(limits: Limits, folder: &FolderCounts<'_, A>) -> Status
     ensures { result ≡ status_of limits folder.now }
 {
@@ -57,7 +64,9 @@ fn is_sound<A: Allocator>(folder: &FolderCounts<'_, A>) -> bool
 fn is_any_passed(limits: Limits, buffers: &[Buffer<'_>]) -> bool
     ensures { result ≡ is_any_passed limits buffers.now }
 {
-    buffers.iter().any(|buffer| has_passed(limits, buffer.chunks()))
+    buffers
+        .iter()
+        .any(|buffer| has_passed(limits, buffer.chunks()))
 }
 
 // Whether these chunks are more than a buffer may hold.

@@ -2,7 +2,19 @@
 
 ghost use Rattle.std.specs.Prelude.{◌≡◌, ◌++◌, decimal, IfOk, OnOk};
 ghost use Rattle.std.specs.List.{flat_map};
-ghost use Rattle.folder_counts.specs.Lines.{above_line, buffer_line, flaw_line, over_lines, sink_line, sink_lines, status_lines, total_line, total_of, with_chunks, with_found};
+ghost use Rattle.folder_counts.specs.Lines.{
+  above_line,
+  buffer_line,
+  flaw_line,
+  over_lines,
+  sink_line,
+  sink_lines,
+  status_lines,
+  total_line,
+  total_of,
+  with_chunks,
+  with_found,
+};
 
 use crate::buffers::{Buffer, Found};
 use crate::counts::{ChunkCounts, NO_CHUNKS};
@@ -11,8 +23,8 @@ use crate::limits::{Limits, is_above};
 use crate::sinks::Sink;
 use std::alloc::{AllocError, Allocator};
 
-/// A line for each buffer and each sink, one for all buffers together, and one for each limit that a buffer is above. The error is want of
-/// memory, also for a number of 2^64 or more.
+/// A line for each buffer and each sink, one for all buffers together, and one for each limit that
+/// a buffer is above. The error is want of memory, also for a number of 2^64 or more.
 pub(crate) fn status_lines<A: Allocator + Copy>(
     alloc: A,
     limits: Limits,
@@ -71,10 +83,7 @@ fn put_buffers<A: Allocator + Copy>(
 }
 
 // The line of a buffer.
-fn buffer_line<A: Allocator + Copy>(
-    alloc: A,
-    buffer: &Buffer<'_>,
-) -> Result<Vec<u8, A>, AllocError>
+fn buffer_line<A: Allocator + Copy>(alloc: A, buffer: &Buffer<'_>) -> Result<Vec<u8, A>, AllocError>
     ensures { IfOk result (λ line. line.items ≡ buffer_line buffer.now) }
 {
     let mut line = begun(alloc, b"buffer ", buffer.path())?;
@@ -132,7 +141,8 @@ fn put_sinks<A: Allocator + Copy>(
     Ok(())
 }
 
-// The line of a sink, and behind it those that say that some of its files are damaged, or aren't read.
+// The line of a sink, and behind it those that say that some of its files are damaged, or aren't
+// read.
 fn sink_lines<A: Allocator + Copy>(alloc: A, sink: &Sink<'_>) -> Result<Vec<u8, A>, AllocError>
     ensures { IfOk result (λ lines. lines.items ≡ sink_lines sink.now) }
 {
@@ -210,7 +220,8 @@ fn put_overs<A: Allocator + Copy>(
     limits: Limits,
     buffers: &[Buffer<'_>],
 ) -> Result<(), AllocError>
-    ensures { OnOk result (lines.new.items ≡ lines.old.items ++ flat_map (over_lines limits) buffers.now) }
+    ensures { OnOk result (lines.new.items
+        ≡ lines.old.items ++ flat_map (over_lines limits) buffers.now) }
 {
     for buffer in buffers {
         put_over(alloc, lines, limits, buffer)?;
@@ -228,8 +239,22 @@ fn put_over<A: Allocator + Copy>(
     ensures { OnOk result (lines.new.items ≡ lines.old.items ++ over_lines limits buffer.now) }
 {
     let chunks = buffer.chunks();
-    put_above(alloc, lines, buffer.path(), b" bytes ", limits.bytes, chunks.bytes)?;
-    put_above(alloc, lines, buffer.path(), b" chunks ", limits.chunks, chunks.number()?)
+    put_above(
+        alloc,
+        lines,
+        buffer.path(),
+        b" bytes ",
+        limits.bytes,
+        chunks.bytes,
+    )?;
+    put_above(
+        alloc,
+        lines,
+        buffer.path(),
+        b" chunks ",
+        limits.chunks,
+        chunks.number()?,
+    )
 }
 
 // Adds the line of a number that is above its limit; nothing of another.
@@ -241,7 +266,8 @@ fn put_above<A: Allocator + Copy>(
     most: Option<u64>,
     number: u64,
 ) -> Result<(), AllocError>
-    ensures { OnOk result (lines.new.items ≡ lines.old.items ++ above_line name.now word.now most number) }
+    ensures { OnOk result (lines.new.items
+        ≡ lines.old.items ++ above_line name.now word.now most number) }
 {
     if !is_above(most, number) {
         return Ok(());

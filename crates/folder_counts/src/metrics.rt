@@ -2,7 +2,27 @@
 
 ghost use Rattle.std.specs.Prelude.{◌≡◌, ◌++◌, IfOk, OnOk};
 ghost use Rattle.std.specs.List.{flat_map};
-ghost use Rattle.folder_counts.specs.Metrics.{buffer_family, buffer_help, buffer_name, buffer_number, buffer_sample, comment_line, escaped, head_lines, measured, only_sound, sample_line, sink_family, sink_help, sink_name, sink_number, sink_sample, status_metrics, with_buffers, with_sinks};
+ghost use Rattle.folder_counts.specs.Metrics.{
+  buffer_family,
+  buffer_help,
+  buffer_name,
+  buffer_number,
+  buffer_sample,
+  comment_line,
+  escaped,
+  head_lines,
+  measured,
+  only_sound,
+  sample_line,
+  sink_family,
+  sink_help,
+  sink_name,
+  sink_number,
+  sink_sample,
+  status_metrics,
+  with_buffers,
+  with_sinks,
+};
 
 use crate::buffers::{Buffer, Found};
 use crate::counts::{ChunkCounts, SinkCounts};
@@ -127,7 +147,8 @@ impl SinkMetric {
             SinkMetric::Events => "Events in all files of the sink.",
             SinkMetric::Bytes => "Bytes of the events in all files of the sink.",
             SinkMetric::Torn => "Bytes behind the last whole events of the files.",
-            SinkMetric::Damaged => "Files in which more bytes stand behind the events than any event has.",
+            SinkMetric::Damaged =>
+                "Files in which more bytes stand behind the events than any event has.",
             SinkMetric::Unread => "Files that aren't read to their ends.",
         }
     }
@@ -213,7 +234,8 @@ fn put_buffer_samples<A: Allocator + Copy>(
     metric: BufferMetric,
     buffers: &[Buffer<'_>],
 ) -> Result<(), AllocError>
-    ensures { OnOk result (text.new.items ≡ text.old.items ++ flat_map (buffer_sample metric) buffers.now) }
+    ensures { OnOk result (text.new.items
+        ≡ text.old.items ++ flat_map (buffer_sample metric) buffers.now) }
 {
     for buffer in buffers {
         put_buffer_sample(alloc, text, metric, buffer)?;
@@ -231,7 +253,14 @@ fn put_buffer_sample<A: Allocator + Copy>(
     ensures { OnOk result (text.new.items ≡ text.old.items ++ buffer_sample metric buffer.now) }
 {
     match metric.number(buffer.found()) {
-        Some(number) => put_sample(alloc, text, metric.name(), b"{buffer=\"", buffer.path(), number),
+        Some(number) => put_sample(
+            alloc,
+            text,
+            metric.name(),
+            b"{buffer=\"",
+            buffer.path(),
+            number,
+        ),
         None => Ok(()),
     }
 }
@@ -256,7 +285,8 @@ fn put_sink_samples<A: Allocator + Copy>(
     metric: SinkMetric,
     sinks: &[Sink<'_>],
 ) -> Result<(), AllocError>
-    ensures { OnOk result (text.new.items ≡ text.old.items ++ flat_map (sink_sample metric) sinks.now) }
+    ensures { OnOk result (text.new.items
+        ≡ text.old.items ++ flat_map (sink_sample metric) sinks.now) }
 {
     for sink in sinks {
         let number = metric.number(sink.counts());
@@ -286,7 +316,8 @@ fn put_comment<A: Allocator + Copy>(
     name: &str,
     said: &str,
 ) -> Result<(), AllocError>
-    ensures { OnOk result (text.new.items ≡ text.old.items ++ comment_line word.now name.now said.now) }
+    ensures { OnOk result (text.new.items
+        ≡ text.old.items ++ comment_line word.now name.now said.now) }
 {
     let mut line = begun(alloc, word, name)?;
     line.extend_from_slice(b" ")?;
@@ -295,7 +326,8 @@ fn put_comment<A: Allocator + Copy>(
     text.extend_from_slice(&line)
 }
 
-// Adds the line of a sample: the metric, a label, from its brace to the quote in front of its value, the value, and the number.
+// Adds the line of a sample: the metric, a label, from its brace to the quote in front of its
+// value, the value, and the number.
 fn put_sample<A: Allocator + Copy>(
     alloc: A,
     text: &mut Vec<u8, A>,
@@ -304,7 +336,8 @@ fn put_sample<A: Allocator + Copy>(
     value: &str,
     number: u64,
 ) -> Result<(), AllocError>
-    ensures { OnOk result (text.new.items ≡ text.old.items ++ sample_line metric.now label.now value.now number) }
+    ensures { OnOk result (text.new.items
+        ≡ text.old.items ++ sample_line metric.now label.now value.now number) }
 {
     let mut line = Vec::from_slice(alloc, metric.as_bytes())?;
     line.extend_from_slice(label)?;
@@ -314,7 +347,8 @@ fn put_sample<A: Allocator + Copy>(
     text.extend_from_slice(&line)
 }
 
-// Adds the value of a label: with `\` in front of a quote and of `\`, and `\n` in place of a line feed.
+// Adds the value of a label: with `\` in front of a quote and of `\`, and `\n` in place of a line
+// feed.
 fn put_escaped<A: Allocator>(line: &mut Vec<u8, A>, value: &[u8]) -> Result<(), AllocError>
     ensures { OnOk result (line.new.items ≡ line.old.items ++ flat_map escaped value.now) }
 {

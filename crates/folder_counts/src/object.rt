@@ -1,7 +1,26 @@
 //! What a folder holds, as a JSON object (RFC 8259).
 
 ghost use Rattle.std.specs.Prelude.{◌≡◌, fold, IfOk, OnOk};
-ghost use Rattle.folder_counts.specs.Object.{state_word, status_object, with_above, with_buffer, with_buffers, with_chunks, with_counts, with_found, with_name, with_number, with_over, with_overs, with_sink, with_sinks, with_status, with_total, with_word, Becomes};
+ghost use Rattle.folder_counts.specs.Object.{
+  state_word,
+  status_object,
+  with_above,
+  with_buffer,
+  with_buffers,
+  with_chunks,
+  with_counts,
+  with_found,
+  with_name,
+  with_number,
+  with_over,
+  with_overs,
+  with_sink,
+  with_sinks,
+  with_status,
+  with_total,
+  with_word,
+  Becomes,
+};
 
 use crate::buffers::{Buffer, Found};
 use crate::counts::{ChunkCounts, SinkCounts};
@@ -33,7 +52,8 @@ fn put_status<A: Allocator>(
     limits: Limits,
     folder: &FolderCounts<'_, A>,
 ) -> Result<(), AllocError>
-    ensures { OnOk result (Becomes writer.old writer.new (with_status writer.old.tokens limits folder.now)) }
+    ensures { OnOk result (Becomes writer.old writer.new
+        (with_status writer.old.tokens limits folder.now)) }
 {
     writer.begin_object()?;
     put_buffers(writer, folder.buffers())?;
@@ -49,7 +69,8 @@ fn put_number<A: Allocator>(
     key: &str,
     number: u64,
 ) -> Result<(), AllocError>
-    ensures { OnOk result (Becomes writer.old writer.new (with_number writer.old.tokens key.now number)) }
+    ensures { OnOk result (Becomes writer.old writer.new
+        (with_number writer.old.tokens key.now number)) }
 {
     writer.key(key)?;
     writer.u64(number)
@@ -57,7 +78,8 @@ fn put_number<A: Allocator>(
 
 // Writes a member whose value is this text.
 fn put_word<A: Allocator>(writer: &mut Writer<A>, key: &str, word: &str) -> Result<(), AllocError>
-    ensures { OnOk result (Becomes writer.old writer.new (with_word writer.old.tokens key.now word.now)) }
+    ensures { OnOk result (Becomes writer.old writer.new
+        (with_word writer.old.tokens key.now word.now)) }
 {
     writer.key(key)?;
     writer.string(word)
@@ -76,7 +98,8 @@ fn put_buffers<A: Allocator>(
     writer: &mut Writer<A>,
     buffers: &[Buffer<'_>],
 ) -> Result<(), AllocError>
-    ensures { OnOk result (Becomes writer.old writer.new (with_buffers writer.old.tokens buffers.now)) }
+    ensures { OnOk result (Becomes writer.old writer.new
+        (with_buffers writer.old.tokens buffers.now)) }
 {
     writer.key("buffers")?;
     writer.begin_array()?;
@@ -89,7 +112,8 @@ fn put_each_buffer<A: Allocator>(
     writer: &mut Writer<A>,
     buffers: &[Buffer<'_>],
 ) -> Result<(), AllocError>
-    ensures { OnOk result (Becomes writer.old writer.new (fold with_buffer writer.old.tokens buffers.now)) }
+    ensures { OnOk result (Becomes writer.old writer.new
+        (fold with_buffer writer.old.tokens buffers.now)) }
 {
     for buffer in buffers {
         put_buffer(writer, buffer)?;
@@ -99,7 +123,8 @@ fn put_each_buffer<A: Allocator>(
 
 // Writes the object of a buffer.
 fn put_buffer<A: Allocator>(writer: &mut Writer<A>, buffer: &Buffer<'_>) -> Result<(), AllocError>
-    ensures { OnOk result (Becomes writer.old writer.new (with_buffer writer.old.tokens buffer.now)) }
+    ensures { OnOk result (Becomes writer.old writer.new
+        (with_buffer writer.old.tokens buffer.now)) }
 {
     begin_named(writer, buffer.path())?;
     put_found(writer, buffer.found())?;
@@ -134,10 +159,7 @@ fn state_word(found: Found) -> &'static str
 }
 
 // Writes the members that say what chunks count to.
-fn put_chunks<A: Allocator>(
-    writer: &mut Writer<A>,
-    chunks: ChunkCounts,
-) -> Result<(), AllocError>
+fn put_chunks<A: Allocator>(writer: &mut Writer<A>, chunks: ChunkCounts) -> Result<(), AllocError>
     ensures { OnOk result (Becomes writer.old writer.new (with_chunks writer.old.tokens chunks)) }
 {
     put_number(writer, "staged", chunks.staged)?;
@@ -157,11 +179,9 @@ fn put_sinks<A: Allocator>(writer: &mut Writer<A>, sinks: &[Sink<'_>]) -> Result
 }
 
 // Writes the objects of these sinks.
-fn put_each_sink<A: Allocator>(
-    writer: &mut Writer<A>,
-    sinks: &[Sink<'_>],
-) -> Result<(), AllocError>
-    ensures { OnOk result (Becomes writer.old writer.new (fold with_sink writer.old.tokens sinks.now)) }
+fn put_each_sink<A: Allocator>(writer: &mut Writer<A>, sinks: &[Sink<'_>]) -> Result<(), AllocError>
+    ensures { OnOk result (Becomes writer.old writer.new
+        (fold with_sink writer.old.tokens sinks.now)) }
 {
     for sink in sinks {
         put_sink(writer, sink)?;
@@ -192,11 +212,9 @@ fn put_counts<A: Allocator>(writer: &mut Writer<A>, counts: SinkCounts) -> Resul
 }
 
 // Writes the member with what all buffers hold together.
-fn put_total<A: Allocator>(
-    writer: &mut Writer<A>,
-    buffers: &[Buffer<'_>],
-) -> Result<(), AllocError>
-    ensures { OnOk result (Becomes writer.old writer.new (with_total writer.old.tokens buffers.now)) }
+fn put_total<A: Allocator>(writer: &mut Writer<A>, buffers: &[Buffer<'_>]) -> Result<(), AllocError>
+    ensures { OnOk result (Becomes writer.old writer.new
+        (with_total writer.old.tokens buffers.now)) }
 {
     writer.key("total")?;
     writer.begin_object()?;
@@ -210,7 +228,8 @@ fn put_overs<A: Allocator>(
     limits: Limits,
     buffers: &[Buffer<'_>],
 ) -> Result<(), AllocError>
-    ensures { OnOk result (Becomes writer.old writer.new (with_overs writer.old.tokens limits buffers.now)) }
+    ensures { OnOk result (Becomes writer.old writer.new
+        (with_overs writer.old.tokens limits buffers.now)) }
 {
     writer.key("over")?;
     writer.begin_array()?;
@@ -224,7 +243,8 @@ fn put_each_over<A: Allocator>(
     limits: Limits,
     buffers: &[Buffer<'_>],
 ) -> Result<(), AllocError>
-    ensures { OnOk result (Becomes writer.old writer.new (fold (with_over limits) writer.old.tokens buffers.now)) }
+    ensures { OnOk result (Becomes writer.old writer.new
+        (fold (with_over limits) writer.old.tokens buffers.now)) }
 {
     for buffer in buffers {
         put_over(writer, limits, buffer)?;
@@ -238,11 +258,18 @@ fn put_over<A: Allocator>(
     limits: Limits,
     buffer: &Buffer<'_>,
 ) -> Result<(), AllocError>
-    ensures { OnOk result (Becomes writer.old writer.new (with_over limits writer.old.tokens buffer.now)) }
+    ensures { OnOk result (Becomes writer.old writer.new
+        (with_over limits writer.old.tokens buffer.now)) }
 {
     let chunks = buffer.chunks();
     put_above(writer, buffer.path(), "bytes", limits.bytes, chunks.bytes)?;
-    put_above(writer, buffer.path(), "chunks", limits.chunks, chunks.number()?)
+    put_above(
+        writer,
+        buffer.path(),
+        "chunks",
+        limits.chunks,
+        chunks.number()?,
+    )
 }
 
 // Writes the object of a number that is above its limit; nothing of another.
@@ -253,7 +280,8 @@ fn put_above<A: Allocator>(
     most: Option<u64>,
     number: u64,
 ) -> Result<(), AllocError>
-    ensures { OnOk result (Becomes writer.old writer.new (with_above writer.old.tokens name.now key.now most number)) }
+    ensures { OnOk result (Becomes writer.old writer.new
+        (with_above writer.old.tokens name.now key.now most number)) }
 {
     if !is_above(most, number) {
         return Ok(());

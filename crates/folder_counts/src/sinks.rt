@@ -1,14 +1,11 @@
 //! Sinks, by their files.
 
-ghost use Rattle.std.specs.Prelude.{◌≡◌, bytes_eq, IfOk};
-ghost use Rattle.std.specs.Cmp.Lexicographic.{slice_cmp};
-ghost use Rattle.std.specs.Ordering.{nat_cmp};
-ghost use Rattle.folder_counts.specs.Groups.{joined};
+ghost use Rattle.std.specs.Prelude.{◌≡◌};
 ghost use Rattle.folder_counts.specs.Limits.{is_sink_sound};
 
 use crate::counts::SinkCounts;
+use crate::parts::Part;
 use std::alloc::AllocError;
-use std::cmp::Ordering;
 use std::marker::Model;
 
 /// A sink, by its files.
@@ -41,17 +38,6 @@ impl<'a> Sink<'a> {
         }
     }
 
-    /// This sink with the files of that one. The error is want of memory for a number of 2^64 or more.
-    pub(crate) fn joined(&self, other: &Sink<'a>) -> Result<Sink<'a>, AllocError>
-        ensures { IfOk result (λ both. both ≡ joined self.now other.now) }
-    {
-        let counts = self.counts.plus(other.counts)?;
-        if self.number < other.number {
-            return Ok(Sink::new(self.path, other.newest, other.number, counts));
-        }
-        Ok(Sink::new(self.path, self.newest, self.number, counts))
-    }
-
     /// What the names of its files begin with.
     pub fn path(&self) -> &'a str
         ensures { result.now ≡ self.now.path }
@@ -79,18 +65,24 @@ impl<'a> Sink<'a> {
     {
         self.counts.damaged == 0 && self.counts.unread == 0
     }
+}
 
-    /// The order of both by their paths.
-    pub(crate) fn order(&self, other: &Sink<'_>) -> Ordering
-        ensures { result ≡ slice_cmp nat_cmp self.now.path other.now.path }
-    {
-        self.path.cmp(other.path)
+impl<'a> Part for Sink<'a> {
+    ghost use Rattle.folder_counts.specs.Groups.{joined};
+
+    ghost path_of = { λ s. s.path };
+
+    ghost both = { joined };
+
+    fn path(&self) -> &str {
+        self.path
     }
 
-    /// Whether the path is this one.
-    pub(crate) fn is_of(&self, path: &str) -> bool
-        ensures { result ≡ bytes_eq self.now.path path.now }
-    {
-        self.path == path
+    fn joined(&self, next: &Sink<'a>) -> Result<Sink<'a>, AllocError> {
+        let counts = self.counts.plus(next.counts)?;
+        if self.number < next.number {
+            return Ok(Sink::new(self.path, next.newest, next.number, counts));
+        }
+        Ok(Sink::new(self.path, self.newest, self.number, counts))
     }
 }

@@ -25,9 +25,11 @@ pub enum Form {
     Metrics,
 }
 
-/// Prints what these files hold, in this form: each buffer and each sink, in the order of their names, what all buffers hold together, and which are
-/// above a limit. The status is `Usage` where a journal that counts, or a file of a sink, is damaged or isn't read; else `No` where a buffer is above
-/// a limit. It is `Usage` too where memory runs out, also for a number of 2^64 or more, and where the writer fails.
+/// Prints what these files hold, in this form: each buffer and each sink, in the order of their
+/// names, what all buffers hold together, and which are above a limit. The status is `Usage` where
+/// a journal that counts, or a file of a sink, is damaged or isn't read; else `No` where a buffer
+/// is above a limit. It is `Usage` too where memory runs out, also for a number of 2^64 or more,
+/// and where the writer fails.
 pub fn run_status<A: Allocator + Copy, B: Allocator, O: Open, W: Write>(
     alloc: A,
     listed: &[DataFile<B>],
@@ -36,7 +38,8 @@ pub fn run_status<A: Allocator + Copy, B: Allocator, O: Open, W: Write>(
     form: Form,
     out: &mut W,
 ) -> Status
-    ensures { PrintsStatus (O.text_of files.now) (map named_of listed.now) limits form (W.contents out.old) (W.contents out.new) result }
+    ensures { PrintsStatus (O.text_of files.now) (map named_of listed.now) limits form
+        (W.contents out.old) (W.contents out.new) result }
 {
     match say_status(alloc, listed, files, limits, form) {
         Ok(said) => put_last(out, &said.text, said.status),
@@ -59,7 +62,8 @@ fn say_status<A: Allocator + Copy, B: Allocator, O: Open>(
     limits: Limits,
     form: Form,
 ) -> Result<Said<A>, AllocError>
-    ensures { IfOk result (λ said. IsSaid (O.text_of files.now) (map named_of listed.now) limits form said.text.items said.status) }
+    ensures { IfOk result (λ said. IsSaid (O.text_of files.now) (map named_of listed.now) limits
+        form said.text.items said.status) }
 {
     let mut folder = count_folder(alloc, listed, files)?;
     folder.sort();

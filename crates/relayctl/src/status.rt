@@ -1,8 +1,16 @@
 //! The word `status`: which folder, which limits, and in which form it is printed.
 
+ghost use Rattle.std.specs.Prelude.{map, MatchResult};
+ghost use Rattle.folder_counts.specs.Status.{PrintsStatus};
+ghost use Rattle.folder_listing.specs.Files.{named_of};
+ghost use Rattle.plan_answers.specs.Networks.{unread_line};
+ghost use Rattle.program_text.specs.Output.{IsPrinted};
+ghost use Rattle.program_text.specs.declared.status.Status.TheVariants.{Usage};
+
 use folder_counts::{Form, Limits, run_status};
-use folder_listing::DataFolder;
-use program_text::{ReadFault, Status, put_last};
+use folder_listing::{DataFile, DataFolder};
+use program_text::{Open, ReadFault, Status, put_last};
+use std::alloc::Allocator;
 use std::io::Write;
 
 /// What stands behind `status`.
@@ -37,8 +45,9 @@ struct StatusReader<'a> {
     awaited: Awaited,
 }
 
-/// Reads what stands behind `status`, in any order: a path, `--max-bytes` and `--max-chunks`, each once and with a number below 2^64, and `--json` or
-/// `--prometheus`. `None` where something is missing or can't stand there.
+/// Reads what stands behind `status`, in any order: a path, `--max-bytes` and `--max-chunks`, each
+/// once and with a number below 2^64, and `--json` or `--prometheus`. `None` where something is
+/// missing or can't stand there.
 pub fn status_words(words: &[String]) -> Option<StatusWords<'_>> {
     let mut reader = StatusReader {
         path: None,
@@ -110,16 +119,36 @@ fn number_of(word: &str) -> Option<u64> {
     }
 }
 
-/// Prints what the journals and sinks of a data folder hold. Where there are none, that is said on standard error.
+/// Prints what the journals and sinks of a data folder hold. Where there are none, that is said on
+/// standard error.
 pub fn print_status<W: Write>(rt: &HostRuntime, asked: StatusWords<'_>, out: &mut W) -> Status {
     let folder = DataFolder::new(rt, asked.path);
-    match folder.files(rt.alloc()) {
-        Ok(files) => {
-            if files.is_empty() {
-                let _ = eprintln!(rt; "{}: no journals and no sinks are there", asked.path);
-            }
-            run_status(rt.alloc(), &files, &folder, asked.limits, asked.form, out)
-        }
+    let listed = folder.files(rt.alloc());
+    if let Ok(files) = &listed
+        && files.is_empty()
+    {
+        let _ = eprintln!(rt; "{}: no journals and no sinks are there", asked.path);
+    }
+    status_listed(rt.alloc(), listed, &folder, asked.limits, asked.form, out)
+}
+
+// Prints what the files hold that a folder was found to have; or why it isn't listed.
+fn status_listed<A: Allocator + Copy, B: Allocator, O: Open, W: Write>(
+    alloc: A,
+    listed: Result<Vec<DataFile<B>, B>, ReadFault>,
+    files: &O,
+    limits: Limits,
+    form: Form,
+    out: &mut W,
+) -> Status
+    ensures { MatchResult listed
+        (λ found. PrintsStatus (O.text_of files.now) (map named_of found.items) limits form
+        (W.contents out.old) (W.contents out.new) result)
+        (λ fault. IsPrinted (W.contents out.old) (W.contents out.new) (unread_line fault)
+        Usage result) }
+{
+    match listed {
+        Ok(found) => run_status(alloc, &found, files, limits, form, out),
         Err(ReadFault::Memory) => put_last(out, b"fault memory\n", Status::Usage),
         Err(ReadFault::Read) => put_last(out, b"fault read\n", Status::Usage),
     }
