@@ -1,5 +1,5 @@
 -- A file that is fed piece by piece.
-use Rattle.std.proofs.Common.{ℕ, List, [], ◌++◌, ◌≡◌, length, refl, sym, subst, append_assoc, append-nil, Option, Some, None, Result, Ok, Err}
+use Rattle.std.proofs.Common.{ℕ, List, [], ◌++◌, length, sym, subst, append_assoc, append-nil, Option, Some, None, Result, Ok, Err}
 use Rattle.std.specs.Prelude.{IfOk, IfSome}
 use Rattle.std.specs.Io.KnownBytes.{Consumes, IsAtEnd, Keeps}
 use Rattle.std.proofs.KnownBytes.{Consumes-nil, Consumes-trans, Consumes-kept, Consumes-whole}

@@ -1,10 +1,10 @@
 -- Files that are counted one after another.
 use Rattle.std.proofs.Common.{ℕ, List, [], ◌∷◌, ◌++◌, ◌≡◌, refl, sym, ap, ◌∙◌, Option, Result, Ok, Err}
-use Rattle.std.specs.Prelude.{fold, OnOk}
+use Rattle.std.specs.Prelude.{OnOk}
 use Rattle.std.proofs.lemmas.Grind.{fold-append}
 use Rattle.std.proofs.lemmas.List.{map-append}
 use Rattle.folder_listing.specs.Files.{Named}
-use Rattle.folder_counts.specs.Folders.{name_of, folder_with, no_folder, AreCounted, Counted, IsCounted, OfBuffer, OfSink, Takes}
+use Rattle.folder_counts.specs.Folders.{name_of, folder_with, no_folder, AreCounted, IsCounted, OfBuffer, OfSink, Takes}
 use Rattle.event_listing.proofs.Items.{each_append}
 use Rattle.folder_counts.specs.Views.{BufferView, FolderView, SinkView}
 

@@ -1,5 +1,5 @@
 -- A data folder, counted.
-use Rattle.std.specs.Prelude.{ℕ, ◌≡◌, List, [], ◌∷◌, Option, IfSome, map, fold}
+use Rattle.std.specs.Prelude.{ℕ, ◌≡◌, List, [], Option, IfSome, map, fold}
 use Rattle.std.specs.List.{AllByRecursion}
 use Rattle.folder_listing.specs.Files.{Named}
 use Rattle.folder_listing.specs.declared.kind.Kind.TheVariants.{Journal, Sink}

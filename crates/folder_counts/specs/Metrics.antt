@@ -86,10 +86,10 @@ buffer_sample metric buffer = option_map_or (λ number. sample_line (buffer_name
 abbrev pub buffer_family : BufferMetric → List BufferView → List ℕ
 buffer_family metric buffers = head_lines (buffer_name metric) (buffer_help metric) ++ flat_map (buffer_sample metric) buffers
 
--- a text, and behind it all metrics of buffers
+-- a text, and behind it the metrics of what is counted of buffers
 abbrev pub with_buffers : List ℕ → List BufferView → List ℕ
 with_buffers text buffers =
-    text ++ buffer_family Sound buffers ++ buffer_family Staged buffers ++ buffer_family Queued buffers ++ buffer_family Entries buffers ++ buffer_family Bytes buffers ++ buffer_family Torn buffers ++ buffer_family Next buffers
+    text ++ buffer_family Staged buffers ++ buffer_family Queued buffers ++ buffer_family Entries buffers ++ buffer_family Bytes buffers ++ buffer_family Torn buffers ++ buffer_family Next buffers
 
 -- ---- sinks
 
@@ -135,4 +135,4 @@ with_sinks text sinks =
 
 -- the samples of a folder
 abbrev pub status_metrics : FolderView → List ℕ
-status_metrics folder = with_sinks (with_buffers [] folder.buffers) folder.sinks
+status_metrics folder = with_sinks (with_buffers (buffer_family Sound folder.buffers) folder.buffers) folder.sinks

@@ -1,19 +1,22 @@
 //! Limits of what a buffer holds, and what the status says of a folder.
 
 ghost use Rattle.std.specs.Prelude.{◌≡◌};
-ghost use Rattle.std.specs.List.{list_any};
+ghost use Rattle.std.specs.List.{list_all, list_any};
 ghost use Rattle.folder_counts.specs.Limits.{
   are_sound,
   chunks_of,
   has_passed,
   is_above,
   is_any_passed,
+  is_sink_sound,
+  is_sound,
   status_of,
 };
 
 use crate::buffers::Buffer;
 use crate::counts::ChunkCounts;
 use crate::folder::FolderCounts;
+use crate::sinks::Sink;
 use program_text::Status;
 use std::alloc::Allocator;
 
@@ -55,9 +58,21 @@ pub(crate) fn status_of<A: Allocator>(limits: Limits, folder: &FolderCounts<'_, 
 fn is_sound<A: Allocator>(folder: &FolderCounts<'_, A>) -> bool
     ensures { result ≡ are_sound folder.now }
 {
-    let buffers = folder.buffers().iter().all(|buffer| buffer.is_sound());
-    let sinks = folder.sinks().iter().all(|sink| sink.is_sound());
-    buffers && sinks
+    are_buffers_sound(folder.buffers()) && are_sinks_sound(folder.sinks())
+}
+
+// Whether the journals that count for these buffers are read, and not damaged.
+fn are_buffers_sound(buffers: &[Buffer<'_>]) -> bool
+    ensures { result ≡ list_all (λ buffer. is_sound buffer.found) buffers.now }
+{
+    buffers.iter().all(|buffer| buffer.is_sound())
+}
+
+// Whether the files of these sinks are read, and not damaged.
+fn are_sinks_sound(sinks: &[Sink<'_>]) -> bool
+    ensures { result ≡ list_all is_sink_sound sinks.now }
+{
+    sinks.iter().all(|sink| sink.is_sound())
 }
 
 // Whether one of these buffers holds more than it may.

@@ -107,7 +107,12 @@ impl BufferMetric {
     {
         match self {
             BufferMetric::Sound => Some(number),
-            _ => None,
+            BufferMetric::Staged
+            | BufferMetric::Queued
+            | BufferMetric::Entries
+            | BufferMetric::Bytes
+            | BufferMetric::Torn
+            | BufferMetric::Next => None,
         }
     }
 }
@@ -176,12 +181,13 @@ pub(crate) fn status_metrics<A: Allocator + Copy>(
     ensures { IfOk result (λ text. text.items ≡ status_metrics folder.now) }
 {
     let mut text = Vec::new(alloc);
+    put_buffer_family(alloc, &mut text, BufferMetric::Sound, folder.buffers())?;
     put_buffers(alloc, &mut text, folder.buffers())?;
     put_sinks(alloc, &mut text, folder.sinks())?;
     Ok(text)
 }
 
-// Adds what is measured of these buffers.
+// Adds what is counted of these buffers.
 fn put_buffers<A: Allocator + Copy>(
     alloc: A,
     text: &mut Vec<u8, A>,
@@ -189,7 +195,6 @@ fn put_buffers<A: Allocator + Copy>(
 ) -> Result<(), AllocError>
     ensures { OnOk result (text.new.items ≡ with_buffers text.old.items buffers.now) }
 {
-    put_buffer_family(alloc, text, BufferMetric::Sound, buffers)?;
     put_buffer_family(alloc, text, BufferMetric::Staged, buffers)?;
     put_buffer_family(alloc, text, BufferMetric::Queued, buffers)?;
     put_buffer_family(alloc, text, BufferMetric::Entries, buffers)?;
@@ -198,7 +203,7 @@ fn put_buffers<A: Allocator + Copy>(
     put_buffer_family(alloc, text, BufferMetric::Next, buffers)
 }
 
-// Adds what is measured of these sinks.
+// Adds what is counted of these sinks.
 fn put_sinks<A: Allocator + Copy>(
     alloc: A,
     text: &mut Vec<u8, A>,

@@ -1,6 +1,6 @@
 //! The parts of a folder, buffers or sinks, each with a path.
 
-ghost use Rattle.std.specs.Prelude.{◌≡◌, bytes_eq, position, OnOk};
+ghost use Rattle.std.specs.Prelude.{◌≡◌, bytes_eq, position, IfOk, OnOk};
 ghost use Rattle.std.specs.List.Sorted.{IsPermutation, IsSortedBy};
 ghost use Rattle.folder_counts.specs.Groups.{with_part};
 ghost use Rattle.folder_counts.specs.Order.{is_before};

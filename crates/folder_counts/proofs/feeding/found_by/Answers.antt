@@ -1,5 +1,6 @@
-use Rattle.std.proofs.Common.{refl}
+use Rattle.std.proofs.Common.{◌≡◌, Err, ap, rules}
 use Rattle.folder_counts.proofs.Fed.{each_known, finished_so, if_known}
+use Rattle.folder_counts.specs.declared.feeding.Stop.TheVariants.{Damaged}
 use Rattle.folder_counts.proofs.feeding.found_by.Goals as goal
 
 pub returns-in-Ok : goal.returns-in-Ok
@@ -8,7 +9,8 @@ returns-in-Ok g c =
 
 pub returns-in-Err-Damaged : goal.returns-in-Err-Damaged
 returns-in-Err-Damaged g c =
-    if_known g.F.Feed.is_damaged (λ bytes. g.F.Feed.is_in bytes c.damaged.result) (g.R.CountedRead.remaining c.args.input.now) (c.in-Err-Damaged.ensures.damaged refl) c.damaged.ensures
+    let is : c.in-Err-Damaged.field-0 ≡ Damaged = search rules in
+    if_known g.F.Feed.is_damaged (λ bytes. g.F.Feed.is_in bytes c.damaged.result) (g.R.CountedRead.remaining c.args.input.now) (c.in-Err-Damaged.ensures.damaged (ap Err is)) c.damaged.ensures
 
 pub returns-in-Err-Unread : goal.returns-in-Err-Unread
 returns-in-Err-Unread g c = each_known (λ bytes. g.F.Feed.is_in bytes c.unread.result) (g.R.CountedRead.remaining c.args.input.now) c.unread.ensures

@@ -1,7 +1,6 @@
-use Rattle.std.proofs.Common.{ℕ, List, ◌≡◌, ◌+◌, ◌++◌, ◌-◌, ◌<◌, ◌∙◌, ap, arith, drop, length, rules, subst}
+use Rattle.std.proofs.Common.{◌≡◌, ◌+◌, ◌++◌, ◌-◌, ◌<◌, ◌∙◌, ap, arith, drop, length, rules, subst}
 use Rattle.event_listing.specs.Reading.{longest_item}
 use Rattle.sink_series.specs.Events.{Counts}
-use Rattle.folder_counts.specs.Held.{IsHeldAfter}
 use Rattle.folder_counts.proofs.Held.{held_long, held_more}
 use Rattle.folder_counts.proofs.events.HeldFeed.feed.Goals as goal
 
