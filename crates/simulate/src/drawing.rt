@@ -19,9 +19,9 @@ struct Place {
     outputs: usize,
 }
 
-/// Draws a network of one to three relays, each of which sends to those behind it, with two clients.
+/// Draws a network of one to four relays, each of which sends to those behind it, with two clients.
 pub fn draw(alloc: Global, dice: &mut Dice) -> Result<Drawing, AllocError> {
-    let count = dice.below(3).saturating_add(1);
+    let count = dice.below(4).saturating_add(1);
     let first = dice.below(100) as u32 + 1;
     let mut plan = String::new(alloc);
     let mut confs = Vec::new(alloc);
