@@ -5,7 +5,7 @@ use crate::run::Run;
 use event_modes::{Message, Read, read};
 use loop_core::Peer;
 use relay_ports::Branches;
-use simulated_relays::{Appended, Disk, Link, OpenSite, Site};
+use simulated_relays::{Appended, Disk, Link, OpenSite, Site, Stage};
 use std::alloc::{AllocError, Global};
 use std::sync::Wait;
 
@@ -67,7 +67,8 @@ fn take_in<R: Wait, D: Disk + Drop>(
     Ok(taken.is_ok())
 }
 
-// The whole message is there: what the relay makes of it is told. Where a buffer refused it, each append of it may be there or not.
+// The whole message is there: what the relay makes of it is told. Where a buffer has no room for it, that is nothing. Where a device
+// failed, each append of it may be there or not.
 fn note_delivery<R: Wait, D: Disk + Drop>(
     rt: &R,
     alloc: Global,
@@ -82,6 +83,12 @@ fn note_delivery<R: Wait, D: Disk + Drop>(
     let Some(branches) = branches(alloc, site, link.source, &message)? else {
         return Ok(());
     };
+    if !has_room(site, &branches, link.entries.len()) {
+        if link.is_waiting() {
+            judge.fail(format!(in alloc; "message {} is taken without room", link.message)?);
+        }
+        return Ok(());
+    }
     judge.tell(format!(in alloc; "begin {}", link.message)?)?;
     let delivery = judge.next_delivery();
     link.delivery = Some(delivery);
@@ -90,6 +97,7 @@ fn note_delivery<R: Wait, D: Disk + Drop>(
     }
     for buffer in &branches.buffers {
         let tag = branches.tag.as_bytes();
+        note_drops(alloc, site, judge, buffer.0, link.entries.len())?;
         note_append(
             rt,
             alloc,
@@ -118,6 +126,32 @@ fn branches<D: Disk + Drop>(
         Some(inlet) => inlet.branches(alloc, message),
         None => Ok(None),
     }
+}
+
+// Whether each of the message's buffers takes so many bytes.
+fn has_room<D: Disk + Drop>(site: &Site<D>, branches: &Branches<Global>, len: usize) -> bool {
+    branches
+        .buffers
+        .iter()
+        .all(|buffer| site.has_room(buffer.0, len))
+}
+
+// The oldest chunks went from this buffer so that it takes so many bytes.
+fn note_drops<D: Disk + Drop>(
+    alloc: Global,
+    site: &mut Site<D>,
+    judge: &mut Judge<'_>,
+    buffer: usize,
+    len: usize,
+) -> Result<(), AllocError> {
+    for _ in 0..site.chunks.count_live(buffer) {
+        let Some(serial) = site.to_drop(buffer, len) else {
+            return Ok(());
+        };
+        let line = judge.tell(format!(in alloc; "oldest {} {buffer}", site.number)?)?;
+        site.chunks.restage(buffer, serial, Stage::Gone, line);
+    }
+    Ok(())
 }
 
 // The delivery was appended to this buffer: to its next chunk where that is there now, and else to the one that grows.

@@ -143,7 +143,17 @@ fn buffer(alloc: Global, dice: &mut Dice, number: usize) -> Result<String, Alloc
     } else {
         ""
     };
+    let limit = limit(alloc, dice)?;
     format!(in alloc;
-        "  <buffer>\n{kind}    {retries}\n{overflow}    flush_mode immediate\n  </buffer>\n"
+        "  <buffer>\n{kind}    {retries}\n{overflow}{limit}    flush_mode immediate\n  </buffer>\n"
     )
+}
+
+// How much the buffer takes: at times no more than a few entries.
+fn limit(alloc: Global, dice: &mut Dice) -> Result<String, AllocError> {
+    if !dice.once_in(3) {
+        return Ok(String::new(alloc));
+    }
+    let most = dice.below(36).saturating_add(7);
+    format!(in alloc; "    total_limit_size {most}\n")
 }

@@ -65,6 +65,15 @@ impl Chunk {
         }
     }
 
+    // How many bytes its entries have.
+    fn size(&self) -> usize {
+        let mut size = 0usize;
+        for append in &self.appends {
+            size = size.saturating_add(append.bytes.len());
+        }
+        size
+    }
+
     // No stop undoes what was told of it.
     fn sync(&mut self) {
         self.is_synced = true;
@@ -210,6 +219,35 @@ impl Chunks {
             .any(|chunk| chunk.buffer == buffer && chunk.stage == stage)
     }
 
+    /// How many bytes of entries the chunks of a buffer have in this stage.
+    pub fn size_in(&self, buffer: usize, stage: Stage) -> usize {
+        let mut size = 0usize;
+        for chunk in &self.all {
+            if chunk.buffer == buffer && chunk.stage == stage {
+                size = size.saturating_add(chunk.size());
+            }
+        }
+        size
+    }
+
+    /// How many bytes of entries the chunks of a buffer have that didn't go.
+    pub fn size(&self, buffer: usize) -> usize {
+        self.size_in(buffer, Stage::Staged)
+            .saturating_add(self.size_in(buffer, Stage::Queued))
+            .saturating_add(self.size_in(buffer, Stage::Claimed))
+    }
+
+    /// The queued chunk of a buffer with the least serial.
+    pub fn oldest_queued(&self, buffer: usize) -> Option<u64> {
+        let mut least = None;
+        for chunk in &self.all {
+            if chunk.buffer == buffer && chunk.stage == Stage::Queued {
+                least = Some(lesser(least, chunk.serial));
+            }
+        }
+        least
+    }
+
     /// How many chunks a buffer has that didn't go.
     pub fn count_live(&self, buffer: usize) -> usize {
         self.all
@@ -241,5 +279,13 @@ impl Chunks {
                 }
             }
         }
+    }
+}
+
+// The lesser of these serials.
+fn lesser(least: Option<u64>, serial: u64) -> u64 {
+    match least {
+        Some(other) => serial.min(other),
+        None => serial,
     }
 }

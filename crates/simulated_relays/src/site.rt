@@ -1,6 +1,6 @@
 //! A relay of the network: its folders, what was told of its chunks, and its parts while it is open.
 
-use crate::chunks::Chunks;
+use crate::chunks::{Chunks, Stage};
 use crate::closing::{SinkContent, close_buffers, close_sinks, names_of, paths_of};
 use crate::disk::{Device, Disk};
 use crate::opening::open_site;
@@ -10,7 +10,7 @@ use buffer_lanes::Lanes;
 use disk_files::Keep;
 use flush_pool::SinkCourier;
 use relay_buffers::DeliveryJob;
-use relay_conf::BufferKind;
+use relay_conf::{BufferKind, OverflowAction};
 use relay_ports::{BufferedOutput, Inlet};
 use std::alloc::{AllocError, Global};
 use std::sync::{Arc, Wait};
@@ -87,6 +87,30 @@ impl<D: Disk + Drop> Site<D> {
     /// What the output with this number says, if the relay is open.
     pub fn output(&self, buffer: usize) -> Option<&BufferedOutput<Global>> {
         Some(self.open.as_ref()?.jobs.get(buffer)?.output())
+    }
+
+    /// Whether a buffer takes so many bytes more, by what was told of its chunks. Where it drops the
+    /// oldest, all that are queued may go for them.
+    pub fn has_room(&self, buffer: usize, len: usize) -> bool {
+        let Some(output) = self.output(buffer) else {
+            return true;
+        };
+        let queued = if drops(output) {
+            self.chunks.size_in(buffer, Stage::Queued)
+        } else {
+            0
+        };
+        let kept = self.chunks.size(buffer).saturating_sub(queued);
+        fits(output, kept, len)
+    }
+
+    /// The chunk that goes from a buffer first so that it takes so many bytes more, where one does.
+    pub fn to_drop(&self, buffer: usize, len: usize) -> Option<u64> {
+        let output = self.output(buffer)?;
+        if !drops(output) || fits(output, self.chunks.size(buffer), len) {
+            return None;
+        }
+        self.chunks.oldest_queued(buffer)
     }
 
     /// Whether a buffer has a chunk of this serial.
@@ -222,4 +246,14 @@ impl<D: Disk + Drop> Site<D> {
     pub fn take_refusal(&mut self) -> Option<String> {
         self.refusal.take()
     }
+}
+
+// Whether the output's buffer drops the oldest chunks where it is full.
+fn drops(output: &BufferedOutput<Global>) -> bool {
+    output.buffer().overflow_action == OverflowAction::DropOldestChunk
+}
+
+// Whether the output's buffer takes these two together.
+fn fits(output: &BufferedOutput<Global>, size: usize, len: usize) -> bool {
+    size.saturating_add(len) as u64 <= output.buffer().total_limit_size
 }
