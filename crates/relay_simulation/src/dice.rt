@@ -1,9 +1,11 @@
-//! The choices of one run, all drawn from its seed.
+//! The choices of a run, all drawn from its seed.
 
 ghost use Rattle.std.specs.Prelude.{◌≤◌};
 
+use disk_files::Keep;
 use rand_chacha::ChaCha20Rng;
 use rand_core::{Rng, SeedableRng};
+use simulated_relays::{Device, Devices, Stop};
 
 /// Where choices come from.
 #[derive(Drop)]
@@ -32,5 +34,62 @@ impl Dice {
     /// Whether what happens once in so many times happens.
     pub fn once_in(&mut self, times: usize) -> bool {
         self.below(times) == 0
+    }
+
+    /// What stops with a relay, and how much that keeps.
+    pub fn stop(&mut self) -> Stop {
+        match self.below(4) {
+            0 => Stop::Relay,
+            1 => Stop::Machine(Keep::Least),
+            2 => Stop::Machine(Keep::Greatest),
+            _ => {
+                let count = self.below(600);
+                Stop::Machine(Keep::Last(count))
+            }
+        }
+    }
+
+    /// Devices for a relay: at times those of its buffers may fail, or those of its sinks.
+    pub fn devices(&mut self) -> Devices {
+        match self.below(6) {
+            0 => self.failing_buffers(120),
+            1 => self.failing_sinks(20),
+            _ => Devices::SOUND,
+        }
+    }
+
+    /// Devices that fail early, under buffers or under sinks.
+    pub fn early_devices(&mut self) -> Devices {
+        if self.once_in(4) {
+            self.failing_sinks(6)
+        } else {
+            self.failing_buffers(20)
+        }
+    }
+
+    // Devices under buffers that fail behind fewer calls than these.
+    fn failing_buffers(&mut self, calls: usize) -> Devices {
+        Devices {
+            buffers: self.failing(calls),
+            sinks: Device::Sound,
+        }
+    }
+
+    // Devices under sinks that fail behind fewer calls than these.
+    fn failing_sinks(&mut self, calls: usize) -> Devices {
+        Devices {
+            buffers: Device::Sound,
+            sinks: self.failing(calls),
+        }
+    }
+
+    // A device that fails all calls, or one, behind fewer than these.
+    fn failing(&mut self, calls: usize) -> Device {
+        let passes = self.below(calls) as u64;
+        if self.once_in(2) {
+            Device::FailsAfter(passes)
+        } else {
+            Device::FailsOnce(passes)
+        }
     }
 }

@@ -7,7 +7,7 @@ use crate::stock::give_all_back;
 use buffer_lanes::Lanes;
 use custody_core::is_kept_as;
 use loss_checker::{Answer, Plan};
-use simulated_relays::{Device, Disk, Link, Site};
+use simulated_relays::{Devices, Disk, Lent, Link, Site};
 use std::alloc::{AllocError, Global};
 use std::sync::Wait;
 use std::time::Clock;
@@ -82,7 +82,7 @@ impl<'n, D: Disk + Drop> Run<'n, D> {
         let Some(site) = self.sites.get_mut(at) else {
             return Ok(());
         };
-        if !site.open(rt, self.alloc, Device::Sound)? {
+        if !site.open(rt, self.alloc, Devices::SOUND)? {
             self.judge
                 .fail(format!(in self.alloc; "relay {number} doesn't open")?);
         }
@@ -113,8 +113,8 @@ impl<'n, D: Disk + Drop> Run<'n, D> {
         for at in 0..self.sites.len() {
             let is_refusing = self.sites.get(at).is_some_and(|site| site.is_refusing());
             if is_refusing || !refuses {
-                let keep = self.keep();
-                self.restart(rt, at, keep, Device::Sound)?;
+                let stop = self.dice.stop();
+                self.restart(rt, at, stop, Devices::SOUND)?;
             }
         }
         Ok(())
@@ -160,9 +160,9 @@ impl<'n, D: Disk + Drop> Run<'n, D> {
 
     fn restart_at_times<R: Wait>(&mut self, rt: &R, site: usize) -> Result<(), AllocError> {
         if self.dice.once_in(2) {
-            let keep = self.keep();
-            let device = self.device();
-            return self.restart(rt, site, keep, device);
+            let stop = self.dice.stop();
+            let devices = self.dice.devices();
+            return self.restart(rt, site, stop, devices);
         }
         Ok(())
     }
@@ -214,7 +214,11 @@ fn said(alloc: Global, judge: &Judge<'_>) -> Result<Option<String>, AllocError> 
     Ok(Some(text))
 }
 
-fn end_links<R: Wait, D: Disk + Drop>(rt: &R, links: Vec<Link>, spare: &mut Lanes<D, Global>) {
+fn end_links<R: Wait, D: Disk + Drop>(
+    rt: &R,
+    links: Vec<Link>,
+    spare: &mut Lanes<Lent<D>, Global>,
+) {
     let mut rest = links.into_iter();
     while let Some(link) = rest.next() {
         link.end(rt, spare);

@@ -5,55 +5,48 @@ use crate::run::Run;
 use crate::sending::ENTRY_LEN;
 use crate::stock::take_stock;
 use crate::storing::tell_queued;
-use disk_files::Keep;
-use simulated_relays::{Chunk, Device, Disk, Name, SinkContent, Site, Stage};
+use simulated_relays::{Chunk, Devices, Disk, Name, SinkContent, Site, Stage, Stop};
 use std::alloc::{AllocError, Global};
 use std::sync::Wait;
 
 impl<'n, D: Disk + Drop> Run<'n, D> {
-    /// How much a stop keeps.
-    pub fn keep(&mut self) -> Keep {
-        match self.dice.below(3) {
-            0 => Keep::Least,
-            1 => Keep::Greatest,
-            _ => {
-                let count = self.dice.below(600);
-                Keep::Last(count)
-            }
-        }
-    }
-
-    /// Which calls each device of a relay fails: at times all behind some, or one.
-    pub fn device(&mut self) -> Device {
-        let passes = self.dice.below(120) as u64;
-        match self.dice.below(6) {
-            0 => Device::FailsAfter(passes),
-            1 => Device::FailsOnce(passes),
-            _ => Device::Sound,
-        }
-    }
-
-    /// A relay stops, so that its folders keep so much, and opens again over such devices.
+    /// A relay stops, and opens again over such devices. Before it opens, openings may fail: what
+    /// they leave stays.
     pub fn restart<R: Wait>(
         &mut self,
         rt: &R,
         at: usize,
-        keep: Keep,
-        device: Device,
+        stop: Stop,
+        devices: Devices,
     ) -> Result<(), AllocError> {
-        let alloc = self.alloc;
         self.cut_off(rt, at);
+        if let Some(site) = self.sites.get_mut(at) {
+            close(rt, self.alloc, site, stop, &mut self.judge)?;
+        }
+        for _ in 0..self.dice.below(3) {
+            self.try_to_open(rt, at)?;
+        }
+        let later = self.dice.stop();
+        if let Some(site) = self.sites.get_mut(at) {
+            open_again(rt, self.alloc, site, &mut self.judge)?;
+            if devices.may_fail() {
+                open_over(rt, self.alloc, site, devices, later, &mut self.judge)?;
+            }
+        }
+        Ok(())
+    }
+
+    // A relay that doesn't run opens over devices that fail early, and stops at once.
+    fn try_to_open<R: Wait>(&mut self, rt: &R, at: usize) -> Result<(), AllocError> {
+        let devices = self.dice.early_devices();
+        let stop = self.dice.stop();
         let Some(site) = self.sites.get_mut(at) else {
             return Ok(());
         };
-        let sinks = site.stop(rt, alloc, keep)?;
-        if let Some(what) = site.take_refusal() {
-            self.judge.fail(what);
-        }
-        compare_sinks(alloc, site, sinks, &mut self.judge)?;
-        if open_again(rt, alloc, site, &mut self.judge)? && device != Device::Sound {
-            let _ = site.stop(rt, alloc, Keep::Greatest)?;
-            open_over(rt, alloc, site, device, &mut self.judge)?;
+        if site.open(rt, self.alloc, devices)? {
+            let _ = site.stop(rt, self.alloc, stop)?;
+        } else {
+            site.stop_folders(stop);
         }
         Ok(())
     }
@@ -87,19 +80,37 @@ impl<'n, D: Disk + Drop> Run<'n, D> {
     }
 }
 
-// Opens the relay over such devices; `false` where it doesn't open, which is wrong.
+// Stops the relay, and holds what its sinks have against what was told.
+fn close<R: Wait, D: Disk + Drop>(
+    rt: &R,
+    alloc: Global,
+    site: &mut Site<D>,
+    stop: Stop,
+    judge: &mut Judge<'_>,
+) -> Result<(), AllocError> {
+    let sinks = site.stop(rt, alloc, stop)?;
+    if let Some(what) = site.take_refusal() {
+        judge.fail(what);
+    }
+    compare_sinks(alloc, site, sinks, judge)
+}
+
+// Opens a relay that is open over such devices instead. Where it doesn't open so, this stop comes,
+// and it opens over sound ones.
 fn open_over<R: Wait, D: Disk + Drop>(
     rt: &R,
     alloc: Global,
     site: &mut Site<D>,
-    device: Device,
+    devices: Devices,
+    stop: Stop,
     judge: &mut Judge<'_>,
-) -> Result<bool, AllocError> {
-    let is_open = site.open(rt, alloc, device)?;
-    if !is_open {
-        judge.fail(format!(in alloc; "relay {} doesn't open", site.number)?);
+) -> Result<(), AllocError> {
+    let _ = site.stop(rt, alloc, Stop::Relay)?;
+    if !site.open(rt, alloc, devices)? {
+        site.stop_folders(stop);
+        open_again(rt, alloc, site, judge)?;
     }
-    Ok(is_open)
+    Ok(())
 }
 
 // Opens the relay behind a stop, and holds what is there against what was told.
@@ -108,9 +119,10 @@ fn open_again<R: Wait, D: Disk + Drop>(
     alloc: Global,
     site: &mut Site<D>,
     judge: &mut Judge<'_>,
-) -> Result<bool, AllocError> {
-    if !open_over(rt, alloc, site, Device::Sound, judge)? {
-        return Ok(false);
+) -> Result<(), AllocError> {
+    if !site.open(rt, alloc, Devices::SOUND)? {
+        judge.fail(format!(in alloc; "relay {} doesn't open", site.number)?);
+        return Ok(());
     }
     if take_stock(rt, alloc, site, judge)? {
         judge.begin_again()?;
@@ -118,8 +130,7 @@ fn open_again<R: Wait, D: Disk + Drop>(
     judge.tell(format!(in alloc; "restart {}", site.number)?)?;
     tell_queued(alloc, site.number, &mut site.chunks, judge)?;
     site.chunks.sync();
-    compare_held(alloc, site, judge)?;
-    Ok(true)
+    compare_held(alloc, site, judge)
 }
 
 // What the sinks hold is what the machine's hold. Of a write that failed, the first entries may be there, which is told then.

@@ -4,7 +4,7 @@ use crate::dice::Dice;
 use crate::judge::Judge;
 use ack_receipt::{Evidence, SharedBuffer};
 use buffer_lanes::Lanes;
-use simulated_relays::{Disk, Held, Link, Name, Site, Stage};
+use simulated_relays::{Disk, Held, Lent, Link, Name, Site, Stage};
 use std::alloc::{AllocError, Global};
 use std::sync::{Arc, Wait};
 
@@ -19,14 +19,18 @@ pub struct Run<'n, D: Disk + Drop> {
     pub begun: Vec<usize>,
     pub held: Vec<Held<D>>,
     /// No buffers: what is left of connections at the end ends there.
-    pub spare: Lanes<D, Global>,
+    pub spare: Lanes<Lent<D>, Global>,
     /// How many events clients have sent.
     pub events: u32,
 }
 
 impl<'n, D: Disk + Drop> Run<'n, D> {
     /// The buffer with this number of the relay at this place, if that is open.
-    pub fn buffer(&self, site: usize, buffer: usize) -> Option<&Arc<SharedBuffer<D, Global>>> {
+    pub fn buffer(
+        &self,
+        site: usize,
+        buffer: usize,
+    ) -> Option<&Arc<SharedBuffer<Lent<D>, Global>>> {
         self.sites.get(site)?.buffer(buffer)
     }
 

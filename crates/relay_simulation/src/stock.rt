@@ -2,7 +2,7 @@
 
 use crate::judge::Judge;
 use ack_receipt::SharedBuffer;
-use simulated_relays::{Chunk, Disk, Found, Held, Site, Stage};
+use simulated_relays::{Chunk, Disk, Found, Held, Lent, Site, Stage};
 use std::alloc::{AllocError, Global};
 use std::mem;
 use std::sync::{Arc, Wait};
@@ -116,7 +116,7 @@ fn claim_all<R: Wait, D: Disk + Drop>(
     rt: &R,
     alloc: Global,
     buffer: usize,
-    shared: &Arc<SharedBuffer<D, Global>>,
+    shared: &Arc<SharedBuffer<Lent<D>, Global>>,
 ) -> Vec<Held<D>> {
     let mut all = Vec::new(alloc);
     for _ in 0..10_000u32 {

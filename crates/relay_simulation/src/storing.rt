@@ -2,7 +2,7 @@
 
 use crate::judge::Judge;
 use crate::run::Run;
-use simulated_relays::{Chunks, Device, Disk, Link, Site, Stage};
+use simulated_relays::{Chunks, Devices, Disk, Link, Site, Stage};
 use std::alloc::{AllocError, Global};
 use std::sync::Wait;
 
@@ -22,8 +22,8 @@ impl<'n, D: Disk + Drop> Run<'n, D> {
             0 => {}
             1 => {
                 redeem(rt, site);
-                let keep = self.keep();
-                return self.restart(rt, at, keep, Device::Sound);
+                let stop = self.dice.stop();
+                return self.restart(rt, at, stop, Devices::SOUND);
             }
             _ => {
                 if part != 3 {

@@ -1,6 +1,6 @@
 //! A folder in memory that can be stopped, and whose device can fail.
 
-use disk_files::{Dir, DirError, FileName, Fuse, Keep, MemoryDir, Writing};
+use disk_files::{Dir, Fuse, Keep, MemoryDir};
 use std::alloc::Global;
 
 /// Which calls to a folder its device fails.
@@ -14,13 +14,54 @@ pub enum Device {
     FailsOnce(u64),
 }
 
+/// The devices of a relay's folders.
+#[derive(Clone, Copy)]
+pub struct Devices {
+    /// Under each buffer.
+    pub buffers: Device,
+    /// Under each sink.
+    pub sinks: Device,
+}
+
+impl Devices {
+    /// None fails.
+    pub const SOUND: Devices = Devices {
+        buffers: Device::Sound,
+        sinks: Device::Sound,
+    };
+
+    /// Whether one may fail.
+    pub fn may_fail(&self) -> bool {
+        self.buffers != Device::Sound || self.sinks != Device::Sound
+    }
+}
+
+/// What stops, and how much of a folder that keeps.
+#[derive(Clone, Copy)]
+pub enum Stop {
+    /// The relay alone: what it wrote is there, and what wasn't synced still isn't.
+    Relay,
+    /// The machine with it, which keeps so much.
+    Machine(Keep),
+}
+
+impl Stop {
+    /// The same, with all that it keeps synced.
+    pub fn settled(self) -> Stop {
+        match self {
+            Stop::Relay => Stop::Machine(Keep::Greatest),
+            Stop::Machine(keep) => Stop::Machine(keep),
+        }
+    }
+}
+
 /// A folder that can be stopped, and whose device can fail.
 pub trait Disk: Dir {
     /// An empty one, whose device doesn't fail.
     fn fresh(alloc: Global) -> Self;
 
-    /// What a stop leaves that keeps so much, over a device that doesn't fail.
-    fn stopped(self, keep: Keep) -> Self;
+    /// What a stop leaves, over a device that doesn't fail.
+    fn stopped(self, stop: Stop) -> Self;
 
     /// The folder over this device.
     fn over(self, device: Device) -> Self;
@@ -31,8 +72,13 @@ impl Disk for Fuse<MemoryDir<Global>> {
         Fuse::after(MemoryDir::new(alloc), u64::MAX)
     }
 
-    fn stopped(self, keep: Keep) -> Self {
-        Fuse::after(self.into_inner().stop(keep), u64::MAX)
+    fn stopped(self, stop: Stop) -> Self {
+        let dir = self.into_inner();
+        let left = match stop {
+            Stop::Relay => dir,
+            Stop::Machine(keep) => dir.stop(keep),
+        };
+        Fuse::after(left, u64::MAX)
     }
 
     fn over(self, device: Device) -> Self {
@@ -42,34 +88,4 @@ impl Disk for Fuse<MemoryDir<Global>> {
             Device::FailsOnce(passes) => Fuse::once(self.into_inner(), passes),
         }
     }
-}
-
-/// A copy of a folder's files, in which all is synced.
-pub fn copy_of<D: Disk + Drop>(alloc: Global, dir: &mut D) -> Result<D, DirError> {
-    let mut copy = D::fresh(alloc);
-    for name in &dir.list(alloc)? {
-        let bytes = content(alloc, dir, name)?;
-        put(&mut copy, name, &bytes)?;
-    }
-    Ok(copy)
-}
-
-// What the file of this name holds.
-fn content<D: Dir>(
-    alloc: Global,
-    dir: &mut D,
-    name: &FileName<Global>,
-) -> Result<Vec<u8>, DirError> {
-    let file = dir.open(name.as_bytes())?;
-    let len = dir.length(file)?;
-    let mut bytes = vec![in alloc; 0u8; len]?;
-    dir.read_at(file, 0, &mut bytes)?;
-    Ok(bytes)
-}
-
-// Makes a file of this name that holds these bytes.
-fn put<D: Dir>(dir: &mut D, name: &FileName<Global>, bytes: &[u8]) -> Result<(), DirError> {
-    let file = dir.create(name.as_bytes(), bytes.len())?;
-    dir.append(file, bytes, Writing::Through)?;
-    dir.sync(file)
 }

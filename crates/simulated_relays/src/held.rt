@@ -4,6 +4,7 @@ ghost use Rattle.std.specs.Prelude.{◌≡◌};
 ghost use Rattle.std.specs.Arc.{arc_value};
 
 use crate::disk::Disk;
+use crate::lent::Lent;
 use ack_receipt::{Claim, Evidence, SharedBuffer};
 use event_modes::Entries;
 use flush_pool::{ClaimView, Courier, SinkCourier};
@@ -23,7 +24,7 @@ pub struct Name {
 pub struct Held<D: Disk + Drop> {
     site: usize,
     buffer: usize,
-    shared: Arc<SharedBuffer<D, Global>>,
+    shared: Arc<SharedBuffer<Lent<D>, Global>>,
     claim: Claim<Global>,
     ghost same: { claim.leaf ≡ (arc_value shared).leaf },
 }
@@ -34,7 +35,7 @@ impl<D: Disk + Drop> Held<D> {
         rt: &R,
         site: usize,
         buffer: usize,
-        shared: &Arc<SharedBuffer<D, Global>>,
+        shared: &Arc<SharedBuffer<Lent<D>, Global>>,
     ) -> Option<Held<D>> {
         let shared = Arc::try_clone(shared).ok()?;
         match shared.claim(rt) {
@@ -76,7 +77,7 @@ impl<D: Disk + Drop> Held<D> {
     pub fn carried<R: Wait + Clock>(
         &self,
         rt: &R,
-        sink: &SinkCourier<D, Global>,
+        sink: &SinkCourier<Lent<D>, Global>,
     ) -> Option<Evidence<Global>> {
         sink.carry(rt, &ClaimView::new(&self.shared, &self.claim))
             .ok()

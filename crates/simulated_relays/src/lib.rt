@@ -5,6 +5,7 @@ mod chunks;
 mod closing;
 mod disk;
 mod held;
+mod lent;
 mod link;
 mod opening;
 mod shelf;
@@ -12,7 +13,8 @@ mod site;
 
 pub use chunks::{Appended, Chunk, Chunks, Found, Stage};
 pub use closing::SinkContent;
-pub use disk::{Device, Disk};
+pub use disk::{Device, Devices, Disk, Stop};
 pub use held::{Held, Name};
+pub use lent::Lent;
 pub use link::{Link, Sender};
 pub use site::{OpenSite, Site};

@@ -1,6 +1,7 @@
 //! The parts of a relay, made of its configuration and over its folders.
 
 use crate::disk::Disk;
+use crate::lent::Lent;
 use crate::shelf::Shelf;
 use crate::site::OpenSite;
 use ack_receipt::Numbers;
@@ -88,7 +89,7 @@ fn open_sinks<D: Disk + Drop>(
     alloc: Global,
     shelf: &Shelf<D>,
     outputs: &[BufferedOutput<Global>],
-) -> Result<Option<Vec<Option<SinkCourier<D, Global>>>>, AllocError> {
+) -> Result<Option<Vec<Option<SinkCourier<Lent<D>, Global>>>>, AllocError> {
     let mut all = Vec::new(alloc);
     for output in outputs {
         let sink = match output {
@@ -109,7 +110,7 @@ fn open_sink<D: Disk + Drop>(
     alloc: Global,
     shelf: &Shelf<D>,
     path: &[u8],
-) -> Result<Option<SinkCourier<D, Global>>, AllocError> {
+) -> Result<Option<SinkCourier<Lent<D>, Global>>, AllocError> {
     match Rotation::open(alloc, shelf.take(path)?, path, LIMITS, 0) {
         Ok(sink) => Ok(Some(SinkCourier::new(sink))),
         Err(_) => Ok(None),

@@ -1,13 +1,13 @@
 //! A relay of the network: its folders, what was told of its chunks, and its parts while it is open.
 
 use crate::chunks::{Chunks, Stage};
-use crate::closing::{SinkContent, close_buffers, close_sinks, names_of, paths_of};
-use crate::disk::{Device, Disk};
+use crate::closing::{SinkContent, close_buffers, close_sinks, paths_of};
+use crate::disk::{Devices, Disk, Stop};
+use crate::lent::Lent;
 use crate::opening::open_site;
 use crate::shelf::Shelf;
 use ack_receipt::{Numbers, SharedBuffer};
 use buffer_lanes::Lanes;
-use disk_files::Keep;
 use flush_pool::SinkCourier;
 use relay_buffers::DeliveryJob;
 use relay_conf::{BufferKind, OverflowAction};
@@ -32,11 +32,11 @@ pub struct Site<D: Disk + Drop> {
 
 /// The parts of a relay that is open.
 pub struct OpenSite<D: Disk + Drop> {
-    pub lanes: Lanes<D, Global>,
-    pub buffers: Vec<Arc<SharedBuffer<D, Global>>>,
-    pub jobs: Vec<DeliveryJob<D, Global>>,
+    pub lanes: Lanes<Lent<D>, Global>,
+    pub buffers: Vec<Arc<SharedBuffer<Lent<D>, Global>>>,
+    pub jobs: Vec<DeliveryJob<Lent<D>, Global>>,
     pub inlets: Vec<Arc<Inlet<Global>>>,
-    pub sinks: Vec<Option<SinkCourier<D, Global>>>,
+    pub sinks: Vec<Option<SinkCourier<Lent<D>, Global>>>,
     pub numbers: Numbers,
 }
 
@@ -72,7 +72,7 @@ impl<D: Disk + Drop> Site<D> {
     }
 
     /// The buffer with this number, if the relay is open.
-    pub fn buffer(&self, buffer: usize) -> Option<&Arc<SharedBuffer<D, Global>>> {
+    pub fn buffer(&self, buffer: usize) -> Option<&Arc<SharedBuffer<Lent<D>, Global>>> {
         self.open.as_ref()?.buffers.get(buffer)
     }
 
@@ -149,35 +149,17 @@ impl<D: Disk + Drop> Site<D> {
         }
     }
 
-    /// Opens it over such devices, or over sound ones where it doesn't open so; `false` where it
-    /// doesn't open over these.
+    /// Opens it over such devices; `false` where it doesn't open. Then its folders are as that left
+    /// them.
     pub fn open<R: Wait>(
         &mut self,
         rt: &R,
         alloc: Global,
-        device: Device,
+        devices: Devices,
     ) -> Result<bool, AllocError> {
-        self.is_failing = device != Device::Sound;
-        if self.open_over(rt, alloc, device)? {
-            return Ok(true);
-        }
-        if !self.is_failing {
-            return Ok(false);
-        }
-        self.is_failing = false;
-        self.shelf.restore()?;
-        self.sinks.restore()?;
-        self.open_over(rt, alloc, Device::Sound)
-    }
-
-    fn open_over<R: Wait>(
-        &mut self,
-        rt: &R,
-        alloc: Global,
-        device: Device,
-    ) -> Result<bool, AllocError> {
-        self.shelf.set_device(device);
-        self.sinks.set_device(device);
+        self.is_failing = devices.may_fail();
+        self.shelf.set_device(devices.buffers);
+        self.sinks.set_device(devices.sinks);
         let opened = open_site(alloc, self.number, &self.conf, &self.shelf, &self.sinks)?;
         let Some(open) = opened else {
             return Ok(false);
@@ -206,12 +188,19 @@ impl<D: Disk + Drop> Site<D> {
         }
     }
 
-    /// Stops it, so that its folders keep so much, and says what its sinks hold then; `None` where one can't be read.
+    /// What a stop leaves of its folders, while it isn't open.
+    pub fn stop_folders(&mut self, stop: Stop) {
+        self.shelf.stop(stop);
+        self.sinks.stop(stop.settled());
+    }
+
+    /// Stops it, and says what its sinks hold then, all of it synced; `None` where one can't be
+    /// read.
     pub fn stop<R: Wait>(
         &mut self,
         rt: &R,
         alloc: Global,
-        keep: Keep,
+        stop: Stop,
     ) -> Result<Option<Vec<SinkContent>>, AllocError> {
         let Some(open) = self.open.take() else {
             return Ok(None);
@@ -229,13 +218,12 @@ impl<D: Disk + Drop> Site<D> {
         if have_failed {
             self.refuse(String::from_str(alloc, "a buffer fails")?);
         }
-        let names = names_of(alloc, &jobs)?;
         let paths = paths_of(alloc, &jobs)?;
         drop(jobs);
-        if close_buffers(&self.shelf, buffers, names, keep)? {
+        if close_buffers(buffers, stop) {
             self.refusal = None;
         }
-        let (content, have_failed) = close_sinks(alloc, &self.sinks, sinks, paths, keep)?;
+        let (content, have_failed) = close_sinks(alloc, sinks, paths, stop.settled())?;
         if have_failed {
             self.refusal = None;
         }
