@@ -7,6 +7,9 @@ use rand_chacha::ChaCha20Rng;
 use rand_core::{Rng, SeedableRng};
 use simulated_relays::{Device, Devices, Stop};
 
+// An odd number, so that no two seeds have the same acts.
+const ACT_STRIDE: u64 = 0x9e37_79b9_7f4a_7c15;
+
 /// Where choices come from.
 #[derive(Drop)]
 pub struct Dice {
@@ -19,6 +22,11 @@ impl Dice {
         Dice {
             rng: ChaCha20Rng::seed_from_u64(seed),
         }
+    }
+
+    /// The choices of one act of the run of this seed: no other act's depend on them.
+    pub fn of_act(seed: u64, act: u64) -> Dice {
+        Dice::new(seed.wrapping_mul(ACT_STRIDE).wrapping_add(act))
     }
 
     /// A number below this one, or 0 where none is.

@@ -14,4 +14,4 @@ mod storing;
 mod working;
 
 pub use dice::Dice;
-pub use playing::{FIRST_PORT, play};
+pub use playing::{Acts, FIRST_PORT, Network, play};

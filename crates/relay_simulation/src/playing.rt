@@ -15,22 +15,36 @@ use std::time::Clock;
 /// The port of a network's first source; those of the relay behind it are ten higher.
 pub const FIRST_PORT: u16 = 24_000;
 
-/// Runs the network of this plan, whose relays have these configurations and the numbers from the first on, and says what is wrong, with the
-/// steps so far; `None` where nothing is. The checker's answer to the plan says whether each event has to be kept.
+/// A network: its relays have these configurations, and the numbers from the first on. The checker's
+/// answer to its plan says whether each event has to be kept.
+#[derive(Drop)]
+pub struct Network<'a> {
+    pub first: u32,
+    pub confs: &'a [Vec<u8>],
+    pub plan: &'a Plan<Global>,
+    pub answer: Answer,
+}
+
+/// The acts of the run of this seed, by their numbers.
+#[derive(Drop)]
+pub struct Acts<'a> {
+    pub seed: u64,
+    pub numbers: &'a [u64],
+}
+
+/// Runs the network with these acts, and says what is wrong, with the steps so far; `None` where
+/// nothing is.
 pub fn play<R: Wait + Clock, D: Disk + Drop>(
     rt: &R,
     alloc: Global,
-    first: u32,
-    confs: &[Vec<u8>],
-    plan: &Plan<Global>,
-    answer: Answer,
-    dice: Dice,
+    network: &Network<'_>,
+    acts: &Acts<'_>,
 ) -> Result<Option<String>, AllocError> {
     let spare = Lanes::with_capacity(alloc, 0)?;
     let mut run: Run<'_, D> = Run {
         alloc,
-        dice,
-        judge: Judge::new(alloc, plan.net()),
+        dice: Dice::of_act(acts.seed, u64::MAX),
+        judge: Judge::new(alloc, network.plan.net()),
         sites: Vec::new(alloc),
         links: Vec::new(alloc),
         begun: Vec::new(alloc),
@@ -38,7 +52,7 @@ pub fn play<R: Wait + Clock, D: Disk + Drop>(
         spare,
         events: 0,
     };
-    let played = run.play(rt, first, confs, plan, answer);
+    let played = run.play(rt, network, acts);
     let said = run.end(rt);
     played?;
     said
@@ -48,27 +62,26 @@ impl<'n, D: Disk + Drop> Run<'n, D> {
     fn play<R: Wait + Clock>(
         &mut self,
         rt: &R,
-        first: u32,
-        confs: &[Vec<u8>],
-        plan: &Plan<Global>,
-        answer: Answer,
+        network: &Network<'_>,
+        acts: &Acts<'_>,
     ) -> Result<(), AllocError> {
-        let mut number = first;
-        for conf in confs {
+        let mut number = network.first;
+        for conf in network.confs {
             self.add_site(rt, number, conf.as_slice())?;
             number = number.saturating_add(1);
         }
-        let acts = self.dice.below(200).saturating_add(20);
-        for _ in 0..acts {
+        for act in acts.numbers {
             if self.judge.wrong().is_some() {
                 return Ok(());
             }
+            self.dice = Dice::of_act(acts.seed, *act);
             self.act(rt)?;
             self.restart_where(rt, true)?;
         }
+        self.dice = Dice::of_act(acts.seed, u64::MAX);
         self.restart_where(rt, false)?;
-        if answer == Answer::Yes {
-            self.ask_for_all(plan)?;
+        if network.answer == Answer::Yes {
+            self.ask_for_all(network.plan)?;
         }
         Ok(())
     }

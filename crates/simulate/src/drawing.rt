@@ -3,12 +3,14 @@
 use relay_simulation::{Dice, FIRST_PORT};
 use std::alloc::{AllocError, Global};
 
-/// A network's texts, and the number of its first relay: those of the others follow.
+/// A network's texts, the number of its first relay, behind which those of the others follow, and
+/// how many acts its run has.
 #[derive(Drop)]
 pub struct Drawing {
     pub first: u32,
     pub plan: String,
     pub confs: Vec<Vec<u8>>,
+    pub acts: u64,
 }
 
 // Where a text is being drawn: the relay's place, how many relays there are, and how many outputs it has so far.
@@ -36,7 +38,12 @@ pub fn draw(alloc: Global, dice: &mut Dice) -> Result<Drawing, AllocError> {
         let port = port_of(0, source);
         plan.push_str(format!(in alloc; "client {first} {port} a.** b\n")?.as_str())?;
     }
-    Ok(Drawing { first, plan, confs })
+    Ok(Drawing {
+        first,
+        plan,
+        confs,
+        acts: dice.below(200) as u64 + 20,
+    })
 }
 
 // A relay with two sources, and with matches of which the last takes every tag.

@@ -1,74 +1,35 @@
 //! Runs drawn networks of relays in memory, with the proved machine of steps as the judge.
 //!
 //!     simulate SEED COUNT     so many runs, of this seed and those behind it
+//!     simulate SEED shorter   the run of this seed; where it is wrong, with as few acts as are found
 //!
 //! It prints how many runs there were, and status 0. At the first that is wrong it prints the seed, the plan, each configuration,
 //! and what is wrong with the steps so far, in the form that `relaynet replay` takes: status 1. Status 2: other words, or no memory.
 #![tactic(auto)]
 
 mod drawing;
+mod runs;
+mod shorter;
 
-use disk_files::{Fuse, MemoryDir};
-use drawing::Drawing;
-use label_plan::labelled_text;
-use loss_checker::{Plan, check, conf_names};
-use relay_simulation::{Dice, play};
-use std::alloc::{AllocError, Global};
+use runs::Drawn;
+use shorter::shorten;
 use std::process::ExitCode;
 use std::sync::Wait;
 use std::time::Clock;
 use std::{env, io};
 
-// The plan of these texts, labelled where labels are found; `None` where it isn't one.
-fn plan_of(alloc: Global, drawing: &mut Drawing) -> Result<Option<Plan<Global>>, AllocError> {
-    let plain = drawing.plan.as_bytes();
-    if conf_names(alloc, plain)?.len() != drawing.confs.len() {
-        return Ok(None);
-    }
-    if let Ok(Some(labelled)) = labelled_text(alloc, plain, &drawing.confs) {
-        if let Ok(text) = String::from_utf8(labelled) {
-            drawing.plan = text;
-        }
-    }
-    let text = drawing.plan.as_bytes();
-    if conf_names(alloc, text)?.len() != drawing.confs.len() {
-        return Ok(None);
-    }
-    Ok(Plan::read(alloc, text, &drawing.confs).ok())
+/// What is to be run.
+#[derive(Clone, Copy)]
+enum Asked {
+    /// So many runs, of this seed and those behind it.
+    Runs(u64, u64),
+    /// The run of this seed, shorter where it is wrong.
+    Shorter(u64),
 }
 
-// What is wrong with the run of this seed; nothing where it went well.
-fn wrong_with<R: Wait + Clock>(
-    rt: &R,
-    alloc: Global,
-    seed: u64,
-) -> Result<Option<(Drawing, String)>, AllocError> {
-    let mut dice = Dice::new(seed);
-    let mut drawing = drawing::draw(alloc, &mut dice)?;
-    let Some(plan) = plan_of(alloc, &mut drawing)? else {
-        let what = String::from_str(alloc, "# the plan isn't one\n")?;
-        return Ok(Some((drawing, what)));
-    };
-    let answer = check(alloc, &plan)?;
-    let said = play::<R, Fuse<MemoryDir<Global>>>(
-        rt,
-        alloc,
-        drawing.first,
-        &drawing.confs,
-        &plan,
-        answer,
-        dice,
-    )?;
-    Ok(said.map(|what| (drawing, what)))
-}
-
-fn print_wrong<R: Print + AllocGlobal>(
-    rt: &R,
-    seed: u64,
-    drawing: &Drawing,
-    what: &str,
-) -> io::Result<()> {
-    println!(rt; "seed {seed}\n== plan\n{}", drawing.plan)?;
+fn print_wrong<R: Print + AllocGlobal>(rt: &R, drawn: &Drawn, what: &str) -> io::Result<()> {
+    let drawing = &drawn.drawing;
+    println!(rt; "seed {}\n== plan\n{}", drawn.seed, drawing.plan)?;
     let mut number = drawing.first;
     for conf in &drawing.confs {
         let text = String::from_utf8_lossy(rt.alloc(), conf)?;
@@ -84,8 +45,10 @@ fn run_all<R: Wait + Clock + Print + AllocGlobal>(
     count: u64,
 ) -> io::Result<u8> {
     for seed in first..first.saturating_add(count) {
-        if let Some((drawing, what)) = wrong_with(rt, rt.alloc(), seed)? {
-            print_wrong(rt, seed, &drawing, what.as_str())?;
+        let drawn = Drawn::new(rt.alloc(), seed)?;
+        let acts = drawn.acts(rt.alloc())?;
+        if let Some(what) = drawn.wrong_with(rt, rt.alloc(), &acts)? {
+            print_wrong(rt, &drawn, what.as_str())?;
             return Ok(1);
         }
     }
@@ -93,21 +56,44 @@ fn run_all<R: Wait + Clock + Print + AllocGlobal>(
     Ok(0)
 }
 
-// The first seed and how many runs there are to be; `None` for other words.
-fn asked(rt: &HostRuntime) -> io::Result<Option<(u64, u64)>> {
+// The run of this seed; where it is wrong, one with fewer acts, whose numbers are printed behind it.
+fn run_shorter<R: Wait + Clock + Print + AllocGlobal>(rt: &R, seed: u64) -> io::Result<u8> {
+    let drawn = Drawn::new(rt.alloc(), seed)?;
+    let all = drawn.acts(rt.alloc())?;
+    if drawn.wrong_with(rt, rt.alloc(), &all)?.is_none() {
+        println!(rt; "1 runs")?;
+        return Ok(0);
+    }
+    let acts = shorten(rt, rt.alloc(), &drawn, all)?;
+    if let Some(what) = drawn.wrong_with(rt, rt.alloc(), &acts)? {
+        print_wrong(rt, &drawn, what.as_str())?;
+    }
+    println!(rt; "== acts\n{acts:?}")?;
+    Ok(1)
+}
+
+// What the words ask for; `None` for other words.
+fn asked(rt: &HostRuntime) -> io::Result<Option<Asked>> {
     let words: Vec<String> = env::args(rt)?.collect(rt.alloc())?;
-    let [_, seed, count] = words.as_slice() else {
+    let [_, seed, word] = words.as_slice() else {
         return Ok(None);
     };
-    match (seed.parse::<u64>(), count.parse::<u64>()) {
-        (Ok(seed), Ok(count)) => Ok(Some((seed, count))),
-        _ => Ok(None),
+    let Ok(seed) = seed.parse::<u64>() else {
+        return Ok(None);
+    };
+    if word.as_str() == "shorter" {
+        return Ok(Some(Asked::Shorter(seed)));
+    }
+    match word.parse::<u64>() {
+        Ok(count) => Ok(Some(Asked::Runs(seed, count))),
+        Err(_) => Ok(None),
     }
 }
 
 fn main(rt: HostRuntime) -> ExitCode {
     let status = match asked(&rt) {
-        Ok(Some((seed, count))) => run_all(&rt, seed, count).unwrap_or(2),
+        Ok(Some(Asked::Runs(first, count))) => run_all(&rt, first, count).unwrap_or(2),
+        Ok(Some(Asked::Shorter(seed))) => run_shorter(&rt, seed).unwrap_or(2),
         _ => 2,
     };
     ExitCode::from(status)
