@@ -28,7 +28,7 @@ impl<'n, D: Disk + Drop> Run<'n, D> {
         if let Some(open) = &mut site.open
             && !take_in(rt, alloc, open, link, count)?
         {
-            self.judge.fail(format!(in alloc; "message {} isn't taken in", link.message)?);
+            self.judge.fail_message(link.message, "isn't taken in")?;
         }
         if link.client.outgoing().is_empty() {
             self.begun.push(at)?;
@@ -77,19 +77,18 @@ fn note_delivery<R: Wait, D: Disk + Drop>(
     judge: &mut Judge<'_>,
 ) -> Result<(), AllocError> {
     let Read::Message(message, _) = read(alloc, &link.bytes)? else {
-        judge.fail(format!(in alloc; "message {} isn't one", link.message)?);
-        return Ok(());
+        return judge.fail_message(link.message, "isn't one");
     };
     let Some(branches) = branches(alloc, site, link.source, &message)? else {
         return Ok(());
     };
     if !has_room(site, &branches, link.entries.len()) {
         if link.is_waiting() {
-            judge.fail(format!(in alloc; "message {} is taken without room", link.message)?);
+            return judge.fail_message(link.message, "is taken without room");
         }
         return Ok(());
     }
-    judge.tell(format!(in alloc; "begin {}", link.message)?)?;
+    judge.tell_number("begin", link.message)?;
     let delivery = judge.next_delivery();
     link.delivery = Some(delivery);
     if !link.is_waiting() {

@@ -24,10 +24,7 @@ impl<'n, D: Disk + Drop> Run<'n, D> {
         match link.hear(self.alloc, most)? {
             Heard::Wait => {
                 if link.is_unheard() {
-                    self.judge.fail(format!(in self.alloc;
-                        "message {} isn't acknowledged",
-                        link.message
-                    )?);
+                    return self.judge.fail_message(link.message, "isn't acknowledged");
                 }
                 Ok(())
             }

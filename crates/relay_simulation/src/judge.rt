@@ -57,6 +57,52 @@ impl<'n> Judge<'n> {
         }
     }
 
+    /// This is wrong of a message.
+    pub fn fail_message(&mut self, message: u64, what: &str) -> Result<(), AllocError> {
+        self.fail(format!(in self.alloc; "message {message} {what}")?);
+        Ok(())
+    }
+
+    /// This is wrong of a relay.
+    pub fn fail_relay(&mut self, relay: u32, what: &str) -> Result<(), AllocError> {
+        self.fail(format!(in self.alloc; "relay {relay} {what}")?);
+        Ok(())
+    }
+
+    /// This is wrong of a relay's buffer.
+    pub fn fail_buffer(&mut self, relay: u32, buffer: usize, what: &str) -> Result<(), AllocError> {
+        self.fail(format!(in self.alloc; "buffer {relay}/{buffer} {what}")?);
+        Ok(())
+    }
+
+    /// This is wrong of a chunk.
+    pub fn fail_chunk(
+        &mut self,
+        relay: u32,
+        buffer: usize,
+        serial: u64,
+        what: &str,
+    ) -> Result<(), AllocError> {
+        self.fail(format!(in self.alloc; "chunk {relay}/{buffer}/{serial} {what}")?);
+        Ok(())
+    }
+
+    /// Takes a step with a number, and says at which place it is told.
+    pub fn tell_number(&mut self, word: &str, number: u64) -> Result<usize, AllocError> {
+        self.tell(format!(in self.alloc; "{word} {number}")?)
+    }
+
+    /// Takes a step of a chunk, and says at which place it is told.
+    pub fn tell_chunk(
+        &mut self,
+        word: &str,
+        relay: u32,
+        buffer: usize,
+        serial: u64,
+    ) -> Result<usize, AllocError> {
+        self.tell(format!(in self.alloc; "{word} {relay}/{buffer}/{serial}")?)
+    }
+
     /// Takes a step, and says at which place it is told.
     pub fn tell(&mut self, line: String) -> Result<usize, AllocError> {
         let at = self.lines.len();

@@ -96,8 +96,7 @@ impl<'n, D: Disk + Drop> Run<'n, D> {
             return Ok(());
         };
         if !site.open(rt, self.alloc, Devices::SOUND)? {
-            self.judge
-                .fail(format!(in self.alloc; "relay {number} doesn't open")?);
+            return self.judge.fail_relay(number, "doesn't open");
         }
         Ok(())
     }

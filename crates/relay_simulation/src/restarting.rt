@@ -121,16 +121,15 @@ fn open_again<R: Wait, D: Disk + Drop>(
     judge: &mut Judge<'_>,
 ) -> Result<(), AllocError> {
     if !site.open(rt, alloc, Devices::SOUND)? {
-        judge.fail(format!(in alloc; "relay {} doesn't open", site.number)?);
-        return Ok(());
+        return judge.fail_relay(site.number, "doesn't open");
     }
     if take_stock(rt, alloc, site, judge)? {
         judge.begin_again()?;
     }
-    judge.tell(format!(in alloc; "restart {}", site.number)?)?;
-    tell_queued(alloc, site.number, &mut site.chunks, judge)?;
+    judge.tell_number("restart", u64::from(site.number))?;
+    tell_queued(site.number, &mut site.chunks, judge)?;
     site.chunks.sync();
-    compare_held(alloc, site, judge)
+    compare_held(site, judge)
 }
 
 // What the sinks hold is what the machine's hold. Of a write that failed, the first entries may be there, which is told then.
@@ -142,8 +141,7 @@ fn compare_sinks<D: Disk + Drop>(
 ) -> Result<(), AllocError> {
     let torn = site.torn.take();
     let Some(sinks) = sinks else {
-        judge.fail(format!(in alloc; "a sink of relay {} can't be read", site.number)?);
-        return Ok(());
+        return judge.fail_relay(site.number, "has a sink that can't be read");
     };
     for sink in &sinks {
         if let Some((buffer, serial)) = torn
@@ -153,9 +151,11 @@ fn compare_sinks<D: Disk + Drop>(
         }
         let (relay, buffer) = (u64::from(site.number), sink.buffer as u64);
         if !is_same(sink, judge.world.sink(relay, buffer)) {
-            judge.fail(format!(in alloc;
-                "the sink of buffer {buffer} of relay {relay} holds something else"
-            )?);
+            judge.fail_buffer(
+                site.number,
+                sink.buffer,
+                "has a sink that holds something else",
+            )?;
         }
     }
     Ok(())
@@ -188,17 +188,10 @@ fn is_same(sink: &SinkContent, told: &[custody_steps::Event<Global>]) -> bool {
 }
 
 // The machine holds what the relay's chunks hold, under the same tags.
-fn compare_held<D: Disk + Drop>(
-    alloc: Global,
-    site: &Site<D>,
-    judge: &mut Judge<'_>,
-) -> Result<(), AllocError> {
+fn compare_held<D: Disk + Drop>(site: &Site<D>, judge: &mut Judge<'_>) -> Result<(), AllocError> {
     for chunk in &site.chunks.all {
         if chunk.stage != Stage::Gone && !is_held(chunk, judge) {
-            judge.fail(format!(in alloc;
-                "chunk {}/{}/{} isn't held",
-                site.number, chunk.buffer, chunk.serial
-            )?);
+            judge.fail_chunk(site.number, chunk.buffer, chunk.serial, "isn't held")?;
         }
     }
     Ok(())

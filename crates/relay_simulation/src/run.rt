@@ -50,7 +50,7 @@ impl<'n, D: Disk + Drop> Run<'n, D> {
             serial,
         } = name;
         let number = self.number(site);
-        let line = self.judge.tell(format!(in self.alloc; "{word} {number}/{buffer}/{serial}")?)?;
+        let line = self.judge.tell_chunk(word, number, buffer, serial)?;
         if let Some(site) = self.sites.get_mut(site) {
             site.chunks.restage(buffer, serial, stage, line);
         }
@@ -136,10 +136,9 @@ impl<'n, D: Disk + Drop> Run<'n, D> {
         match held.offer(rt, evidence) {
             Ok(()) => {
                 let number = self.number(name.site);
-                self.judge.fail(format!(in self.alloc;
-                    "chunk {number}/{}/{} goes on what doesn't show that it may",
-                    name.buffer, name.serial
-                )?);
+                let what = "goes on what doesn't show that it may";
+                self.judge
+                    .fail_chunk(number, name.buffer, name.serial, what)?;
                 Ok(None)
             }
             Err((held, evidence)) => {

@@ -17,7 +17,7 @@ pub fn take_stock<R: Wait, D: Disk + Drop>(
     let mut undone = false;
     let all = mem::replace(&mut site.chunks.all, Vec::new(alloc));
     for chunk in all {
-        if let Some(chunk) = kept(rt, alloc, site, judge, chunk, &mut undone)? {
+        if let Some(chunk) = kept(rt, site, judge, chunk, &mut undone)? {
             site.chunks.all.push(chunk)?;
         }
     }
@@ -39,7 +39,6 @@ pub fn take_stock<R: Wait, D: Disk + Drop>(
 // What is known of a chunk behind the stop; nothing where it is lost as it may be.
 fn kept<R: Wait, D: Disk + Drop>(
     rt: &R,
-    alloc: Global,
     site: &mut Site<D>,
     judge: &mut Judge<'_>,
     chunk: Chunk,
@@ -54,10 +53,7 @@ fn kept<R: Wait, D: Disk + Drop>(
     match (chunk.stage, site.is_live(rt, buffer, serial)) {
         (Stage::Gone, true) => {
             if chunk.is_synced {
-                judge.fail(format!(in alloc;
-                    "chunk {}/{buffer}/{serial} comes back",
-                    site.number
-                )?);
+                judge.fail_chunk(site.number, buffer, serial, "comes back")?;
             }
             judge.take_out(chunk.went);
             chunk.stage = Stage::Queued;
@@ -68,7 +64,7 @@ fn kept<R: Wait, D: Disk + Drop>(
         (_, true) => {}
         (_, false) => {
             if !chunk.may_be_lost() {
-                judge.fail(format!(in alloc; "chunk {}/{buffer}/{serial} is lost", site.number)?);
+                judge.fail_chunk(site.number, buffer, serial, "is lost")?;
             }
             take_out_from(judge, &chunk, 0);
             *undone = true;
@@ -150,10 +146,7 @@ fn look_at_all<R: Wait, D: Disk + Drop>(
 ) -> Result<bool, AllocError> {
     let mut undone = false;
     if all.len() != site.chunks.count_live(buffer) {
-        judge.fail(format!(in alloc;
-            "not all of buffer {buffer} of relay {} is queued",
-            site.number
-        )?);
+        judge.fail_buffer(site.number, buffer, "hasn't all its chunks in its queue")?;
     }
     for held in all {
         let claim = held.as_claim();
@@ -161,12 +154,9 @@ fn look_at_all<R: Wait, D: Disk + Drop>(
         let number = site.number;
         match site.chunks.find(buffer, claim.serial()) {
             Some(chunk) if chunk.tag.as_slice() == claim.tag() => {
-                undone = look_at(alloc, number, judge, chunk, &bytes)? || undone;
+                undone = look_at(number, judge, chunk, &bytes)? || undone;
             }
-            _ => judge.fail(format!(in alloc;
-                "chunk {number}/{buffer}/{} was never told",
-                claim.serial()
-            )?),
+            _ => judge.fail_chunk(number, buffer, claim.serial(), "was never told")?,
         }
     }
     Ok(undone)
@@ -186,7 +176,6 @@ fn body<R: Wait, D: Disk + Drop>(
 
 // Holds what was found of a chunk against what was told: whether a stop lost some of it.
 fn look_at(
-    alloc: Global,
     number: u32,
     judge: &mut Judge<'_>,
     chunk: &mut Chunk,
@@ -200,10 +189,7 @@ fn look_at(
             Ok(!is_whole)
         }
         _ => {
-            judge.fail(format!(in alloc;
-                "chunk {number}/{}/{} holds something else",
-                chunk.buffer, chunk.serial
-            )?);
+            judge.fail_chunk(number, chunk.buffer, chunk.serial, "holds something else")?;
             Ok(false)
         }
     }

@@ -16,7 +16,7 @@ impl<'n, D: Disk + Drop> Run<'n, D> {
             return Ok(());
         };
         if is_due {
-            queue(rt, self.alloc, site, &mut self.judge)?;
+            queue(rt, site, &mut self.judge)?;
         }
         match part {
             0 => {}
@@ -67,7 +67,6 @@ impl<'n, D: Disk + Drop> Run<'n, D> {
 // What is staged is queued, which syncs its journal.
 fn queue<R: Wait, D: Disk + Drop>(
     rt: &R,
-    alloc: Global,
     site: &mut Site<D>,
     judge: &mut Judge<'_>,
 ) -> Result<(), AllocError> {
@@ -78,7 +77,7 @@ fn queue<R: Wait, D: Disk + Drop>(
     if open.lanes.fault().is_none() {
         site.chunks.sync_staged();
     }
-    tell_queued(alloc, site.number, &mut site.chunks, judge)
+    tell_queued(site.number, &mut site.chunks, judge)
 }
 
 // Receipts are made, for which each journal with an append that isn't synced is synced.
@@ -109,16 +108,15 @@ fn settle<R: Wait, D: Disk + Drop>(
         peer.settle(rt, alloc, &mut open.lanes);
     }
     let has_failed = open.lanes.fault().is_some();
-    note_answer(alloc, link, &mut site.chunks, judge)?;
+    note_answer(link, &mut site.chunks, judge)?;
     if is_owed && !link.is_answered && !has_failed {
-        judge.fail(format!(in alloc; "message {} isn't answered", link.message)?);
+        return judge.fail_message(link.message, "isn't answered");
     }
     Ok(())
 }
 
 // Whether the relay has answered is asked: then the answer is told, and no stop may lose what it is of.
 fn note_answer(
-    alloc: Global,
     link: &mut Link,
     chunks: &mut Chunks,
     judge: &mut Judge<'_>,
@@ -128,20 +126,16 @@ fn note_answer(
     }
     match link.delivery {
         Some(delivery) => {
-            judge.tell(format!(in alloc; "ack {delivery}")?)?;
+            judge.tell_number("ack", delivery)?;
             chunks.sync_delivery(delivery);
+            Ok(())
         }
-        None => judge.fail(format!(in alloc;
-            "message {} is answered, and no delivery of it was opened",
-            link.message
-        )?),
+        None => judge.fail_message(link.message, "is answered, and wasn't taken"),
     }
-    Ok(())
 }
 
 /// Tells that each staged chunk is queued.
 pub fn tell_queued(
-    alloc: Global,
     number: u32,
     chunks: &mut Chunks,
     judge: &mut Judge<'_>,
@@ -149,8 +143,7 @@ pub fn tell_queued(
     for chunk in chunks.all.iter_mut() {
         if chunk.stage == Stage::Staged {
             chunk.stage = Stage::Queued;
-            let (buffer, serial) = (chunk.buffer, chunk.serial);
-            let line = judge.tell(format!(in alloc; "enqueue {number}/{buffer}/{serial}")?)?;
+            let line = judge.tell_chunk("enqueue", number, chunk.buffer, chunk.serial)?;
             chunk.queued = Some(line);
         }
     }

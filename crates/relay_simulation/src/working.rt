@@ -43,10 +43,8 @@ impl<'n, D: Disk + Drop> Run<'n, D> {
         if let Some(site) = self.sites.get(site)
             && site.chunks.has_in(buffer, Stage::Queued)
         {
-            self.judge.fail(format!(in self.alloc;
-                "no chunk of buffer {buffer} of relay {} is claimed",
-                site.number
-            )?);
+            let what = "has a queued chunk that can't be claimed";
+            return self.judge.fail_buffer(site.number, buffer, what);
         }
         Ok(())
     }
