@@ -59,8 +59,8 @@ impl Dice {
 
     /// Devices for a relay: at times those of its buffers may fail, or those of its sinks.
     pub fn devices(&mut self) -> Devices {
-        match self.below(6) {
-            0 => self.failing_buffers(120),
+        match self.below(4) {
+            0 => self.failing_buffers(60),
             1 => self.failing_sinks(20),
             _ => Devices::SOUND,
         }
