@@ -1,7 +1,7 @@
 //! Runs drawn networks of relays in memory, with the proved machine of steps as the judge.
 //!
 //!     simulate SEED COUNT     so many runs, of this seed and those behind it
-//!     simulate SEED shorter   the run of this seed; where it is wrong, with as few acts as are found
+//!     simulate SEED shorter   the run of this seed; where it is wrong, with few acts
 //!
 //! It prints how many runs there were, and status 0. At the first that is wrong it prints the seed, the plan, each configuration,
 //! and what is wrong with the steps so far, in the form that `relaynet replay` takes: status 1. Status 2: other words, or no memory.
