@@ -73,7 +73,7 @@ fn run_shorter<R: Wait + Clock + Print + AllocGlobal>(rt: &R, seed: u64) -> io::
 }
 
 // What the words ask for; `None` for other words.
-fn asked(rt: &HostRuntime) -> io::Result<Option<Asked>> {
+fn read_words(rt: &HostRuntime) -> io::Result<Option<Asked>> {
     let words: Vec<String> = env::args(rt)?.collect(rt.alloc())?;
     let [_, seed, word] = words.as_slice() else {
         return Ok(None);
@@ -91,7 +91,7 @@ fn asked(rt: &HostRuntime) -> io::Result<Option<Asked>> {
 }
 
 fn main(rt: HostRuntime) -> ExitCode {
-    let status = match asked(&rt) {
+    let status = match read_words(&rt) {
         Ok(Some(Asked::Runs(first, count))) => run_all(&rt, first, count).unwrap_or(2),
         Ok(Some(Asked::Shorter(seed))) => run_shorter(&rt, seed).unwrap_or(2),
         _ => 2,
