@@ -29,7 +29,8 @@ abbrev AnswersFull : Result ℕ BufferFault → Type 0
 AnswersFull (Ok _) = ⊥
 AnswersFull (Err fault) = IsFull fault
 
--- where the plan of an append is answered so, the entries are more than the buffer takes with all that is there
+-- where the plan of an append is answered so, the entries are more than the buffer takes with all
+-- that is there
 pub full_planned : {D : Type 0} (book : Book D) (tag : List ℕ) (entries : List (List ℕ)) (result : Result ℕ BufferFault) → RefusesAppend tag entries book result
     → ((result ≡ Err Failed) ↔ (book.buffer.failed ≡ true)) → result ≡ Err Full → planned book.buffer.limits book.buffer.chunks tag entries ≡ Err plan.Full
 full_planned {D} book tag entries result refuses failed is = by_plan (planned book.buffer.limits book.buffer.chunks tag entries) refl

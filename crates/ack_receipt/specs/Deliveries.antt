@@ -4,14 +4,16 @@ use Rattle.event_modes.specs.Message.{Parts}
 use Rattle.book_audit.specs.declared.line.Leaf.{Leaf}
 use Rattle.book_audit.specs.declared.line.Part.{Part}
 
--- an append that is stored: of which delivery, in which buffer, in which chunk, and its line in the buffer's book
+-- an append that is stored: of which delivery, in which buffer, in which chunk, and its line in the
+-- buffer's book
 pub record Appended : Type 0 where
   pub delivery : ℕ
   pub leaf : Leaf
   pub serial : ℕ
   pub line : ℕ
 
--- an append that waits for its sync: of which delivery, in which buffer, in which chunk, of how many entries, and its place among the buffer's appends
+-- an append that waits for its sync: of which delivery, in which buffer, in which chunk, of how
+-- many entries, and its place among the buffer's appends
 pub record Pended : Type 0 where
   pub delivery : ℕ
   pub leaf : Leaf
@@ -19,7 +21,8 @@ pub record Pended : Type 0 where
   pub count : ℕ
   pub place : ℕ
 
--- a delivery that is neither acknowledged nor abandoned; the tag is that which its entries are appended under
+-- a delivery that is neither acknowledged nor abandoned; the tag is that which its entries are
+-- appended under
 pub record OpenDelivery : Type 0 where
   pub number : ℕ
   pub message : Parts

@@ -58,12 +58,14 @@ unfoldable pub numbers_from : ℕ → List Pended → List ℕ
 numbers_from number [] = []
 numbers_from number (pending ∷ pendings) = number ∷ numbers_from (number + 1) pendings
 
--- The book has a line for each of the appends behind those that it had, in order, and each receipt names its own.
+-- The book has a line for each of the appends behind those that it had, in order, and each receipt
+-- names its own.
 pub record AreWritten (pendings : List Pended) (receipts : List Appended) (old new : List Written) : Type 0 where
   pub lines : new ≡ old ++ map written_of pendings
   pub named : map (λ receipt. receipt.line) receipts ≡ numbers_from (length old) pendings
 
--- Why they get none: one of them is of another buffer, the device fails the buffer or did so before, or there is no memory.
+-- Why they get none: one of them is of another buffer, the device fails the buffer or did so
+-- before, or there is no memory.
 abbrev pub IsUnredeemed : RedeemFault → Type 0
 IsUnredeemed fault = (fault ≡ Stranger)
     ⊎ ((fault ≡ Buffer Failed) ⊎ ((fault ≡ Buffer Memory) ⊎ (fault ≡ Buffer Fault)))

@@ -5,7 +5,8 @@ use Rattle.event_modes.specs.Acknowledgement.{acknowledgement_of}
 use Rattle.book_audit.specs.declared.line.Leaf.{Leaf}
 use Rattle.ack_receipt.specs.Deliveries.{OpenDelivery}
 
--- what an answer is for: a message's tag, how many entries it has, and the item that is to be repeated
+-- what an answer is for: a message's tag, how many entries it has, and the item that is to be
+-- repeated
 pub record Asked : Type 0 where
   pub tag : List ℕ
   pub count : ℕ

@@ -13,8 +13,8 @@ use event_modes::{Entries, Message};
 use std::alloc::{AllocError, AllocFailed, Allocator};
 use std::marker::Model;
 
-/// An open delivery, which waits for a receipt of each of its leaves. It can be neither copied nor dropped:
-/// it ends by `acknowledge` or `abandon`. Contracts see an `OpenDelivery`.
+/// An open delivery, which waits for a receipt of each of its leaves. It can be neither copied nor
+/// dropped: it ends by `acknowledge` or `abandon`. Contracts see an `OpenDelivery`.
 pub struct Delivery<A: Allocator> {
     number: DeliveryNo,
     message: Message<A>,
@@ -36,7 +36,8 @@ impl<A: Allocator> Model for Delivery<A> {
 
     ghost view = { λ d. record { number = d.number; message = meaning d.message; tag = tag_or (meaning d.message) (option_map (λ tag. tag.items) d.tag); leaves = d.leaves.items; receipts = d.receipts.items } };
 
-    // The receipts are of this delivery, each of another leaf, so that each leaf's receipt and part have room.
+    // The receipts are of this delivery, each of another leaf, so that each leaf's receipt and part
+    // have room.
     ghost invariant = { λ d. ∥ IsHeld d.number d.leaves.items d.receipts.items ∥₁ × (vec_len d.receipts ≤ vec_len d.leaves) × (vec_len d.leaves ≤ vec_capacity d.receipts)
         × (vec_len d.leaves ≤ vec_capacity d.parts) × (d.parts.items ≡ []) };
 }
@@ -50,7 +51,8 @@ pub struct Unbegun<A: Allocator> {
 }
 
 impl<A: Allocator + Copy> Delivery<A> {
-    /// Opens the delivery of a message to these leaves, with room for a receipt and a part of each. Its entries are appended under the message's tag.
+    /// Opens the delivery of a message to these leaves, with room for a receipt and a part of each.
+    /// Its entries are appended under the message's tag.
     ///
     /// The error is want of memory, and hands everything back.
     pub fn begin(
@@ -65,7 +67,8 @@ impl<A: Allocator + Copy> Delivery<A> {
         begin_under(alloc, number, message, None, leaves)
     }
 
-    /// The same, with entries that are appended under this tag in place of the message's own. The message stays the one that is answered.
+    /// The same, with entries that are appended under this tag in place of the message's own. The
+    /// message stays the one that is answered.
     ///
     /// The error is want of memory, and hands everything but the tag back.
     pub fn begin_as(
@@ -122,9 +125,10 @@ fn begin_under<A: Allocator + Copy>(
 impl<A: Allocator> Delivery<A> {
     /// Adds a receipt behind the others. It takes no memory.
     ///
-    /// The errors hand both back as they were. `BookFault::Stranger` comes exactly where the receipt is of another
-    /// delivery, or of a buffer that this one doesn't go to; `BookFault::Double` exactly where it isn't a stranger and
-    /// a receipt of its buffer was added already.
+    /// The errors hand both back as they were. `BookFault::Stranger` comes exactly where the
+    /// receipt is of another delivery, or of a buffer that this one doesn't go to;
+    /// `BookFault::Double` exactly where it isn't a stranger and a receipt of its buffer was added
+    /// already.
     pub fn add(
         mut self,
         receipt: Receipt<A>,
@@ -145,11 +149,12 @@ impl<A: Allocator> Delivery<A> {
         Ok(self)
     }
 
-    /// Answers the message, where each leaf has given a receipt, into the empty room that was made for it.
+    /// Answers the message, where each leaf has given a receipt, into the empty room that was made
+    /// for it.
     /// It takes no memory.
     ///
-    /// `BookFault::Missing` comes exactly where a leaf's receipt is missing; it hands the delivery back,
-    /// and leaves it and the room as they were.
+    /// `BookFault::Missing` comes exactly where a leaf's receipt is missing; it hands the delivery
+    /// back, and leaves it and the room as they were.
     pub fn acknowledge(
         self,
         reserved: &mut Reserved<A>,

@@ -1,5 +1,5 @@
-//! Receipts for what is stored: a message is acknowledged only where each buffer that it goes to has stored it,
-//! and a chunk leaves its buffer only on evidence that it arrived.
+//! Receipts for what is stored: a message is acknowledged only where each buffer that it goes to
+//! has stored it, and a chunk leaves its buffer only on evidence that it arrived.
 #![tactic(auto)]
 
 mod bell;

@@ -1,6 +1,6 @@
-//! What lies behind the lock of a shared buffer. Each call is lent the buffer's terms, and takes whole what it works on:
-//! a delivery, pending appends, a claim with its evidence, a stub. Receipts and pending appends are made in this module's
-//! parts alone, and nobody outside is lent the book.
+//! What lies behind the lock of a shared buffer. Each call is lent the buffer's terms, and takes
+//! whole what it works on: a delivery, pending appends, a claim with its evidence, a stub. Receipts
+//! and pending appends are made in this module's parts alone, and nobody outside is lent the book.
 
 ghost use Rattle.std.specs.Prelude.{◌≡◌, ◌↔◌, ◌⊎◌, ◌+◌, [], ℕ, true, false, cond, length, Some, None, Ok, Err, IfOk, IfErr, IfSome, IsSome, IsSomeAnd, IsTrue, OnOk, OnErr, option_map};
 ghost use Rattle.std.specs.Ordering.{nat_cmp};
@@ -70,8 +70,8 @@ impl<D: Dir, A: Allocator + Copy> LockedBuffer<D, A> {
         (Terms { leaf, takes }, LockedBuffer { alloc, booked })
     }
 
-    /// Ends an append's wait for a receipt, and takes its note out of the book where it is of this buffer. Its entries
-    /// stay in the buffer.
+    /// Ends an append's wait for a receipt, and takes its note out of the book where it is of this
+    /// buffer. Its entries stay in the buffer.
     pub(crate) fn give_up(&mut self, terms: &Terms<A>, pending: Pending<A>) -> GivenUp<A>
         ensures shown { result ≡ pending }
         ensures own { IsRedeemable terms.now.leaf self.old.waiting pending
@@ -98,7 +98,8 @@ impl<D: Dir, A: Allocator + Copy> LockedBuffer<D, A> {
         self.booked.enqueue(serial)
     }
 
-    /// The same, and shows that no chunk of this serial is staged any more. It changes nothing where none was.
+    /// The same, and shows that no chunk of this serial is staged any more. It changes nothing
+    /// where none was.
     pub(crate) fn enqueue_shown(
         &mut self,
         terms: &Terms<A>,
@@ -120,7 +121,8 @@ impl<D: Dir, A: Allocator + Copy> LockedBuffer<D, A> {
         }
     }
 
-    /// Goes on in a new generation of the journal, where it is long enough; else it does nothing. See `Booked::renew`.
+    /// Goes on in a new generation of the journal, where it is long enough; else it does nothing.
+    /// See `Booked::renew`.
     pub(crate) fn renew(&mut self) -> Result<(), BufferFault>
         ensures chunks { self.new.buffer.chunks ≡ self.old.buffer.chunks }
         ensures book { self.new ≡ record self.old { buffer = self.new.buffer; synced = self.new.synced } }
@@ -152,7 +154,8 @@ impl<D: Dir, A: Allocator + Copy> LockedBuffer<D, A> {
         self.booked.chunks().stage(serial).is_some()
     }
 
-    /// Claims the first of the queue, if anything is queued. The error is want of memory, and changes nothing.
+    /// Claims the first of the queue, if anything is queued. The error is want of memory, and
+    /// changes nothing.
     pub(crate) fn claim(&mut self, terms: &Terms<A>) -> Result<Option<Claim<A>>, AllocError>
         ensures first { IfOk result (λ claim. option_map (λ c. c.serial) claim ≡ first_of self.old.buffer.chunks.queue) }
         ensures leaf { IfOk result (λ claim. IfSome claim (λ c. c.leaf ≡ terms.now.leaf)) }
@@ -178,8 +181,8 @@ impl<D: Dir, A: Allocator + Copy> LockedBuffer<D, A> {
         self.booked.body(terms.leaf, claim)
     }
 
-    /// Ends a claim of this buffer whose chunk wasn't delivered: the chunk goes to the end of the queue where it is
-    /// claimed, and else nothing changes.
+    /// Ends a claim of this buffer whose chunk wasn't delivered: the chunk goes to the end of the
+    /// queue where it is claimed, and else nothing changes.
     pub(crate) fn give_back(&mut self, terms: &Terms<A>, claim: Claim<A>) -> GivenBack<A>
         requires own { claim.leaf ≡ terms.now.leaf }
         ensures shown { result ≡ claim }
@@ -193,7 +196,8 @@ impl<D: Dir, A: Allocator + Copy> LockedBuffer<D, A> {
         GivenBack { of }
     }
 
-    /// Lets the chunk of a claim go, on evidence that it may, and notes that it is removed. See `Booked::purge`.
+    /// Lets the chunk of a claim go, on evidence that it may, and notes that it is removed. See
+    /// `Booked::purge`.
     pub(crate) fn purge(
         &mut self,
         terms: &Terms<A>,
@@ -211,8 +215,8 @@ impl<D: Dir, A: Allocator + Copy> LockedBuffer<D, A> {
         self.booked.purge(terms.leaf, &terms.takes, claim, evidence)
     }
 
-    /// Lets the queued chunk of least serial go where chunks may be dropped, notes that it is removed, and gives its
-    /// serial. See `Booked::drop_oldest`.
+    /// Lets the queued chunk of least serial go where chunks may be dropped, notes that it is
+    /// removed, and gives its serial. See `Booked::drop_oldest`.
     pub(crate) fn drop_oldest(&mut self, terms: &Terms<A>) -> Result<u64, BufferFault>
         ensures oldest { IfOk result (λ serial. to_drop terms.now.takes self.old.buffer.chunks ≡ Some serial) }
         ensures removes { IfOk result (λ serial. Removes serial self.old self.new) }

@@ -27,7 +27,8 @@ impl DeliveryNo {
     }
 }
 
-/// The numbers that deliveries still can have; a relay needs one such source. Contracts see how many were given.
+/// The numbers that deliveries still can have; a relay needs one such source. Contracts see how
+/// many were given.
 #[derive(Drop)]
 pub struct Numbers {
     next: Option<u64>,

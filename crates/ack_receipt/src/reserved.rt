@@ -12,8 +12,9 @@ use std::marker::Model;
 /// How many bytes of an acknowledgement stand before the item that it repeats.
 const HEAD_LEN: usize = 5;
 
-/// Room for the answer to one message. Contracts see what it is for (the message's tag, how many entries it has,
-/// and the item that is to be repeated) and, once it is filled, the answer's bytes, the tag under which the message is stored, and the leaves that store it.
+/// Room for the answer to one message. Contracts see what it is for (the message's tag, how many
+/// entries it has, and the item that is to be repeated) and, once it is filled, the answer's bytes,
+/// the tag under which the message is stored, and the leaves that store it.
 #[derive(Drop)]
 pub struct Reserved<A: Allocator> {
     tag: Vec<u8, A>,

@@ -1,4 +1,5 @@
--- The two ends of a handshake, and what they answer (Fluentd Forward Protocol v1, "Handshake Messages").
+-- The two ends of a handshake, and what they answer (Fluentd Forward Protocol v1, "Handshake
+-- Messages").
 use Rattle.std.specs.Prelude.{ℕ, ◌≡◌, List, codes, true, false, Option, Result, Ok, Err, IsSomeAnd}
 use Rattle.auth_handshake.specs.declared.answers.HandshakeFault.{HandshakeFault}
 use Rattle.auth_handshake.specs.declared.answers.HandshakeFault.TheVariants.{NotPing, WrongDigest, NotPong, RefusedByServer}

@@ -30,7 +30,8 @@ pub record Asked : Type 0 where
   pub salt : List ℕ
   pub digest : List ℕ
 
--- "PING": its name, "client_hostname", "shared_key_salt", "shared_key_hexdigest", "username", "password";
+-- "PING": its name, "client_hostname", "shared_key_salt", "shared_key_hexdigest", "username",
+-- "password";
 -- the last two may be any texts, since no user is looked at
 pub record IsPing (bytes : List ℕ) (says : Asked) : Type 0 where
   pub item : IsItemWithin bytes

@@ -1,4 +1,5 @@
--- The messages that are written, each byte of them (Fluentd Forward Protocol v1, "Handshake Messages").
+-- The messages that are written, each byte of them (Fluentd Forward Protocol v1, "Handshake
+-- Messages").
 use Rattle.std.specs.Prelude.{ℕ, List, [], ◌∷◌, ◌++◌, length, codes, true, false}
 use Rattle.std.specs.List.{concat, flat_map}
 use Rattle.msgpack_bytes.specs.Spelling.{array_header_of, map_header_of, str_of, bin_of, bool_of}

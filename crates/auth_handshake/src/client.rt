@@ -13,8 +13,9 @@ use crate::write::put_ping;
 use std::alloc::{AllocError, Allocator};
 use std::marker::Model;
 
-/// The client's end of one connection's handshake: its host name, the shared key, a salt, which is to be
-/// new for each connection, and the server's nonce once its HELO was taken. Contracts see these four.
+/// The client's end of one connection's handshake: its host name, the shared key, a salt, which is
+/// to be new for each connection, and the server's nonce once its HELO was taken. Contracts see
+/// these four.
 #[derive(Drop)]
 pub struct Client<A: Allocator> {
     host: Vec<u8, A>,
@@ -95,11 +96,11 @@ impl<A: Allocator> Client<A> {
         Ok(())
     }
 
-    /// Says whether the server's item is a PONG that lets the client in, with the digest that the shared
-    /// key gives. It takes no memory. A HELO has to be taken before.
+    /// Says whether the server's item is a PONG that lets the client in, with the digest that the
+    /// shared key gives. It takes no memory. A HELO has to be taken before.
     ///
-    /// What is no PONG is `NotPong`, a PONG of false is `RefusedByServer`, and one of true with another digest
-    /// is `WrongDigest`.
+    /// What is no PONG is `NotPong`, a PONG of false is `RefusedByServer`, and one of true with
+    /// another digest is `WrongDigest`.
     pub fn pong(&self, item: &[u8]) -> Result<(), HandshakeFault>
         requires { IsSome self.now.nonce }
         // What is answered holds of the item.
@@ -119,7 +120,8 @@ impl<A: Allocator> Client<A> {
         }
     }
 
-    /// Whether the item is a PONG under the client's own name. Whoever has no key can send the client's own digest back under it.
+    /// Whether the item is a PONG under the client's own name. Whoever has no key can send the
+    /// client's own digest back under it.
     pub fn has_own_name(&self, item: &[u8]) -> bool
         ensures { IsTrue result ↔ IsUnderName item.now self.now.host }
     {

@@ -5,8 +5,8 @@ ghost use Rattle.auth_handshake.specs.Digest.{digest_of};
 
 use sha2::{Digest, Sha512};
 
-/// The lower-case hex of SHA-512 (FIPS 180-4) of salt, host name, nonce and shared key, one behind the other
-/// (Fluentd Forward Protocol v1, "Handshake Messages", `shared_key_hexdigest`).
+/// The lower-case hex of SHA-512 (FIPS 180-4) of salt, host name, nonce and shared key, one behind
+/// the other (Fluentd Forward Protocol v1, "Handshake Messages", `shared_key_hexdigest`).
 pub fn digest_hex(salt: &[u8], host: &[u8], nonce: &[u8], key: &[u8]) -> [u8; 128]
     ensures { result ≡ digest_of salt.now host.now nonce.now key.now }
 {

@@ -1,4 +1,5 @@
-//! The shared-key handshake of the Fluentd Forward Protocol v1 ("Handshake Messages"): HELO, PING and PONG.
+//! The shared-key handshake of the Fluentd Forward Protocol v1 ("Handshake Messages"): HELO, PING
+//! and PONG.
 //!
 //! Both ends are values: they are handed the other's item, and append their own to a list of bytes.
 #![tactic(auto)]

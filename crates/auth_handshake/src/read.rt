@@ -1,4 +1,5 @@
-//! HELO, PING and PONG as they are read: texts may be str or bin, and what the protocol doesn't ask for is passed over.
+//! HELO, PING and PONG as they are read: texts may be str or bin, and what the protocol doesn't ask
+//! for is passed over.
 
 ghost use Rattle.std.specs.Prelude.{◌≡◌, ℕ, List, IfSome, IsSomeAnd};
 ghost use Rattle.auth_handshake.specs.Messages.{Asked, Told, IsHelo, IsPing, IsPong};

@@ -69,8 +69,9 @@ impl<A: Allocator> Server<A> {
         put_helo(out, &self.nonce)
     }
 
-    /// Answers the client's item, and appends the PONG that says so. A PING with the digest that the shared
-    /// key gives is `Passed`, one with another digest is refused as `WrongDigest`, and what is no PING as `NotPing`.
+    /// Answers the client's item, and appends the PONG that says so. A PING with the digest that
+    /// the shared key gives is `Passed`, one with another digest is refused as `WrongDigest`, and
+    /// what is no PING as `NotPing`.
     ///
     /// Host names, salts and digests may be str or bin. User name and password may be any texts.
     /// The error is want of memory, and leaves `out` as it was.

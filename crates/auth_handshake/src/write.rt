@@ -10,8 +10,8 @@ ghost use Rattle.auth_handshake.specs.declared.write.Field.{Field};
 use msgpack_bytes::{put_array, put_bin, put_bool, put_map, put_str};
 use std::alloc::{AllocError, Allocator};
 
-/// The most bytes of an end's host name: this project's limit, not the protocol's. It keeps a PING and a PONG within
-/// the limits of an item.
+/// The most bytes of an end's host name: this project's limit, not the protocol's. It keeps a PING
+/// and a PONG within the limits of an item.
 pub const LONGEST_HOST: usize = 1_024;
 
 // A part of a message.

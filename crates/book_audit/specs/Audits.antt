@@ -7,7 +7,8 @@ use Rattle.book_audit.specs.declared.line.Line.{Line}
 use Rattle.book_audit.specs.declared.line.Part.{Part}
 use Rattle.book_audit.specs.Stubs.{Left}
 
--- The lines of a book: how many were written, those that are still open under their numbers, and for how many more there is room.
+-- The lines of a book: how many were written, those that are still open under their numbers, and
+-- for how many more there is room.
 pub record Pages : Type 0 where
   pub count : ℕ
   pub lines : List (ℕ × Line)
@@ -29,7 +30,8 @@ is_of leaf part = (part.relay == leaf.relay) && (part.buffer == leaf.buffer)
 abbrev pub parts_of : Leaf → Left → List Part
 parts_of leaf stub = filter (is_of leaf) stub.parts
 
--- the part names a line of the book: one that was written, and where it is open, the append of this delivery to the part's chunk
+-- the part names a line of the book: one that was written, and where it is open, the append of this
+-- delivery to the part's chunk
 abbrev pub IsInBook : Pages → ℕ → Part → Type 0
 IsInBook pages delivery part = (part.line < pages.count) × IfSome (open_at pages part.line) (λ line. (line.delivery ≡ delivery) × (line.serial ≡ part.serial))
 
@@ -73,13 +75,15 @@ pub record IsLeftOut (pages : Pages) (named : List ℕ) : Type 0 where
   pub there : IsOpen pages line
   pub unnamed : ¬ Contains named line
 
--- The stubs account for the book of this buffer: each of their parts of it is in the book, each line that they name is open and named once, and each open line is named.
+-- The stubs account for the book of this buffer: each of their parts of it is in the book, each
+-- line that they name is open and named once, and each open line is named.
 pub record Accounts (leaf : Leaf) (pages : Pages) (stubs : List Left) : Type 0 where
   pub known : All (AreInBook leaf pages) stubs
   pub named : AreOpenOnce pages (lines_named leaf stubs)
   pub covered : (line : ℕ) → IsOpen pages line → Contains (lines_named leaf stubs) line
 
--- A stub settles lines of the book of this buffer: each of its parts of it is in the book, and each line that it names is open and named once.
+-- A stub settles lines of the book of this buffer: each of its parts of it is in the book, and each
+-- line that it names is open and named once.
 pub record Settles (leaf : Leaf) (pages : Pages) (stub : Left) : Type 0 where
   pub known : AreInBook leaf pages stub
   pub named : AreOpenOnce pages (lines_of leaf stub.parts)

@@ -12,13 +12,15 @@ use crate::pages::OpenLines;
 use std::alloc::{AllocError, Allocator};
 use std::collections::BTreeSet;
 
-/// Whether the stubs account for the open lines of the book of this buffer: each of their parts of the buffer
-/// names an open line that is the append of the stub's delivery to the part's chunk, and each open line is named once.
-/// Parts of other buffers are passed over. It takes memory for the numbers of the lines that are named.
+/// Whether the stubs account for the open lines of the book of this buffer: each of their parts of
+/// the buffer names an open line that is the append of the stub's delivery to the part's chunk, and
+/// each open line is named once. Parts of other buffers are passed over. It takes memory for the
+/// numbers of the lines that are named.
 ///
-/// The errors, in this order: `Stranger` exactly where a part of the buffer isn't in the book: no line of its number was written,
-/// or the open one is of another delivery or chunk; `Memory`, where there is no room; `Double` where a line is named that was settled before,
-/// or one is named twice; `Missing` where an open line isn't named.
+/// The errors, in this order: `Stranger` exactly where a part of the buffer isn't in the book: no
+/// line of its number was written, or the open one is of another delivery or chunk; `Memory`, where
+/// there is no room; `Double` where a line is named that was settled before, or one is named twice;
+/// `Missing` where an open line isn't named.
 pub fn audit<A: Allocator + Copy, B: Allocator>(
     alloc: A,
     leaf: Leaf,
@@ -104,7 +106,8 @@ impl<A: Allocator + Copy> Named<A> {
         self.lines.contains(&line)
     }
 
-    // Adds the lines that stubs name, up to the first that isn't open or was named; whether there is no such line.
+    // Adds the lines that stubs name, up to the first that isn't open or was named; whether there
+    // is no such line.
     fn add_all<B: Allocator>(
         &mut self,
         pages: &OpenLines<A>,

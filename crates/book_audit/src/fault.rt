@@ -4,10 +4,12 @@ use std::alloc::AllocError;
 use std::error::Error;
 use std::fmt;
 
-/// Why a call on a delivery, its receipts or what is left of them refuses. It is printed by its code.
+/// Why a call on a delivery, its receipts or what is left of them refuses. It is printed by its
+/// code.
 #[derive(Clone, Copy, Debug, PartialEq, Eq)]
 pub enum BookFault {
-    /// `A1`: a receipt of another delivery or buffer; evidence of another chunk or of a kind that isn't taken; a stub whose append isn't in the book.
+    /// `A1`: a receipt of another delivery or buffer; evidence of another chunk or of a kind that
+    /// isn't taken; a stub whose append isn't in the book.
     Stranger,
     /// `A2`: what is there once already.
     Double,

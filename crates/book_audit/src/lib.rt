@@ -1,4 +1,5 @@
-//! The audit of a buffer's book: whether what is left of the deliveries accounts for each append, once.
+//! The audit of a buffer's book: whether what is left of the deliveries accounts for each append,
+//! once.
 #![tactic(auto)]
 
 mod auditing;

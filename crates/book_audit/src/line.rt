@@ -13,7 +13,8 @@ pub struct Leaf {
     pub buffer: u32,
 }
 
-/// An append of one delivery to one chunk of a buffer: the delivery's number, the chunk's serial, and how many entries were appended.
+/// An append of one delivery to one chunk of a buffer: the delivery's number, the chunk's serial,
+/// and how many entries were appended.
 #[derive(Clone, Copy, Debug, PartialEq, Eq)]
 pub struct Line {
     pub delivery: u64,
@@ -21,7 +22,8 @@ pub struct Line {
     pub count: u64,
 }
 
-/// What is left of a receipt: the buffer, the chunk's serial, and the line of the buffer's book, counted from 0.
+/// What is left of a receipt: the buffer, the chunk's serial, and the line of the buffer's book,
+/// counted from 0.
 #[derive(Clone, Copy, Debug, PartialEq, Eq)]
 pub struct Part {
     pub relay: u32,
@@ -39,7 +41,8 @@ impl Part {
     }
 }
 
-/// What is left of a delivery: its number, and a part of each receipt that it held. It is plain data. Contracts see a `Left`.
+/// What is left of a delivery: its number, and a part of each receipt that it held. It is plain
+/// data. Contracts see a `Left`.
 #[derive(Drop)]
 pub struct Stub<A: Allocator> {
     pub delivery: u64,

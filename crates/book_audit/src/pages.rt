@@ -16,8 +16,8 @@ use std::collections::HashMap;
 use std::hash::{BuildHasherDefault, FoldHasher};
 use std::marker::Model;
 
-/// The lines of a buffer's book that are still open, by their numbers. A line is open from its append until its stub is settled;
-/// a settled line has no bytes. Contracts see `Pages`.
+/// The lines of a buffer's book that are still open, by their numbers. A line is open from its
+/// append until its stub is settled; a settled line has no bytes. Contracts see `Pages`.
 #[derive(Drop)]
 pub struct OpenLines<A: Allocator> {
     count: u64,
@@ -88,10 +88,12 @@ impl<A: Allocator + Copy> OpenLines<A> {
         number
     }
 
-    /// Closes the lines of this buffer's book that the stub's parts name. Parts of other buffers are passed over. It takes no memory.
+    /// Closes the lines of this buffer's book that the stub's parts name. Parts of other buffers
+    /// are passed over. It takes no memory.
     ///
-    /// The errors, in this order, change nothing: `Stranger` exactly where a part of the buffer isn't in the book: no line of its number was written,
-    /// or the open one is of another delivery or chunk; `Double` where a line is named that was settled before, or one is named twice.
+    /// The errors, in this order, change nothing: `Stranger` exactly where a part of the buffer
+    /// isn't in the book: no line of its number was written, or the open one is of another delivery
+    /// or chunk; `Double` where a line is named that was settled before, or one is named twice.
     pub fn settle<B: Allocator>(&mut self, leaf: Leaf, stub: &Stub<B>) -> Result<(), BookFault>
         ensures ok { OnOk result (Settles leaf self.old stub.now) }
         ensures closed { OnOk result (Closes (lines_of leaf stub.now.parts) self.old self.new) }
@@ -125,7 +127,8 @@ impl<A: Allocator + Copy> OpenLines<A> {
         true
     }
 
-    // Whether the line that a part of the buffer names is open, and isn't named by the parts behind it.
+    // Whether the line that a part of the buffer names is open, and isn't named by the parts behind
+    // it.
     fn is_first(&self, leaf: Leaf, part: &Part, behind: &[Part]) -> bool
         ensures { MatchBool result (AddsOne self.now leaf part.now behind.now) (IsAgain self.now (lines_of leaf (part.now ∷ behind.now))) }
     {

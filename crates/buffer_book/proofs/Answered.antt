@@ -76,7 +76,8 @@ pub put_at : {E : Type 0} (r : Result (Option Line) E) (P : Type 0) (n m : ℕ) 
 put_at (Ok old) P n m e p len = (p, some_short old n m len)
 put_at (Err x) P n m e p len = absurd (cc e)
 
--- entries that were read are those in a sink exactly where the chunk is, whose tag is looked at before
+-- entries that were read are those in a sink exactly where the chunk is, whose tag is looked at
+-- before
 pub whole_of_like : (o : Option Chunk) (stored : StoredView) (read : List (List ℕ)) (b : Bool) → IsSomeAnd o (λ chunk. read ≡ chunk.entries) → IsTrue b ↔ (read ≡ stored.entries)
     → (IsTrue b → IsSomeAnd o (λ chunk. (chunk.tag ≡ stored.tag) × (length stored.entries ≡ length chunk.entries)))
     → IsTrue b ↔ IsSomeAnd o (λ chunk. (chunk.tag ≡ stored.tag) × (chunk.entries ≡ stored.entries))

@@ -17,8 +17,10 @@ use Rattle.buffer_store.specs.declared.fault.BufferFault.{BufferFault}
 use Rattle.buffer_store.specs.Buffers.{Held}
 use Rattle.buffer_book.specs.declared.past.Written.{Written}
 
--- A buffer with its book: how many entries each chunk had that was live when the book began, by serial; each append since, in order; the lines, one for each receipt, in order;
--- which lines are open; the appends that wait for a receipt, by their places; how many of the appends are known to be synced; and the serial of each chunk that was purged or dropped.
+-- A buffer with its book: how many entries each chunk had that was live when the book began, by
+-- serial; each append since, in order; the lines, one for each receipt, in order; which lines are
+-- open; the appends that wait for a receipt, by their places; how many of the appends are known to
+-- be synced; and the serial of each chunk that was purged or dropped.
 pub record Book (D : Type 0) : Type 0 where
   pub buffer : Held D
   pub first : List (ℕ × ℕ)
@@ -41,12 +43,14 @@ is_to serial append = is_at (nat_cmp serial) append.serial
 abbrev pub counted_appends : List Line → ℕ → ℕ
 counted_appends appends serial = sum_by (λ append. append.count) (filter (is_to serial) appends)
 
--- the book knows the chunk of this serial: it was live when the book began, or something was appended to it
+-- the book knows the chunk of this serial: it was live when the book began, or something was
+-- appended to it
 abbrev pub IsKnown : List (ℕ × ℕ) → List Line → ℕ → Type 0
 IsKnown first appends serial = IsSome (lookup (is_at (nat_cmp serial)) first) ⊎ Contains (map (λ append. append.serial) appends) serial
 
--- The book tells what became of each append: each chunk that it knows is live or has a note that it was removed; a live one has as many entries as it had when the book began and
--- the appends to it count together; and each serial that it knows was given.
+-- The book tells what became of each append: each chunk that it knows is live or has a note that it
+-- was removed; a live one has as many entries as it had when the book began and the appends to it
+-- count together; and each serial that it knows was given.
 pub record IsAccounted (state : State) (first : List (ℕ × ℕ)) (appends : List Line) (removed : List ℕ) : Type 0 where
   pub there : (serial : ℕ) → IsKnown first appends serial → IsSome (chunk_at state serial) ⊎ Contains removed serial
   pub counted : (serial : ℕ) → IfSome (chunk_at state serial) (λ chunk. length chunk.entries ≡ counted_first first serial + counted_appends appends serial)
@@ -94,7 +98,8 @@ pub record SameBook {D : Type 0} (old new : Book D) : Type 0 where
   pub waiting : (place : ℕ) → waiting_at new.waiting place ≡ waiting_at old.waiting place
   pub removed : new.removed ≡ old.removed
 
--- the book stays as it is, and so do the buffer's chunks and how many appends are known to be synced
+-- the book stays as it is, and so do the buffer's chunks and how many appends are known to be
+-- synced
 pub record Unchanged {D : Type 0} (old new : Book D) : Type 0 where
   pub book : SameBook old new
   pub chunks : new.buffer.chunks ≡ old.buffer.chunks
@@ -130,7 +135,8 @@ pub record Steady {D T : Type 0} (old new : Held D) (result : Result T BufferFau
   pub flags : Flags old.failed new.failed result
   pub limits : new.limits ≡ old.limits
 
--- Why an append is refused: the first of a failed buffer, a tag that is too long, what the plan of the append says, and the last number.
+-- Why an append is refused: the first of a failed buffer, a tag that is too long, what the plan of
+-- the append says, and the last number.
 pub record RefusesAppend {D T : Type 0} (tag : List ℕ) (entries : List (List ℕ)) (old : Book D) (result : Result T BufferFault) : Type 0 where
   pub long : old.buffer.failed ≡ false → longest_tag < length tag → result ≡ Err BufferFault.TooLarge
   pub refused : old.buffer.failed ≡ false → length tag ≤ longest_tag → (fault : AppendFault) → planned old.buffer.limits old.buffer.chunks tag entries ≡ Err fault → result ≡ Err (of_plan fault)
@@ -150,6 +156,7 @@ pub record Ended (D : Type 0) : Type 0 where
   pub leaf : Leaf
   pub book : Book D
 
--- the journal has more bytes than the buffer's setting says, and more than twice as many as the entries of all live chunks have
+-- the journal has more bytes than the buffer's setting says, and more than twice as many as the
+-- entries of all live chunks have
 abbrev pub WantsRenewal : {D : Type 0} → Held D → Type 0
 WantsRenewal buffer = (buffer.renewed_past < buffer.journal.len) × (2 * total_size buffer.chunks < buffer.journal.len)

@@ -17,7 +17,8 @@ use Rattle.buffer_book.specs.declared.takes.Takes.{Takes}
 use Rattle.buffer_book.specs.declared.fault.PurgeFault.{PurgeFault}
 use Rattle.buffer_book.specs.Claims.{Claimed, id_of}
 
--- what an evidence shows: a receiver acknowledged this chunk, or entries are in a sink for it, or it was sent and no acknowledgement is required, or it is given up
+-- what an evidence shows: a receiver acknowledged this chunk, or entries are in a sink for it, or
+-- it was sent and no acknowledgement is required, or it is given up
 pub data Shows : Type 0 where
   Acknowledged : (id : ChunkId) → Shows
   StoredAs : (id : ChunkId) (stored : StoredView) → Shows
@@ -39,12 +40,14 @@ IsGiven (basis.Stored sink) (StoredAs id stored) = stored.path ≡ sink.items
 IsGiven basis.Written (Written id) = Unit {0}
 IsGiven basis shown = ⊥
 
--- The evidence is of a kind that lets chunks of this buffer go: what its output gives, or the end of retries, where they end.
+-- The evidence is of a kind that lets chunks of this buffer go: what its output gives, or the end
+-- of retries, where they end.
 abbrev pub IsOfKind : {A : Type 0} → Takes A → Shows → Type 0
 IsOfKind takes (Expired id) = takes.expires ≡ true
 IsOfKind takes shown = IsGiven takes.basis shown
 
--- The evidence is for the claimed chunk of the buffer of this name: the claim is of this buffer, and the evidence names this chunk, and is of a kind that lets chunks go.
+-- The evidence is for the claimed chunk of the buffer of this name: the claim is of this buffer,
+-- and the evidence names this chunk, and is of a kind that lets chunks go.
 abbrev pub IsFor : {A : Type 0} → Leaf → Takes A → Claimed → Shows → Type 0
 IsFor leaf takes claim shown = (claim.leaf ≡ leaf) × (named shown ≡ id_of claim) × IsOfKind takes shown
 
@@ -71,11 +74,13 @@ ShowsWhole state serial shown = IfSome (stored_of shown) (IsWhole state serial)
 abbrev pub ShowsLike : State → ℕ → Shows → Type 0
 ShowsLike state serial shown = IfSome (stored_of shown) (IsLike state serial)
 
--- The evidence lets the claimed chunk go: it is for it, and what it shows to be in a sink is the chunk's tag and entries.
+-- The evidence lets the claimed chunk go: it is for it, and what it shows to be in a sink is the
+-- chunk's tag and entries.
 abbrev pub Serves : {A : Type 0} → Leaf → Takes A → State → Claimed → Shows → Type 0
 Serves leaf takes state claim shown = IsFor leaf takes claim shown × ShowsWhole state claim.serial shown
 
--- what the evidence shows can be compared with what was appended: where it shows entries in a sink, the folder was honest when the buffer was opened, and had no gap of removed generations
+-- what the evidence shows can be compared with what was appended: where it shows entries in a sink,
+-- the folder was honest when the buffer was opened, and had no gap of removed generations
 abbrev pub CanCompare : {D : Type 0} → (D → Type 0) → (D → History) → Held D → Shows → Type 0
 CanCompare is_honest history buffer shown = IsSome (stored_of shown) → BeganWell is_honest history buffer
 

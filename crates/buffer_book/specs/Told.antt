@@ -4,8 +4,10 @@ use Rattle.book_audit.specs.declared.line.Line.{Line}
 use Rattle.buffer_state.specs.State.{State}
 use Rattle.buffer_book.specs.declared.past.Written.{Written}
 
--- What was told so far: how many entries each chunk had that was live when the book began, by serial; each append since, in order; each append that got a receipt, in the order of the receipts;
--- the serial of each chunk that was purged or dropped; and how many of the appends are known to be synced. How many times something was told only says that the past is finite.
+-- What was told so far: how many entries each chunk had that was live when the book began, by
+-- serial; each append since, in order; each append that got a receipt, in the order of the
+-- receipts; the serial of each chunk that was purged or dropped; and how many of the appends are
+-- known to be synced. How many times something was told only says that the past is finite.
 pub record ToldPast : Type 0 where
   pub times : ℕ
   pub first : List (ℕ × ℕ)
@@ -14,8 +16,9 @@ pub record ToldPast : Type 0 where
   pub removed : List ℕ
   pub synced : ℕ
 
--- An append counts as synced if at some moment after it the buffer had no append that wasn't. So of the appends that were told before a moment
--- all do if the buffer has none then that isn't synced; and if it has one, as many do as did before.
+-- An append counts as synced if at some moment after it the buffer had no append that wasn't. So of
+-- the appends that were told before a moment all do if the buffer has none then that isn't synced;
+-- and if it has one, as many do as did before.
 abbrev pub synced_at : (staged : Bool) → (appends before : ℕ) → ℕ
 synced_at staged appends before = cond staged before appends
 

@@ -27,8 +27,9 @@ use std::alloc::{AllocError, Allocator};
 use std::collections::BTreeMap;
 use std::marker::Model;
 
-/// A buffer with its book: a note of each append, a line for each receipt, and a note of each chunk that was purged or dropped. Contracts see a `Book`.
-/// In memory are the open lines alone, and the appends that wait for a receipt: the past is there for contracts.
+/// A buffer with its book: a note of each append, a line for each receipt, and a note of each chunk
+/// that was purged or dropped. Contracts see a `Book`. In memory are the open lines alone, and the
+/// appends that wait for a receipt: the past is there for contracts.
 #[derive(Drop)]
 pub struct Booked<D: Dir, A: Allocator> {
     alloc: A,
@@ -78,7 +79,8 @@ impl<D: Dir, A: Allocator + Copy> Booked<D, A> {
     /// The live chunks, and the next serial.
     pub fn chunks(&self) -> LiveChunks<'_, A>
         ensures chunks { result ≡ self.now.buffer.chunks }
-        // What the lock keeps: the book accounts for the chunks, and each line is of an append that is synced.
+        // What the lock keeps: the book accounts for the chunks, and each line is of an append that
+        // is synced.
         ensures sound { IsSound self.now }
     {
         self.buffer.chunks()
@@ -124,7 +126,8 @@ impl<D: Dir, A: Allocator + Copy> Booked<D, A> {
 
     /// Queues the staged chunk of this serial, and syncs the journal.
     ///
-    /// The first of `Failed`, `Gone`, `LastSerial`, `Memory` and `Fault` that applies. None changes the chunks.
+    /// The first of `Failed`, `Gone`, `LastSerial`, `Memory` and `Fault` that applies. None changes
+    /// the chunks.
     pub fn enqueue(&mut self, serial: u64) -> Result<(), BufferFault>
         ensures ok { OnOk result (self.new.buffer.chunks ≡ queued_last serial self.old.buffer.chunks) }
         ensures err { OnErr result (self.new.buffer.chunks ≡ self.old.buffer.chunks) }
@@ -142,10 +145,12 @@ impl<D: Dir, A: Allocator + Copy> Booked<D, A> {
         Ok(())
     }
 
-    /// Goes on in a new generation of the journal, where the journal is long enough; else it does nothing. Chunks and book stay as they are.
+    /// Goes on in a new generation of the journal, where the journal is long enough; else it does
+    /// nothing. Chunks and book stay as they are.
     ///
-    /// The first of `Failed`, `LastSerial`, `Memory`, `Fault` and `Damaged` that applies; `LastSerial` past the last generation, `Damaged` where the journal
-    /// hasn't the bytes that were told. A failed buffer answers `Failed` also where nothing is to be done.
+    /// The first of `Failed`, `LastSerial`, `Memory`, `Fault` and `Damaged` that applies;
+    /// `LastSerial` past the last generation, `Damaged` where the journal hasn't the bytes that
+    /// were told. A failed buffer answers `Failed` also where nothing is to be done.
     pub fn renew(&mut self) -> Result<(), BufferFault>
         ensures chunks { self.new.buffer.chunks ≡ self.old.buffer.chunks }
         ensures book { self.new ≡ record self.old { buffer = self.new.buffer; synced = self.new.synced } }
@@ -170,9 +175,12 @@ impl<D: Dir, A: Allocator + Copy> Booked<D, A> {
         Ok(())
     }
 
-    /// Closes the lines that the stub's parts name: those of the buffer of this name. It takes no memory, and the buffer stays as it is.
+    /// Closes the lines that the stub's parts name: those of the buffer of this name. It takes no
+    /// memory, and the buffer stays as it is.
     ///
-    /// The errors, in this order, change nothing: `Stranger` exactly where a part of the buffer isn't in the book; `Double` where a line is named that was settled before, or one is named twice.
+    /// The errors, in this order, change nothing: `Stranger` exactly where a part of the buffer
+    /// isn't in the book; `Double` where a line is named that was settled before, or one is named
+    /// twice.
     pub fn settle<B: Allocator>(&mut self, leaf: Leaf, stub: &Stub<B>) -> Result<(), BookFault>
         ensures ok { OnOk result (Settles leaf self.old.pages stub.now) }
         ensures closed { OnOk result (Closes (lines_of leaf stub.now.parts) self.old.pages self.new.pages) }
@@ -185,7 +193,8 @@ impl<D: Dir, A: Allocator + Copy> Booked<D, A> {
         self.lines.settle(leaf, stub)
     }
 
-    /// Whether the stubs account for the lines that are open: those of the buffer of this name. See `book_audit::audit`.
+    /// Whether the stubs account for the lines that are open: those of the buffer of this name. See
+    /// `book_audit::audit`.
     pub fn audit<B: Allocator>(
         &self,
         alloc: A,

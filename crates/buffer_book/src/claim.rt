@@ -8,8 +8,8 @@ use event_modes::ChunkId;
 use std::alloc::{AllocError, Allocator};
 use std::marker::Model;
 
-/// A claimed chunk: of which buffer, its serial, its tag, and how many entries it has, which a claimed chunk keeps.
-/// It can be neither copied nor dropped: it ends by a purge, or is given back.
+/// A claimed chunk: of which buffer, its serial, its tag, and how many entries it has, which a
+/// claimed chunk keeps. It can be neither copied nor dropped: it ends by a purge, or is given back.
 pub struct Claim<A: Allocator> {
     leaf: Leaf,
     serial: u64,

@@ -12,7 +12,8 @@ use disk_files::Dir;
 use std::alloc::Allocator;
 use std::marker::Model;
 
-/// A buffer with its book that takes no steps any more. Contracts see its name, and the `Book` as the last step left it.
+/// A buffer with its book that takes no steps any more. Contracts see its name, and the `Book` as
+/// the last step left it.
 #[derive(Drop)]
 pub struct Closed<D: Dir, A: Allocator> {
     leaf: Leaf,
@@ -42,11 +43,13 @@ impl<D: Dir, A: Allocator + Copy> Closed<D, A> {
         self.booked.chunks()
     }
 
-    /// Whether the stubs account for the lines that are still open: each part of this buffer names an open line that is the append of the stub's delivery to the part's chunk,
-    /// and each open line is named once. Parts of other buffers are passed over.
+    /// Whether the stubs account for the lines that are still open: each part of this buffer names
+    /// an open line that is the append of the stub's delivery to the part's chunk, and each open
+    /// line is named once. Parts of other buffers are passed over.
     ///
-    /// The errors, in this order: `Stranger` exactly where a part of this buffer isn't in the book; `Memory`; `Double` where a line is named that was settled before,
-    /// or one is named twice; `Missing` where an open line isn't named.
+    /// The errors, in this order: `Stranger` exactly where a part of this buffer isn't in the book;
+    /// `Memory`; `Double` where a line is named that was settled before, or one is named twice;
+    /// `Missing` where an open line isn't named.
     pub fn audit<B: Allocator>(&self, alloc: A, stubs: &[Stub<B>]) -> Result<(), AuditError>
         ensures ok { OnOk result (Accounts self.now.leaf self.now.book.pages stubs.now) }
         ensures stranger { IsErrOf result (AuditError.Fault BookFault.Stranger) ↔ HasStranger self.now.leaf self.now.book.pages stubs.now }

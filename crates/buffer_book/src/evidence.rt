@@ -27,7 +27,8 @@ pub(crate) enum Shown<A: Allocator> {
     Expired(ChunkId),
 }
 
-/// Evidence that a chunk may leave its buffer. It can be neither copied nor dropped. Contracts see what it shows.
+/// Evidence that a chunk may leave its buffer. It can be neither copied nor dropped. Contracts see
+/// what it shows.
 pub struct Evidence<A: Allocator> {
     shown: Shown<A>,
 }
@@ -43,7 +44,8 @@ impl<A: Allocator> Model for Evidence<A> {
 }
 
 impl<A: Allocator> Evidence<A> {
-    /// That the chunk was acknowledged, if the bytes are an acknowledgement of its name and nothing else:
+    /// That the chunk was acknowledged, if the bytes are an acknowledgement of its name and nothing
+    /// else:
     /// a map whose last `ack` is the name's text, as a str or bin, in any spelling
     /// (Forward Protocol Specification v1, "Response").
     pub fn acknowledged(id: ChunkId, bytes: &[u8]) -> Option<Evidence<A>>
@@ -55,7 +57,8 @@ impl<A: Allocator> Evidence<A> {
         })
     }
 
-    /// That these entries are in a sink, for the chunk of this claim. Whether they are the chunk's, the purge looks.
+    /// That these entries are in a sink, for the chunk of this claim. Whether they are the chunk's,
+    /// the purge looks.
     pub fn stored(claim: &Claim<A>, stored: Stored<A>) -> Evidence<A>
         ensures { result ≡ StoredAs (id_of claim.now) stored }
     {

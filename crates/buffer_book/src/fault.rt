@@ -7,7 +7,8 @@ use std::fmt;
 /// Why a claimed chunk isn't let go.
 #[derive(Clone, Copy, Debug, PartialEq, Eq)]
 pub enum PurgeFault {
-    /// `A1`: the evidence names another chunk, or is of a kind that the buffer doesn't take, or is of another sink, tag or entries.
+    /// `A1`: the evidence names another chunk, or is of a kind that the buffer doesn't take, or is
+    /// of another sink, tag or entries.
     Stranger,
     /// What the buffer answers, by its code.
     Buffer(BufferFault),

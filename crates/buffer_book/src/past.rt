@@ -1,4 +1,5 @@
-//! What contracts remember of a buffer's book. It has no bytes for an append: a relay that runs for months keeps no more than one that just began.
+//! What contracts remember of a buffer's book. It has no bytes for an append: a relay that runs for
+//! months keeps no more than one that just began.
 
 ghost use Rattle.std.specs.Prelude.{◌≡◌, ◌++◌, ◌∷◌, [], false, length, suc};
 ghost use Rattle.buffer_book.specs.Told.{counts_of};

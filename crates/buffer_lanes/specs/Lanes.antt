@@ -8,8 +8,9 @@ use Rattle.ack_receipt.specs.Redeeming.{AreReceiptsOf}
 use Rattle.ack_receipt.specs.Terms.{Terms}
 use Rattle.buffer_lanes.specs.Schedules.{IsNoneDue, IsNoted, Plan, Timing, timing_of}
 
--- a buffer: its terms, when its staged chunks are queued, its appends that wait for receipts, its receipts that nobody took yet, both in the order of the
--- appends, and whether there was no memory for its receipts, so that they come later
+-- a buffer: its terms, when its staged chunks are queued, its appends that wait for receipts, its
+-- receipts that nobody took yet, both in the order of the appends, and whether there was no memory
+-- for its receipts, so that they come later
 pub record LaneState (A : Type 0) : Type 0 where
   pub terms : Terms A
   pub plan : Plan
@@ -17,8 +18,9 @@ pub record LaneState (A : Type 0) : Type 0 where
   pub receipts : List Appended
   pub later : Bool
 
--- the buffers by their numbers, each with those; for how many more there is room; the first fault of a device, if there was one; the time in
--- milliseconds; and whether something that was to be queued wasn't
+-- the buffers by their numbers, each with those; for how many more there is room; the first fault
+-- of a device, if there was one; the time in milliseconds; and whether something that was to be
+-- queued wasn't
 pub record LanesState (A : Type 0) : Type 0 where
   pub terms : List (Terms A)
   pub plans : List Plan
@@ -46,7 +48,8 @@ pub record KeepsLane {A : Type 0} (old new : LaneState A) : Type 0 where
   pub terms : new.terms ≡ old.terms
   pub timing : timing_of new.plan ≡ timing_of old.plan
 
--- what no call changes of the buffers: which they are, when their staged chunks are queued, and the first fault, once there was one
+-- what no call changes of the buffers: which they are, when their staged chunks are queued, and the
+-- first fault, once there was one
 pub record KeepsLanes {A : Type 0} (old new : LanesState A) : Type 0 where
   pub terms : new.terms ≡ old.terms
   pub timings : map timing_of new.plans ≡ map timing_of old.plans
@@ -116,7 +119,8 @@ pub record IsAppendedAt (buffer : BufferNo) (number serial : ℕ) (before behind
   pub one : IsAppended number serial (listed_at before buffer) now
   pub is : behind ≡ slice_set before buffer.0 now
 
--- What became of a buffer's appends that waited: they wait on where their receipts come later, and else none waits.
+-- What became of a buffer's appends that waited: they wait on where their receipts come later, and
+-- else none waits.
 abbrev pub AreRedeemed : List Pended → Bool → List Pended → Type 0
 AreRedeemed before true waiting = waiting ≡ before
 AreRedeemed before false waiting = waiting ≡ []
@@ -134,7 +138,8 @@ pub record IsUntouched {A : Type 0} (buffer : BufferNo) (old new : LanesState A)
 abbrev pub AppendsWait : List (List Pended) → Type 0
 AppendsWait waiting = (buffer : BufferNo) × (0 < length (listed_at waiting buffer))
 
--- the buffers' plans once an append at this time went to a chunk of this serial at this one: those of the others are as they were
+-- the buffers' plans once an append at this time went to a chunk of this serial at this one: those
+-- of the others are as they were
 pub record IsNotedAt (place serial time : ℕ) (before behind : List Plan) : Type 0 where
   pub plan : Plan
   pub is : behind ≡ slice_set before place plan

@@ -1,4 +1,5 @@
--- When the staged chunks of a buffer are queued (Fluentd, "Config: Buffer Section", flush_mode, flush_interval).
+-- When the staged chunks of a buffer are queued (Fluentd, "Config: Buffer Section", flush_mode,
+-- flush_interval).
 use Rattle.std.specs.Prelude.{ℕ, ◌≡◌, ◌-◌, Bool, List, [], ◌∷◌, ◌++◌, length, map, All, slice_get, Option, None, Some, if◌then◌else◌, nat_lt, not, true}
 use Rattle.std.specs.List.{flat_map}
 use Rattle.buffer_state.specs.Shown.{Facts, numbered_facts}
@@ -7,7 +8,8 @@ use Rattle.relay_conf.specs.declared.buffer.FlushMode.{FlushMode}
 use Rattle.relay_conf.specs.declared.buffer.FlushMode.TheVariants.{Interval, Immediate}
 use Rattle.buffer_lanes.specs.declared.schedule.Staged.{Staged}
 
--- the staged chunks by rising serial, when they are queued, and for how many more there is room; times are in milliseconds
+-- the staged chunks by rising serial, when they are queued, and for how many more there is room;
+-- times are in milliseconds
 pub record Plan : Type 0 where
   pub mode : FlushMode
   pub interval : ℕ
@@ -23,11 +25,13 @@ pub record Timing : Type 0 where
 abbrev pub timing_of : Plan → Timing
 timing_of plan = record { mode = plan.mode; interval = plan.interval }
 
--- what is staged of a chunk that a buffer shows when it is opened: the chunk where it still grows, since now
+-- what is staged of a chunk that a buffer shows when it is opened: the chunk where it still grows,
+-- since now
 abbrev pub staged_since : ℕ → Facts → List Staged
 staged_since now facts = if is_staged facts.stage then record { serial = facts.serial; since = now } ∷ [] else []
 
--- the staged chunks of a buffer that is opened now: each that still grows, of whatever tag, by rising serial
+-- the staged chunks of a buffer that is opened now: each that still grows, of whatever tag, by
+-- rising serial
 abbrev pub staged_at : ℕ → State → List Staged
 staged_at now state = flat_map (staged_since now) (map numbered_facts state.chunks)
 

@@ -6,7 +6,8 @@ use Rattle.relay_conf.specs.declared.output.BufferNo.{BufferNo}
 use Rattle.ack_receipt.specs.Deliveries.{Appended, OpenDelivery, part_of}
 use Rattle.ack_receipt.specs.Reservations.{Asked, asked_of}
 
--- a delivery's number, what its message asked for, the tag that its entries are stored under, and the buffers that have to store it
+-- a delivery's number, what its message asked for, the tag that its entries are stored under, and
+-- the buffers that have to store it
 pub record Awaited : Type 0 where
   pub number : ℕ
   pub asked : Asked
@@ -22,7 +23,8 @@ pub record Gathers : Type 0 where
   pub awaited : Awaited
   pub receipts : List Appended
 
--- a delivery with the receipts that it took so far, and the buffers whose receipts weren't there yet
+-- a delivery with the receipts that it took so far, and the buffers whose receipts weren't there
+-- yet
 pub record Waits : Type 0 where
   pub awaited : Awaited
   pub receipts : List Appended

@@ -17,7 +17,8 @@ use std::mem;
 use std::sync::{Arc, Wait};
 use std::vec::IntoIter;
 
-/// A buffer, its appends that wait for their receipts, the receipts that nobody took yet, and its staged chunks.
+/// A buffer, its appends that wait for their receipts, the receipts that nobody took yet, and its
+/// staged chunks.
 ///
 /// Receipts are handed out in the order of the appends.
 pub struct Lane<D: Dir, A: Allocator> {
@@ -100,7 +101,8 @@ impl<D: Dir + Drop, A: Allocator + Copy> Lane<D, A> {
         self.receipts.len()
     }
 
-    /// Whether the delivery's entries would have room, and why they haven't, which is told. Nothing changes.
+    /// Whether the delivery's entries would have room, and why they haven't, which is told. Nothing
+    /// changes.
     pub fn ask_room<R: Wait>(&self, rt: &R, delivery: &Delivery<A>) -> Result<(), BufferFault> {
         self.told(rt, self.buffer.ask_room(rt, delivery))
     }
@@ -117,8 +119,9 @@ impl<D: Dir + Drop, A: Allocator + Copy> Lane<D, A> {
         answer
     }
 
-    /// Appends the delivery's entries, dropping the oldest chunks for them where the buffer may, and gives the serial of the chunk
-    /// that has them: it is staged, if it wasn't before, since now. A refusal is told.
+    /// Appends the delivery's entries, dropping the oldest chunks for them where the buffer may,
+    /// and gives the serial of the chunk that has them: it is staged, if it wasn't before, since
+    /// now. A refusal is told.
     ///
     /// An error leaves no append to be undone.
     pub fn append<R: Wait>(
@@ -177,11 +180,12 @@ impl<D: Dir + Drop, A: Allocator + Copy> Lane<D, A> {
         unreachable!()
     }
 
-    /// Makes receipts of the appends, in their order, by one sync where one is needed. Receipts that nobody took before are of
-    /// deliveries that ended without them: they are spent. Without memory the appends wait for the next turn.
+    /// Makes receipts of the appends, in their order, by one sync where one is needed. Receipts
+    /// that nobody took before are of deliveries that ended without them: they are spent. Without
+    /// memory the appends wait for the next turn.
     ///
-    /// The error is that of the device: the appends get no receipts. So it is where one of them isn't of this buffer, which doesn't come:
-    /// each of the appends waits in the buffer's book.
+    /// The error is that of the device: the appends get no receipts. So it is where one of them
+    /// isn't of this buffer, which doesn't come: each of the appends waits in the buffer's book.
     pub fn redeem<R: Wait>(&mut self, rt: &R) -> Result<(), BufferFault>
         ensures terms { self.new.terms ≡ self.old.terms }
         ensures plan { self.new.plan ≡ self.old.plan }
@@ -242,7 +246,8 @@ impl<D: Dir + Drop, A: Allocator + Copy> Lane<D, A> {
         others.destroy_empty();
     }
 
-    /// The receipt of the first append of those that nobody took it of yet; `None` where there is none.
+    /// The receipt of the first append of those that nobody took it of yet; `None` where there is
+    /// none.
     pub fn give(&mut self) -> Option<Receipt<A>>
         ensures first { self.old.receipts ≡ option_to_list result ++ self.new.receipts }
         ensures none { IfNone result (self.old.receipts ≡ []) }
@@ -253,15 +258,18 @@ impl<D: Dir + Drop, A: Allocator + Copy> Lane<D, A> {
 
     /// What a delivery left is accounted for in the buffer's book.
     ///
-    /// The book refuses only a line that isn't of its own or isn't open, and a line that is named twice. Neither comes: each line
-    /// is written for one receipt, which can't be copied and ends in one stub, and a stub has one part of a buffer.
+    /// The book refuses only a line that isn't of its own or isn't open, and a line that is named
+    /// twice. Neither comes: each line is written for one receipt, which can't be copied and ends
+    /// in one stub, and a stub has one part of a buffer.
     pub fn settle<R: Wait>(&self, rt: &R, stub: &Stub<A>) {
         let _ = self.buffer.settle(rt, stub);
     }
 
-    /// Writes the buffer's journal anew, where it has grown. What there is no memory for is done later.
+    /// Writes the buffer's journal anew, where it has grown. What there is no memory for is done
+    /// later.
     ///
-    /// The error is that of the device, `Damaged` where the journal hasn't the bytes that were told, or `LastSerial` past the last generation.
+    /// The error is that of the device, `Damaged` where the journal hasn't the bytes that were
+    /// told, or `LastSerial` past the last generation.
     pub fn renew<R: Wait>(&self, rt: &R) -> Result<(), BufferFault> {
         match self.buffer.renew(rt) {
             Err(BufferFault::Memory) => Ok(()),
@@ -289,7 +297,8 @@ impl<D: Dir + Drop, A: Allocator + Copy> Lane<D, A> {
     }
 }
 
-// Appends, dropping the oldest chunks until the append fits, where the buffer may and that helps. What is dropped is told.
+// Appends, dropping the oldest chunks until the append fits, where the buffer may and that helps.
+// What is dropped is told.
 fn append_to<R: Wait, D: Dir, A: Allocator + Copy>(
     rt: &R,
     buffer: &SharedBuffer<D, A>,
@@ -330,7 +339,8 @@ fn drop_one<R: Wait, D: Dir, A: Allocator + Copy>(
     }
 }
 
-// What is told of a message that a buffer refuses with this. A fault of its device is told once, when the relay ends.
+// What is told of a message that a buffer refuses with this. A fault of its device is told once,
+// when the relay ends.
 fn refusal_of(fault: BufferFault) -> Option<Refusal> {
     match fault {
         BufferFault::Full => Some(Refusal::Full),

@@ -85,7 +85,8 @@ impl<D: Dir + Drop, A: Allocator + Copy> Lanes<D, A> {
         self.stubs = Some(Vec::new(alloc));
     }
 
-    /// What the buffers refuse and drop is told by this teller from now on, whose places are the buffers, in their order.
+    /// What the buffers refuse and drop is told by this teller from now on, whose places are the
+    /// buffers, in their order.
     pub fn tell_by(&mut self, teller: &Teller<A>)
         ensures { self.new ≡ self.old }
     {
@@ -124,7 +125,8 @@ impl<D: Dir + Drop, A: Allocator + Copy> Lanes<D, A> {
         self.fault
     }
 
-    // What a buffer answered. The first fault is remembered that is the device's, or that bytes which it was told are gone.
+    // What a buffer answered. The first fault is remembered that is the device's, or that bytes
+    // which it was told are gone.
     fn heed<T>(&mut self, answer: Result<T, BufferFault>) -> Result<T, BufferFault>
         ensures same { result ≡ answer }
         ensures rest { self.new ≡ record self.old { fault = fault_after self.old.fault answer } }
@@ -138,8 +140,9 @@ impl<D: Dir + Drop, A: Allocator + Copy> Lanes<D, A> {
         answer
     }
 
-    /// Appends the delivery's entries to each of these buffers, in their order. `false` where one refuses: then none of them has an
-    /// append of the delivery that waits for a receipt; and where one of several has no room, no buffer has its entries.
+    /// Appends the delivery's entries to each of these buffers, in their order. `false` where one
+    /// refuses: then none of them has an append of the delivery that waits for a receipt; and where
+    /// one of several has no room, no buffer has its entries.
     pub(crate) fn append<R: Wait>(
         &mut self,
         rt: &R,
@@ -161,7 +164,8 @@ impl<D: Dir + Drop, A: Allocator + Copy> Lanes<D, A> {
         self.append_each(rt, buffers, delivery)
     }
 
-    // Whether each of these buffers has room for the delivery's entries. The first that has none tells it.
+    // Whether each of these buffers has room for the delivery's entries. The first that has none
+    // tells it.
     fn have_room<R: Wait>(&self, rt: &R, buffers: &[BufferNo], delivery: &Delivery<A>) -> bool {
         buffers
             .iter()
@@ -241,7 +245,8 @@ impl<D: Dir + Drop, A: Allocator + Copy> Lanes<D, A> {
         lane.undo(rt);
     }
 
-    /// Queues the chunks that are to be queued now. What there is no memory for is queued later, and so is what a device refuses.
+    /// Queues the chunks that are to be queued now. What there is no memory for is queued later,
+    /// and so is what a device refuses.
     pub fn queue_due<R: Wait>(&mut self, rt: &R)
         ensures kept { KeepsLanes self.old self.new }
         ensures queued { AreQueued self.new }
@@ -337,7 +342,8 @@ impl<D: Dir + Drop, A: Allocator + Copy> Lanes<D, A> {
         }
     }
 
-    /// The receipt of this buffer's first append of those that nobody took it of yet; `None` where there is none.
+    /// The receipt of this buffer's first append of those that nobody took it of yet; `None` where
+    /// there is none.
     pub fn give(&mut self, buffer: BufferNo) -> Option<Handed<A>>
         ensures { self.new ≡ self.old }
     {
@@ -347,8 +353,8 @@ impl<D: Dir + Drop, A: Allocator + Copy> Lanes<D, A> {
         Some(Handed::out(lane.give()?))
     }
 
-    /// What is left of a delivery: it is kept, or accounted for in the books of its buffers, also where there is no memory to
-    /// keep it.
+    /// What is left of a delivery: it is kept, or accounted for in the books of its buffers, also
+    /// where there is no memory to keep it.
     pub fn settle<R: Wait>(&mut self, rt: &R, left: Unsettled<A>)
         ensures { self.new ≡ self.old }
     {

@@ -1,4 +1,5 @@
-//! The buffers of a relay, as its loop uses them: appends and their receipts, when a staged chunk is queued, and deliveries that wait for receipts.
+//! The buffers of a relay, as its loop uses them: appends and their receipts, when a staged chunk
+//! is queued, and deliveries that wait for receipts.
 #![tactic(auto)]
 
 mod lane;

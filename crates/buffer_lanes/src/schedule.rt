@@ -17,8 +17,9 @@ pub struct Staged {
     pub since: u64,
 }
 
-/// The staged chunks of a buffer, by rising serial, and when they are queued: at once, or when the flush interval has passed
-/// since their first append (since the buffer's opening for chunks that were there then).
+/// The staged chunks of a buffer, by rising serial, and when they are queued: at once, or when the
+/// flush interval has passed since their first append (since the buffer's opening for chunks that
+/// were there then).
 #[derive(Drop)]
 pub struct Schedule<A: Allocator> {
     mode: FlushMode,

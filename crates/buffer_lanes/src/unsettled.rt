@@ -7,7 +7,8 @@ use ack_receipt::{Delivery, Receipt, Stub};
 use std::alloc::Allocator;
 use std::marker::Model;
 
-/// What is left of a delivery that ended: its number, and a part of each receipt that it held. Contracts see a `Left`.
+/// What is left of a delivery that ended: its number, and a part of each receipt that it held.
+/// Contracts see a `Left`.
 ///
 /// It can be neither copied nor dropped: `Lanes::settle` alone ends it.
 pub struct Unsettled<A: Allocator>(Stub<A>);

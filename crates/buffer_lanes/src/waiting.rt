@@ -42,8 +42,9 @@ pub enum Collected<A: Allocator> {
 }
 
 impl<A: Allocator + Copy> Waiting<A> {
-    /// Appends the delivery's entries to each of these buffers, and waits for their receipts, with this room for its answer. No receipt came
-    /// yet. Where a buffer refuses, the delivery is abandoned: none of the buffers has an append of it that waits for a receipt.
+    /// Appends the delivery's entries to each of these buffers, and waits for their receipts, with
+    /// this room for its answer. No receipt came yet. Where a buffer refuses, the delivery is
+    /// abandoned: none of the buffers has an append of it that waits for a receipt.
     pub fn begin<R: Wait, D: Dir + Drop>(
         rt: &R,
         lanes: &mut Lanes<D, A>,
@@ -70,8 +71,9 @@ impl<A: Allocator + Copy> Waiting<A> {
         Err(Unsettled::abandoned(delivery))
     }
 
-    /// Takes the receipts that are there, and acknowledges the delivery where all came; where a buffer gave none, the delivery
-    /// is abandoned. It waits on where receipts come later, for those alone, or where it is to be `held` behind another.
+    /// Takes the receipts that are there, and acknowledges the delivery where all came; where a
+    /// buffer gave none, the delivery is abandoned. It waits on where receipts come later, for
+    /// those alone, or where it is to be `held` behind another.
     pub fn collect<R: Wait, D: Dir + Drop>(
         self,
         rt: &R,
@@ -140,8 +142,8 @@ impl<A: Allocator> Model for Gathered<A> {
 }
 
 impl<A: Allocator + Copy> Gathered<A> {
-    // Takes the receipt that this buffer has for the delivery, if it has one. Receipts that stand before it are of deliveries that
-    // ended without them: they are spent.
+    // Takes the receipt that this buffer has for the delivery, if it has one. Receipts that stand
+    // before it are of deliveries that ended without them: they are spent.
     fn ask<R: Wait, D: Dir + Drop>(self, rt: &R, buffer: BufferNo, lanes: &mut Lanes<D, A>) -> Self
         ensures same { result.awaited ≡ self.awaited }
         ensures lanes { lanes.new ≡ lanes.old }

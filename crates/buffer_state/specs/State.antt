@@ -1,4 +1,5 @@
--- What a buffer holds: its live chunks, the serial that comes next, and the order in which queued chunks are taken.
+-- What a buffer holds: its live chunks, the serial that comes next, and the order in which queued
+-- chunks are taken.
 use Rattle.std.specs.Prelude.{ℕ, ◌≡◌, ◌&&◌, Bool, List, [], filter, length, sum_by, Option, None, IsSomeAnd, bytes_eq}
 use Rattle.std.specs.Option.{option_map_or}
 use Rattle.std.specs.List.{concat, last_or}

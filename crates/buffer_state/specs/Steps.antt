@@ -27,7 +27,8 @@ limit_of limits = min limits.chunk greatest_size
 abbrev pub with_chunk : ℕ → Chunk → State → State
 with_chunk serial chunk state = record state { chunks = set_value (is_at (nat_cmp serial)) state.chunks chunk }
 
--- The chunk of this serial takes these entries: it is staged and of this tag, or it is new and its serial isn't below the next. It doesn't grow beyond what any chunk may have.
+-- The chunk of this serial takes these entries: it is staged and of this tag, or it is new and its
+-- serial isn't below the next. It doesn't grow beyond what any chunk may have.
 pub record CanAppend (state : State) (serial : ℕ) (tag : List ℕ) (entries : List (List ℕ)) : Type 0 where
   pub place : IsStagedOf state serial tag ⊎ ((state.next ≤ serial) × (serial < last_serial))
   pub small : size_at state serial + size entries ≤ greatest_size
@@ -49,7 +50,8 @@ appended serial tag entries state =
 abbrev pub taken_back : ℕ → State → State
 taken_back serial state = record { chunks = remove_entry (is_at (nat_cmp serial)) state.chunks; next = serial; queue = state.queue }
 
--- The place of an append of so many bytes: the newest staged chunk of the tag where they fit into it within this limit, else a new one.
+-- The place of an append of so many bytes: the newest staged chunk of the tag where they fit into
+-- it within this limit, else a new one.
 abbrev pub place_within : ℕ → State → List ℕ → ℕ → ℕ
 place_within limit state tag bytes =
     option_map_or (λ serial. cond (nat_le (size_at state serial + bytes) limit) serial state.next) (newest_staged state tag) state.next
@@ -58,7 +60,8 @@ place_within limit state tag bytes =
 abbrev pub place_of : Limits → State → List ℕ → List (List ℕ) → ℕ
 place_of limits state tag entries = place_within (limit_of limits) state tag (size entries)
 
--- The place of an append, or why there is none: the entries alone are beyond a chunk's limit, or with all that is there beyond the buffer's, or no serial is left.
+-- The place of an append, or why there is none: the entries alone are beyond a chunk's limit, or
+-- with all that is there beyond the buffer's, or no serial is left.
 abbrev pub planned : Limits → State → List ℕ → List (List ℕ) → Result ℕ AppendFault
 planned limits state tag entries =
     cond (nat_lt (limit_of limits) (size entries)) (Err TooLarge)
@@ -70,7 +73,8 @@ planned limits state tag entries =
 abbrev pub restaged : ℕ → Stage → State → State
 restaged serial stage state = option_map_or (λ chunk. with_chunk serial (record chunk { stage = stage }) state) (chunk_at state serial) state
 
--- The chunk of this serial is queued, behind all others. A staged one is queued so, and a claimed one given back.
+-- The chunk of this serial is queued, behind all others. A staged one is queued so, and a claimed
+-- one given back.
 abbrev pub queued_last : ℕ → State → State
 queued_last serial state = record (restaged serial Queued state) { queue = state.queue ++ serial ∷ [] }
 

@@ -54,7 +54,8 @@ pub record IsSound {A : Type 0} (slots : Slots) (waiting : BTreeSet ℕ) (order 
 abbrev pub IsEndOf : List ℕ → List ℕ → Type 0
 IsEndOf end all = (before : List ℕ) × (all ≡ before ++ end)
 
--- what holds of these fields where there is room for a step on the chunk of this serial, which is staged; it is among the waiting ones already
+-- what holds of these fields where there is room for a step on the chunk of this serial, which is
+-- staged; it is among the waiting ones already
 pub record IsReady {A : Type 0} (slots : Slots) (waiting : BTreeSet ℕ) (order : VecDeque ℕ A) (next serial : ℕ) : Type 0 where
   pub rising : IsStrictlySortedBy nat_cmp (keys_of slots)
   pub below : AreBelow next (keys_of slots)

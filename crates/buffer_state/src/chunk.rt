@@ -23,7 +23,8 @@ pub enum Stage {
     Claimed,
 }
 
-/// A live chunk: stored entries of one tag. It knows how many they are and how many bytes they have, and hasn't the bytes.
+/// A live chunk: stored entries of one tag. It knows how many they are and how many bytes they
+/// have, and hasn't the bytes.
 #[derive(Drop)]
 pub struct Chunk<A: Allocator> {
     tag: Vec<u8, A>,
@@ -86,7 +87,8 @@ impl<A: Allocator> Chunk<A> {
         self.count
     }
 
-    /// Each of its entries is one that can be stored. The call does nothing: it stands for a theorem.
+    /// Each of its entries is one that can be stored. The call does nothing: it stands for a
+    /// theorem.
     pub fn stays_stored(&self)
         ensures { AllByRecursion IsStored self.now.chunk.entries }
     {

@@ -211,7 +211,8 @@ impl<A: Allocator + Copy> Chunks<A> {
         })
     }
 
-    /// Takes the append of the newest chunk back: the chunk is gone, and its serial comes next again. It takes no memory.
+    /// Takes the append of the newest chunk back: the chunk is gone, and its serial comes next
+    /// again. It takes no memory.
     pub fn take_back(&mut self, serial: u64)
         requires staged { IsAt Staged self.old serial }
         requires newest { serial + 1 ≡ self.old.next }
@@ -318,7 +319,8 @@ impl<A: Allocator + Copy> Chunks<A> {
     }
 }
 
-/// Chunks with all the room to queue one of them, which is staged. It isn't queued yet, and that can't fail.
+/// Chunks with all the room to queue one of them, which is staged. It isn't queued yet, and that
+/// can't fail.
 #[derive(Drop)]
 pub struct Ready<A: Allocator> {
     alloc: A,

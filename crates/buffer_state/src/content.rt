@@ -7,8 +7,8 @@ use std::alloc::Allocator;
 use std::marker::Model;
 use std::snapshot::Snapshot;
 
-/// Entries that were told one list after another. A snapshot has no bytes, so at run time there is nothing of them:
-/// who needs the bytes reads them where they lie.
+/// Entries that were told one list after another. A snapshot has no bytes, so at run time there is
+/// nothing of them: who needs the bytes reads them where they lie.
 #[derive(Drop)]
 pub(crate) struct Content<A: Allocator> {
     chain: Snapshot<Chain<A>>,

@@ -1,4 +1,5 @@
-//! What a buffer holds in memory, and its steps: append, queue, claim, give back, and removal by a purge or as the oldest.
+//! What a buffer holds in memory, and its steps: append, queue, claim, give back, and removal by a
+//! purge or as the oldest.
 #![tactic(auto)]
 
 mod chunk;

@@ -8,7 +8,8 @@ ghost use Rattle.buffer_state.specs.Steps.{without};
 use std::alloc::{AllocError, Allocator};
 use std::collections::{BTreeMap, BTreeSet};
 
-/// The serials of the staged chunks of each tag, rising. Each call takes steps by the logarithm of what there is.
+/// The serials of the staged chunks of each tag, rising. Each call takes steps by the logarithm of
+/// what there is.
 #[derive(Drop)]
 pub(crate) struct TagIndex<A: Allocator> {
     sets: BTreeMap<Vec<u8, A>, BTreeSet<u64, A>, A>,

@@ -165,7 +165,8 @@ rising_all_told s (x ∷ xs) each h = rising_all_told (after s x) xs each.1 (ris
 pub rising_seal : (t : JournalLog) → IsJournalLog t → Rising (state_at_seal t)
 rising_seal t is = (let h = rising_all_told empty t.told is.tells (omega arith) in rises_on 0 (after_all empty t.told).chunks (after_all empty t.told).next t.next is.greater h)
 
--- the chunk of this serial once the steps went on: queued it is the same or gone, gone it stays gone; and no serial is given again
+-- the chunk of this serial once the steps went on: queued it is the same or gone, gone it stays
+-- gone; and no serial is given again
 pub record Follows (n : ℕ) (s later : State) : Type 0 where
   pub next : s.next ≤ later.next
   pub queued : (c : Chunk) → chunk_at s n ≡ Some c → c.stage ≡ Queued → (chunk_at later n ≡ Some c) ⊎ (chunk_at later n ≡ None)

@@ -1,4 +1,5 @@
--- What a buffer's calls make of its journal, from what they make of the log; and how it stays durable.
+-- What a buffer's calls make of its journal, from what they make of the log; and how it stays
+-- durable.
 use Rattle.std.proofs.Common.{◌≡◌, ◌≢◌, ◌⊎◌, ⊎_elim, inl, inr, ℕ, zero, suc, ◌||◌, Bool, true, false, ◌+◌, ◌==◌, ◌&&◌, cond, nat_lt, List, [], ◌∷◌, ◌++◌, length, Option, Some, None, refl, sym, ap, subst, ◌∙◌, arith}
 use Rattle.std.specs.Prelude.{◌↔◌, Result, Ok, Err, OnOk, OnErr, drop}
 use Rattle.std.specs.List.{AllByRecursion}

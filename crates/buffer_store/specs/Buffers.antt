@@ -21,7 +21,8 @@ pub record Held (D : Type 0) : Type 0 where
   pub staged : Bool  -- whether some append that was told isn't synced
   pub start : D  -- the folder as the opening found it
 
--- The disk has the journal, whole, and it means the chunks in memory, claimed ones counted as queued.
+-- The disk has the journal, whole, and it means the chunks in memory, claimed ones counted as
+-- queued.
 pub record Holds (journal : OpenJournal) (chunks : State) (disk : Disk) (t : JournalLog) : Type 0 where
   pub keeps : Keeps journal disk t
   pub means : settled (state_of t) ≡ reopened chunks

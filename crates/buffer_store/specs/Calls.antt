@@ -17,7 +17,8 @@ pub record Flags {T : Type 0} (old new : Bool) (result : Result T BufferFault) :
   pub fails : result ≡ Err BufferFault.Fault → new ≡ true
   pub stays : result ≢ Err BufferFault.Fault → new ≡ old
 
--- What each call that writes leaves alone. A refusal keeps the chunks, and but for a fault or damage the folder too; a buffer that the device failed before refuses the call.
+-- What each call that writes leaves alone. A refusal keeps the chunks, and but for a fault or
+-- damage the folder too; a buffer that the device failed before refuses the call.
 pub record Stays {D T : Type 0} (is_honest : D → Type 0) (history : D → History) (fault_count : D → ℕ) (old new : Held D) (result : Result T BufferFault) : Type 0 where
   pub err : OnErr result (new.chunks ≡ old.chunks)
   pub failed : (result ≡ Err BufferFault.Failed) ↔ (old.failed ≡ true)
@@ -37,10 +38,13 @@ pub record StaysWithin {D T : Type 0} (is_honest : D → Type 0) (history : D �
   pub number : new.journal.number ≡ old.journal.number
   pub elsewhere : is_honest old.dir → (name : List ℕ) → name ≢ journal_name old.journal.path old.journal.number → now (history new.dir) name ≡ now (history old.dir) name
 
--- What a call makes of what the journal tells, where it begins this step, or none. After `Ok` the journal tells what is answered. After `Fault` each stop leaves
--- the steps told before, with the one begun or without it, and no gap of removed generations. After any other refusal the journal tells what it told.
--- A stop at any moment of the call, whatever it answers, leaves a folder that opens to the state after some of these steps, all durable ones among them;
--- and of a buffer that the device failed before one that opens to what it could open to before the call. So it is with the chunks that were ever claimed.
+-- What a call makes of what the journal tells, where it begins this step, or none. After `Ok` the
+-- journal tells what is answered. After `Fault` each stop leaves the steps told before, with the
+-- one begun or without it, and no gap of removed generations. After any other refusal the journal
+-- tells what it told. A stop at any moment of the call, whatever it answers, leaves a folder that
+-- opens to the state after some of these steps, all durable ones among them; and of a buffer that
+-- the device failed before one that opens to what it could open to before the call. So it is with
+-- the chunks that were ever claimed.
 pub record Begins {D T : Type 0} (history : D → History) (old new : Held D) (more : Option Record) (answered : JournalLog → JournalLog) (result : Result T BufferFault) : Type 0 where
   pub done : (t : JournalLog) → HoldsNow history old t → OnOk result (HoldsNow history new (answered (with_more more t)))
   pub refused : (t : JournalLog) → HoldsNow history old t → result ≢ Err BufferFault.Fault → OnErr result (HoldsNow history new t)

@@ -1,4 +1,5 @@
--- What the type of a buffer keeps of the disk, whatever calls are made: over a folder that was honest when the buffer was opened.
+-- What the type of a buffer keeps of the disk, whatever calls are made: over a folder that was
+-- honest when the buffer was opened.
 use Rattle.std.specs.Prelude.{ℕ, ◌≡◌, ◌⊎◌, ◌<◌, ◌≤◌, Bool, true, false, List, drop, Option, Some, None, IfSome}
 use Rattle.std.specs.List.{AllByRecursion}
 use Rattle.disk_files.specs.Disk.{Folder, StopLeaves}
@@ -13,7 +14,8 @@ use Rattle.journal_files.specs.Views.{HasShortTags}
 use Rattle.journal_files.specs.Disks.{Recovers, HasNoGap}
 use Rattle.buffer_store.specs.Buffers.{Held, HoldsNow, with_more}
 
--- A stop may lose this step: a removal at any time, an append only while some append isn't synced, and nothing else ever.
+-- A stop may lose this step: a removal at any time, an append only while some append isn't synced,
+-- and nothing else ever.
 abbrev pub MayBeLost : Bool → Record → Type 0
 MayBeLost staged (Seal next) = ⊥
 MayBeLost staged (Append serial tag entries) = staged ≡ true
@@ -24,14 +26,17 @@ MayBeLost staged (Purge serial) = Unit {0}
 abbrev pub LosesOnly : Bool → JournalLog → Type 0
 LosesOnly staged t = AllByRecursion (MayBeLost staged) (drop t.durable t.steps)
 
--- The disk has the journal of the buffer, it means the chunks, and what a stop may lose of it is only what may be lost.
+-- The disk has the journal of the buffer, it means the chunks, and what a stop may lose of it is
+-- only what may be lost.
 pub record IsKept {D : Type 0} (history : D → History) (buffer : Held D) : Type 0 where
   pub logged : JournalLog
   pub holds : HoldsNow history buffer logged
   pub loses : LosesOnly buffer.staged logged
 
--- The device failed the buffer in a call that had begun this step, or none: the steps told before it mean the chunks, claimed ones counted as queued.
--- Each stop leaves those of them that can't be lost, with the one begun or without it. No gap of removed generations is left, so that the folder can be opened at once.
+-- The device failed the buffer in a call that had begun this step, or none: the steps told before
+-- it mean the chunks, claimed ones counted as queued. Each stop leaves those of them that can't be
+-- lost, with the one begun or without it. No gap of removed generations is left, so that the folder
+-- can be opened at once.
 pub record IsLeft {D : Type 0} (history : D → History) (buffer : Held D) (more : Option Record) : Type 0 where
   pub logged : JournalLog
   pub could : IsJournalLog (with_more more logged)
@@ -41,13 +46,15 @@ pub record IsLeft {D : Type 0} (history : D → History) (buffer : Held D) (more
   pub recovers : Recovers buffer.journal.path (now (history buffer.dir)) (with_more more logged)
   pub gap : HasNoGap buffer.journal.path (now (history buffer.dir))
 
--- The folder is honest; what the disk has of the buffer until the device fails it, and from then on.
+-- The folder is honest; what the disk has of the buffer until the device fails it, and from then
+-- on.
 pub record IsDurable {D : Type 0} (is_honest : D → Type 0) (history : D → History) (buffer : Held D) : Type 0 where
   pub honest : is_honest buffer.dir
   pub going : buffer.failed ≡ false → IsKept history buffer
   pub failed : buffer.failed ≡ true → (more : Option Record) × IsLeft history buffer more
 
--- the folder was honest when the buffer was opened, and the generations that were removed of it left no gap
+-- the folder was honest when the buffer was opened, and the generations that were removed of it
+-- left no gap
 abbrev pub BeganWell : {D : Type 0} → (D → Type 0) → (D → History) → Held D → Type 0
 BeganWell is_honest history buffer = is_honest buffer.start × HasNoGap buffer.journal.path (now (history buffer.start))
 
@@ -60,18 +67,21 @@ pub record IsSound {D : Type 0} (is_honest : D → Type 0) (history : D → Hist
 abbrev pub durably : JournalLog → State
 durably t = reopened_at t t.durable
 
--- The folder opens to a state whose next serial is above this one, and in which its chunk is queued with this content, or gone.
+-- The folder opens to a state whose next serial is above this one, and in which its chunk is queued
+-- with this content, or gone.
 pub record Lasts (path : List ℕ) (serial : ℕ) (chunk : Chunk) (folder : Folder) : Type 0 where
   pub state : State
   pub opens : Opens path folder state
   pub above : serial < state.next
   pub same : (chunk_at state serial ≡ Some (record chunk { stage = Queued })) ⊎ (chunk_at state serial ≡ None)
 
--- In this state the chunk of this serial is queued with this content, or gone, and the serial is given to no other.
+-- In this state the chunk of this serial is queued with this content, or gone, and the serial is
+-- given to no other.
 abbrev pub IsNamed : ℕ → Chunk → State → Type 0
 IsNamed serial chunk state = (serial < state.next) × ((chunk_at state serial ≡ Some (record chunk { stage = Queued })) ⊎ (chunk_at state serial ≡ None))
 
--- A chunk of this serial and content was claimed: the journal tells so much, durably, that whatever a stop leaves opens to a state in which it is queued as it was, or gone.
+-- A chunk of this serial and content was claimed: the journal tells so much, durably, that whatever
+-- a stop leaves opens to a state in which it is queued as it was, or gone.
 pub record Endures {D : Type 0} (history : D → History) (buffer : Held D) (serial : ℕ) (chunk : Chunk) : Type 0 where
   pub logged : JournalLog
   pub told : IsJournalLog logged
@@ -79,12 +89,15 @@ pub record Endures {D : Type 0} (history : D → History) (buffer : Held D) (ser
   pub going : buffer.failed ≡ false → HoldsNow history buffer logged
   pub failed : buffer.failed ≡ true → Recovers buffer.journal.path (now (history buffer.dir)) logged
 
--- What a call leaves of each chunk that was claimed before it: at each moment of the call a stop leaves it queued as it was, or gone, and its serial is given to no other; and so it stays behind the call.
+-- What a call leaves of each chunk that was claimed before it: at each moment of the call a stop
+-- leaves it queued as it was, or gone, and its serial is given to no other; and so it stays behind
+-- the call.
 pub record KeepsClaims {D : Type 0} (history : D → History) (old new : Held D) : Type 0 where
   pub moments : (serial : ℕ) (chunk : Chunk) → Endures history old serial chunk → LeavesOnly (history old.dir) (history new.dir) (Lasts old.journal.path serial chunk)
   pub after : (serial : ℕ) (chunk : Chunk) → Endures history old serial chunk → Endures history new serial chunk
 
--- Each folder that a stop may leave opens so: what was queued durably is the same or gone, and the next serial hasn't fallen.
+-- Each folder that a stop may leave opens so: what was queued durably is the same or gone, and the
+-- next serial hasn't fallen.
 pub record KeepsQueued (path : List ℕ) (t : JournalLog) (folder : Folder) : Type 0 where
   pub state : State
   pub opens : Opens path folder state
@@ -92,7 +105,8 @@ pub record KeepsQueued (path : List ℕ) (t : JournalLog) (folder : Folder) : Ty
   pub queued : (serial : ℕ) (chunk : Chunk) → chunk_at (durably t) serial ≡ Some chunk → chunk.stage ≡ Queued
       → (serial < state.next) × ((chunk_at state serial ≡ Some chunk) ⊎ (chunk_at state serial ≡ None))
 
--- whatever a stop leaves opens to a state above this serial, with its chunk queued as it is, or gone
+-- whatever a stop leaves opens to a state above this serial, with its chunk queued as it is, or
+-- gone
 abbrev pub LastsNow : {D : Type 0} → (D → History) → Held D → ℕ → Type 0
 LastsNow history buffer serial = IfSome (chunk_at buffer.chunks serial)
     (λ chunk. (folder : Folder) → StopLeaves (now (history buffer.dir)) folder → Lasts buffer.journal.path serial chunk folder)

@@ -1,4 +1,5 @@
--- The journal of a buffer in its folder, and what one record more makes of it. (Words of private functions.)
+-- The journal of a buffer in its folder, and what one record more makes of it. (Words of private
+-- functions.)
 use Rattle.std.specs.Prelude.{ℕ, ◌≡◌, ◌≢◌, ◌⊎◌, ◌↔◌, ◌≤◌, ◌+◌, ◌^◌, ◌||◌, Bool, true, false, cond, List, Option, None, Result, Vec, IfOk, OnOk, OnErr, Err}
 use Rattle.disk_files.specs.Disk.{SameDisk, reads}
 use Rattle.disk_files.specs.Moments.{History, Elapses, LeavesOnly, now}
@@ -19,7 +20,8 @@ use Rattle.buffer_store.specs.declared.settings.Settings.{Settings}
 use Rattle.buffer_store.specs.Calls.{Flags}
 use Rattle.buffer_store.specs.declared.fault.BufferFault.{BufferFault}
 
--- the folder, the journal that is open in it, how the device has done since, and the folder as the opening found it
+-- the folder, the journal that is open in it, how the device has done since, and the folder as the
+-- opening found it
 pub record Logged (D : Type 0) : Type 0 where
   pub dir : D
   pub journal : OpenJournal

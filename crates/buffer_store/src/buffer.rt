@@ -31,7 +31,8 @@ pub struct Appended {
     pub serial: u64,
 }
 
-/// Chunks of entries that wait to be delivered: the live ones in memory, and a journal of them in a folder.
+/// Chunks of entries that wait to be delivered: the live ones in memory, and a journal of them in a
+/// folder.
 #[derive(Drop)]
 pub struct Buffer<D: Dir, A: Allocator> {
     pub(crate) log: Log<D, A>,
@@ -62,8 +63,9 @@ impl<D: Dir, A: Allocator + Copy> Buffer<D, A> {
 
     /// The entries of the live chunk of this serial, read from the journal.
     ///
-    /// The first of `Failed`, `Gone`, `Memory`, `Fault` and `Damaged` that applies: the device failed the buffer before; there is no such
-    /// chunk; a read failed; or the journal hasn't the bytes that were told. Each leaves the buffer as it was.
+    /// The first of `Failed`, `Gone`, `Memory`, `Fault` and `Damaged` that applies: the device
+    /// failed the buffer before; there is no such chunk; a read failed; or the journal hasn't the
+    /// bytes that were told. Each leaves the buffer as it was.
     pub fn body(&mut self, serial: u64) -> Result<Entries<A>, BufferFault>
         ensures entries { BeganWell D.is_honest D.history self.old
             → IfOk result (λ entries. IsSomeAnd (chunk_at self.old.chunks serial) (λ chunk. entries ≡ chunk.entries)) }
@@ -107,7 +109,8 @@ impl<D: Dir, A: Allocator + Copy> Buffer<D, A> {
         let _ = &self.log;
     }
 
-    /// The serials of the live chunks rise, and are below the next. The call does nothing: it stands for a theorem.
+    /// The serials of the live chunks rise, and are below the next. The call does nothing: it
+    /// stands for a theorem.
     pub fn stays_in_order(&self)
         ensures rising { IsStrictlySortedBy nat_cmp (keys_of self.now.chunks.chunks) }
         ensures below { AreBelow self.now.chunks.next (keys_of self.now.chunks.chunks) }
@@ -138,7 +141,8 @@ impl<D: Dir, A: Allocator + Copy> Buffer<D, A> {
         Ok(place)
     }
 
-    /// Claims the first of the queue, and gives its serial. It writes nothing, and goes on after a fault.
+    /// Claims the first of the queue, and gives its serial. It writes nothing, and goes on after a
+    /// fault.
     pub fn claim(&mut self) -> Option<u64>
         ensures first { result ≡ first_of self.old.chunks.queue }
         ensures queued { IfSome result (IsAt Queued self.old.chunks) }
@@ -156,7 +160,8 @@ impl<D: Dir, A: Allocator + Copy> Buffer<D, A> {
         self.chunks.claim()
     }
 
-    /// Puts the claimed chunk of this serial to the end of the queue. It writes nothing, and goes on after a fault.
+    /// Puts the claimed chunk of this serial to the end of the queue. It writes nothing, and goes
+    /// on after a fault.
     pub fn give_back(&mut self, serial: u64)
         requires { IsAt Claimed self.old.chunks serial }
         ensures state { self.new ≡ record self.old { chunks = queued_last serial self.old.chunks } }

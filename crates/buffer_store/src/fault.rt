@@ -17,7 +17,8 @@ pub enum BufferFault {
     /// The chunk isn't in the state that the call needs, or there is none.
     #[error("B3")]
     Gone,
-    /// The device failed in this call. Where the call writes, each that comes after it answers `Failed`.
+    /// The device failed in this call. Where the call writes, each that comes after it answers
+    /// `Failed`.
     #[error("B4")]
     Fault,
     /// The device failed before. The buffer is to be opened again.
@@ -26,10 +27,12 @@ pub enum BufferFault {
     /// The serials have run out, or the generations of the journal.
     #[error("B6")]
     LastSerial,
-    /// The journal has something whole that is no record, or that can't stand there; or it hasn't the bytes that were told.
+    /// The journal has something whole that is no record, or that can't stand there; or it hasn't
+    /// the bytes that were told.
     #[error("B7")]
     Damaged,
-    /// There was no memory, or the journal has come to 2^40 bytes (1 TB), past which it keeps no places.
+    /// There was no memory, or the journal has come to 2^40 bytes (1 TB), past which it keeps no
+    /// places.
     #[error("out of memory")]
     Memory,
 }

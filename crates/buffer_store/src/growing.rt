@@ -1,4 +1,5 @@
-//! Entries are added to a chunk, or a chunk is queued or let go, in memory and in the journal: all memory is asked for first.
+//! Entries are added to a chunk, or a chunk is queued or let go, in memory and in the journal: all
+//! memory is asked for first.
 
 ghost use Rattle.std.specs.Prelude.{◌≡◌, ◌≤◌, true, false, None, length, Err, IfOk, OnOk, OnErr};
 ghost use Rattle.event_modes.specs.Message.{longest_tag};
@@ -18,7 +19,8 @@ use event_modes::Entries;
 use std::alloc::Allocator;
 use std::mem;
 
-/// Appends entries to the staged chunk of this serial, which has this tag, or as a new chunk where it comes next.
+/// Appends entries to the staged chunk of this serial, which has this tag, or as a new chunk where
+/// it comes next.
 pub(crate) fn add_entries<D: Dir, A: Allocator + Copy>(
     chunks: &mut Chunks<A>,
     log: &mut Log<D, A>,

@@ -82,9 +82,11 @@ impl<D: Dir, A: Allocator> Log<D, A> {
 }
 
 impl<D: Dir, A: Allocator + Copy> Log<D, A> {
-    /// Tells a record, and syncs it and all before it if that is wanted. All memory is asked for before the folder is changed.
+    /// Tells a record, and syncs it and all before it if that is wanted. All memory is asked for
+    /// before the folder is changed.
     ///
-    /// `Memory` changes nothing. After `Fault` the record is there or not, and nothing may be told any more.
+    /// `Memory` changes nothing. After `Fault` the record is there or not, and nothing may be told
+    /// any more.
     pub(crate) fn write<B: Allocator>(
         &mut self,
         item: &Record<'_, B>,
@@ -107,9 +109,11 @@ impl<D: Dir, A: Allocator + Copy> Log<D, A> {
         Ok(())
     }
 
-    /// The bytes of the entries of the live chunk of this serial; none where there is no such chunk.
+    /// The bytes of the entries of the live chunk of this serial; none where there is no such
+    /// chunk.
     ///
-    /// `Memory`, `Fault` where a read failed, or `Damaged` where the journal has fewer bytes than were told. None changes anything.
+    /// `Memory`, `Fault` where a read failed, or `Damaged` where the journal has fewer bytes than
+    /// were told. None changes anything.
     pub(crate) fn body(&mut self, alloc: A, serial: u64) -> Result<Vec<u8, A>, BufferFault>
         requires going { self.old.failed ≡ false }
         ensures { Reads D.is_honest D.history D.fault_count self.old self.new serial result }
@@ -117,7 +121,8 @@ impl<D: Dir, A: Allocator + Copy> Log<D, A> {
         Ok(self.journal.body(alloc, &mut self.dir, serial)?)
     }
 
-    /// Goes on in the next generation, which tells these chunks. After `Fault` nothing may be told any more.
+    /// Goes on in the next generation, which tells these chunks. After `Fault` nothing may be told
+    /// any more.
     ///
     /// `Damaged` where the journal has fewer bytes than were told.
     pub(crate) fn renew(&mut self, chunks: &Chunks<A>) -> Result<(), BufferFault>

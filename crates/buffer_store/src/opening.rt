@@ -22,12 +22,15 @@ use std::alloc::Allocator;
 use std::snapshot::Snapshot;
 
 impl<D: Dir, A: Allocator + Copy> Buffer<D, A> {
-    /// Opens the buffer whose files' names begin with this path: its chunks are what the journal in the folder means.
-    /// The queue goes by rising serial, and what was claimed is queued. The journal goes on in a new generation.
+    /// Opens the buffer whose files' names begin with this path: its chunks are what the journal in
+    /// the folder means. The queue goes by rising serial, and what was claimed is queued. The
+    /// journal goes on in a new generation.
     ///
-    /// Each refusal hands the folder back, and all but `Fault` change nothing. `LastSerial` is answered past the last generation.
-    /// After `Fault` the folder opens to what it opened to, with or without a stop before; and it reads as before, since the new file is removed
-    /// again, but where the device failed in making it or in removing it, or as older files were removed once the new one was whole.
+    /// Each refusal hands the folder back, and all but `Fault` change nothing. `LastSerial` is
+    /// answered past the last generation. After `Fault` the folder opens to what it opened to, with
+    /// or without a stop before; and it reads as before, since the new file is removed again, but
+    /// where the device failed in making it or in removing it, or as older files were removed once
+    /// the new one was whole.
     pub fn open(
         alloc: A,
         dir: D,

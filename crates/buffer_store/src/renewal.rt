@@ -13,8 +13,8 @@ use disk_files::Dir;
 use std::alloc::Allocator;
 
 impl<D: Dir, A: Allocator + Copy> Buffer<D, A> {
-    /// Whether the journal has more bytes than the setting says, and more than twice as many as the entries of all live chunks
-    /// have: then it is to be renewed.
+    /// Whether the journal has more bytes than the setting says, and more than twice as many as the
+    /// entries of all live chunks have: then it is to be renewed.
     pub fn wants_renewal(&self) -> bool
         ensures { IsTrue result ↔ ((self.now.renewed_past < self.now.journal.len) × (2 * total_size self.now.chunks < self.now.journal.len)) }
     {
@@ -23,11 +23,13 @@ impl<D: Dir, A: Allocator + Copy> Buffer<D, A> {
             .wants_renewal(self.chunks.total(), self.settings.renewed_past)
     }
 
-    /// Goes on in a new generation of the journal, which tells only what is live. The chunks stay as they are.
+    /// Goes on in a new generation of the journal, which tells only what is live. The chunks stay
+    /// as they are.
     ///
-    /// The first of `Failed`, `LastSerial`, `Memory`, `Fault` and `Damaged` that applies; `LastSerial` past the last generation,
-    /// `Damaged` where the journal hasn't the bytes that were told. A new file that isn't whole is removed again, but where the device failed
-    /// in making it or fails in removing it.
+    /// The first of `Failed`, `LastSerial`, `Memory`, `Fault` and `Damaged` that applies;
+    /// `LastSerial` past the last generation, `Damaged` where the journal hasn't the bytes that
+    /// were told. A new file that isn't whole is removed again, but where the device failed in
+    /// making it or fails in removing it.
     pub fn renew(&mut self) -> Result<(), BufferFault>
         ensures same { self.new.chunks ≡ self.old.chunks }
         ensures last { (result ≡ Err BufferFault.LastSerial) ↔ ((self.old.failed ≡ false) × (2 ^ 32 ≤ self.old.journal.number + 1)) }

@@ -32,7 +32,8 @@ impl<D: Dir, A: Allocator + Copy> Buffer<D, A> {
     }
 }
 
-// Whether the queued ones of these chunks have so many bytes of entries. Once they do, no more chunks are looked at.
+// Whether the queued ones of these chunks have so many bytes of entries. Once they do, no more
+// chunks are looked at.
 fn frees<A: Allocator + Copy>(chunks: LiveIter<'_, A>, bytes: u128) -> bool
     ensures { IsTrue result ↔ (bytes ≤ queued_in chunks.entry) }
 {

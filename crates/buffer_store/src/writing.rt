@@ -22,13 +22,14 @@ use event_modes::Entries;
 use std::alloc::Allocator;
 
 impl<D: Dir, A: Allocator + Copy> Buffer<D, A> {
-    /// Appends entries to the newest staged chunk of their tag, or to a new chunk, and doesn't sync the journal: a stop leaves
-    /// the entries or not, and none that were appended after them without them. Asks for at least one entry, and for a tag of
-    /// at most 1,024 bytes.
+    /// Appends entries to the newest staged chunk of their tag, or to a new chunk, and doesn't sync
+    /// the journal: a stop leaves the entries or not, and none that were appended after them
+    /// without them. Asks for at least one entry, and for a tag of at most 1,024 bytes.
     ///
-    /// The first of `Failed`, `TooLarge`, `Full`, `LastSerial`, `Memory` and `Fault` that applies; `Memory` too where the entries would begin
-    /// 2^40 bytes (1 TB) or more behind the journal's beginning. None changes the chunks; after `Fault` the entries are there or not when
-    /// the buffer is opened again.
+    /// The first of `Failed`, `TooLarge`, `Full`, `LastSerial`, `Memory` and `Fault` that applies;
+    /// `Memory` too where the entries would begin 2^40 bytes (1 TB) or more behind the journal's
+    /// beginning. None changes the chunks; after `Fault` the entries are there or not when the
+    /// buffer is opened again.
     pub fn stage(&mut self, tag: &[u8], entries: &Entries<A>) -> Result<Appended, BufferFault>
         requires some { 0 < length entries.now }
         requires tag { length tag.now ≤ longest_tag }
@@ -96,10 +97,11 @@ impl<D: Dir, A: Allocator + Copy> Buffer<D, A> {
         Ok(Appended { serial })
     }
 
-    /// Syncs the journal where some append that was told isn't synced; a removal alone doesn't ask for it.
+    /// Syncs the journal where some append that was told isn't synced; a removal alone doesn't ask
+    /// for it.
     ///
-    /// The first of `Failed` and `Fault` that applies. None changes the chunks; after `Fault` the appends are there or not when the
-    /// buffer is opened again.
+    /// The first of `Failed` and `Fault` that applies. None changes the chunks; after `Fault` the
+    /// appends are there or not when the buffer is opened again.
     pub fn sync(&mut self) -> Result<(), BufferFault>
         ensures chunks { self.new.chunks ≡ self.old.chunks }
         ensures quiet { self.old.failed ≡ false → self.old.staged ≡ false → (result ≡ Ok tt) × (self.new ≡ self.old) }
@@ -119,8 +121,8 @@ impl<D: Dir, A: Allocator + Copy> Buffer<D, A> {
 
     /// Queues the staged chunk of this serial, and syncs the journal.
     ///
-    /// The first of `Failed`, `Gone`, `Memory` and `Fault` that applies. None changes the chunks; after `Fault` the chunk
-    /// is queued or not when the buffer is opened again.
+    /// The first of `Failed`, `Gone`, `Memory` and `Fault` that applies. None changes the chunks;
+    /// after `Fault` the chunk is queued or not when the buffer is opened again.
     pub fn enqueue(&mut self, serial: u64) -> Result<(), BufferFault>
         ensures ok { OnOk result (self.new.chunks ≡ queued_last serial self.old.chunks) }
         ensures gone { (result ≡ Err BufferFault.Gone) ↔ ((self.old.failed ≡ false) × (IsAt Staged self.old.chunks serial → ⊥)) }
@@ -139,7 +141,8 @@ impl<D: Dir, A: Allocator + Copy> Buffer<D, A> {
         queue_chunk(self.alloc, &mut self.chunks, &mut self.log, serial)
     }
 
-    /// Lets the claimed chunk of this serial go. The journal isn't synced, so that a stop may bring the chunk back, queued.
+    /// Lets the claimed chunk of this serial go. The journal isn't synced, so that a stop may bring
+    /// the chunk back, queued.
     ///
     /// The first of `Failed`, `Gone`, `Memory` and `Fault` that applies. None changes the chunks.
     pub fn purge(&mut self, serial: u64) -> Result<(), BufferFault>
@@ -160,9 +163,11 @@ impl<D: Dir, A: Allocator + Copy> Buffer<D, A> {
         remove_chunk(&mut self.chunks, &mut self.log, serial)
     }
 
-    /// Lets the queued chunk of least serial go, and gives its serial. The journal isn't synced, so that a stop may bring the chunk back.
+    /// Lets the queued chunk of least serial go, and gives its serial. The journal isn't synced, so
+    /// that a stop may bring the chunk back.
     ///
-    /// The first of `Failed`, `Gone`, `Memory` and `Fault` that applies; `Gone` where nothing is queued. None changes the chunks.
+    /// The first of `Failed`, `Gone`, `Memory` and `Fault` that applies; `Gone` where nothing is
+    /// queued. None changes the chunks.
     pub fn drop_oldest(&mut self) -> Result<u64, BufferFault>
         ensures oldest { IfOk result (λ serial. oldest self.old.chunks ≡ Some serial) }
         ensures ok { IfOk result (λ serial. self.new.chunks ≡ removed serial self.old.chunks) }

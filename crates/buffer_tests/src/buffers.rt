@@ -164,8 +164,8 @@ fn limits(rt: HostRuntime) {
     );
 }
 
-// A read of a chunk's entries fails once, and the buffer goes on as it was. A renewal copies those of a claimed chunk and a staged one,
-// which grows then.
+// A read of a chunk's entries fails once, and the buffer goes on as it was. A renewal copies those
+// of a claimed chunk and a staged one, which grows then.
 static UNREAD: [Sitting; 2] = [
     Sitting {
         calls: Failing::At(OPENING + 2),

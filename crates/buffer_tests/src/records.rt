@@ -144,8 +144,9 @@ fn misplaced_records(rt: HostRuntime) -> Result<(), Fail> {
     Ok(())
 }
 
-// No record begins so: a length of 0, one too long, kinds that aren't, a Seal too short and too long,
-// an Append whose tag passes its end, one entry too many, one too few, and an entry that isn't stored so.
+// No record begins so: a length of 0, one too long, kinds that aren't, a Seal too short and too
+// long, an Append whose tag passes its end, one entry too many, one too few, and an entry that
+// isn't stored so.
 static BAD: [&[u8]; 10] = [
     b"\0\0\0\0",
     b"\x01\0\0\x01",

@@ -14,7 +14,8 @@ pub const WIDE: Limits = Limits {
     total: u64::MAX,
 };
 
-/// Opening a new folder asks for two lists, a file, an append and a sync. Then an append asks for an append and a sync.
+/// Opening a new folder asks for two lists, a file, an append and a sync. Then an append asks for
+/// an append and a sync.
 pub const OPENING: u64 = 5;
 
 /// A call of a buffer, or a look at it. A tag has one byte, and each entry is the same.
@@ -245,7 +246,8 @@ pub enum Went {
     Unopened(BufferFault),
 }
 
-/// Opens the buffer in this folder, and takes it through the steps up to the first that is answered otherwise than its row says.
+/// Opens the buffer in this folder, and takes it through the steps up to the first that is answered
+/// otherwise than its row says.
 pub fn play<D: Dir>(alloc: Global, dir: D, limits: Limits, rows: &[Row]) -> (Went, D) {
     match open(alloc, dir, limits) {
         Ok(mut buffer) => {
@@ -298,7 +300,8 @@ pub fn sit(
     (went, dir.into_inner().stop(sitting.keep))
 }
 
-/// How many sittings go through, and how the last went, in a new folder that each leaves to the next.
+/// How many sittings go through, and how the last went, in a new folder that each leaves to the
+/// next.
 pub fn sit_all(alloc: Global, limits: Limits, sittings: &[Sitting]) -> (usize, Went) {
     let mut dir = MemoryDir::new(alloc);
     let mut through = 0usize;

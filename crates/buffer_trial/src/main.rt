@@ -1,5 +1,5 @@
-//! Tries a buffer in a folder of the system. ./test kills it at random moments and looks for each append that it had
-//! answered; bench/buffers times it.
+//! Tries a buffer in a folder of the system. ./test kills it at random moments and looks for each
+//! append that it had answered; bench/buffers times it.
 //!
 //!     buffer_trial append FOLDER             appends one numbered entry after another, and prints each number after its `Ok`
 //!     buffer_trial list FOLDER               prints the numbers of all entries in live chunks

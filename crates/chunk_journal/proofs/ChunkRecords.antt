@@ -150,7 +150,8 @@ tells_chunks chunks next t fits =
       means = sym (ap (λ (z : State). settled (after z (Seal next))) r.2.leads);
     }
 
--- the records that tell live chunks do so in an empty buffer, and with the Seal behind them lead to these chunks
+-- the records that tell live chunks do so in an empty buffer, and with the Seal behind them lead to
+-- these chunks
 pub record AreToldBy (chunks : List Numbered) (next : ℕ) : Type 0 where
   pub each : Each Tells empty (flat_map chunk_records chunks)
   pub within : (after_all empty (flat_map chunk_records chunks)).next ≤ next

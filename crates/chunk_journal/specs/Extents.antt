@@ -10,6 +10,7 @@ pub record Stretch : Type 0 where
 abbrev pub places_end : ℕ
 places_end = 2 ^ 40
 
--- a place has fewer bytes than this: an Append's entries have fewer, since its body is at most as long
+-- a place has fewer bytes than this: an Append's entries have fewer, since its body is at most as
+-- long
 abbrev pub lengths_end : ℕ
 lengths_end = 2 ^ 24

@@ -5,7 +5,8 @@ use Rattle.chunk_journal.specs.Places.{Spots, ArePlaced, MovesPlaces}
 use Rattle.chunk_journal.specs.Records.{Record}
 use Rattle.chunk_journal.specs.Replaying.{Place, Goes, SoFar, Takes}
 
--- an outline: where its replay stands and where the entries lie, what was fed behind the records that were read, how many bytes were fed in all, and whether it has found the journal damaged
+-- an outline: where its replay stands and where the entries lie, what was fed behind the records
+-- that were read, how many bytes were fed in all, and whether it has found the journal damaged
 pub record Heard : Type 0 where
   pub place : Place
   pub spots : Spots

@@ -13,11 +13,13 @@ pub record IsLength (n : ℕ) : Type 0 where
   pub some : 0 < n
   pub short : n ≤ longest_body
 
--- the bytes end before a record is whole: within its length, or with fewer bytes behind it than it says
+-- the bytes end before a record is whole: within its length, or with fewer bytes behind it than it
+-- says
 abbrev pub IsTorn : List ℕ → Type 0
 IsTorn bytes = (length bytes < 4) ⊎ (IsLength (said_length bytes) × (length bytes < 4 + said_length bytes))
 
--- something whole stands here that is no record: a length that none has, or as many bytes as it says that spell none
+-- something whole stands here that is no record: a length that none has, or as many bytes as it
+-- says that spell none
 pub record IsBad (bytes : List ℕ) : Type 0 where
   pub whole : IsTorn bytes → ⊥
   pub none : (item : Record) (more : List ℕ) → IsRecord item → bytes ≡ record_bytes item ++ more → ⊥

@@ -46,12 +46,14 @@ CutsBehind = (records : List Record) (state : State) (leads : Leads records stat
 abbrev pub AnswersOneWay : Type 0
 AnswersOneWay = (bytes : List ℕ) (one other : Answer) → IsAnswer bytes one → IsAnswer bytes other → one ≡ other
 
--- a generation that only begins means the chunks that it tells, claimed ones counted as queued, and the queue goes by rising serial
+-- a generation that only begins means the chunks that it tells, claimed ones counted as queued, and
+-- the queue goes by rising serial
 abbrev pub MeansItsChunks : Type 0
 MeansItsChunks = (chunks : List Numbered) (next : ℕ) → AreTold 0 chunks next → next < 2 ^ 64
     → IsGeneration (beginning chunks next) (reopened (record { chunks = chunks; next = next; queue = [] }))
 
--- Where each live chunk's entries lie at its places, and then a record comes, and the places change as its end says, the entries lie there again.
+-- Where each live chunk's entries lie at its places, and then a record comes, and the places change
+-- as its end says, the entries lie there again.
 abbrev pub PlacesFollow : Type 0
 PlacesFollow = (seen more : List ℕ) (old new : Spots) (state : State) (item : Record) (end : ℕ) → IsStrictlySortedBy nat_cmp (keys_of state.chunks)
     → ArePlaced seen old state → EndsAt (seen ++ more) item end → MovesPlaces item end old new → ArePlaced (seen ++ more) new (after state item)

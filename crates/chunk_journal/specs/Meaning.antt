@@ -1,4 +1,5 @@
--- What a journal means: the chunks that a generation begins with, the Seal behind them, and then the steps.
+-- What a journal means: the chunks that a generation begins with, the Seal behind them, and then
+-- the steps.
 use Rattle.std.specs.Prelude.{ℕ, ◌≡◌, ◌+◌, ◌≤◌, ◌⊎◌, List, [], ◌∷◌, ◌++◌, length}
 use Rattle.std.specs.List.{flat_map}
 use Rattle.buffer_state.specs.declared.chunk.Stage.{Stage}
@@ -8,14 +9,16 @@ use Rattle.buffer_state.specs.Steps.{CanAppend, appended, queued_last, removed, 
 use Rattle.chunk_journal.specs.Records.{Record, Seal, Append, Queue, Purge}
 use Rattle.chunk_journal.specs.Journal.{IsBad, IsJournal, BeginsWith, journal_bytes}
 
--- The record tells a live chunk, behind those that were told: an Append of a serial that isn't below the next, or a Queue of the chunk told last.
+-- The record tells a live chunk, behind those that were told: an Append of a serial that isn't
+-- below the next, or a Queue of the chunk told last.
 abbrev pub Tells : State → Record → Type 0
 Tells state (Seal next) = ⊥
 Tells state (Append serial tag entries) = CanAppend state serial tag entries × (state.next ≤ serial)
 Tells state (Queue serial) = IsAt Staged state serial × (serial + 1 ≡ state.next)
 Tells state (Purge serial) = ⊥
 
--- The record is a step that this state allows: an Append to a staged chunk of its tag or of the next serial, a Queue of a staged chunk, a Purge of a queued one.
+-- The record is a step that this state allows: an Append to a staged chunk of its tag or of the
+-- next serial, a Queue of a staged chunk, a Purge of a queued one.
 abbrev pub Allows : State → Record → Type 0
 Allows state (Seal next) = ⊥
 Allows state (Append serial tag entries) = CanAppend state serial tag entries × (serial ≤ state.next)
@@ -43,7 +46,8 @@ Each Fits state (item ∷ items) = Fits state item × Each Fits (after state ite
 abbrev pub IsUnsealed : List Record → Type 0
 IsUnsealed records = Each Tells empty records
 
--- The records are a generation that leads here: live chunks by rising serial, a Seal whose serial is greater than all of theirs, and steps from there.
+-- The records are a generation that leads here: live chunks by rising serial, a Seal whose serial
+-- is greater than all of theirs, and steps from there.
 pub record Leads (records : List Record) (state : State) : Type 0 where
   pub told : List Record
   pub next : ℕ
@@ -113,7 +117,8 @@ chunk_records numbered = Append numbered.0 numbered.1.tag numbered.1.entries ∷
 abbrev pub beginning : List Numbered → ℕ → List Record
 beginning chunks next = flat_map chunk_records chunks ++ Seal next ∷ []
 
--- chunks that a generation can begin with: their serials rise from the least on and are all below the next, and none has too many bytes
+-- chunks that a generation can begin with: their serials rise from the least on and are all below
+-- the next, and none has too many bytes
 abbrev pub AreTold : ℕ → List Numbered → ℕ → Type 0
 AreTold least [] next = least ≤ next
 AreTold least (numbered ∷ chunks) next = (least ≤ numbered.0) × (size numbered.1.entries ≤ greatest_size) × AreTold (numbered.0 + 1) chunks next

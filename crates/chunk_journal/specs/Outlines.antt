@@ -4,7 +4,8 @@ use Rattle.buffer_state.specs.State.{State}
 use Rattle.chunk_journal.specs.Meaning.{IsReplayed}
 use Rattle.chunk_journal.specs.Places.{Spots, ArePlaced}
 
--- the journal means these chunks, its whole records have so many bytes, and the chunks' entries lie at these places
+-- the journal means these chunks, its whole records have so many bytes, and the chunks' entries lie
+-- at these places
 pub record IsOutlined (seen : List ℕ) (chunks : State) (places : Spots) (used : ℕ) : Type 0 where
   pub replayed : IsReplayed seen chunks used
   pub placed : ArePlaced seen places chunks

@@ -87,7 +87,8 @@ EndsAt seen (Append serial tag entries) end = (concat entries ≡ bytes_from see
 EndsAt seen (Queue serial) end = Unit {0}
 EndsAt seen (Purge serial) end = Unit {0}
 
--- what a record whose entries end there does to the places: an Append adds one, and a Purge drops the chunk's
+-- what a record whose entries end there does to the places: an Append adds one, and a Purge drops
+-- the chunk's
 abbrev pub MovesPlaces : Record → ℕ → Spots → Spots → Type 0
 MovesPlaces (Seal next) end old new = SamePlaces old new
 MovesPlaces (Append serial tag entries) end old new = AddsPlace serial (extent_before end (size entries)) old new

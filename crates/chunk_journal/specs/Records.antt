@@ -41,7 +41,8 @@ abbrev pub append_fields : ℕ → List ℕ → List (List ℕ) → List ℕ
 append_fields serial tag entries =
     to_be_bytes w64 serial ++ (to_be_bytes w16 (length tag) ++ (tag ++ (to_be_bytes w32 (length entries) ++ concat entries)))
 
--- how many bytes an Append has behind its length beside its tag and its entries: the kind, the serial, the tag's length, and the entries' count
+-- how many bytes an Append has behind its length beside its tag and its entries: the kind, the
+-- serial, the tag's length, and the entries' count
 abbrev pub append_fixed : ℕ
 append_fixed = 15
 
@@ -50,7 +51,8 @@ abbrev pub append_head : ℕ → List ℕ → ℕ → ℕ → List ℕ
 append_head serial tag count size =
     to_be_bytes w32 (append_fixed + length tag + size) ++ (append_kind ∷ (to_be_bytes w64 serial ++ (to_be_bytes w16 (length tag) ++ (tag ++ to_be_bytes w32 count))))
 
--- what stands behind the length: the kind, and then the fields; each number has its highest byte first
+-- what stands behind the length: the kind, and then the fields; each number has its highest byte
+-- first
 abbrev pub body_of : Record → List ℕ
 body_of (Seal next) = numbered seal_kind next
 body_of (Append serial tag entries) = append_kind ∷ append_fields serial tag entries

@@ -14,7 +14,8 @@ pub record Place : Type 0 where
   pub is_sealed : Bool
   pub state : State
 
--- the record may stand here: before the Seal one that tells, or the Seal itself, and after it a step
+-- the record may stand here: before the Seal one that tells, or the Seal itself, and after it a
+-- step
 abbrev pub CanFollow : Bool → State → Record → Type 0
 CanFollow false state (Seal next) = state.next ≤ next
 CanFollow false state (Append serial tag entries) = Tells state (Append serial tag entries)

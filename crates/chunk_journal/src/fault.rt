@@ -11,7 +11,8 @@ use std::fmt;
 /// Why a journal isn't replayed. A fault of the journal is printed by its code.
 #[derive(Clone, Copy, Debug, PartialEq, Eq)]
 pub enum ReplayError {
-    /// There was no memory; or an outline's journal has 2^40 bytes (1 TB) or more, past which it keeps no places.
+    /// There was no memory; or an outline's journal has 2^40 bytes (1 TB) or more, past which it
+    /// keeps no places.
     Memory,
     /// `J1`: the journal ends before a Seal is whole, and nothing up to there is bad.
     NotSealed,

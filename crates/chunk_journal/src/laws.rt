@@ -4,7 +4,8 @@ ghost use Rattle.chunk_journal.specs.Laws.{BeginsOneWay, ReadsOneWay, CutsWhole,
 
 use msgpack_bytes::prefix_free;
 
-/// No record's bytes are a proper beginning of another's, and what was written is read back, whatever follows it.
+/// No record's bytes are a proper beginning of another's, and what was written is read back,
+/// whatever follows it.
 pub fn begins_one_way()
     ensures { BeginsOneWay }
 {
@@ -20,14 +21,16 @@ pub fn reads_one_way()
     prefix_free();
 }
 
-/// A beginning of a journal is the journal of the records that end within it: of a longer one no fewer, of all of it all.
+/// A beginning of a journal is the journal of the records that end within it: of a longer one no
+/// fewer, of all of it all.
 pub fn cuts_whole()
     ensures cuts { CutsWhole }
     ensures never_unreads { NeverUnreads }
     ensures all { EndsWithin }
 {}
 
-/// Some of the first records of a generation are before its Seal, or are the generation with some of its steps.
+/// Some of the first records of a generation are before its Seal, or are the generation with some
+/// of its steps.
 pub fn cuts_generation()
     ensures before { CutsBefore }
     ensures behind { CutsBehind }

@@ -30,7 +30,8 @@ pub struct Outlined<A: Allocator> {
     pub used: u64,
 }
 
-/// A replay of a journal that comes by pieces. Of the bytes that were fed it holds the record that isn't whole yet with the piece fed last.
+/// A replay of a journal that comes by pieces. Of the bytes that were fed it holds the record that
+/// isn't whole yet with the piece fed last.
 #[derive(Drop)]
 pub struct Outline<A: Allocator> {
     alloc: A,
@@ -84,8 +85,9 @@ impl<A: Allocator + Copy> Outline<A> {
 
     /// Takes the next piece of the journal. Asks that fewer than 2^64 bytes are fed in all.
     ///
-    /// `BadRecord` where what was fed before this piece is damaged, and then always; else only want of memory, which comes too where
-    /// entries begin 2^40 bytes (1 TB) or more behind the journal's beginning. Neither takes the piece, so that it can be fed again.
+    /// `BadRecord` where what was fed before this piece is damaged, and then always; else only want
+    /// of memory, which comes too where entries begin 2^40 bytes (1 TB) or more behind the
+    /// journal's beginning. Neither takes the piece, so that it can be fed again.
     pub fn feed(&mut self, piece: &[u8]) -> Result<(), ReplayError>
         requires few { self.old.fed + length piece.now < 2 ^ 64 }
         ensures ok { OnOk result ((seen : List ℕ) → IsAfter self.old seen → IsAfter self.new (seen ++ piece.now)) }
@@ -104,8 +106,8 @@ impl<A: Allocator + Copy> Outline<A> {
 
     /// What the journal means, if all of it was fed.
     ///
-    /// `BadRecord` where it is damaged, `NotSealed` where its whole records end before a Seal, and else only want of memory, as `feed`.
-    /// Each hands the outline back.
+    /// `BadRecord` where it is damaged, `NotSealed` where its whole records end before a Seal, and
+    /// else only want of memory, as `feed`. Each hands the outline back.
     pub fn finish(self) -> Result<Outlined<A>, (ReplayError, Outline<A>)>
         ensures ok { (seen : List ℕ) → IsAfter self seen → IfOk result (λ outlined. IsOutlined seen outlined.chunks outlined.places outlined.used) }
         ensures not_sealed { (seen : List ℕ) → IsAfter self seen → IfErr result (λ refused. refused.0 ≡ NotSealed → EndsUnsealed seen) }
@@ -233,8 +235,8 @@ impl<A: Allocator + Copy> Outline<A> {
     }
 }
 
-// Replays a record whose entries end there, unless it can't stand here. The error is want of memory, also of a number for the place
-// of its entries, and changes nothing.
+// Replays a record whose entries end there, unless it can't stand here. The error is want of
+// memory, also of a number for the place of its entries, and changes nothing.
 fn take_record<A: Allocator + Copy>(
     draft: &mut Draft<A>,
     places: &mut Places<A>,

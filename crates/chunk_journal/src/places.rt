@@ -13,7 +13,8 @@ const PLACES_END: u64 = 1 << 40;
 // It has fewer bytes than this.
 const LENGTHS_END: u64 = 1 << 24;
 
-/// Where bytes lie in a journal: the first of them, and how many. They begin below 2^40, and are fewer than 2^24.
+/// Where bytes lie in a journal: the first of them, and how many. They begin below 2^40, and are
+/// fewer than 2^24.
 #[derive(Clone, Copy, Debug, PartialEq, Eq)]
 pub struct Extent {
     // `at * 2^24 + length`, since a buffer keeps one for each append to a live chunk
@@ -35,7 +36,8 @@ impl Model for Extent {
 }
 
 impl Extent {
-    /// So many bytes from this one on; none where they begin at 2^40 or behind it, or are 2^24 or more.
+    /// So many bytes from this one on; none where they begin at 2^40 or behind it, or are 2^24 or
+    /// more.
     pub fn new(at: u64, length: u64) -> Option<Extent>
         ensures some { IsSome result ↔ ((at < places_end) × (length < lengths_end)) }
         ensures right { IfSome result (λ extent. extent ≡ record { at = at; length = length }) }
@@ -104,8 +106,8 @@ impl<A: Allocator> Extents<A> {
         self.items.as_slice()
     }
 
-    // Makes room for one more: where there is none, for an eighth more and not for twice as many, since these are most of what a buffer
-    // keeps in memory.
+    // Makes room for one more: where there is none, for an eighth more and not for twice as many,
+    // since these are most of what a buffer keeps in memory.
     fn reserve(&mut self) -> Result<(), AllocError>
         ensures same { self.new.extents ≡ self.old.extents }
         ensures ok { OnOk result (0 < self.new.room) }
@@ -196,7 +198,8 @@ impl<A: Allocator + Copy> Places<A> {
         extents.push(extent);
     }
 
-    /// One more place of a chunk, behind its others. The error is want of memory, and leaves the places as they were.
+    /// One more place of a chunk, behind its others. The error is want of memory, and leaves the
+    /// places as they were.
     pub fn append(&mut self, serial: u64, extent: Extent) -> Result<(), AllocError>
         ensures ok { OnOk result (AddsPlace serial extent self.old self.new) }
         ensures err { OnErr result (SamePlaces self.old self.new) }

@@ -17,7 +17,8 @@ pub const QUEUE_KIND: u8 = 3;
 /// The kind of a Purge.
 pub const PURGE_KIND: u8 = 4;
 
-/// What a journal tells: one step of a buffer, or the end of the chunks that a generation begins with.
+/// What a journal tells: one step of a buffer, or the end of the chunks that a generation begins
+/// with.
 #[derive(Drop)]
 pub enum Record<'a, A: Allocator> {
     /// The chunks that were live are told; the next serial is at least this.

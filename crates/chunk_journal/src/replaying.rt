@@ -32,11 +32,11 @@ pub struct Draft<A: Allocator> {
     pub is_sealed: bool,
 }
 
-/// Replays a journal: the chunks that its generation begins with, its Seal, and the steps behind it,
-/// up to the first place where no whole record stands.
+/// Replays a journal: the chunks that its generation begins with, its Seal, and the steps behind
+/// it, up to the first place where no whole record stands.
 ///
-/// `NotSealed` where the whole records end before a Seal, `BadRecord` where something whole is no record
-/// or a record that can't stand there, and else only want of memory.
+/// `NotSealed` where the whole records end before a Seal, `BadRecord` where something whole is no
+/// record or a record that can't stand there, and else only want of memory.
 pub fn replay<A: Allocator + Copy>(alloc: A, bytes: &[u8]) -> Result<Replayed<A>, ReplayError>
     ensures ok { IfOk result (λ replayed. IsReplayed bytes.now replayed.chunks replayed.used) }
     ensures not_sealed { result ≡ Err NotSealed → EndsUnsealed bytes.now }
@@ -103,7 +103,8 @@ fn take_record<A: Allocator + Copy>(
     }
 }
 
-// Ends the chunks that the generation begins with, unless one Seal was there, or the next serial falls.
+// Ends the chunks that the generation begins with, unless one Seal was there, or the next serial
+// falls.
 pub fn take_seal<A: Allocator + Copy>(draft: &mut Draft<A>, next: u64) -> bool
     ensures { Takes (place_of draft.old) (Seal next) (place_of draft.new) result }
 {

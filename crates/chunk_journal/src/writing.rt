@@ -12,11 +12,13 @@ use std::alloc::{AllocError, Allocator};
 // A record's length has so many bytes.
 const LENGTH_SIZE: usize = 4;
 
-// An Append has so many bytes behind its length beside its tag and its entries: the kind, the serial, the tag's length and the entries' count.
+// An Append has so many bytes behind its length beside its tag and its entries: the kind, the
+// serial, the tag's length and the entries' count.
 const APPEND_FIXED: usize = 15;
 
-/// Appends a record: a length of four bytes, the kind, and the fields, each number with its highest byte first.
-/// Asks for a tag of at most 1,024 bytes and for at most 16,777,216 bytes behind the length.
+/// Appends a record: a length of four bytes, the kind, and the fields, each number with its highest
+/// byte first. Asks for a tag of at most 1,024 bytes and for at most 16,777,216 bytes behind the
+/// length.
 ///
 /// The error is want of memory, comes only where `out` had no room, and leaves `out` as it was.
 pub fn put_record<A: Allocator, B: Allocator>(
@@ -78,7 +80,8 @@ fn put_append<A: Allocator, B: Allocator>(
 }
 
 /// Appends what an Append has before its entries, which are so many and have so many bytes.
-/// Asks for a tag of at most 1,024 bytes, for at most 16,777,216 bytes behind the length, and for no more entries than bytes.
+/// Asks for a tag of at most 1,024 bytes, for at most 16,777,216 bytes behind the length, and for
+/// no more entries than bytes.
 ///
 /// The error is want of memory, comes only where `out` had no room, and leaves `out` as it was.
 pub fn put_append_head<A: Allocator>(

@@ -32,7 +32,8 @@ section_item heading = item heading.line (heading_text heading.name heading.argu
 abbrev pub parameter_item : Setting → Item
 parameter_item setting = item setting.line setting.name
 
--- All that sections say, in the order of the text: each section, its parameters, and then the sections in it.
+-- All that sections say, in the order of the text: each section, its parameters, and then the
+-- sections in it.
 abbrev mutual
   pub items_in : Tree → List Item
   items_in (tree heading settings children) = section_item heading ∷ (map parameter_item settings ++ items_of children)

@@ -26,7 +26,8 @@ pub struct Row<A: Allocator> {
 pub enum Entry<A: Allocator> {
     /// It stands for a section or a parameter of the original.
     Of(Row<A>),
-    /// Lines at the end of a section, which stand for none: a section that is added, and the end itself.
+    /// Lines at the end of a section, which stand for none: a section that is added, and the end
+    /// itself.
     End {
         /// The line of the section's opening in the original.
         line: usize,
@@ -65,7 +66,8 @@ impl<A: Allocator + Copy> Adapted<A> {
         true
     }
 
-    /// A line for each thing that has to be accepted and isn't, and behind them what would accept them all.
+    /// A line for each thing that has to be accepted and isn't, and behind them what would accept
+    /// them all.
     pub fn undecided<B: Allocator>(
         &self,
         alloc: A,
@@ -78,7 +80,8 @@ impl<A: Allocator + Copy> Adapted<A> {
         Ok(lines)
     }
 
-    /// Adds a line for each thing that has to be accepted and isn't, and to the names each that would accept one and isn't among them.
+    /// Adds a line for each thing that has to be accepted and isn't, and to the names each that
+    /// would accept one and isn't among them.
     pub fn put_undecided<'a, B: Allocator>(
         &'a self,
         alloc: A,
@@ -94,8 +97,8 @@ impl<A: Allocator + Copy> Adapted<A> {
         Ok(())
     }
 
-    /// The text of the configuration; behind each of its lines stands in brackets the line of the original that it comes from, under this
-    /// name.
+    /// The text of the configuration; behind each of its lines stands in brackets the line of the
+    /// original that it comes from, under this name.
     pub fn noted_text(&self, alloc: A, name: &str) -> Result<Vec<u8, A>, AllocError> {
         let mut text = Vec::new(alloc);
         for entry in &self.entries {
@@ -106,8 +109,8 @@ impl<A: Allocator + Copy> Adapted<A> {
         Ok(text)
     }
 
-    /// The line of the original that a line of the text comes from, both from 1: that of its row, and at the end of a section that of the
-    /// section. `None`: the text has no such line.
+    /// The line of the original that a line of the text comes from, both from 1: that of its row,
+    /// and at the end of a section that of the section. `None`: the text has no such line.
     pub fn original_line(&self, line: usize) -> Option<usize> {
         let mut last = 0usize;
         for entry in &self.entries {
@@ -146,7 +149,8 @@ fn lines_in(text: &[u8]) -> usize {
 /// Names that are lent.
 pub type Names<'a, A> = Vec<&'a Vec<u8, A>, A>;
 
-/// Adds the line that says what would accept all things of these names. The only error is want of memory.
+/// Adds the line that says what would accept all things of these names. The only error is want of
+/// memory.
 pub fn put_accepting<A: Allocator>(
     names: &[&Vec<u8, A>],
     lines: &mut Vec<u8, A>,

@@ -19,8 +19,9 @@ struct Spelled<'a> {
     unit: &'a [u8],
 }
 
-/// The amount that a text spells with a fraction, or with a unit's long name, in the profile's form: sizes in bytes or with their unit's
-/// letter, times in seconds; a part of a byte is dropped, a part of a second or of a number counts whole. `None`: it spells none.
+/// The amount that a text spells with a fraction, or with a unit's long name, in the profile's
+/// form: sizes in bytes or with their unit's letter, times in seconds; a part of a byte is dropped,
+/// a part of a second or of a number counts whole. `None`: it spells none.
 pub(crate) fn amount<A: Allocator + Copy>(
     alloc: A,
     text: &[u8],

@@ -13,8 +13,8 @@ use conf_text::{Element, Pair};
 use relay_faults::{line_of, pairs_of};
 use std::alloc::{AllocError, Allocator};
 
-/// The configuration of these elements, adapted to the profile: a row for each section and each parameter, in the order of the text, each
-/// section's parameters before the sections in it.
+/// The configuration of these elements, adapted to the profile: a row for each section and each
+/// parameter, in the order of the text, each section's parameters before the sections in it.
 pub fn adapt<A: Allocator + Copy>(
     alloc: A,
     elements: &[Element<A>],

@@ -1,4 +1,5 @@
-//! A configuration as it runs in Fluentd, adapted to the profile that a relay reads: what becomes of each of its sections and parameters.
+//! A configuration as it runs in Fluentd, adapted to the profile that a relay reads: what becomes
+//! of each of its sections and parameters.
 #![tactic(auto)]
 
 mod adapted;

@@ -197,7 +197,8 @@ impl<'a, A: Allocator + Copy> Maker<'a, A> {
         }
     }
 
-    // A parameter that has since stood in a buffer goes to the one that is added, unless there is one.
+    // A parameter that has since stood in a buffer goes to the one that is added, unless there is
+    // one.
     fn moved(
         &mut self,
         spot: Spot,

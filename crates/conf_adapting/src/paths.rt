@@ -19,8 +19,8 @@ impl<A: Allocator + Copy> Names<A> {
         }
     }
 
-    /// A name of its own for the files at this way: the last part of the way, with `_` in place of what no name has, and a number behind it
-    /// where that name is taken.
+    /// A name of its own for the files at this way: the last part of the way, with `_` in place of
+    /// what no name has, and a number behind it where that name is taken.
     pub fn give(&mut self, alloc: A, way: &[u8]) -> Result<Vec<u8, A>, AllocError> {
         let name = own_name(alloc, way)?;
         let name = self.untaken(alloc, name)?;
@@ -71,7 +71,8 @@ fn front(name: &[u8]) -> &[u8] {
     name.split_at(name.len().min(MOST_BYTES)).0
 }
 
-// The part of a way that names no folder: what stands behind the last `/` that something stands behind.
+// The part of a way that names no folder: what stands behind the last `/` that something stands
+// behind.
 fn last_part(way: &[u8]) -> &[u8] {
     way.split(|byte| *byte == b'/')
         .filter(|part| !part.is_empty())

@@ -16,8 +16,8 @@ abbrev pub behind_mark : List ℕ → List ℕ
 behind_mark (a ∷ b ∷ c ∷ rest) = if a == 239 && (b == 187 && c == 191) then rest else a ∷ b ∷ c ∷ rest
 behind_mark text = text
 
--- These elements are adapted: each of their sections and parameters has a row, in their order, and the lines are those of the rows; whether all
--- is accepted that has to be, is as it says.
+-- These elements are adapted: each of their sections and parameters has a row, in their order, and
+-- the lines are those of the rows; whether all is accepted that has to be, is as it says.
 pub record IsDraft {A : Type 0} (elements : List Tree) (names : List (List ℕ)) (draft : Draft A) : Type 0 where
   pub accounted : all_stand_for draft.adapted.entries.items ≡ items_of (trees elements)
   pub accepted : draft.is_accepted ≡ all_accepted names draft.adapted.entries.items

@@ -33,7 +33,8 @@ pub record IsUndecided (A : Type 0) (text : List ℕ) (names : List (List ℕ)) 
   pub accepted : draft.is_accepted ≡ false
   pub lines_are : lines ≡ draft.lines.items
 
--- what is said of a text: the status is 0 where a relay reads the lines, and 1 where something isn't accepted
+-- what is said of a text: the status is 0 where a relay reads the lines, and 1 where something
+-- isn't accepted
 abbrev pub IsAnswerTo : (A : Type 0) → List ℕ → List (List ℕ) → List ℕ → Status → Type 0
 IsAnswerTo A text names lines status = (IsAdapted A text names lines × (status ≡ Done)) ⊎ (IsUndecided A text names lines × (status ≡ No))
 
@@ -44,7 +45,8 @@ pub record IsUnreadDraft (A : Type 0) (text : List ℕ) (names : List (List ℕ)
   pub accepted : draft.is_accepted ≡ true
   pub unread : IsStopOfLines draft.lines.items stopped
 
--- why nothing is said of a text: it has this fault, or the lines of its draft have one of this kind; or memory ran out
+-- why nothing is said of a text: it has this fault, or the lines of its draft have one of this
+-- kind; or memory ran out
 abbrev pub IsStopTo : (A : Type 0) → List ℕ → List (List ℕ) → ConfStop → Type 0
 IsStopTo A text names (stop.Unread fault) = ⊤
 IsStopTo A text names stopped = IsTextStop (behind_mark text) stopped ⊎ IsUnreadDraft A text names stopped

@@ -11,7 +11,8 @@ abbrev pub IsFaultOf : (A : Type 0) → List ℕ → List (List ℕ) → ConfSto
 IsFaultOf A text names (stop.Unread fault) = ⊥
 IsFaultOf A text names stopped = IsStopTo A text names stopped
 
--- What becomes of a text: a configuration that a relay reads, each of whose changes is accepted; or what isn't accepted; or a fault.
+-- What becomes of a text: a configuration that a relay reads, each of whose changes is accepted; or
+-- what isn't accepted; or a fault.
 abbrev pub IsAdaptedConf : (A : Type 0) → List ℕ → List (List ℕ) → AdaptedConf A → Type 0
 IsAdaptedConf A text names (outcome.Text found) = IsAdapted A text names found.text.items
 IsAdaptedConf A text names (outcome.Undecided found) = IsUndecided A text names found.text.items

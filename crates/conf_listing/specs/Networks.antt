@@ -17,8 +17,8 @@ use Rattle.conf_listing.specs.declared.outcome.AdaptedConf.TheVariants as outcom
 abbrev pub name_line : List ℕ → List ℕ
 name_line name = line (name ++ codes ":")
 
--- what is said of the configuration of this name: nothing where a relay reads a text, its fault, or in words that nothing is stated of what
--- isn't accepted
+-- what is said of the configuration of this name: nothing where a relay reads a text, its fault, or
+-- in words that nothing is stated of what isn't accepted
 abbrev pub IsListing : {A : Type 0} → List ℕ → AdaptedConf A → List ℕ → Type 0
 IsListing name (outcome.Text found) said = said ≡ []
 IsListing name (outcome.Undecided found) said = (words : List ℕ) × (said ≡ name_line name ++ words)
@@ -46,7 +46,8 @@ is_faulty (outcome.Text found) = false
 is_faulty (outcome.Undecided found) = false
 is_faulty (outcome.Faulty stopped) = true
 
--- What is said of configurations of these names: each in its place, and behind them what would accept all that isn't accepted.
+-- What is said of configurations of these names: each in its place, and behind them what would
+-- accept all that isn't accepted.
 pub record AreStopped {A : Type 0} (names : List (List ℕ)) (outcomes : List (AdaptedConf A)) (lines : List ℕ) (has_fault : Bool) : Type 0 where
   pub said : List ℕ
   pub each : AreListed names outcomes said

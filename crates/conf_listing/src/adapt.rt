@@ -10,10 +10,11 @@ use relay_reading::{ConfStop, print_conf_stop};
 use std::alloc::{AllocError, Allocator};
 use std::io::Write;
 
-/// Prints the configuration that `conf` gives in the form that a relay reads, with a comment for each of its lines that doesn't stand as it
-/// was. Where something of it changes what the relay does and isn't accepted, by a name among these words, a line for each such thing is
-/// printed in its place. Where the text has a fault, or what would be printed has one, the line of that is printed, under the line of the
-/// original that it comes from.
+/// Prints the configuration that `conf` gives in the form that a relay reads, with a comment for
+/// each of its lines that doesn't stand as it was. Where something of it changes what the relay
+/// does and isn't accepted, by a name among these words, a line for each such thing is printed in
+/// its place. Where the text has a fault, or what would be printed has one, the line of that is
+/// printed, under the line of the original that it comes from.
 pub fn run_adapt<A: Allocator + Copy, B: Allocator, R: CountedRead, W: Write>(
     alloc: A,
     conf: &mut R,

@@ -16,8 +16,9 @@ use program_text::ReadFault;
 use relay_reading::ConfStop;
 use std::alloc::{AllocError, Allocator};
 
-/// What becomes of a configuration as it runs in Fluentd: a text that a relay reads, where all that changes what the relay does is accepted,
-/// by a name among these words; else the lines that say what isn't, or the fault, as `relayctl adapt` prints them.
+/// What becomes of a configuration as it runs in Fluentd: a text that a relay reads, where all that
+/// changes what the relay does is accepted, by a name among these words; else the lines that say
+/// what isn't, or the fault, as `relayctl adapt` prints them.
 pub fn adapt_conf<A: Allocator + Copy, B: Allocator>(
     alloc: A,
     text: &[u8],

@@ -32,14 +32,15 @@ pub struct ConfTexts<A: Allocator> {
 /// What is said of configurations, of which some isn't adapted.
 #[derive(Drop)]
 pub struct StoppedConfs<A: Allocator> {
-    /// For each that isn't adapted a line with its name, and behind it its fault, or what isn't accepted; and at the end what would accept
-    /// all that isn't.
+    /// For each that isn't adapted a line with its name, and behind it its fault, or what isn't
+    /// accepted; and at the end what would accept all that isn't.
     pub lines: Vec<u8, A>,
     /// Whether one of them has a fault.
     pub has_fault: bool,
 }
 
-/// Adapts each of the configurations with these names, as `adapt_conf` does by itself. The only error is want of memory.
+/// Adapts each of the configurations with these names, as `adapt_conf` does by itself. The only
+/// error is want of memory.
 pub fn adapt_confs<A: Allocator + Copy, B: Allocator>(
     alloc: A,
     names: &[&str],
@@ -135,7 +136,8 @@ fn accepting_line<A: Allocator + Copy>(
     Ok(line)
 }
 
-// Adds what is said of one of them: nothing where it has a text. Of what isn't accepted the names are added that would accept it.
+// Adds what is said of one of them: nothing where it has a text. Of what isn't accepted the names
+// are added that would accept it.
 fn put_outcome<'a, A: Allocator + Copy, B: Allocator>(
     alloc: A,
     name: &str,

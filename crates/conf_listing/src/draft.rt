@@ -11,7 +11,8 @@ use conf_text::Element;
 use program_text::ReadFault;
 use std::alloc::{AllocError, Allocator};
 
-/// An adapted configuration, with its lines; where not all is accepted, with lines that say what isn't.
+/// An adapted configuration, with its lines; where not all is accepted, with lines that say what
+/// isn't.
 #[derive(Drop)]
 pub(crate) struct Draft<A: Allocator> {
     pub adapted: Adapted<A>,

@@ -12,8 +12,8 @@ use relay_faults::RelayFault;
 use relay_reading::{ConfStop, read_relay};
 use std::alloc::Allocator;
 
-/// The relay that the lines of an adapted configuration describe. Else why there is none, under the line of the original that the line with
-/// the fault comes from.
+/// The relay that the lines of an adapted configuration describe. Else why there is none, under the
+/// line of the original that the line with the fault comes from.
 pub(crate) fn read_back<A: Allocator + Copy>(
     alloc: A,
     adapted: &Adapted<A>,

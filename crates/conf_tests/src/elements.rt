@@ -37,8 +37,8 @@ fn outcome(alloc: Global, text: &[u8]) -> Result<String, AllocError> {
     Ok(out)
 }
 
-// Lines alone, ends of lines, sections and parameters, and values in quotes; texts with faults are in
-// examples/configurations/texts/.
+// Lines alone, ends of lines, sections and parameters, and values in quotes; texts with faults are
+// in examples/configurations/texts/.
 static TEXTS: [(&str, &str); 30] = [
     ("", ""),
     ("\n\r\n \t \n# c\n  # <a>\n", ""),

@@ -1,4 +1,5 @@
-//! Tests of configurations: their text and values, a relay that is read from one, retries, and tag patterns.
+//! Tests of configurations: their text and values, a relay that is read from one, retries, and tag
+//! patterns.
 #![tactic(auto)]
 
 #[cfg(test)]

@@ -1,4 +1,5 @@
-//! Tags, prefixes and match patterns: which tags a pattern has, what it stands for, and why a text is none.
+//! Tags, prefixes and match patterns: which tags a pattern has, what it stands for, and why a text
+//! is none.
 
 use std::alloc::{AllocError, Global};
 use std::test::Fail;

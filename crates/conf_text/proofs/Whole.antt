@@ -1,4 +1,5 @@
--- A whole text: what is read is in the grammar, what is in the grammar is read, and so for each fault.
+-- A whole text: what is read is in the grammar, what is in the grammar is read, and so for each
+-- fault.
 use Rattle.std.proofs.Common.{◌≡◌, ℕ, Bool, true, false, cond, List, [], ◌∷◌, Result, Ok, Err, refl, sym, ap, subst, ◌∙◌, inl, inr, ◌⊎◌}
 use Rattle.std.specs.Prelude.{IfOk, IfErr}
 use Rattle.std.specs.Str.{IsUtf8, is_utf8}

@@ -1,9 +1,11 @@
--- The form of one line of a configuration (Fluentd, "Config File Syntax"). What is refused, and by which fault, is chosen here.
+-- The form of one line of a configuration (Fluentd, "Config File Syntax"). What is refused, and by
+-- which fault, is chosen here.
 use Rattle.std.specs.Prelude.{ℕ, ◌||◌, List, length, take, drop, ◌-◌, Option, Some, None, slice_index, ◌==◌, if◌then◌else◌}
 use Rattle.conf_text.specs.Text.{begins, ends_in, skip_blanks, drop_blanks, trimmed, first_word, after_word, without_comment, is_name, is_parameter_name}
 use Rattle.conf_text.specs.Quoted.{quoted}
 
--- what a line is: empty or a comment, `<name argument>`, `</name>`, `name value`, or one of the two faults of a line alone
+-- what a line is: empty or a comment, `<name argument>`, `</name>`, `name value`, or one of the two
+-- faults of a line alone
 pub data LineForm : Type 0 where
   ignored : LineForm
   opens : (name argument : List ℕ) → LineForm
@@ -34,7 +36,8 @@ abbrev pub quoted_form : List ℕ → Option (List ℕ × List ℕ) → LineForm
 quoted_form name None = bad_quote
 quoted_form name (Some found) = if length (skip_blanks (without_comment found.1)) == 0 then parameter name found.0 else bad_quote
 
--- what stands behind a parameter's name: a value in quotes where its first byte is a mark, else the text up to the comment
+-- what stands behind a parameter's name: a value in quotes where its first byte is a mark, else the
+-- text up to the comment
 unfoldable pub value_form : List ℕ → List ℕ → LineForm
 value_form name text = let value = skip_blanks text in
     if begins 34 value || begins 39 value then quoted_form name (quoted (slice_index value 0) (drop 1 value)) else parameter name (trimmed (without_comment text))

@@ -1,4 +1,5 @@
--- The grammar of a configuration over its lines (Fluentd, "Config File Syntax"), and where a text breaks it.
+-- The grammar of a configuration over its lines (Fluentd, "Config File Syntax"), and where a text
+-- breaks it.
 use Rattle.std.specs.Prelude.{◌≡◌, ◌≢◌, ℕ, suc, ◌+◌, ⊤, List, [], ◌∷◌, ◌++◌, length, take, count_by, ◌==◌}
 use Rattle.std.specs.Str.{IsUtf8}
 use Rattle.std.specs.Str.Lines.{lines}
@@ -78,8 +79,8 @@ pub record Frame : Type 0 where
 abbrev pub frame : Heading → List Setting → List Tree → Frame
 frame heading settings elements = record { heading = heading; settings = settings; elements = elements }
 
--- After these lines the first frame is the innermost, and the list has those round it, from the inside out:
--- so many sections are open as the list is long.
+-- After these lines the first frame is the innermost, and the list has those round it, from the
+-- inside out: so many sections are open as the list is long.
 pub data IsOpen : List Line → Frame → List Frame → Type 0 where
   outside : {before : List Line} {settings : List Setting} {elements : List Tree}
       → IsContents most_open before settings elements
@@ -126,8 +127,8 @@ pub record EndsOpen (all : List Line) (line : ℕ) : Type 0 where
 abbrev pub bad_byte_line : List ℕ → ℕ
 bad_byte_line text = count_by (λ b. b == 10) (take (utf8_valid_len text) text) + 1
 
--- The text has this fault, and it is the first: bad bytes come before all others, an open section after all
--- others, and the others by lines in order.
+-- The text has this fault, and it is the first: bad bytes come before all others, an open section
+-- after all others, and the others by lines in order.
 abbrev pub HasFault : List ℕ → FaultKind → ℕ → Type 0
 HasFault text kinds.NotUtf8 line = ¬ (IsUtf8 text) × (line ≡ bad_byte_line text)
 HasFault text kinds.OpenSection line = IsUtf8 text × EndsOpen (lines_of text) line

@@ -59,7 +59,8 @@ SettingsAreRead = (name value : List ℕ) → is_parameter_name name ≡ true �
 abbrev pub opening_line : List ℕ → List ℕ → List ℕ
 opening_line name argument = 60 ∷ ((name ++ (32 ∷ argument)) ++ (62 ∷ []))
 
--- each name and each argument without a `#` and without blanks at its ends is what its line is read as
+-- each name and each argument without a `#` and without blanks at its ends is what its line is read
+-- as
 abbrev pub OpeningsAreRead : Type 0
 OpeningsAreRead = (name argument : List ℕ) → is_name name ≡ true → trimmed argument ≡ argument → list_all (λ b. not (b == 35)) argument ≡ true → line_form (opening_line name argument) ≡ opens name argument
 
@@ -93,7 +94,8 @@ abbrev mutual
   elements_lines no_trees = []
   elements_lines (more_trees t ts) = element_lines t ++ elements_lines ts
 
--- its names are names, its arguments have no `#` and no blanks at their ends, and it nests no deeper than room
+-- its names are names, its arguments have no `#` and no blanks at their ends, and it nests no
+-- deeper than room
 abbrev mutual
   pub CanStand : Tree → ℕ → Type 0
   CanStand (tree heading settings children) zero = ⊥

@@ -1,4 +1,5 @@
--- Values in quotes (Fluentd, "Config File Syntax"). That other escapes and embedded code are refused is chosen here.
+-- Values in quotes (Fluentd, "Config File Syntax"). That other escapes and embedded code are
+-- refused is chosen here.
 use Rattle.std.specs.Prelude.{ℕ, Bool, ◌&&◌, ◌||◌, List, [], ◌∷◌, ◌++◌, Option, Some, None, ◌==◌, if◌then◌else◌}
 
 -- what a byte behind `\` stands for between double quotes: `\\`, `\"`, `\n`, `\r`, `\t`

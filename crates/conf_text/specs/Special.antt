@@ -5,7 +5,8 @@ use Rattle.conf_text.specs.declared.quoted.Special.TheVariants.{Close, Stands, B
 use Rattle.conf_text.specs.declared.quoted.Piece.{Piece}
 use Rattle.conf_text.specs.Quoted.{quoted, with_front}
 
--- the closing mark; a character of the value, spelled in n bytes of which the last is ASCII; or a fault
+-- the closing mark; a character of the value, spelled in n bytes of which the last is ASCII; or a
+-- fault
 abbrev pub IsAtFront : ℕ → List ℕ → Special → Type 0
 IsAtFront mark text Close = (0 < length text) × (slice_index text 0 < 128) × (quoted mark text ≡ Some ([], drop 1 text))
 IsAtFront mark text (Stands c n) = (c < 128) × (0 < n) × (n ≤ length text) × (slice_index text (n - 1) < 128) × (quoted mark text ≡ with_front (c ∷ []) (quoted mark (drop n text)))

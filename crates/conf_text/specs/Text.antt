@@ -36,7 +36,8 @@ first_word text = take (position_or_len is_blank text) text
 unfoldable pub after_word : List ℕ → List ℕ
 after_word text = drop (position_or_len is_blank text) text
 
--- where the comment begins, at the first `#` that stands behind a blank, or the length where there is none
+-- where the comment begins, at the first `#` that stands behind a blank, or the length where there
+-- is none
 unfoldable pub comment_at : List ℕ → ℕ
 comment_at [] = 0
 comment_at (b ∷ []) = 1

@@ -4,7 +4,8 @@ use Rattle.conf_values.specs.declared.amount.Units.{Units}
 use Rattle.conf_values.specs.declared.amount.Units.TheVariants as units
 use Rattle.conf_values.specs.Numbers.{fitting, number_of}
 
--- what a letter multiplies the digits of a size by: k, m, g and t are the powers of 1,024, in either case
+-- what a letter multiplies the digits of a size by: k, m, g and t are the powers of 1,024, in
+-- either case
 unfoldable pub size_factor : ℕ → Option ℕ
 size_factor letter =
     if letter == 107 || letter == 75 then Some 1024
@@ -12,7 +13,8 @@ size_factor letter =
     else (if letter == 103 || letter == 71 then Some (1024 ^ 3)
     else (if letter == 116 || letter == 84 then Some (1024 ^ 4) else None)))
 
--- what a letter multiplies the digits of a time by: s, m, h and d are a second, a minute, an hour and a day
+-- what a letter multiplies the digits of a time by: s, m, h and d are a second, a minute, an hour
+-- and a day
 unfoldable pub time_factor : ℕ → Option ℕ
 time_factor letter =
     if letter == 115 then Some 1
@@ -30,7 +32,8 @@ abbrev pub times : ℕ → Option ℕ → Option ℕ
 times factor None = None
 times factor (Some n) = fitting (n * factor)
 
--- the number in front of a letter with this factor, or of the whole text where its last byte has none
+-- the number in front of a letter with this factor, or of the whole text where its last byte has
+-- none
 abbrev pub scaled : Option ℕ → List ℕ → Option ℕ
 scaled None text = number_of text
 scaled (Some factor) text = times factor (number_of (take (length text - 1) text))

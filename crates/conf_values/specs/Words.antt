@@ -9,7 +9,8 @@ use Rattle.std.specs.Int.{is_in_range}
 abbrev pub is_among : List (List ℕ) → List ℕ → Bool
 is_among words text = list_any (λ word. bytes_eq text word) words
 
--- `true`, `yes` and the empty text are true, `false` and `no` are false, and no other text is either
+-- `true`, `yes` and the empty text are true, `false` and `no` are false, and no other text is
+-- either
 unfoldable pub boolean_of : List ℕ → Option Bool
 boolean_of text =
     if is_among (codes "true" ∷ codes "yes" ∷ [] ∷ []) text then Some true

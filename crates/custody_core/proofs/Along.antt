@@ -1,4 +1,5 @@
--- Events that are kept along a branch above a rank: in a sink, in a chunk which ranks so high, or by all to which a chunk that ranks so high was passed on.
+-- Events that are kept along a branch above a rank: in a sink, in a chunk which ranks so high, or
+-- by all to which a chunk that ranks so high was passed on.
 use Rattle.std.proofs.Common.{◌≡◌, ℕ, ◌+◌, ◌<◌, ◌≤◌, true, List, Some, slice_get, refl, sym, subst, inl, inr, arith, Contains}
 use Rattle.custody_store.specs.Buffers.{Event, IsInChunk}
 use Rattle.custody_store.proofs.Members.{get-contains}
@@ -11,7 +12,8 @@ use Rattle.kept_branches.specs.Branches.{Reaches, IsFromBuffer, KeepsAlong, has,
 use Rattle.custody_core.proofs.Serials.{event_of, and_some}
 use Rattle.custody_core.proofs.Safe.{Buffers, Ranking, KeepsAt, IsHeldFrom, lower}
 
--- The message of this number was sent from the chunk with this id, with the entry under this tag, and acknowledged.
+-- The message of this number was sent from the chunk with this id, with the entry under this tag,
+-- and acknowledged.
 pub record IsPassedFrom (messages : List Message) (entry : List ℕ) (place buffer serial : ℕ) (tag : List ℕ) (number : ℕ) (message : Message) : Type 0 where
   pub there : slice_get messages number ≡ Some message
   pub from : message.sender ≡ sender.Chunk place buffer serial
@@ -27,7 +29,8 @@ pub data KeepsFrom {A : Type 0} (net : Network A) (ranks : Ranking) (buffers : B
       → ((p b : ℕ) (t : List ℕ) → Reaches net message.address message.tag p b t → KeepsFrom net ranks buffers messages entry (ranks place buffer serial + 1) p b t)
       → KeepsFrom net ranks buffers messages entry rank place buffer tag
 
--- An event of such a message comes to a buffer, and each buffer that it comes to keeps it above the rank.
+-- An event of such a message comes to a buffer, and each buffer that it comes to keeps it above the
+-- rank.
 pub record EachFrom {A : Type 0} (net : Network A) (ranks : Ranking) (buffers : Buffers) (messages : List Message) (rank : ℕ) (address : Address) (tag entry : List ℕ) : Type 0 where
   pub place : ℕ
   pub buffer : ℕ

@@ -18,7 +18,8 @@ use Rattle.custody_core.proofs.Sendings.{Follow}
 use Rattle.custody_core.proofs.Along.{IsPassedFrom, KeepsFrom, EachFrom, Moves, moved, each_moved}
 
 module _ {A : Type 0} (net : Network A) (ranks : Ranking) (buffers : Buffers) (messages : List Message) where
-  -- A chunk with this id was passed on with the entry, to where each buffer keeps it above the chunk's rank.
+  -- A chunk with this id was passed on with the entry, to where each buffer keeps it above the
+  -- chunk's rank.
   pub record IsGoneOn (place buffer serial : ℕ) (tag entry : List ℕ) : Type 0 where
     pub number : ℕ
     pub message : Message
@@ -48,7 +49,8 @@ pub record IsEach {A : Type 0} (net : Network A) (ranks : Ranking) (w : World) :
   pub deliveries : (number : ℕ) (d : Delivery) → slice_get w.deliveries number ≡ Some d → (m : Message) → slice_get w.messages d.message ≡ Some m → (buffer : ℕ) → Contains d.appended buffer → AreHeldThere net ranks w.buffers w.messages m d.entrance d.tag buffer
   pub acknowledged : (told : Told) → Contains w.acknowledged told → IsToldAlong net ranks w.buffers w.messages told
 
--- A delivery of a message from the same sender with the same entries was appended there, under the same tag.
+-- A delivery of a message from the same sender with the same entries was appended there, under the
+-- same tag.
 pub record WasAppended (w : World) (at : Entrance) (tag : List ℕ) (buffer : ℕ) (m : Message) : Type 0 where
   pub number : ℕ
   pub delivery : Delivery

@@ -16,7 +16,8 @@ use Rattle.custody_core.proofs.Going.{like_itself, Changes, change_goes, chunk_g
 abbrev put : BufferState → ℕ → Chunk → ℕ → BufferState
 put state serial new next = record (with_chunk serial (Some new) state) { next = next }
 
--- A staged chunk with these entries and those that were there stands at the serial, and no id was of it.
+-- A staged chunk with these entries and those that were there stands at the serial, and no id was
+-- of it.
 record Takes {A : Type 0} (net : Network A) (labelled : Labelling) (ranks : Ranking) (clock place buffer : ℕ) (state : BufferState) (tag : List ℕ) (entries : List (List ℕ)) (serial : ℕ) (new : Chunk) (next : ℕ) : Type 0 where
   staged : new.stage ≡ Staged
   young : KeepsAt net place buffer → new.evidence ≡ true → ⊥

@@ -1,4 +1,5 @@
--- The steps that deliver a chunk's events, and a relay's stops, keep what is known of a network whose messages all lead to outputs that keep.
+-- The steps that deliver a chunk's events, and a relay's stops, keep what is known of a network
+-- whose messages all lead to outputs that keep.
 use Rattle.std.proofs.Common.{◌≡◌, ◌≢◌, ℕ, ◌==◌, Bool, true, false, cond, [], ◌++◌, map, Option, Some, None, slice_get, refl, sym, ap, ◌∙◌, ◌⊎◌, inl, IsSomeAnd}
 use Rattle.std.proofs.lemmas.Bool.{eq-eqb}
 use Rattle.std.proofs.lemmas.Option.{same_Some}

@@ -1,4 +1,5 @@
--- Each step keeps what is kept along branches, in a network in which each leaf of each labelled tag's way keeps.
+-- Each step keeps what is kept along branches, in a network in which each leaf of each labelled
+-- tag's way keeps.
 use Rattle.std.proofs.Common.{◌≡◌, ◌≢◌, ℕ, ◌<◌, ◌≤◌, ◌==◌, Bool, true, false, cond, List, [], ◌∷◌, ◌++◌, map, take, length, Option, Some, None, slice_get, slice_set, refl, sym, ap, subst, ◌∙◌, ◌⊎◌, inl, inr, arith, Contains, IsSomeAnd}
 use Rattle.std.proofs.lemmas.Option.{same_Some}
 use Rattle.std.proofs.lemmas.List.Elements.{Contains-append_cases, Contains-append_right}
@@ -187,7 +188,8 @@ module _ {A : Type 0} (net : Network A) (labelled : Labelling) (ranks : Ranking)
         let n = named net w name Staged (λ _. Unit {0}) h in
         rw n.is_place (queue_each net labelled ranks clock w is each n.place name.buffer name.serial n.chunk n.is_chunk n.stage_is)
 
-    -- An acknowledgement of the chunk was given: its entries went on to where each buffer keeps them.
+    -- An acknowledgement of the chunk was given: its entries went on to where each buffer keeps
+    -- them.
     answered_on : (place : ℕ) (chunk : Chunk) → (w.buffers place name.buffer).chunks name.serial ≡ Some chunk → IsAnswered w place name.buffer name.serial → KeepsAt net place name.buffer
         → (entry : List ℕ) → Contains chunk.entries entry → IsGoneOn net ranks w.buffers w.messages place name.buffer name.serial chunk.tag entry
     answered_on place chunk at any keeps entry inside =

@@ -1,4 +1,5 @@
--- After every list of steps each branch keeps what was acknowledged to a client, in a network in which each leaf of each labelled tag's way keeps.
+-- After every list of steps each branch keeps what was acknowledged to a client, in a network in
+-- which each leaf of each labelled tag's way keeps.
 use Rattle.std.proofs.Common.{◌≡◌, ◌≢◌, ℕ, ◌≤◌, Bool, true, false, List, [], ◌∷◌, ◌++◌, length, Some, get_or, slice_get, slice_set, refl, sym, ap, subst, ◌∙◌, inl, inr, arith, Contains}
 use Rattle.std.proofs.lemmas.Option.{same_Some}
 use Rattle.std.proofs.lemmas.List.Elements.{Contains-append_cases, All-contains_itself}
@@ -81,7 +82,8 @@ module _ {A : Type 0} (net : Network A) (labelled : Labelling) (leads : LeadOn n
     sender_below number m (sender.Client client) at from counts = omega arith
     sender_below number m (sender.Chunk p b s) at from counts = let less = ids_stay net labelled ranks clock w is number m p b s at from counts in omega (arith, less)
 
-    -- The events of a message whose delivery was appended to each leaf are kept by each buffer that they come to.
+    -- The events of a message whose delivery was appended to each leaf are kept by each buffer that
+    -- they come to.
     whole_along : (number : ℕ) (d : Delivery) (m : Message) → slice_get w.deliveries number ≡ Some d → slice_get w.messages d.message ≡ Some m → CanAcknowledge net d m
         → (messages : List Message) → AnsweredStay w.messages messages → ArePassedAlong net ranks w.buffers messages m
     whole_along number d m at there can messages stay counts entry inside =

@@ -1,4 +1,5 @@
--- After every list of steps nothing is lost in a network whose messages all lead to outputs that keep.
+-- After every list of steps nothing is lost in a network whose messages all lead to outputs that
+-- keep.
 use Rattle.std.proofs.Common.{ℕ, ◌+◌, List, [], ◌∷◌, get_or, slice_get, refl, arith}
 use Rattle.std.proofs.lemmas.List.Elements.{All-contains_itself}
 use Rattle.relay_net.specs.Network.{Network, address_of_client}

@@ -1,4 +1,5 @@
--- Where the rules on labels hold, each labelled tag leads to an output that keeps, and on to where it is labelled.
+-- Where the rules on labels hold, each labelled tag leads to an output that keeps, and on to where
+-- it is labelled.
 use Rattle.std.proofs.Common.{◌≡◌, ℕ, List, Option, Some, None, slice_get, refl, All, IsSome}
 use Rattle.std.proofs.lemmas.List.Elements.{All-contains}
 use Rattle.tag_pattern.specs.Items.{Item}

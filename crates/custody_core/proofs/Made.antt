@@ -1,4 +1,5 @@
--- After every list of steps whatever a sink holds a client sent, under a tag of which its tag is a routed one.
+-- After every list of steps whatever a sink holds a client sent, under a tag of which its tag is a
+-- routed one.
 use Rattle.std.proofs.Common.{◌≡◌, ℕ, ◌≤◌, ◌==◌, ◌&&◌, Bool, true, false, cond, List, [], ◌∷◌, ◌++◌, length, take, map, Option, Some, None, slice_get, slice_set, refl, sym, ap, ◌∙◌, inl, inr, arith, Contains}
 use Rattle.std.proofs.lemmas.Option.{same_Some}
 use Rattle.std.proofs.lemmas.Bool.{and_parts, eqb-true}
@@ -28,7 +29,8 @@ use Rattle.custody_core.proofs.Deliverings.{server_of}
 use Rattle.custody_core.proofs.Sourced.{AllSent, IsSourced, sourced_more, chunk_changes, sink_takes, takes_sent, oldest_goes, starts_again}
 use Rattle.tag_pattern.specs.Parts.{most_tag_bytes}
 
--- A client sent this entry with one of these messages, which may go on in one with this tag to this address.
+-- A client sent this entry with one of these messages, which may go on in one with this tag to this
+-- address.
 pub record IsFrom {A : Type 0} (net : Network A) (messages : List Message) (address : Address) (tag entry : List ℕ) : Type 0 where
   pub number : ℕ
   pub message : Message
@@ -37,7 +39,8 @@ pub record IsFrom {A : Type 0} (net : Network A) (messages : List Message) (addr
   pub among : Contains message.entries entry
   pub follows : Follows net message.address message.tag address tag
 
--- A client sent this event's entry with one of these messages, whose events may bear its tag in this buffer.
+-- A client sent this event's entry with one of these messages, whose events may bear its tag in
+-- this buffer.
 pub record IsBorneFrom {A : Type 0} (net : Network A) (messages : List Message) (place buffer : ℕ) (event : Event) : Type 0 where
   pub number : ℕ
   pub message : Message
@@ -59,7 +62,8 @@ pub record IsOpened {A : Type 0} (net : Network A) (messages : List Message) (de
   pub short : length delivery.tag ≤ most_tag_bytes
   pub ends : ¬ HasLoop net delivery.entrance delivery.tag message.entries
 
--- A client sent each entry of every message, and whatever is in a buffer or a sink, under tags that lead there.
+-- A client sent each entry of every message, and whatever is in a buffer or a sink, under tags that
+-- lead there.
 pub record IsHonest {A : Type 0} (net : Network A) (w : World) : Type 0 where
   pub messages : (k : ℕ) (m : Message) → slice_get w.messages k ≡ Some m → AllFrom net w.messages m.address m.tag m.entries
   pub deliveries : (k : ℕ) (d : Delivery) → slice_get w.deliveries k ≡ Some d → IsOpened net w.messages d

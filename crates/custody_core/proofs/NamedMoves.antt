@@ -1,4 +1,5 @@
--- The steps on chunks that are named keep what is known of a network whose messages all lead to outputs that keep.
+-- The steps on chunks that are named keep what is known of a network whose messages all lead to
+-- outputs that keep.
 use Rattle.std.proofs.Common.{◌≡◌, ◌≢◌, ℕ, ◌+◌, ◌≤◌, true, false, List, [], length, take, Option, Some, None, refl, sym, ◌∙◌, IsSomeAnd}
 use Rattle.std.specs.Option.{option_and_then, option_map_or}
 use Rattle.custody_store.specs.declared.chunk.Stage.{Stage}

@@ -32,14 +32,16 @@ IsTaken net labelled address tag = IsSomeAnd (entrance net address) (λ at. labe
 abbrev pub IsSentOn : {A : Type 0} → Network A → Labelling → ℕ → ℕ → List ℕ → Type 0
 IsSentOn net labelled place buffer tag = (o : Output _) → output_at net place buffer ≡ Some o → (number : ℕ) (server : Server _) → slice_get (servers_of o) number ≡ Some server → IsTaken net labelled (address_of_server server) tag
 
--- Where labelled tags lead: clients send such tags, each has a way that ends and a leaf that keeps, and each leaf sends it to such scopes alone.
+-- Where labelled tags lead: clients send such tags, each has a way that ends and a leaf that keeps,
+-- and each leaf sends it to such scopes alone.
 pub record LeadOn {A : Type 0} (net : Network A) (labelled : Labelling) : Type 0 where
   pub clients : (number : ℕ) (client : Client A) → slice_get net.clients number ≡ Some client → (tag : List ℕ) → HaveTag client.patterns.items tag → IsTaken net labelled (address_of_client net client) tag
   pub ends : (at : Entrance) (tag : List ℕ) → labelled at tag → ¬ IsLoop (table_at net at.relay) tag at.scope
   pub keeps : (at : Entrance) (tag : List ℕ) → labelled at tag → (buffer : ℕ) × IsLeaf (table_at net at.relay) tag at.scope buffer × KeepsAt net at.relay buffer
   pub sends : (at : Entrance) (tag : List ℕ) → labelled at tag → (buffer : ℕ) → IsLeaf (table_at net at.relay) tag at.scope buffer → IsSentOn net labelled at.relay buffer tag
 
--- the rank above which the events of a sender's messages must be safe: a client's is below all others
+-- the rank above which the events of a sender's messages must be safe: a client's is below all
+-- others
 abbrev pub rank_of : Ranking → Sender → ℕ
 rank_of ranks (sender.Client client) = 0
 rank_of ranks (sender.Chunk place buffer serial) = ranks place buffer serial + 1
@@ -65,7 +67,8 @@ module _ {A : Type 0} (net : Network A) (ranks : Ranking) (clock : ℕ) (buffers
   abbrev pub AreSafe : ℕ → Address → List ℕ → List (List ℕ) → Type 0
   AreSafe rank address tag entries = (entry : List ℕ) → Contains entries entry → IsSafe net ranks buffers rank (record { address = address; tag = tag; entry = entry })
 
-  -- each event that may bear the tag in this buffer, and has one of these entries, is safe above the rank
+  -- each event that may bear the tag in this buffer, and has one of these entries, is safe above
+  -- the rank
   abbrev pub AreSafeOnward : ℕ → ℕ → ℕ → List ℕ → List (List ℕ) → Type 0
   AreSafeOnward rank place buffer tag entries = (origin : Origin) → Bears net origin place buffer tag → Contains entries origin.entry → IsSafe net ranks buffers rank origin
 
@@ -82,22 +85,23 @@ module _ {A : Type 0} (net : Network A) (ranks : Ranking) (clock : ℕ) (buffers
   HasId (sender.Client client) tag entries = Unit {0}
   HasId (sender.Chunk place buffer serial) tag entries = KeepsAt net place buffer → IsIdOf (ranks place buffer) clock (buffers place buffer) serial tag entries
 
-  -- A message leads to a source, to which its sender sends; its sender has its id; if it was acknowledged, its events are safe.
+  -- A message leads to a source, to which its sender sends; its sender has its id; if it was
+  -- acknowledged, its events are safe.
   pub record IsKnown (labelled : Labelling) (message : Message) : Type 0 where
     pub taken : IsTaken net labelled message.address message.tag
     pub from : IsSentFrom net message.sender message.address
     pub id : HasId message.sender message.tag message.entries
     pub answered : message.acknowledged ≡ true → ArePassedOn message.sender message.address message.tag message.entries
 
-  -- A live chunk leads to sources. In a buffer that keeps it was queued or is staged; with evidence its events are safe
-  -- elsewhere.
+  -- A live chunk leads to sources. In a buffer that keeps it was queued or is staged; with evidence
+  -- its events are safe elsewhere.
   pub record IsKnownChunk (labelled : Labelling) (place buffer serial : ℕ) (chunk : Chunk) : Type 0 where
     pub sent_on : IsSentOn net labelled place buffer chunk.tag
     pub ranked : KeepsAt net place buffer → chunk.stage ≢ Staged → ranks place buffer serial < clock
     pub evident : KeepsAt net place buffer → chunk.evidence ≡ true → (chunk.stage ≢ Staged) × AreSafeOnward (ranks place buffer serial + 1) place buffer chunk.tag chunk.entries
 
-  -- A delivery is of a message that came in where its tag, as it is prefixed there, is labelled; where it was appended to a buffer that keeps, the
-  -- events of that are safe.
+  -- A delivery is of a message that came in where its tag, as it is prefixed there, is labelled;
+  -- where it was appended to a buffer that keeps, the events of that are safe.
   pub record IsKnownDelivery (labelled : Labelling) (messages : List Message) (delivery : Delivery) : Type 0 where
     pub message : Message
     pub there : slice_get messages delivery.message ≡ Some message

@@ -1,4 +1,5 @@
--- Events that are safe above a rank: in a sink, or in a chunk of a buffer that keeps which was queued later.
+-- Events that are safe above a rank: in a sink, or in a chunk of a buffer that keeps which was
+-- queued later.
 use Rattle.std.proofs.Common.{◌≡◌, ℕ, ◌≤◌, ◌==◌, ◌&&◌, true, false, cond, List, Some, refl, sym, ◌∙◌, ◌⊎◌, inl, inr, arith, Contains, IsSomeAnd}
 use Rattle.std.proofs.lemmas.Bool.{and_parts, eqb-true, eq-eqb}
 use Rattle.custody_store.specs.declared.chunk.Stage.{Stage}
@@ -35,7 +36,8 @@ pub record IsHeldFrom (ranks : ℕ → ℕ) (rank : ℕ) (state : BufferState) (
   pub inside : IsInChunk chunk event
   pub ranked : RanksFrom chunk.stage (ranks serial) rank
 
--- The origin's event is in a sink, or in a live chunk of a buffer that keeps which ranks so high, under a tag that it may bear there.
+-- The origin's event is in a sink, or in a live chunk of a buffer that keeps which ranks so high,
+-- under a tag that it may bear there.
 pub record IsSafe {A : Type 0} (net : Network A) (ranks : Ranking) (buffers : Buffers) (rank : ℕ) (origin : Origin) : Type 0 where
   pub place : ℕ
   pub buffer : ℕ

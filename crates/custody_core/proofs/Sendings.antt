@@ -1,4 +1,5 @@
--- The steps that send, deliver and acknowledge messages keep what is known of a network whose messages all lead to outputs that keep.
+-- The steps that send, deliver and acknowledge messages keep what is known of a network whose
+-- messages all lead to outputs that keep.
 use Rattle.std.proofs.Common.{◌≡◌, ◌≢◌, ℕ, ◌<◌, ◌≤◌, Bool, true, false, List, [], ◌∷◌, ◌++◌, Some, None, slice_get, slice_set, refl, sym, ap, ◌∙◌, inl, inr, arith, length, Contains}
 use Rattle.std.proofs.lemmas.Option.{same_Some}
 use Rattle.std.proofs.lemmas.List.Elements.{Contains-append_cases}
@@ -25,7 +26,8 @@ use Rattle.custody_core.proofs.Ranked.{Labelling, LeadOn, IsSentFrom, ArePassedO
 use Rattle.custody_core.proofs.AppendMoves.{append_ranked}
 use Rattle.tag_pattern.specs.Parts.{most_tag_bytes}
 
--- Each message of the one list is in the other, from the same sender to the same address, with its tag and its entries.
+-- Each message of the one list is in the other, from the same sender to the same address, with its
+-- tag and its entries.
 pub record IsMessageOf (messages : List Message) (number : ℕ) (old : Message) : Type 0 where
   pub message : Message
   pub there : slice_get messages number ≡ Some message
@@ -193,7 +195,8 @@ module _ {A : Type 0} (net : Network A) (labelled : Labelling) (leads : LeadOn n
       let o = is_of w number (λ d m. CanAppend net w d m buffer serial) h in
       rw o.delivery_is (rw o.message_is (appended_at number buffer serial o.delivery o.message o.delivery_is o.message_is o.holds))
 
-  -- The events of a message whose delivery was appended to each leaf are safe: one of the leaves keeps.
+  -- The events of a message whose delivery was appended to each leaf are safe: one of the leaves
+  -- keeps.
   pub whole_safe : (number : ℕ) (d : Delivery) (m : Message) → slice_get w.deliveries number ≡ Some d → slice_get w.messages d.message ≡ Some m → CanAcknowledge net d m → ArePassedOn net ranks clock w.buffers m.sender m.address m.tag m.entries
   whole_safe number d m at there can counts entry inside =
       let known = is.deliveries number d at in

@@ -1,4 +1,5 @@
--- What a sink takes, what a relay that starts again loses, and what a buffer that doesn't keep lets go, keep what is known of a network.
+-- What a sink takes, what a relay that starts again loses, and what a buffer that doesn't keep lets
+-- go, keep what is known of a network.
 use Rattle.std.proofs.Common.{◌≡◌, ℕ, ◌≤◌, ◌&&◌, Bool, true, false, cond, List, ◌++◌, Option, Some, None, option_map, refl, sym, ap, subst, ◌∙◌, inl, inr, arith, IsSomeAnd}
 use Rattle.std.proofs.lemmas.Option.{same_Some}
 use Rattle.std.proofs.lemmas.List.Elements.{Contains-append_left}

@@ -17,7 +17,8 @@ abbrev pub IsClient : Sender → Type 0
 IsClient (sender.Client client) = Unit {0}
 IsClient (sender.Chunk place buffer serial) = ⊥
 
--- The message has this event's entry, a client sent it, and the event's tag is one that it may bear.
+-- The message has this event's entry, a client sent it, and the event's tag is one that it may
+-- bear.
 pub record IsOriginOf {A : Type 0} (net : Network A) (event : Event) (message : Message) : Type 0 where
   pub client : IsClient message.sender
   pub tag : IsRoutedTag net message.address message.tag event.tag
@@ -27,8 +28,8 @@ pub record IsOriginOf {A : Type 0} (net : Network A) (event : Event) (message : 
 abbrev pub WasSent : {A : Type 0} → Network A → World → Event → Type 0
 WasSent net w event = Any (IsOriginOf net event) w.messages
 
--- An acknowledged event is kept as a plan asks: a buffer or a sink has it, under a tag that it may bear; or, under the duty every, it is
--- kept along each branch of its way.
+-- An acknowledged event is kept as a plan asks: a buffer or a sink has it, under a tag that it may
+-- bear; or, under the duty every, it is kept along each branch of its way.
 abbrev pub IsKeptAs : {A : Type 0} → Duty → Network A → World → Told → Type 0
 IsKeptAs duty.Any net w told = IsKept net w told
 IsKeptAs duty.Every net w told = IsKeptEvery net w told
@@ -37,7 +38,8 @@ IsKeptAs duty.Every net w told = IsKeptEvery net w told
 abbrev pub NothingIsLost : {A : Type 0} → Network A → World → Type 0
 NothingIsLost net w = All (IsKept net w) w.acknowledged
 
--- Every event that was acknowledged to a client comes to a buffer, and is kept by each buffer that it comes to, or further on from there.
+-- Every event that was acknowledged to a client comes to a buffer, and is kept by each buffer that
+-- it comes to, or further on from there.
 abbrev pub EachBranchKeeps : {A : Type 0} → Network A → World → Type 0
 EachBranchKeeps net w = All (IsKeptEvery net w) w.acknowledged
 

@@ -1,4 +1,5 @@
--- How what was acknowledged is held: by sinks, and by chunks that were queued after the one that it was sent from.
+-- How what was acknowledged is held: by sinks, and by chunks that were queued after the one that it
+-- was sent from.
 use Rattle.std.specs.Prelude.{◌≡◌, ◌+◌, ◌≤◌, ℕ, true, List, Some, Contains, IsSomeAnd, slice_get, ◌⊎◌}
 use Rattle.custody_store.specs.declared.chunk.Stage.TheVariants.{Staged}
 use Rattle.custody_store.specs.Buffers.{Event, Chunk, BufferState, IsInChunk}
@@ -27,8 +28,8 @@ pub record IsInChunkFrom (times : ℕ → ℕ) (least : ℕ) (state : BufferStat
   pub inside : IsInChunk chunk event
   pub late : (chunk.stage ≡ Staged) ⊎ (least ≤ times serial)
 
--- The entry of a message with this tag, sent to this address, is held from this time on, under a tag that it may bear: in a sink, or in
--- such a chunk of a buffer whose output keeps.
+-- The entry of a message with this tag, sent to this address, is held from this time on, under a
+-- tag that it may bear: in a sink, or in such a chunk of a buffer whose output keeps.
 pub record IsHeldFrom {A : Type 0} (net : Network A) (w : World) (times : Times) (least : ℕ) (address : Address) (tag entry : List ℕ) : Type 0 where
   pub place : ℕ
   pub buffer : ℕ
@@ -36,7 +37,8 @@ pub record IsHeldFrom {A : Type 0} (net : Network A) (w : World) (times : Times)
   pub routed : IsRoutedTag net address tag borne
   pub held : Contains (w.buffers place buffer).sink (record { tag = borne; entry = entry }) ⊎ (KeepsAt net place buffer × IsInChunkFrom (times place buffer) least (w.buffers place buffer) (record { tag = borne; entry = entry }))
 
--- from when on the entries of a sender's messages have to be held: those of a client at any time, those of a chunk after its own
+-- from when on the entries of a sender's messages have to be held: those of a client at any time,
+-- those of a chunk after its own
 abbrev pub since : Times → Sender → ℕ
 since times (sender.Client client) = 0
 since times (sender.Chunk place buffer serial) = times place buffer serial + 1
@@ -46,9 +48,10 @@ abbrev pub Hands : {A : Type 0} → Network A → Sender → Type 0
 Hands net (sender.Client client) = Unit {0}
 Hands net (sender.Chunk place buffer serial) = KeepsAt net place buffer
 
--- There are times of chunks such that each entry of an acknowledged message, which a client or a chunk of a buffer that keeps sent, is held
--- from the sender's time on; and so each event is that was acknowledged to a client. So no chunk is let go for the sake of one that goes
--- before it, in a cycle of relays neither.
+-- There are times of chunks such that each entry of an acknowledged message, which a client or a
+-- chunk of a buffer that keeps sent, is held from the sender's time on; and so each event is that
+-- was acknowledged to a client. So no chunk is let go for the sake of one that goes before it, in a
+-- cycle of relays neither.
 pub record AreHeldOnward {A : Type 0} (net : Network A) (w : World) : Type 0 where
   pub times : Times
   pub messages : (number : ℕ) (message : Message) → slice_get w.messages number ≡ Some message → message.acknowledged ≡ true → Hands net message.sender

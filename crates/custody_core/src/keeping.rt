@@ -8,8 +8,9 @@ use custody_steps::World;
 use loss_rules::Duty;
 use std::alloc::{AllocError, Allocator};
 
-/// Whether an event of this number, counted from 0, was acknowledged to a client and is kept as is asked: under the duty any held under a
-/// tag that it may bear, under the duty every kept along each branch of its way. The only error is want of memory.
+/// Whether an event of this number, counted from 0, was acknowledged to a client and is kept as is
+/// asked: under the duty any held under a tag that it may bear, under the duty every kept along
+/// each branch of its way. The only error is want of memory.
 pub fn is_kept_as<A: Allocator + Copy>(
     world: &World<'_, A>,
     duty: Duty,

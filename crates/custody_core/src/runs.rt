@@ -16,17 +16,18 @@ use relay_net::Net;
 use std::alloc::Allocator;
 use step_lines::Step;
 
-/// Takes the steps one after another, from the network before the first step. An `Err` has the number of the
-/// first step that is refused, counted from 1, and why.
+/// Takes the steps one after another, from the network before the first step. An `Err` has the
+/// number of the first step that is refused, counted from 1, and why.
 ///
-/// After every list of steps whatever a sink holds a client sent, under a tag that becomes the sink's where sources put prefixes
-/// in front of it. In every network that obeys the rules on labels, for some labels and reaches, and whose relays number each
-/// output's buffer once, each event that was acknowledged to a client is then in a live chunk of a buffer or in a sink, under such
-/// a tag and with its bytes unchanged.
-/// What was acknowledged, to chunks too, is held by sinks and by chunks of buffers that keep, which are staged or were queued later than
-/// the chunk that sent it.
-/// Where besides each output of each reached match keeps or is a relabel, each buffer that the event comes to keeps it, or what it was
-/// forwarded to does.
+/// After every list of steps whatever a sink holds a client sent, under a tag that becomes the
+/// sink's where sources put prefixes in front of it. In every network that obeys the rules on
+/// labels, for some labels and reaches, and whose relays number each output's buffer once, each
+/// event that was acknowledged to a client is then in a live chunk of a buffer or in a sink, under
+/// such a tag and with its bytes unchanged.
+/// What was acknowledged, to chunks too, is held by sinks and by chunks of buffers that keep, which
+/// are staged or were queued later than the chunk that sent it.
+/// Where besides each output of each reached match keeps or is a relabel, each buffer that the
+/// event comes to keeps it, or what it was forwarded to does.
 pub fn run<'n, A: Allocator + Copy>(
     alloc: A,
     net: &'n Net<A>,

@@ -35,7 +35,8 @@ all_changed true b count in_memory now first is empty = elim (cases_lt b count) 
   | inr most ↦ (let none = empty refl most in is ∙ rw (le-ltb b count most) (rw none (empty_restarted in_memory)))
 ]
 
--- The buffers below a number of the relay at a place have started again, as far as they are in memory or not.
+-- The buffers below a number of the relay at a place have started again, as far as they are in
+-- memory or not.
 module _ (first : ℕ → ℕ → Contents) (in_memory : ℕ → ℕ → Bool) (place : ℕ) where
   abbrev pub StartedBelow : ℕ → (ℕ → ℕ → Contents) → Type 0
   StartedBelow count now = (p b : ℕ) → now p b ≡ cond ((p == place) && nat_lt b count) (restarted_contents (in_memory p b) (first p b)) (first p b)

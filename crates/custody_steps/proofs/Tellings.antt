@@ -5,7 +5,8 @@ use Rattle.relay_net.specs.Addresses.{Address}
 use Rattle.relay_net.specs.Network.{Network, address_of_client}
 use Rattle.relay_net.specs.declared.node.Client.{Client}
 
--- What holds of the event and of the address of its client is the answer on the event of this number.
+-- What holds of the event and of the address of its client is the answer on the event of this
+-- number.
 pub told_answer : {A : Type 0} (net : Network A) (acknowledged : List Told) (number : ℕ) (told : Told) (client : Client A) (host : List ℕ) (answer : Bool) (P : Address → Told → Type 0)
     → slice_get acknowledged number ≡ Some told → slice_get net.clients told.client ≡ Some client → host ≡ (address_of_client net client).host → IsTrue answer ↔ P (record { host = host; port = client.port }) told
     → IsSomeAnd (slice_get acknowledged number) (λ t. IsTrue answer ↔ IsSomeAnd (slice_get net.clients t.client) (λ x. P (address_of_client net x) t))

@@ -19,6 +19,7 @@ HeldAs net w address event = (tag : List ℕ) × IsRoutedTag net address event.t
 abbrev pub IsKept : {A : Type 0} → Network A → World → Told → Type 0
 IsKept net w told = IsSomeAnd (slice_get net.clients told.client) (λ client. HeldAs net w (address_of_client net client) told.event)
 
--- Whether the event of this number, counted from 0, that was acknowledged to a client is kept; none where no event has it.
+-- Whether the event of this number, counted from 0, that was acknowledged to a client is kept; none
+-- where no event has it.
 abbrev pub IsKeptAnswer : {A : Type 0} → Network A → World → ℕ → Option Bool → Type 0
 IsKeptAnswer net w number answer = MatchOption answer (slice_get w.acknowledged number ≡ None) (λ yes. IsSomeAnd (slice_get w.acknowledged number) (λ told. IsTrue yes ↔ IsKept net w told))

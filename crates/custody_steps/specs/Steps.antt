@@ -86,7 +86,8 @@ DropsOldest o = IsSomeAnd (settings_of o) (λ settings. settings.overflow_action
 abbrev pub tag_of : {A : Type 0} → Network A → Message → List ℕ
 tag_of net message = tag_at net message.address message.tag
 
--- A message may be taken where it comes in, if the tag that its events bear there is one, and its way ends.
+-- A message may be taken where it comes in, if the tag that its events bear there is one, and its
+-- way ends.
 abbrev pub CanBegin : {A : Type 0} → Network A → Message → Type 0
 CanBegin net message = IsSomeAnd (entrance net message.address) (λ at. (length (tag_of net message) ≤ most_tag_bytes) × ¬ HasLoop net at (tag_of net message) message.entries)
 
@@ -159,7 +160,8 @@ abbrev pub with_named : {A : Type 0} → Network A → World → ChunkName → (
 with_named net w name change = option_map_or
     (λ place. with_buffer w place name.buffer (λ state. with_chunk name.serial (option_and_then change (state.chunks name.serial)) state)) (place_of net name.relay) w
 
--- the world after so many first entries of the chunk of this name were stored in the sink of its output
+-- the world after so many first entries of the chunk of this name were stored in the sink of its
+-- output
 abbrev pub with_stored : {A : Type 0} → Network A → World → ChunkName → (List (List ℕ) → List (List ℕ)) → World
 with_stored net w name those = option_map_or
     (λ place. with_buffer w place name.buffer (λ state. record state {
@@ -225,13 +227,15 @@ effect net w (step.Restart relay) = option_map_or
 
 -- Whole runs.
 
--- Each step of the list is allowed where it is taken, and they lead from the one world to the other.
+-- Each step of the list is allowed where it is taken, and they lead from the one world to the
+-- other.
 abbrev pub Steps : {A : Type 0} → Network A → World → List (Step A) → World → Type 0
 Steps net before [] after = after ≡ before
 Steps net before (first ∷ steps) after = Names net before first × Allowed net before first × Steps net (effect net before first) steps after
 
--- Memory may run out in this step. Where an event goes is looked for in memory, so that it may before it is known
--- whether the way, or the length of the tag with its prefix, allows the step; all else that the step asks for holds.
+-- Memory may run out in this step. Where an event goes is looked for in memory, so that it may
+-- before it is known whether the way, or the length of the tag with its prefix, allows the step;
+-- all else that the step asks for holds.
 abbrev pub MayRunOut : {A : Type 0} → Network A → World → Step A → Type 0
 MayRunOut net w (step.Begin message) = IsSomeAnd (slice_get w.messages message) (λ m. IsSome (entrance net m.address))
 MayRunOut net w (step.Append delivery buffer serial) = OfDelivery w delivery (λ d m. (d.is_open ≡ true) × (¬ Contains d.appended buffer) × CanTake (w.buffers d.entrance.relay buffer) d.tag serial)
@@ -252,13 +256,15 @@ MayRunOut net w (step.Discard name) = Allowed net w (step.Discard name)
 MayRunOut net w (step.Oldest relay buffer) = Allowed net w (step.Oldest relay buffer)
 MayRunOut net w (step.Restart relay) = Allowed net w (step.Restart relay)
 
--- The step is refused for this reason: it names what isn't there, or else isn't allowed, or memory ran out.
+-- The step is refused for this reason: it names what isn't there, or else isn't allowed, or memory
+-- ran out.
 abbrev pub IsRefused : {A : Type 0} → Network A → World → Step A → StepFault → Type 0
 IsRefused net w s fault.NoSuch = ¬ Names net w s
 IsRefused net w s fault.NotAllowed = Names net w s × (¬ Allowed net w s)
 IsRefused net w s fault.Memory = Names net w s × MayRunOut net w s
 
--- The step of this number, counted from 1, is the first of the list that is refused, for this reason.
+-- The step of this number, counted from 1, is the first of the list that is refused, for this
+-- reason.
 pub record IsRefusedAt {A : Type 0} (net : Network A) (steps : List (Step A)) (number : ℕ) (fault : StepFault) : Type 0 where
   pub before : List (Step A)
   pub refused : Step A
@@ -275,8 +281,8 @@ Refuses names allowed fault.NoSuch = ¬ names
 Refuses names allowed fault.NotAllowed = names × (¬ allowed)
 Refuses names allowed fault.Memory = ⊥
 
--- What a refusal or a success must mean, of a step with these names, this condition, a part of it that is known where memory runs
--- out, and this effect. A refusal changes nothing.
+-- What a refusal or a success must mean, of a step with these names, this condition, a part of it
+-- that is known where memory runs out, and this effect. A refusal changes nothing.
 abbrev pub Answer : (names allowed known : Type 0) → World → World → World → Result (Unit {0}) StepFault → Type 0
 Answer names allowed known before after effect (Ok done) = names × allowed × (after ≡ effect)
 Answer names allowed known before after effect (Err fault.NoSuch) = (¬ names) × (after ≡ before)

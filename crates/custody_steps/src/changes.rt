@@ -1,4 +1,5 @@
-//! What a step changes: the live chunk that it names, the oldest of a buffer, and the answer to a message.
+//! What a step changes: the live chunk that it names, the oldest of a buffer, and the answer to a
+//! message.
 
 ghost use Rattle.std.specs.Prelude.{◌≡◌, ◌↔◌, ◌≤◌, Some, None, IsSome, IsSomeAnd, IsTrue, IfSome, OnOk, OnErr, true, cond, length, take, slice_get};
 ghost use Rattle.std.specs.Option.{ForSome};
@@ -46,7 +47,8 @@ impl<'n, A: Allocator + Copy> World<'n, A> {
         self.places.remove(found.place, found.buffer, found.serial);
     }
 
-    // The first entries of the chunk, so many of them, are stored in the sink. An `Err` changes nothing.
+    // The first entries of the chunk, so many of them, are stored in the sink. An `Err` changes
+    // nothing.
     pub(crate) fn store_first(&mut self, found: Found, count: usize) -> Result<(), AllocError>
         requires live { IsSome (chunk_of (world_of self.old) found) }
         requires has { ForSome (chunk_of (world_of self.old) found) (λ chunk. count ≤ length chunk.entries) }
@@ -79,7 +81,8 @@ impl<'n, A: Allocator + Copy> World<'n, A> {
         true
     }
 
-    // The message is acknowledged to its sender, and where that is a chunk, to its id. An `Err` changes nothing.
+    // The message is acknowledged to its sender, and where that is a chunk, to its id. An `Err`
+    // changes nothing.
     pub(crate) fn mark_answered(&mut self, message: usize, sender: Sender) -> Result<(), AllocError>
         requires { IsSomeAnd (slice_get (world_of self.old).messages message) (λ m. m.sender ≡ sender) }
         ensures net { net_of self.new ≡ net_of self.old }
@@ -101,8 +104,8 @@ impl<'n, A: Allocator + Copy> World<'n, A> {
         Ok(())
     }
 
-    // A relay acknowledges the message to its sender: where that is a client, its events are acknowledged, once each.
-    // An `Err` changes nothing.
+    // A relay acknowledges the message to its sender: where that is a client, its events are
+    // acknowledged, once each. An `Err` changes nothing.
     pub(crate) fn answer(&mut self, message: usize, sender: Sender) -> Result<(), AllocError>
         requires { IsSomeAnd (slice_get (world_of self.old).messages message) (λ m. m.sender ≡ sender) }
         ensures net { net_of self.new ≡ net_of self.old }

@@ -46,7 +46,8 @@ impl<'n, A: Allocator + Copy> World<'n, A> {
         Ok(())
     }
 
-    // Whether the chunk's output sends to further relays, and asks them for acknowledgements or doesn't, as is said.
+    // Whether the chunk's output sends to further relays, and asks them for acknowledgements or
+    // doesn't, as is said.
     fn is_forwarded(&self, found: Found, asks: bool) -> bool
         ensures { IsTrue result ↔ IsSomeAnd (output_at (net_of self.now) found.place found.buffer) (Forwards asks) }
     {

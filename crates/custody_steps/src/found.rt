@@ -2,7 +2,8 @@
 
 use custody_store::Look;
 
-/// A live chunk that a name was looked up for: the place of its relay, its buffer, its serial, and what may be asked of it.
+/// A live chunk that a name was looked up for: the place of its relay, its buffer, its serial, and
+/// what may be asked of it.
 #[derive(Clone, Copy)]
 pub(crate) struct Found {
     pub place: usize,

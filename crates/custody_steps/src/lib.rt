@@ -1,4 +1,5 @@
-//! A network of relays as a machine that takes one step after another, each exactly where the definitions allow it.
+//! A network of relays as a machine that takes one step after another, each exactly where the
+//! definitions allow it.
 #![tactic(auto)]
 
 mod changes;

@@ -7,7 +7,8 @@ use relay_conf::{Output, OverflowAction};
 use relay_net::settings;
 use std::alloc::Allocator;
 
-/// Whether the output sends to further relays, and asks them for acknowledgements or doesn't, as is said.
+/// Whether the output sends to further relays, and asks them for acknowledgements or doesn't, as is
+/// said.
 pub(crate) fn forwards<A: Allocator>(output: &Output<A>, asks: bool) -> bool
     ensures { IsTrue result ↔ Forwards asks output.now }
 {

@@ -58,8 +58,8 @@ impl<'n, A: Allocator + Copy> World<'n, A> {
         }
     }
 
-    /// The events that were acknowledged to clients, in the order of their acknowledgement, each under the tag that its client
-    /// sent.
+    /// The events that were acknowledged to clients, in the order of their acknowledgement, each
+    /// under the tag that its client sent.
     pub fn acknowledged(&self) -> &[Acknowledged<A>]
         ensures { told_events result.now ≡ (world_of self.now).acknowledged }
     {
@@ -73,8 +73,9 @@ impl<'n, A: Allocator + Copy> World<'n, A> {
         self.places.hold(tag, entry)
     }
 
-    /// Goes through all that is held once, so that `kept` finds what lies where it lies now without going through it again. It
-    /// changes no answer. An `Err` leaves all to be gone through as before.
+    /// Goes through all that is held once, so that `kept` finds what lies where it lies now without
+    /// going through it again. It changes no answer. An `Err` leaves all to be gone through as
+    /// before.
     pub fn collect(&mut self) -> Result<(), AllocError>
         ensures net { net_of self.new ≡ net_of self.old }
         ensures same { world_of self.new ≡ world_of self.old }
@@ -83,10 +84,11 @@ impl<'n, A: Allocator + Copy> World<'n, A> {
         Ok(())
     }
 
-    /// Whether the event of this number, counted from 0, that was acknowledged to a client is held under a tag that it may bear:
-    /// the one that the client sent, with the prefix of each source that it enters in front, along relabels and forwards.
-    /// `None` where no event has this number. It looks where the event's entry lay when that was collected, and follows the
-    /// event's ways; where the event isn't there, it looks at all that is held.
+    /// Whether the event of this number, counted from 0, that was acknowledged to a client is held
+    /// under a tag that it may bear: the one that the client sent, with the prefix of each source
+    /// that it enters in front, along relabels and forwards. `None` where no event has this number.
+    /// It looks where the event's entry lay when that was collected, and follows the event's ways;
+    /// where the event isn't there, it looks at all that is held.
     pub fn kept(&self, number: usize) -> Result<Option<bool>, AllocError>
         ensures { IfOk result (λ answer. IsKeptAnswer (net_of self.now) (world_of self.now) number answer) }
     {
@@ -127,7 +129,8 @@ impl<'n, A: Allocator + Copy> World<'n, A> {
         }
     }
 
-    // Whether the event is held under a tag that it may bear, if a message with it was sent to this host and port.
+    // Whether the event is held under a tag that it may bear, if a message with it was sent to this
+    // host and port.
     fn is_kept(&self, host: &[u8], port: u16, event: &Event<A>) -> Result<bool, AllocError>
         ensures { IfOk result (λ yes. IsTrue yes ↔ HeldAs (net_of self.now) (world_of self.now) (record { host = host.now; port = port }) (event_of event.now)) }
     {
@@ -150,8 +153,8 @@ impl<'n, A: Allocator + Copy> World<'n, A> {
         Ok(false)
     }
 
-    // Whether the event is held at a spot where its entry lay, under a tag that it may bear, if a message with it was sent to this host
-    // and port. Where it isn't, it may be held elsewhere.
+    // Whether the event is held at a spot where its entry lay, under a tag that it may bear, if a
+    // message with it was sent to this host and port. Where it isn't, it may be held elsewhere.
     fn is_found(&self, host: &[u8], port: u16, event: &Event<A>) -> Result<bool, AllocError>
         ensures { IfOk result (λ yes. IsTrue yes → HeldAs (net_of self.now) (world_of self.now) (record { host = host.now; port = port }) (event_of event.now)) }
     {
@@ -179,7 +182,8 @@ impl<'n, A: Allocator + Copy> World<'n, A> {
         is_routed_tag(self.alloc, self.net, host, port, event.tag.as_slice(), tag)
     }
 
-    // Whether the event is held under this tag, and may bear it, if a message with it was sent to this host and port.
+    // Whether the event is held under this tag, and may bear it, if a message with it was sent to
+    // this host and port.
     fn is_kept_under(
         &self,
         host: &[u8],
@@ -195,9 +199,10 @@ impl<'n, A: Allocator + Copy> World<'n, A> {
         is_routed_tag(self.alloc, self.net, host, port, event.tag.as_slice(), tag)
     }
 
-    /// Whether the event of this number, counted from 0, that was acknowledged to a client comes to a buffer, and is kept along each branch
-    /// of its way: each buffer that it comes to has it in a live chunk or in its sink, or was given an acknowledgement of a message with
-    /// it by a relay of the plan where it is kept so. `None` where no event has this number.
+    /// Whether the event of this number, counted from 0, that was acknowledged to a client comes to
+    /// a buffer, and is kept along each branch of its way: each buffer that it comes to has it in a
+    /// live chunk or in its sink, or was given an acknowledgement of a message with it by a relay
+    /// of the plan where it is kept so. `None` where no event has this number.
     /// It goes through all messages that were sent once for each that is found to be kept.
     pub fn kept_every(&self, number: usize) -> Result<Option<bool>, AllocError>
         ensures { IfOk result (λ answer. IsKeptEveryAnswer (net_of self.now) (world_of self.now) number answer) }
@@ -205,7 +210,8 @@ impl<'n, A: Allocator + Copy> World<'n, A> {
         self.kept_so(true, number)
     }
 
-    // Whether the event is kept along each branch of its way, if a message with it was sent to this host and port.
+    // Whether the event is kept along each branch of its way, if a message with it was sent to this
+    // host and port.
     fn is_kept_each(&self, host: &[u8], port: u16, event: &Event<A>) -> Result<bool, AllocError>
         ensures { IfOk result (λ yes. IsTrue yes ↔ EachKeeps (net_of self.now) (world_of self.now).buffers (world_of self.now).messages (record { host = host.now; port = port }) event.now.tag.items event.now.entry.items) }
     {
@@ -221,7 +227,8 @@ impl<'n, A: Allocator + Copy> World<'n, A> {
         )
     }
 
-    /// What is in the sink of this output, by the number of its relay and its buffer; nothing where there is none.
+    /// What is in the sink of this output, by the number of its relay and its buffer; nothing where
+    /// there is none.
     pub fn sink(&self, relay: u64, buffer: u64) -> &[Event<A>]
         ensures { stored_events result.now ≡ sink_named (net_of self.now) (world_of self.now) relay buffer }
     {
@@ -283,11 +290,13 @@ impl<'n, A: Allocator + Copy> World<'n, A> {
         }
     }
 
-    /// Takes a step. It is refused as `NoSuch` where it names what isn't there, else as `NotAllowed` where
-    /// what it asks for doesn't hold. `Memory` refuses only what would be allowed, but for `begin`, `append` and `ack`,
-    /// where it may come before the way was found. A refusal changes nothing.
-    /// The time doesn't depend on how much the network holds, but for the entries that the step moves, the way of the
-    /// message, the buffers of a relay that starts again, and the serials that `oldest` passes, each once between restarts.
+    /// Takes a step. It is refused as `NoSuch` where it names what isn't there, else as
+    /// `NotAllowed` where what it asks for doesn't hold. `Memory` refuses only what would be
+    /// allowed, but for `begin`, `append` and `ack`, where it may come before the way was found. A
+    /// refusal changes nothing.
+    /// The time doesn't depend on how much the network holds, but for the entries that the step
+    /// moves, the way of the message, the buffers of a relay that starts again, and the serials
+    /// that `oldest` passes, each once between restarts.
     pub fn step(&mut self, step: &Step<A>) -> Result<(), StepFault>
         ensures net { net_of self.new ≡ net_of self.old }
         ensures ok { OnOk result (Names (net_of self.old) (world_of self.old) step.now × Allowed (net_of self.old) (world_of self.old) step.now × (world_of self.new ≡ effect (net_of self.old) (world_of self.old) step.now)) }

@@ -83,7 +83,8 @@ pub sent_on_below : {A : Type 0} (count now : ℕ) (slot : Option (KeptChunk A))
 sent_on_below count now None is below = below
 sent_on_below count now (Some chunk) is below = record { stage = below.stage; evidence = below.evidence; forwarded = claimed_below count now chunk.stage below.stage is }
 
--- where the chunk at a serial is claimed, as the buffer shows it, that of the slot that was read there is
+-- where the chunk at a serial is claimed, as the buffer shows it, that of the slot that was read
+-- there is
 pub claimed_slot : {A : Type 0} (now : ℕ) (chunks : List (Option (KeptChunk A))) (serial : ℕ) (slot : Option (KeptChunk A)) → serial < length chunks → slot ≡ get_or chunks serial slot
     → IsSomeAnd (chunk_at (map (slot_from now) chunks) serial) (λ chunk. chunk.stage ≡ Claimed) → IsSomeAnd (slot_from now slot) (λ chunk. chunk.stage ≡ Claimed)
 claimed_slot now chunks serial slot within is h = subst (λ (o : Option Chunk). IsSomeAnd o (λ chunk. chunk.stage ≡ Claimed)) (chunk_at-view now chunks serial slot within is) h

@@ -8,7 +8,8 @@ pub record Event : Type 0 where
   pub tag : List ℕ
   pub entry : List ℕ
 
--- A live chunk. Since its relay's last restart there was evidence that it is delivered, and it was forwarded, or not.
+-- A live chunk. Since its relay's last restart there was evidence that it is delivered, and it was
+-- forwarded, or not.
 pub record Chunk : Type 0 where
   pub tag : List ℕ
   pub entries : List (List ℕ)
@@ -16,7 +17,8 @@ pub record Chunk : Type 0 where
   pub evidence : Bool
   pub forwarded : Bool
 
--- A buffer: its live chunks by serial, the serial that comes next, and what the sink of its output holds.
+-- A buffer: its live chunks by serial, the serial that comes next, and what the sink of its output
+-- holds.
 pub record BufferState : Type 0 where
   pub chunks : ℕ → Option Chunk
   pub next : ℕ
@@ -36,11 +38,13 @@ events_of tag entries = map (λ entry. record { tag = tag; entry = entry }) entr
 
 -- Appending.
 
--- The buffer takes an event of this tag at this serial: a staged chunk of the tag, or the next serial.
+-- The buffer takes an event of this tag at this serial: a staged chunk of the tag, or the next
+-- serial.
 abbrev pub CanTake : BufferState → List ℕ → ℕ → Type 0
 CanTake state tag serial = IsSomeAnd (state.chunks serial) (λ chunk. (chunk.stage ≡ Staged) × (chunk.tag ≡ tag)) ⊎ (serial ≡ state.next)
 
--- the buffer after these entries were appended at the serial: to the chunk that is there, else to a new one
+-- the buffer after these entries were appended at the serial: to the chunk that is there, else to a
+-- new one
 abbrev pub chunk_with : Option Chunk → List ℕ → List (List ℕ) → Chunk
 chunk_with None tag entries = record { tag = tag; entries = entries; stage = Staged; evidence = false; forwarded = false }
 chunk_with (Some chunk) tag entries = record chunk { entries = chunk.entries ++ entries }

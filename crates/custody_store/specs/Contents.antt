@@ -14,7 +14,8 @@ event_of event = record { tag = event.tag.items; entry = event.entry.items }
 abbrev pub stored_events : {A : Type 0} → List (Stored A) → List Event
 stored_events events = map event_of events
 
--- What a buffer and its sink have at one time, and to which serials an acknowledgement was ever given.
+-- What a buffer and its sink have at one time, and to which serials an acknowledgement was ever
+-- given.
 pub record Contents : Type 0 where
   pub chunks : List (Option Chunk)  -- by serial; `None` where the chunk is gone
   pub sink : List Event
@@ -53,7 +54,8 @@ longer entries chunk = Some (record chunk { entries = chunk.entries ++ entries }
 abbrev pub new_chunk : List ℕ → List (List ℕ) → Chunk
 new_chunk tag entries = record { tag = tag; entries = entries; stage = Staged; evidence = false; forwarded = false }
 
--- the chunks after these entries were appended at the serial: to the chunk that is there, else to a new one
+-- the chunks after these entries were appended at the serial: to the chunk that is there, else to a
+-- new one
 abbrev pub taken_in : List (Option Chunk) → ℕ → List ℕ → List (List ℕ) → List (Option Chunk)
 taken_in chunks serial tag entries = cond (nat_lt serial (length chunks)) (changed chunks serial (longer entries)) (chunks ++ Some (new_chunk tag entries) ∷ [])
 

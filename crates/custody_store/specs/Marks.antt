@@ -1,4 +1,5 @@
--- How a buffer keeps what a restart ends: by the generation in which it came, which each restart changes.
+-- How a buffer keeps what a restart ends: by the generation in which it came, which each restart
+-- changes.
 use Rattle.std.specs.Prelude.{◌≡◌, ℕ, ◌<◌, ◌≤◌, ◌==◌, Bool, false, cond, List, [], map, take, Option, Some, None, option_map, IfSome, All}
 use Rattle.std.specs.Option.{option_map_or}
 use Rattle.step_lines.specs.Texts.{texts_of}
@@ -82,8 +83,8 @@ first_of slot count = option_map_or (λ chunk. events_of chunk.tag (take count (
 abbrev pub contents_from : {A : Type 0} → ℕ → List (Option (KeptChunk A)) → List (Stored A) → List Bool → Contents
 contents_from now chunks sink answered = record { chunks = map (slot_from now) chunks; sink = stored_events sink; answered = answered }
 
--- After so many claims the generation is new to no chunk: a restart finds one that no mark has. Below the least serial
--- nothing is queued.
+-- After so many claims the generation is new to no chunk: a restart finds one that no mark has.
+-- Below the least serial nothing is queued.
 pub record IsSound {A : Type 0} (count now least : ℕ) (chunks : List (Option (KeptChunk A))) : Type 0 where
   pub below : All (IsSlotBelow count) chunks
   pub now_is : now ≤ count

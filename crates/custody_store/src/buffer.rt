@@ -16,11 +16,12 @@ use std::alloc::{AllocError, Allocator};
 use std::marker::Model;
 use tag_pattern::Tag;
 
-/// A buffer with the sink of its output. Serials count from 0; a chunk that went leaves its place empty. It knows to which
-/// serials an acknowledgement was ever given, also before a restart. To contracts it is these lists.
+/// A buffer with the sink of its output. Serials count from 0; a chunk that went leaves its place
+/// empty. It knows to which serials an acknowledgement was ever given, also before a restart. To
+/// contracts it is these lists.
 ///
-/// A restart costs nothing, but for what was in memory: claims, evidence and that a chunk was forwarded are kept with a
-/// generation, and a restart begins a new one.
+/// A restart costs nothing, but for what was in memory: claims, evidence and that a chunk was
+/// forwarded are kept with a generation, and a restart begins a new one.
 #[derive(Drop)]
 pub struct Buffer<A: Allocator> {
     chunks: Vec<Option<Chunk<A>>, A>,
@@ -85,8 +86,8 @@ impl<A: Allocator + Copy> Buffer<A> {
             || has_event(self.sink.as_slice(), tag, entry)
     }
 
-    /// The tag under which the entry is in the live chunk of this serial, or without one in the sink, at this place in that; if it is
-    /// there.
+    /// The tag under which the entry is in the live chunk of this serial, or without one in the
+    /// sink, at this place in that; if it is there.
     pub(crate) fn tag_at(&self, serial: Option<usize>, index: usize, entry: &[u8]) -> Option<&[u8]>
         ensures { IfSome result (λ tag. Holds (buffer_of self.now) (record { tag = tag.now; entry = entry.now })) }
     {
@@ -96,7 +97,8 @@ impl<A: Allocator + Copy> Buffer<A> {
         }
     }
 
-    /// Adds the spots of the entries that it or its sink holds, which is this buffer of the relay at this place.
+    /// Adds the spots of the entries that it or its sink holds, which is this buffer of the relay
+    /// at this place.
     pub(crate) fn add_spots(
         &self,
         spots: &mut Spots<A>,
@@ -129,7 +131,8 @@ impl<A: Allocator + Copy> Buffer<A> {
         add_event_tags(tags, self.sink.as_slice())
     }
 
-    /// Whether an event of this tag may be appended at this serial: to a staged chunk of the tag, or at the next.
+    /// Whether an event of this tag may be appended at this serial: to a staged chunk of the tag,
+    /// or at the next.
     pub fn takes(&self, serial: usize, tag: &[u8]) -> bool
         ensures { IsTrue result ↔ CanTake (buffer_of self.now) tag.now serial }
     {
@@ -257,8 +260,9 @@ impl<A: Allocator + Copy> Buffer<A> {
         }
     }
 
-    /// The least serial whose chunk is queued, if one is. It takes time for each serial that it passes, but passes none
-    /// again until a chunk of lesser serial is queued or the relay starts again.
+    /// The least serial whose chunk is queued, if one is. It takes time for each serial that it
+    /// passes, but passes none again until a chunk of lesser serial is queued or the relay starts
+    /// again.
     pub fn oldest(&mut self) -> Option<usize>
         ensures same { self.new ≡ self.old }
         ensures some { IfSome result (λ serial. (serial < length self.old.chunks) × (is_queued (chunk_at self.old.chunks serial) ≡ true) × (none_queued_below serial (chunk_at self.old.chunks) ≡ true)) }
@@ -287,8 +291,8 @@ impl<A: Allocator + Copy> Buffer<A> {
         Ok(())
     }
 
-    /// The relay stops and starts again: claimed chunks are queued, evidence and that a chunk was forwarded are forgotten.
-    /// Chunks in memory are lost, and their serials begin anew.
+    /// The relay stops and starts again: claimed chunks are queued, evidence and that a chunk was
+    /// forwarded are forgotten. Chunks in memory are lost, and their serials begin anew.
     pub fn restart(&mut self, in_memory: bool)
         ensures { self.new ≡ record self.old { chunks = restarted_chunks in_memory self.old.chunks } }
     {

@@ -44,8 +44,8 @@ pub(crate) enum Kept {
     Claimed(usize),
 }
 
-/// A live chunk. Evidence, and that it was forwarded, are kept with the generation in which they came: a later one ends
-/// them.
+/// A live chunk. Evidence, and that it was forwarded, are kept with the generation in which they
+/// came: a later one ends them.
 #[derive(Drop)]
 pub(crate) struct Chunk<A: Allocator> {
     pub tag: Tag<A>,

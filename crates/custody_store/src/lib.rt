@@ -1,5 +1,5 @@
-//! What the relays of a network have, without any rule of its steps: buffers with their sinks, ids that were answered,
-//! and what restarts leave of them.
+//! What the relays of a network have, without any rule of its steps: buffers with their sinks, ids
+//! that were answered, and what restarts leave of them.
 #![tactic(auto)]
 
 mod buffer;

@@ -24,7 +24,8 @@ pub(crate) struct Place<A: Allocator> {
 
 ghost use Rattle.custody_store.specs.PlaceLists.{contents_in};
 
-/// What the relays have, by their places and the numbers of their buffers: nothing, until there is something.
+/// What the relays have, by their places and the numbers of their buffers: nothing, until there is
+/// something.
 #[derive(Drop)]
 pub struct Places<A: Allocator> {
     list: Vec<Place<A>, A>,
@@ -117,7 +118,8 @@ impl<A: Allocator + Copy> Places<A> {
         hold_any(self.list.as_slice(), tag, entry)
     }
 
-    /// Whether the event is in a live chunk of this buffer, or in the sink of its output. It looks at each of them.
+    /// Whether the event is in a live chunk of this buffer, or in the sink of its output. It looks
+    /// at each of them.
     pub fn holds(&self, place: usize, buffer: usize, tag: &[u8], entry: &[u8]) -> bool
         ensures { IsTrue result ↔ Holds (buffer_of (contents_at self.now place buffer)) (record { tag = tag.now; entry = entry.now }) }
     {
@@ -146,7 +148,8 @@ impl<A: Allocator + Copy> Places<A> {
         found.tag_at(spot.serial, spot.index, entry)
     }
 
-    /// All tags under which something is held in a live chunk of some buffer or in a sink, and maybe others, each once.
+    /// All tags under which something is held in a live chunk of some buffer or in a sink, and
+    /// maybe others, each once.
     pub fn tags(&self) -> Result<Vec<Vec<u8, A>, A>, AllocError>
         ensures { IfOk result (λ tags. (event : Event) → HoldAnywhere self.now event → Contains (texts_of tags.items) event.tag) }
     {
@@ -330,7 +333,8 @@ impl<A: Allocator + Copy> Places<A> {
         found.restart(in_memory);
     }
 
-    /// All deliveries of the relay at this place of a number below this have ended. An `Err` changes nothing.
+    /// All deliveries of the relay at this place of a number below this have ended. An `Err`
+    /// changes nothing.
     pub fn close(&mut self, place: usize, number: usize) -> Result<(), AllocError>
         ensures contents { (p b : ℕ) → contents_at self.new p b ≡ contents_at self.old p b }
         ensures ok { OnOk result ((p : ℕ) → closed_at self.new p ≡ cond (p == place) number (closed_at self.old p)) }

@@ -3,8 +3,8 @@
 use std::alloc::{AllocError, Allocator};
 use std::collections::BTreeMap;
 
-/// Where an entry lies: in a buffer of the relay at this place, and there in the live chunk of a serial, or in the sink; and its
-/// place in that.
+/// Where an entry lies: in a buffer of the relay at this place, and there in the live chunk of a
+/// serial, or in the sink; and its place in that.
 #[derive(Clone, Copy)]
 pub struct Spot {
     pub(crate) place: usize,
@@ -13,8 +13,9 @@ pub struct Spot {
     pub(crate) index: usize,
 }
 
-/// The spots of each entry, as they were when they were collected. What lies at a spot has to be looked at again
-/// (`Places::tag_at`), so a spot that is missing or out of date costs time and changes no answer.
+/// The spots of each entry, as they were when they were collected. What lies at a spot has to be
+/// looked at again (`Places::tag_at`), so a spot that is missing or out of date costs time and
+/// changes no answer.
 #[derive(Drop)]
 pub struct Spots<A: Allocator> {
     by_entry: BTreeMap<Vec<u8, A>, Vec<Spot, A>, A>,

@@ -1,5 +1,5 @@
--- What becomes of a plan at whose named matches events may be let go: in place of the outputs of such a match stands one sink of its own,
--- which keeps.
+-- What becomes of a plan at whose named matches events may be let go: in place of the outputs of
+-- such a match stands one sink of its own, which keeps.
 use Rattle.std.specs.Prelude.{◌≡◌, ℕ, List, Some, None, IsSome, slice_get}
 use Rattle.relay_net.specs.Network.{Network, place_among}
 use Rattle.loss_rules.specs.Breaks.{Subject}
@@ -28,7 +28,8 @@ IsThere net name = (place scope rule : ℕ) × Means net name place scope rule
 abbrev pub IsNamed : {A : Type 0} → Network A → List DropName → ℕ → ℕ → ℕ → Type 0
 IsNamed net names place scope rule = (at : ℕ) × (name : DropName) × (slice_get names at ≡ Some name) × Means net name place scope rule
 
--- Of these matches each ends in such a sink; the others, and all else of the plan, are as they were.
+-- Of these matches each ends in such a sink; the others, and all else of the plan, are as they
+-- were.
 pub record AreLetGo {A : Type 0} (before : Subject A) (IsOne : ℕ → ℕ → ℕ → Type 0) (after : Subject A) : Type 0 where
   pub outline_stays : outline after.net.relays ≡ outline before.net.relays
   pub clients_stay : after.net.clients ≡ before.net.clients

@@ -12,8 +12,8 @@ use Rattle.loss_rules.specs.Sites.{rule_at, output_in_rule, BuffersAreDistinct}
 use Rattle.loss_rules.specs.declared.label.Duty.{Duty}
 use Rattle.deliberate_drops.specs.Sinks.{EndsInSink}
 
--- An event with this tag that comes into the scope ends in the one output of this match: its buffer is the only leaf of the event's way,
--- which is no loop, and the output keeps.
+-- An event with this tag that comes into the scope ends in the one output of this match: its buffer
+-- is the only leaf of the event's way, which is no loop, and the output keeps.
 pub record EndsThere {A : Type 0} (net : Network A) (place scope rule : ℕ) (tag : List ℕ) : Type 0 where
   pub sink : Output A
   pub sink_is : output_in_rule net place scope rule 0 ≡ Some sink

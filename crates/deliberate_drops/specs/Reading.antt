@@ -6,7 +6,8 @@ use Rattle.deliberate_drops.specs.Names.{is_scope_word, joined}
 abbrev pub HasNoColon : List ℕ → Type 0
 HasNoColon text = (i : ℕ) → i < length text → slice_index text i ≢ 58
 
--- The text is these fields: the first colon stands behind the first one, and the second behind the second.
+-- The text is these fields: the first colon stands behind the first one, and the second behind the
+-- second.
 pub record AreFields (text relay scope index : List ℕ) : Type 0 where
   pub text_is : text ≡ joined relay scope index
   pub relay_has_none : HasNoColon relay
@@ -21,7 +22,8 @@ pub record AreWords (first second third : List ℕ) (relay : ℕ) (scope : List 
   pub index_fits : index < 2 ^ 64
   pub index_is : decimal index ≡ third
 
--- whether a number's digits may begin like this: with no sign, and with a zero only where nothing stands behind it
+-- whether a number's digits may begin like this: with no sign, and with a zero only where nothing
+-- stands behind it
 abbrev pub can_begin : List ℕ → Bool
 can_begin [] = false
 can_begin (first ∷ []) = not (first == 43)

@@ -13,7 +13,8 @@ use Rattle.loss_rules.specs.Sites.{rule_at, output_in_rule}
 abbrev pub Clash : {A : Type 0} → Output A → Output A → Type 0
 Clash one two = ((buffer : ℕ) × (buffer_number one ≡ Some buffer) × (buffer_number two ≡ Some buffer)) ⊎ SharePath one two
 
--- The output stores in a sink, under this line of the configuration, and its buffer lets no chunk go before it is stored.
+-- The output stores in a sink, under this line of the configuration, and its buffer lets no chunk
+-- go before it is stored.
 abbrev pub IsKeepingSink : {A : Type 0} → ℕ → Output A → Type 0
 IsKeepingSink line (output.Null at) = ⊥
 IsKeepingSink line (output.Relabel target at) = ⊥

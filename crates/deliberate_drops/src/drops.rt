@@ -14,13 +14,15 @@ use crate::sink::own_sink;
 use plan_lines::PlanParts;
 use std::alloc::Allocator;
 
-/// The plan in which one sink of its own stands in place of the outputs of each match that is named: it keeps what comes, and no other
-/// output of its relay has its buffer's number or a path of its. All else is as it was: the patterns of these matches, other matches,
-/// relays, clients, labels, reaches and the duty. So a yes of that plan says of each acknowledged event that it is kept, or among those
-/// that came to such a match.
+/// The plan in which one sink of its own stands in place of the outputs of each match that is
+/// named: it keeps what comes, and no other output of its relay has its buffer's number or a path
+/// of its. All else is as it was: the patterns of these matches, other matches, relays, clients,
+/// labels, reaches and the duty. So a yes of that plan says of each acknowledged event that it is
+/// kept, or among those that came to such a match.
 ///
-/// Labels and reaches stay, though fewer may be needed: what only the outputs fed that were replaced gets no events. A name may stand
-/// twice. An error says which name means no match of the plan, or that memory ran out.
+/// Labels and reaches stay, though fewer may be needed: what only the outputs fed that were
+/// replaced gets no events. A name may stand twice. An error says which name means no match of the
+/// plan, or that memory ran out.
 pub fn with_drops<A: Allocator + Copy>(
     alloc: A,
     parts: PlanParts<A>,
@@ -44,7 +46,8 @@ pub fn with_drops<A: Allocator + Copy>(
     Ok(changed)
 }
 
-// A sink of its own in place of the outputs of the match that the name means, which has this place among the names.
+// A sink of its own in place of the outputs of the match that the name means, which has this place
+// among the names.
 fn let_go<A: Allocator + Copy>(
     alloc: A,
     parts: &mut PlanParts<A>,

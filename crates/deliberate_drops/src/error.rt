@@ -22,7 +22,8 @@ impl fmt::Display for NameError {
 
 impl Error for NameError {}
 
-/// Why a plan isn't changed. Names are counted from 0, in the order in which they are given; prints what is missing, without that place.
+/// Why a plan isn't changed. Names are counted from 0, in the order in which they are given; prints
+/// what is missing, without that place.
 #[derive(Clone, Copy, Debug, PartialEq, Eq)]
 pub enum DropError {
     /// No relay of the plan has the number of the name at this place.

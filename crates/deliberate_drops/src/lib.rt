@@ -1,5 +1,5 @@
-//! Matches of a plan at which events may be let go on purpose: their names, and the plan in which a sink that keeps stands in place of
-//! their outputs.
+//! Matches of a plan at which events may be let go on purpose: their names, and the plan in which a
+//! sink that keeps stands in place of their outputs.
 #![tactic(auto)]
 
 mod drops;

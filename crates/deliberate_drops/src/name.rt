@@ -9,7 +9,8 @@ use crate::numeral::numeral;
 use conf_values::is_label_name;
 use std::fmt;
 
-/// The name of a match, as `RELAY:SCOPE:INDEX`: in the words in which a plan's `reach` line names it.
+/// The name of a match, as `RELAY:SCOPE:INDEX`: in the words in which a plan's `reach` line names
+/// it.
 #[derive(Clone, Copy, Debug, PartialEq, Eq)]
 pub struct DropName<'t> {
     /// The relay's number. Of relays with equal numbers the first is meant.
@@ -38,8 +39,9 @@ impl fmt::Display for DropName<'_> {
 }
 
 impl<'t> DropName<'t> {
-    /// Reads a name, whose scope it lends from the text. A text is read only where it is the very one that the name is printed as: its
-    /// numbers have no sign and no zeros in front, the relay's is at most 4,294,967,295, and the scope is `.` or a label's name.
+    /// Reads a name, whose scope it lends from the text. A text is read only where it is the very
+    /// one that the name is printed as: its numbers have no sign and no zeros in front, the relay's
+    /// is at most 4,294,967,295, and the scope is `.` or a label's name.
     pub fn read(text: &'t str) -> Result<DropName<'t>, NameError>
         ensures name { IfOk result (λ name. IsName text.now name.relay name.scope.now name.index) }
         ensures only { IfOk result (λ name. (relay : ℕ) (scope : List ℕ) (index : ℕ) → IsName text.now relay scope index → (relay ≡ name.relay) × (scope ≡ name.scope.now) × (index ≡ name.index)) }

@@ -39,7 +39,8 @@ pub(crate) fn place_in<A: Allocator>(
     place_of(&parts.relays, name, at)
 }
 
-/// Where the match of these relays stands that the name means, which has this place among names. An error says what isn't there.
+/// Where the match of these relays stands that the name means, which has this place among names. An
+/// error says what isn't there.
 pub fn place_of<A: Allocator>(
     relays: &[Node<A>],
     name: &DropName<'_>,

@@ -11,8 +11,9 @@ use crate::name::DropName;
 use plan_lines::{Plan, PlanParts};
 use std::alloc::Allocator;
 
-/// Reads a plan as `Plan::read` does, of which these are the configurations that it names, and lets events go at the named matches, as
-/// `with_drops` does. An error is that of the plan; where there is none, that of the first name that means no match.
+/// Reads a plan as `Plan::read` does, of which these are the configurations that it names, and lets
+/// events go at the named matches, as `with_drops` does. An error is that of the plan; where there
+/// is none, that of the first name that means no match.
 pub fn plan_with_drops<A: Allocator + Copy>(
     alloc: A,
     net: &[u8],

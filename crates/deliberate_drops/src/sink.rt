@@ -16,8 +16,8 @@ use relay_conf::{
 use relay_net::buffer_number;
 use std::alloc::{AllocError, Allocator};
 
-/// One output, under this line: a sink that keeps, whose number and paths no output of the relay has. The numbers are tried one after the
-/// other, so memory runs out before they do.
+/// One output, under this line: a sink that keeps, whose number and paths no output of the relay
+/// has. The numbers are tried one after the other, so memory runs out before they do.
 pub(crate) fn own_sink<A: Allocator + Copy>(
     alloc: A,
     relay: &Relay<A>,

@@ -1,4 +1,5 @@
--- How what a stop leaves goes on over calls. These serve the crates above: a function owes one `goes_on` for each call.
+-- How what a stop leaves goes on over calls. These serve the crates above: a function owes one
+-- `goes_on` for each call.
 use Rattle.std.proofs.Common.{◌≡◌, ⊎_elim, ℕ, List, Option, option_map, refl, sym, ◌∙◌, ap, subst, arith, cond, false}
 use Rattle.std.specs.Str.{bytes_eq}
 use Rattle.std.proofs.lemmas.Map.{update_same, update_other, update-update}

@@ -5,7 +5,8 @@ use Rattle.disk_files.specs.Moments.{History, Elapses, now}
 use Rattle.disk_files.specs.Faults.{HasCause, FailsInTurn}
 use Rattle.disk_files.specs.declared.dir.DirError.{DirError}
 
--- The call asks the device. An honest folder stays honest, and time goes on; refusals are counted, and the device fails the call exactly if it was to.
+-- The call asks the device. An honest folder stays honest, and time goes on; refusals are counted,
+-- and the device fails the call exactly if it was to.
 pub record CallsDevice {D T : Type 0} (is_honest : D → Type 0) (history : D → History) (fails_after : D → ℕ → Bool) (fault_count : D → ℕ) (old new : D) (result : Result T DirError) : Type 0 where
   pub honest : is_honest old → is_honest new
   pub time : is_honest old → Elapses (history old) (history new)

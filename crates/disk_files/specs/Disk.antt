@@ -1,9 +1,11 @@
--- A folder on a disk: what was written to its files, how much of that is certainly there, and what a stop may leave.
+-- A folder on a disk: what was written to its files, how much of that is certainly there, and what
+-- a stop may leave.
 use Rattle.std.specs.Prelude.{◌≡◌, ◌⊎◌, ℕ, ◌≤◌, Bool, true, false, List, [], ◌++◌, length, take, Option, Some, None, IsSome, cond, option_map}
 use Rattle.std.specs.Str.{bytes_eq}
 use Rattle.std.specs.Map.{update}
 
--- a file: all that was written to it, how many of these bytes are certainly on the disk, whether the file itself is, and whether it was removed
+-- a file: all that was written to it, how many of these bytes are certainly on the disk, whether
+-- the file itself is, and whether it was removed
 pub record File : Type 0 where
   pub written : List ℕ
   pub synced : ℕ
@@ -63,8 +65,8 @@ reads disk name = read_of (disk name)
 abbrev pub WasRemoved : Disk → List ℕ → Type 0
 WasRemoved disk name = IsSome (disk name) × (reads disk name ≡ None)
 
--- What a stop may leave of one file: a beginning of what was written that holds at least what was synced.
--- Nothing may be left where the file was removed, or isn't certainly on the disk.
+-- What a stop may leave of one file: a beginning of what was written that holds at least what was
+-- synced. Nothing may be left where the file was removed, or isn't certainly on the disk.
 abbrev pub MayStay : Option File → Option (List ℕ) → Type 0
 MayStay None left = left ≡ None
 MayStay (Some f) None = (f.is_removed ≡ true) ⊎ (f.is_durable ≡ false)

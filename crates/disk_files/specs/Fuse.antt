@@ -20,7 +20,8 @@ next_of Nothing = Nothing
 abbrev pub all_after : ℕ → (ℕ → Bool) → ℕ → Bool
 all_after passes below k = cond (nat_lt k passes) (below k) true
 
--- which calls fail: so many are passed on, the next one fails and isn't passed on, and all later ones are
+-- which calls fail: so many are passed on, the next one fails and isn't passed on, and all later
+-- ones are
 abbrev pub one_after : ℕ → (ℕ → Bool) → ℕ → Bool
 one_after passes below k = cond (nat_lt k passes) (below k) (cond (k == passes) true (below (k - 1)))
 

@@ -2,8 +2,8 @@
 use Rattle.std.specs.Prelude.{◌≡◌, ℕ, ◌≤◌, false, List, length, take, Option, Some, None}
 use Rattle.disk_files.specs.Disk.{File, Folder, new_file, with_bytes, flushed, unlinked, MayStay, StopLeaves, after_stop}
 
--- A stop inside a call leaves nothing that a stop before it or after it couldn't leave: so the disk before a call and the one after it
--- speak of each moment inside the call.
+-- A stop inside a call leaves nothing that a stop before it or after it couldn't leave: so the disk
+-- before a call and the one after it speak of each moment inside the call.
 pub record InsideCalls : Type 0 where
   -- some of the bytes of an append are out
   pub append : (f : File) (bytes : List ℕ) (n : ℕ) (left : Option (List ℕ)) → f.synced ≤ length f.written → MayStay (Some (with_bytes (take n bytes) f)) left → MayStay (Some (with_bytes bytes f)) left

@@ -8,7 +8,8 @@ use Rattle.disk_files.specs.Stop.{name_at}
 use Rattle.disk_files.specs.Table.{IsSound}
 use Rattle.disk_files.specs.Written.{last_place}
 
--- no two of its files share a name, of none more is synced than was written, and it knows which one was written to last
+-- no two of its files share a name, of none more is synced than was written, and it knows which one
+-- was written to last
 abbrev pub IsHonest : {A : Type 0} → MemoryDir A → Type 0
 IsHonest d = IsSound d.files.items × (d.last ≡ last_place d.files.items d.past)
 

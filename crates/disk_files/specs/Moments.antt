@@ -11,7 +11,8 @@ pub record History : Type 0 where
 abbrev pub now : History → Disk
 now h = h.disk_at h.moment
 
--- Time goes on over a call: the past stays as it was, and at each new moment the disk is as the call leaves it.
+-- Time goes on over a call: the past stays as it was, and at each new moment the disk is as the
+-- call leaves it.
 pub record Elapses (old new : History) : Type 0 where
   pub later : old.moment ≤ new.moment
   pub past : (t : ℕ) → t ≤ old.moment → SameDisk (new.disk_at t) (old.disk_at t)

@@ -1,4 +1,5 @@
--- What the files of a folder in memory were before each call that changed them, the last call first.
+-- What the files of a folder in memory were before each call that changed them, the last call
+-- first.
 use Rattle.std.specs.Prelude.{ℕ, List, [], ◌∷◌, length, nat_lt, cond}
 use Rattle.disk_files.specs.Disk.{Disk}
 use Rattle.disk_files.specs.Entry.{Entry}

@@ -1,4 +1,5 @@
--- A folder in memory as it reads is one that a stop may leave. (A law of the trait, so its proof stands here.)
+-- A folder in memory as it reads is one that a stop may leave. (A law of the trait, so its proof
+-- stands here.)
 use Rattle.std.specs.Prelude.{◌≡◌, ℕ, suc, ◌≤◌, Bool, true, false, List, [], ◌∷◌, length, Some, None, cond, nat_lt}
 use Rattle.std.specs.Str.{bytes_eq}
 use Rattle.std.proofs.Common.{refl, sym, ap, subst, arith, inl}

@@ -6,7 +6,8 @@ use Rattle.disk_files.specs.Entry.{Entry}
 use Rattle.disk_files.specs.declared.keep.Keep.{Keep}
 use Rattle.disk_files.specs.declared.keep.Keep.TheVariants.{Least, Greatest, Last}
 
--- what is left of a file that wasn't removed, where the last part of this test says whether it was the last one written to
+-- what is left of a file that wasn't removed, where the last part of this test says whether it was
+-- the last one written to
 abbrev pub left_by : Keep → Bool → File → Option (List ℕ)
 left_by Least is_last f = cond f.is_durable (Some (take f.synced f.written)) None
 left_by Greatest is_last f = Some f.written

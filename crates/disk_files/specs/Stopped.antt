@@ -3,7 +3,8 @@ use Rattle.std.specs.Prelude.{◌≡◌, ℕ, zero, suc, Bool, false, List, [], 
 use Rattle.disk_files.specs.Disk.{File, kept_file, unlinked}
 use Rattle.disk_files.specs.Entry.{Entry}
 
--- a file after a stop that keeps of each all or only what is certainly there; a removed one stays as it is
+-- a file after a stop that keeps of each all or only what is certainly there; a removed one stays
+-- as it is
 abbrev pub stopped : Bool → File → File
 stopped least f = cond f.is_removed f (cond least (cond f.is_durable (kept_file (take f.synced f.written)) (unlinked f)) (kept_file f.written))
 

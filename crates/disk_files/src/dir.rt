@@ -95,10 +95,12 @@ impl<A: Allocator> FileName<A> {
 
 /// A folder, whole: its files, and the device under it.
 ///
-/// A clause on bytes holds where the folder `is_honest`. Those on open files, on room and on the count of refusals hold
-/// of every folder. A stop may come at any moment, also inside a call: what it may leave is said of each moment's disk.
+/// A clause on bytes holds where the folder `is_honest`. Those on open files, on room and on the
+/// count of refusals hold of every folder. A stop may come at any moment, also inside a call: what
+/// it may leave is said of each moment's disk.
 pub trait Dir {
-    /// What is read is what was written, and a stop leaves no more and no less than the disk model says.
+    /// What is read is what was written, and a stop leaves no more and no less than the disk model
+    /// says.
     /// Of a real folder this isn't known.
     ghost is_honest: { Self → Type 0 };
 
@@ -117,8 +119,9 @@ pub trait Dir {
     /// How many calls were refused for another reason than memory.
     ghost fault_count: { Self → ℕ };
 
-    /// Makes an empty file, with room for so many bytes. `NameTaken`: a file has this name, or had it and was removed.
-    /// After another error the file may be there all the same, but for `Memory`, which changes nothing.
+    /// Makes an empty file, with room for so many bytes. `NameTaken`: a file has this name, or had
+    /// it and was removed. After another error the file may be there all the same, but for
+    /// `Memory`, which changes nothing.
     fn create(&mut self, name: &[u8], room: usize) -> Result<FileNo, DirError>
         ensures device { CallsDevice is_honest history fails_after fault_count self.old self.new result }
         ensures ok { is_honest self.old
@@ -138,7 +141,8 @@ pub trait Dir {
             → IsSome (now (history self.old) name.now) }
         ensures never_missing { result ≢ Err DirError.NoSuchFile };
 
-    /// Opens a file that is there. `NoSuchFile`: no file reads under this name. No error changes the disk.
+    /// Opens a file that is there. `NoSuchFile`: no file reads under this name. No error changes
+    /// the disk.
     fn open(&mut self, name: &[u8]) -> Result<FileNo, DirError>
         ensures device { CallsDevice is_honest history fails_after fault_count self.old self.new result }
         ensures same { is_honest self.old → SameDisk (now (history self.new)) (now (history self.old)) }
@@ -153,7 +157,8 @@ pub trait Dir {
             → (reads (now (history self.old)) name.now ≡ None) }
         ensures never_taken { result ≢ Err DirError.NameTaken };
 
-    /// Makes room for so many more bytes of an open file. The disk isn't touched, so a device's failure can't show here.
+    /// Makes room for so many more bytes of an open file. The disk isn't touched, so a device's
+    /// failure can't show here.
     fn reserve(&mut self, file: FileNo, room: usize) -> Result<(), AllocError>
         requires { IsSome (opened self.old file) }
         ensures alone { LeavesAlone is_honest history fault_count self.old self.new }
@@ -192,7 +197,8 @@ pub trait Dir {
             → bytes_left self.old other ≤ bytes_left self.new other }
         ensures only { OnErr result (result ≡ Err DirError.Fault) };
 
-    /// After its `Ok` each stop leaves the file, with all that was written to it. A `Fault` changes nothing.
+    /// After its `Ok` each stop leaves the file, with all that was written to it. A `Fault` changes
+    /// nothing.
     fn sync(&mut self, file: FileNo) -> Result<(), DirError>
         requires { IsSome (opened self.old file) }
         ensures device { CallsDevice is_honest history fails_after fault_count self.old self.new result }
@@ -205,8 +211,8 @@ pub trait Dir {
             → bytes_left self.old other ≤ bytes_left self.new other }
         ensures only { OnErr result (result ≡ Err DirError.Fault) };
 
-    /// Reads an open file from a place on, as far as the file and `into` reach, and says how many bytes these are.
-    /// After a `Fault` nothing is known of what `into` holds.
+    /// Reads an open file from a place on, as far as the file and `into` reach, and says how many
+    /// bytes these are. After a `Fault` nothing is known of what `into` holds.
     fn read_at(&mut self, file: FileNo, at: usize, into: &mut [u8]) -> Result<usize, DirError>
         requires { IsSome (opened self.old file) }
         ensures device { CallsDevice is_honest history fails_after fault_count self.old self.new result }
@@ -265,12 +271,13 @@ pub trait Dir {
             → bytes_left self.old other ≤ bytes_left self.new other }
         ensures only { OnErr result (result ≡ Err DirError.Fault) };
 
-    /// How many calls were refused for another reason than memory, up to the greatest number of its type.
+    /// How many calls were refused for another reason than memory, up to the greatest number of its
+    /// type.
     fn faults(&self) -> u64
         ensures { result ≡ fault_count self.now };
 
-    /// Whether a file of this name was removed, so that none can be made under it again. The device isn't touched.
-    /// A folder of the system makes a removed name again, and answers no.
+    /// Whether a file of this name was removed, so that none can be made under it again. The device
+    /// isn't touched. A folder of the system makes a removed name again, and answers no.
     fn was_removed(&self, name: &[u8]) -> bool
         ensures { is_honest self.now → (IsTrue result ↔ WasRemoved (now (history self.now)) name.now) };
 

@@ -7,6 +7,7 @@ pub enum Keep {
     Least,
     /// All that was written.
     Greatest,
-    /// So many bytes of the file that was written to last, but no fewer than were synced, and all of the others.
+    /// So many bytes of the file that was written to last, but no fewer than were synced, and all
+    /// of the others.
     Last(usize),
 }

@@ -17,7 +17,8 @@ use crate::past::Past;
 use crate::{Dir, DirError, FileName, FileNo, Keep, Writing};
 use std::alloc::{AllocError, Allocator};
 
-/// A folder in memory, which keeps what was written as a disk does, and can be stopped at any moment.
+/// A folder in memory, which keeps what was written as a disk does, and can be stopped at any
+/// moment.
 #[derive(Drop)]
 pub struct MemoryDir<A: Allocator> {
     alloc: A,
@@ -45,8 +46,8 @@ impl<A: Allocator + Copy> MemoryDir<A> {
         }
     }
 
-    /// Stops the folder as a loss of power would, keeps so much of what wasn't certainly on the disk, and starts it again.
-    /// What is left counts as synced, and no file is open.
+    /// Stops the folder as a loss of power would, keeps so much of what wasn't certainly on the
+    /// disk, and starts it again. What is left counts as synced, and no file is open.
     pub fn stop(self, keep: Keep) -> MemoryDir<A>
         ensures honest { IsHonest self → IsHonest result }
         ensures left { IsHonest self

@@ -13,7 +13,8 @@ use std::alloc::{AllocError, Allocator};
 use std::marker::Model;
 use std::snapshot::Snapshot;
 
-/// A file of a folder in memory. A removed one lets its bytes go: what was written to it is known to the proofs alone.
+/// A file of a folder in memory. A removed one lets its bytes go: what was written to it is known
+/// to the proofs alone.
 #[derive(Drop)]
 pub struct MemoryFile<A: Allocator> {
     name: FileName<A>,
@@ -259,7 +260,8 @@ pub fn cut_at<A: Allocator>(files: &mut Vec<MemoryFile<A>, A>, at: usize, n: usi
     files[at].cut(n);
 }
 
-/// Cuts the file at the place that was written to last, if there is one, to so many bytes, but to no fewer than are synced.
+/// Cuts the file at the place that was written to last, if there is one, to so many bytes, but to
+/// no fewer than are synced.
 pub fn cut_last<A: Allocator>(files: &mut Vec<MemoryFile<A>, A>, last: Option<usize>, n: usize)
     ensures sound { IsSound files.old.items → IsSound files.new.items }
     ensures left { IsSound files.old.items → (name : List ℕ) → left_state false (disk_of files.new.items name)

@@ -7,8 +7,9 @@ use std::alloc::Allocator;
 use std::marker::Model;
 use std::snapshot::Snapshot;
 
-/// What the files were before each call that changed them, the last call first. A snapshot has no bytes, so at run time
-/// there is no list, and a folder that runs for days costs what its files cost.
+/// What the files were before each call that changed them, the last call first. A snapshot has no
+/// bytes, so at run time there is no list, and a folder that runs for days costs what its files
+/// cost.
 #[derive(Drop)]
 #[cycle(past)]
 pub struct Past<A: Allocator> {

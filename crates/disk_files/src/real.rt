@@ -21,11 +21,13 @@ struct OpenFile<F, A: Allocator> {
     name: FileName<A>,
     path: String<A>,
     file: F,
-    // The folder was synced since the file was made or opened, so that the file's own place in it is on the disk.
+    // The folder was synced since the file was made or opened, so that the file's own place in it
+    // is on the disk.
     is_settled: bool,
 }
 
-/// A folder of the system. Nothing is proved of the bytes of its files: what a system call does can't be stated.
+/// A folder of the system. Nothing is proved of the bytes of its files: what a system call does
+/// can't be stated.
 #[derive(Drop)]
 pub struct RealDir<R: Files, A: Allocator> {
     rt: R,
@@ -45,9 +47,11 @@ where
     R::A: Clone,
     A: Allocator + Copy,
 {
-    /// The folder of this path, which is made, with those above it, where it isn't there. A refusal has the runtime again.
+    /// The folder of this path, which is made, with those above it, where it isn't there. A refusal
+    /// has the runtime again.
     ///
-    /// `Memory` comes first, and makes nothing. `Fault`: it couldn't be made or synced, and some of those above it may be there.
+    /// `Memory` comes first, and makes nothing. `Fault`: it couldn't be made or synced, and some of
+    /// those above it may be there.
     pub fn make(rt: R, alloc: A, path: &str) -> Result<RealDir<R, A>, (DirError, R)>
         ensures count { IfOk result (λ d. ⟦<RealDir<R, A> as Dir>⟧.fault_count d ≡ 0) }
         ensures value_returned { IfErr result (λ refused. refused.1 ≡ rt) }
@@ -62,8 +66,8 @@ where
         Ok(RealDir::at(rt, alloc, kept))
     }
 
-    /// The folder of this path, which has to be there by the first call. The error is want of memory, and has the runtime
-    /// again.
+    /// The folder of this path, which has to be there by the first call. The error is want of
+    /// memory, and has the runtime again.
     pub fn new(rt: R, alloc: A, path: &str) -> Result<RealDir<R, A>, AllocFailed<R>>
         ensures count { IfOk result (λ d. ⟦<RealDir<R, A> as Dir>⟧.fault_count d ≡ 0) }
         ensures value_returned { IfErr result (λ failed. failed.value ≡ rt) }
@@ -151,8 +155,8 @@ where
         }
     }
 
-    // Holds bytes back for the file at a place, behind those that are held for it. `false` where they are
-    // too many, or there is no memory for them: then they aren't held.
+    // Holds bytes back for the file at a place, behind those that are held for it. `false` where
+    // they are too many, or there is no memory for them: then they aren't held.
     fn hold(&mut self, at: usize, bytes: &[u8]) -> Result<bool, DirError>
         ensures files { (j : ℕ) → open_name (slice_get self.new.files.items j) ≡ open_name (slice_get self.old.files.items j) }
         ensures cause { HasCause self.old.faults self.new.faults result }
@@ -165,7 +169,8 @@ where
         Ok(bytes.len() < MOST_HELD && self.held.extend_from_slice(bytes).is_ok())
     }
 
-    // Writes what is held back. After a `Fault` a beginning of it may be written, and none of it is held.
+    // Writes what is held back. After a `Fault` a beginning of it may be written, and none of it is
+    // held.
     fn write_held(&mut self) -> Result<(), DirError>
         ensures files { (j : ℕ) → open_name (slice_get self.new.files.items j) ≡ open_name (slice_get self.old.files.items j) }
         ensures cause { HasCause self.old.faults self.new.faults result }
@@ -218,7 +223,8 @@ fn make_folder(rt: &impl Files, path: &str) -> io::Result<()> {
     make_in(rt, path)
 }
 
-// Makes the folder of a path in the one above it, which is synced then, so that a stop leaves the new one.
+// Makes the folder of a path in the one above it, which is synced then, so that a stop leaves the
+// new one.
 fn make_in(rt: &impl Files, path: &str) -> io::Result<()> {
     match fs::create_dir(rt, path) {
         Ok(()) => fs::open(rt, above(path))?.sync_all(),

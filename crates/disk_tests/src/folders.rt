@@ -205,7 +205,8 @@ fn leaves(alloc: Global, keep: Keep, left: &Left) -> Result<bool, DirError> {
     has(alloc, dir.stop(keep).stop(Keep::Least), left)
 }
 
-// How much a stop keeps, and what it leaves. All but what was written to `last` is there, or what was synced.
+// How much a stop keeps, and what it leaves. All but what was written to `last` is there, or what
+// was synced.
 static STOPS: [(Keep, Left); 6] = [
     (
         Keep::Least,
@@ -324,8 +325,8 @@ fn listed<D: Dir>(alloc: Global, dir: &mut D) -> Result<usize, DirError> {
     Ok(dir.list(alloc)?.len())
 }
 
-// How many files a folder has, whether names are taken in it, and how often it refused; then the folder. It may be kept under a lock
-// that threads share.
+// How many files a folder has, whether names are taken in it, and how often it refused; then the
+// folder. It may be kept under a lock that threads share.
 fn taken_in<D: Dir + Drop + Send>(
     alloc: Global,
     dir: D,
@@ -356,9 +357,9 @@ fn no_folder<R: Files + Alloc>(rt: &R, path: &str) {
     let _ = fs::remove_dir_all(rt, path);
 }
 
-// A folder of the system gets one file more, and counts what it refuses. What was held back is in its
-// place, whichever call hands it over: a sync, a close, an append that is handed over at once, or one to
-// another file.
+// A folder of the system gets one file more, and counts what it refuses. What was held back is in
+// its place, whichever call hands it over: a sync, a close, an append that is handed over at once,
+// or one to another file.
 static REAL: [Row; 18] = [
     (b"b.sink", Act::Create, None),
     (b"b.sink", Act::Append(b"h"), None),
@@ -435,7 +436,8 @@ fn real_files(rt: HostRuntime) -> Result<(), Fail> {
     assert!(rt; is_missing(alloc, none));
     let dir = made(rt.clone()?, "disk_files_test/made")?;
     assert!(rt; real_refusals(alloc, dir)?);
-    // A value made anew finds the file as it was written, also one that has what came back of a refusal.
+    // A value made anew finds the file as it was written, also one that has what came back of a
+    // refusal.
     let theirs = refused(rt.clone()?, "disk_files_test/made/b.sink/x")?;
     let anew = made(theirs, "disk_files_test/made")?;
     assert!(rt; has_one(alloc, anew, b"b.sink", b"hello, you")?);
@@ -488,7 +490,8 @@ fn files_that_are_gone_leave_their_places(rt: HostRuntime) -> Result<(), Fail> {
     Ok(())
 }
 
-// Whether each call goes well, and a name is free again then, in the one, and not before a stop, in the other.
+// Whether each call goes well, and a name is free again then, in the one, and not before a stop, in
+// the other.
 fn serves<D: Dir + Drop + Send>(alloc: Global, dir: D, is_free: bool) -> bool {
     let mut dir = dir;
     each_call(alloc, &mut dir, b"a") == Ok(())

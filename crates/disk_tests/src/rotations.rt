@@ -36,7 +36,8 @@ where
     Ok((sink, stored.is_ok()))
 }
 
-// Writes an entry at each of these times: how many are taken, whether the last is, and the folder then.
+// Writes an entry at each of these times: how many are taken, whether the last is, and the folder
+// then.
 fn written<D: Dir + Drop>(
     alloc: Global,
     dir: D,
@@ -87,8 +88,8 @@ fn next_files(rt: HostRuntime) -> Result<(), Fail> {
     Ok(())
 }
 
-// Whether a sink whose folder fails one call, behind so many, takes entries again after the pause, and has all that it took. True too
-// where it can't be opened.
+// Whether a sink whose folder fails one call, behind so many, takes entries again after the pause,
+// and has all that it took. True too where it can't be opened.
 fn recovers(alloc: Global, passes: u64) -> Result<bool, SeriesFault> {
     let folder = Fuse::once(MemoryDir::new(alloc), passes);
     let Ok((taken, is_last_taken, dir)) = written(alloc, folder, &[0, 1, 2, 49, 60, 120, 180])

@@ -82,7 +82,8 @@ fn has_both<D: Dir>(series: &mut Series<D, Global>) -> Result<bool, SeriesFault>
     })
 }
 
-// Whether a sink in this folder holds an entry under `a`, and then the one that is written under `b`.
+// Whether a sink in this folder holds an entry under `a`, and then the one that is written under
+// `b`.
 fn holds_both<D: Dir + Drop>(alloc: Global, dir: D) -> Result<bool, SeriesFault> {
     let mut series = opened(alloc, dir)?;
     adds_second(alloc, &mut series)
@@ -92,7 +93,8 @@ fn adds_second<D: Dir>(alloc: Global, series: &mut Series<D, Global>) -> Result<
     Ok(write(alloc, series, b"b")?.is_some() && has_both(series)?)
 }
 
-// Whether the receipt of an entry under `a` is right, and the folder of the sink that it is written to.
+// Whether the receipt of an entry under `a` is right, and the folder of the sink that it is written
+// to.
 fn received<D: Dir>(alloc: Global, series: Series<D, Global>) -> Result<(bool, D), SeriesFault>
 where
     D: Drop,
@@ -121,7 +123,8 @@ fn bytes_and_receipt(rt: HostRuntime) -> Result<(), Fail> {
     Ok(())
 }
 
-// Whether a sink in this folder, which may lie behind a lock that threads share, gives a right receipt and holds what is written to it.
+// Whether a sink in this folder, which may lie behind a lock that threads share, gives a right
+// receipt and holds what is written to it.
 fn serves<D: Dir + Drop + Send>(alloc: Global, dir: D) -> Result<bool, SeriesFault> {
     let (is_right, dir) = received(alloc, opened(alloc, dir)?)?;
     Ok(is_right && holds_both(alloc, dir)?)

@@ -15,13 +15,15 @@ use Rattle.event_json.specs.Json.{IsTextJson, IsJson, ext_tokens}
 abbrev pub second : ℕ
 second = 1000000000
 
--- the instant so many nanoseconds after the beginning of 1970, as RFC 3339 writes it, in UTC and with so many places behind the seconds
+-- the instant so many nanoseconds after the beginning of 1970, as RFC 3339 writes it, in UTC and
+-- with so many places behind the seconds
 pub record IsInstant (places : ℕ) (nanos : ℤ) (text : List ℕ) : Type 0 where
   pub shown : DateTime
   pub is : civil_nanos shown ≡ nanos
   pub text_is : text ≡ datetime_text false 84 (Some places) shown ++ zulu_text false
 
--- so many seconds after the beginning of 1970 are written as a date: from 0000-01-01T00:00:00Z to 9999-12-30T21:59:59Z
+-- so many seconds after the beginning of 1970 are written as a date: from 0000-01-01T00:00:00Z to
+-- 9999-12-30T21:59:59Z
 pub record IsDated (seconds : ℤ) : Type 0 where
   pub first : neg_ℤ (pos 62167219200) ≤ℤ seconds
   pub last : seconds ≤ℤ pos 253402207199
@@ -31,7 +33,8 @@ pub data IsSecondsJson (seconds : ℤ) (tokens : List Token) : Type 0 where
   Dated : (text : List ℕ) → IsDated seconds → IsInstant 0 (seconds *ℤ pos second) text → tokens ≡ string text ∷ [] → IsSecondsJson seconds tokens
   Undated : (IsDated seconds → ⊥) → tokens ≡ number (signed_decimal seconds) ∷ [] → IsSecondsJson seconds tokens
 
--- the nanoseconds since the beginning of 1970 that the content of an EventTime says: seconds, and nanoseconds
+-- the nanoseconds since the beginning of 1970 that the content of an EventTime says: seconds, and
+-- nanoseconds
 abbrev pub event_nanos : List ℕ → ℤ
 event_nanos content = pos (from_be_bytes w32 (take 4 content)) *ℤ pos second +ℤ pos (from_be_bytes w32 (drop 4 content))
 
@@ -52,12 +55,14 @@ pub data IsEventTimeJson (content : List ℕ) (tokens : List Token) : Type 0 whe
       → tokens ≡ string text ∷ [] → IsEventTimeJson content tokens
   Unsound : second ≤ from_be_bytes w32 (drop 4 content) → tokens ≡ ext_tokens 0 content → IsEventTimeJson content tokens
 
--- the value that stands for a time: without a fraction where it is an integer, and with one where it is an EventTime
+-- the value that stands for a time: without a fraction where it is an integer, and with one where
+-- it is an EventTime
 pub data IsTimeJson (time : List ℕ) (tokens : List Token) : Type 0 where
   Seconds : (seconds : ℤ) → IsInteger time seconds → IsSecondsJson seconds tokens → IsTimeJson time tokens
   Nanoseconds : (is : IsEventTime time) → IsEventTimeJson is.content tokens → IsTimeJson time tokens
 
--- the object that stands for an event: its tag, as a str of the same content would be written, its time, and its record
+-- the object that stands for an event: its tag, as a str of the same content would be written, its
+-- time, and its record
 pub record IsEventJson (tag entry : List ℕ) (tokens : List Token) : Type 0 where
   pub entry_is : IsEntry entry entry
   pub tag_value : List Token

@@ -44,8 +44,8 @@ abbrev pub infinity : Bool → List ℕ
 infinity true = codes "Infinity"
 infinity false = codes "-Infinity"
 
--- The float that these bits are in this format (IEEE 754, section 3.4), where `sign` is the bit of the sign and `most` the bits of infinity:
--- a number that reads back as it, where there is one.
+-- The float that these bits are in this format (IEEE 754, section 3.4), where `sign` is the bit of
+-- the sign and `most` the bits of infinity: a number that reads back as it, where there is one.
 pub data IsFloatJson (format : Format) (sign most bits : ℕ) (tokens : List Token) : Type 0 where
   NotANumber : most < bits % sign → tokens ≡ word_tokens (codes "NaN") → IsFloatJson format sign most bits tokens
   Infinite : bits % sign ≤ most → float_is_finite (from_bits format bits) ≡ false → tokens ≡ word_tokens (infinity (nat_lt bits sign)) → IsFloatJson format sign most bits tokens

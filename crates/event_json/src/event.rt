@@ -12,8 +12,9 @@ use crate::walk::first_item;
 use json::Writer;
 use std::alloc::{AllocError, Allocator};
 
-/// Adds the line of an event to lines, which it takes and gives back: an object with its `tag`, its `time` and its `record`, and a line feed.
-/// `entry` is a stored entry: `92`, the time's bytes and the record's.
+/// Adds the line of an event to lines, which it takes and gives back: an object with its `tag`, its
+/// `time` and its `record`, and a line feed. `entry` is a stored entry: `92`, the time's bytes and
+/// the record's.
 ///
 /// The only error is want of memory; the lines are gone then.
 pub fn put_event<A: Allocator + Copy>(
@@ -32,7 +33,8 @@ pub fn put_event<A: Allocator + Copy>(
     Ok(all)
 }
 
-/// The time of an event, in nanoseconds since the beginning of 1970. `entry` is a stored entry, as above.
+/// The time of an event, in nanoseconds since the beginning of 1970. `entry` is a stored entry, as
+/// above.
 pub fn time_of(entry: &[u8]) -> i128
     requires { IsStored entry.now }
     ensures { IsTimeOf entry.now result }

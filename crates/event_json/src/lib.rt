@@ -1,4 +1,5 @@
-//! An event as JSON (RFC 8259): each MessagePack item as the value that stands for it, by rules from which the item can be read back.
+//! An event as JSON (RFC 8259): each MessagePack item as the value that stands for it, by rules
+//! from which the item can be read back.
 #![tactic(auto)]
 
 mod event;

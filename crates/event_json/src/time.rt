@@ -15,7 +15,8 @@ use json::Writer;
 use msgpack_bytes::{Head, head};
 use std::alloc::{AllocError, Allocator};
 
-// The first and the last second, since 1970, that is written as a date: 0000-01-01T00:00:00Z and 9999-12-30T21:59:59Z.
+// The first and the last second, since 1970, that is written as a date: 0000-01-01T00:00:00Z and
+// 9999-12-30T21:59:59Z.
 const FIRST: i128 = -62_167_219_200;
 
 const LAST: i128 = 253_402_207_199;

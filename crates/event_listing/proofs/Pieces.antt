@@ -203,7 +203,8 @@ file_unread chosen known old stop = record { text = []; unseen = []; printed = t
 
 -- ---- the pieces of a file, one behind another
 
--- what is printed of the pieces so far, of which these bytes are held, from this place of the file on
+-- what is printed of the pieces so far, of which these bytes are held, from this place of the file
+-- on
 pub record FileOn (chosen : Chosen) (known now old new : Option (List ℕ)) (held : List ℕ) (at : ℕ) : Type 0 where
   pub read : List ℕ
   pub text : List ℕ

@@ -3,8 +3,9 @@ use Rattle.std.specs.Prelude.{ℕ, ℤ, ◌≡◌, ◌⊎◌, ◌≤ℤ◌, ◌<
 use Rattle.tag_pattern.specs.Items.{Item}
 use Rattle.route_graph.specs.Ways.{HaveTag}
 
--- The tags that are chosen, those of one of these patterns, or all where there are none; and the times, in nanoseconds since the beginning of
--- 1970: not before the first, and before the last, where there is such a bound.
+-- The tags that are chosen, those of one of these patterns, or all where there are none; and the
+-- times, in nanoseconds since the beginning of 1970: not before the first, and before the last,
+-- where there is such a bound.
 pub record Chosen : Type 0 where
   pub patterns : List (List Item)
   pub since : Option ℤ

@@ -30,14 +30,16 @@ pub record IsEndSaid (bytes name line : List ℕ) : Type 0 where
   pub end_is : IsEnd bytes holds.rest (Ended at behind)
   pub said : IsEndNote name (Ended at behind) line
 
--- This is written of what is said of the file of this name, which is read to its end: all of it, or its beginning where the writer failed.
+-- This is written of what is said of the file of this name, which is read to its end: all of it, or
+-- its beginning where the writer failed.
 pub record IsNoted (known : Option (List ℕ)) (name written : List ℕ) : Type 0 where
   pub line : List ℕ
   pub unseen : List ℕ
   pub line_is : written ++ unseen ≡ line
   pub said : IfSome known (λ bytes. IsEndSaid bytes name line)
 
--- What is printed and said of the file of this name: it is read to its end, or it isn't; or memory ran out or the writer failed.
+-- What is printed and said of the file of this name: it is read to its end, or it isn't; or memory
+-- ran out or the writer failed.
 pub record PrintsNamed (known : Option (List ℕ)) (chosen : Chosen) (name : List ℕ) (out notes : Option (List ℕ) × Option (List ℕ)) (result : Result Bool Stop) : Type 0 where
   pub text : List ℕ
   pub unseen : List ℕ
@@ -57,7 +59,8 @@ abbrev pub status_of : Bool → Status
 status_of true = Done
 status_of false = No
 
--- All files are read to their ends: all of their events are printed, and it is said of each what stands behind them.
+-- All files are read to their ends: all of their events are printed, and it is said of each what
+-- stands behind them.
 pub record AreWhole (named : List ℕ → Option (List ℕ)) (chosen : Chosen) (names : List (List ℕ)) (text : List ℕ) (notes : Option (List ℕ) × Option (List ℕ)) : Type 0 where
   pub whole : AreListed (λ name. IsWhole chosen (named name)) names text
   pub written : List ℕ
@@ -70,7 +73,8 @@ IsStatus named chosen names text unseen notes Done = (unseen ≡ []) × AreWhole
 IsStatus named chosen names text unseen notes No = (unseen ≡ []) × AreListed (λ name. IsBegun chosen (named name)) names text
 IsStatus named chosen names text unseen notes Usage = AreBegun named chosen names text
 
--- These files are printed: all events of all of them; or of each its first events; or memory ran out or the writer failed before that.
+-- These files are printed: all events of all of them; or of each its first events; or memory ran
+-- out or the writer failed before that.
 pub record PrintsEvents (named : List ℕ → Option (List ℕ)) (chosen : Chosen) (names : List (List ℕ)) (out notes : Option (List ℕ) × Option (List ℕ)) (status : Status) : Type 0 where
   pub text : List ℕ
   pub unseen : List ℕ

@@ -15,7 +15,8 @@ pub data IsPrintedOf (chosen : Chosen) (event : Event) (text : List ℕ) : Type 
 abbrev pub ArePrinted : Chosen → List Event → List ℕ → Type 0
 ArePrinted chosen events text = AreListed (IsPrintedOf chosen) events text
 
--- The text is what is printed of all events that the bytes hold, and behind their items stand these bytes.
+-- The text is what is printed of all events that the bytes hold, and behind their items stand these
+-- bytes.
 pub record PrintsAll (chosen : Chosen) (bytes text rest : List ℕ) : Type 0 where
   pub events : List Event
   pub holds : Holds bytes events

@@ -12,7 +12,8 @@ use Rattle.event_listing.specs.declared.sink.Stop.TheVariants.{Output}
 abbrev pub longest_item : ℕ
 longest_item = 16779264
 
--- a file of these bytes, of which this rest stands behind the events, is read to its end; or it is damaged, since more stands there than an event has
+-- a file of these bytes, of which this rest stands behind the events, is read to its end; or it is
+-- damaged, since more stands there than an event has
 abbrev pub IsEnd : List ℕ → List ℕ → End → Type 0
 IsEnd bytes rest (Ended at behind) = (at ≡ length bytes - length rest) × (behind ≡ length rest)
 IsEnd bytes rest (Damaged at) = (at ≡ length bytes - length rest) × (longest_item < length rest)
@@ -25,7 +26,8 @@ is_ended (Damaged at) = false
 abbrev pub IsTaken : List ℕ → Stop → Type 0
 IsTaken unseen stop = (unseen ≡ []) ⊎ (stop ≡ Output)
 
--- How the file is read, where it is known what it has: to the end of its events, all of which are printed; or some are.
+-- How the file is read, where it is known what it has: to the end of its events, all of which are
+-- printed; or some are.
 pub record PrintsFile (chosen : Chosen) (known old new : Option (List ℕ)) (result : Result End Stop) : Type 0 where
   pub text : List ℕ
   pub unseen : List ℕ
@@ -34,7 +36,8 @@ pub record PrintsFile (chosen : Chosen) (known old new : Option (List ℕ)) (res
       MatchResult result (λ end. (unseen ≡ []) × IfSome known (λ bytes. (rest : List ℕ) × PrintsAll chosen bytes text rest × IsEnd bytes rest end))
       (λ stop. IsTaken unseen stop × IfSome known (λ bytes. PrintsSome chosen bytes text))
 
--- Of the bytes that are held with a piece, from this place of the file on, all events are printed and taken off; or some are printed.
+-- Of the bytes that are held with a piece, from this place of the file on, all events are printed
+-- and taken off; or some are printed.
 pub record PrintsPiece (chosen : Chosen) (held left : ℕ × List ℕ) (old new : Option (List ℕ)) (result : Result (Unit {0}) Stop) : Type 0 where
   pub text : List ℕ
   pub unseen : List ℕ

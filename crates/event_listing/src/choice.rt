@@ -14,7 +14,8 @@ use tag_pattern::{Plain, Tag, TagError};
 pub struct Choice<A: Allocator> {
     /// The tag is one of these patterns; each tag where there are none.
     pub patterns: Vec<Plain<A>, A>,
-    /// The time isn't before this, in nanoseconds since the beginning of 1970, if there is such a bound.
+    /// The time isn't before this, in nanoseconds since the beginning of 1970, if there is such a
+    /// bound.
     pub since: Option<i128>,
     /// The time is before this.
     pub until: Option<i128>,

@@ -11,14 +11,17 @@ use program_text::{Open, Status};
 use std::alloc::Allocator;
 use std::io::Write;
 
-/// Prints the chosen events of these sinks' files, in the files' order and in each file's own: a line of JSON for each.
+/// Prints the chosen events of these sinks' files, in the files' order and in each file's own: a
+/// line of JSON for each.
 ///
-/// On `notes` stands how many bytes are behind the events of a file, where there are some: a write under way, or one that a stop cut. A file
-/// is damaged where more stand there than any event has: it is read no further. The status is `No` where a file is damaged or isn't read to its
-/// end; the others are printed all the same. It is `Usage` where memory ran out or the writer failed: nothing more is printed then.
+/// On `notes` stands how many bytes are behind the events of a file, where there are some: a write
+/// under way, or one that a stop cut. A file is damaged where more stand there than any event has:
+/// it is read no further. The status is `No` where a file is damaged or isn't read to its end; the
+/// others are printed all the same. It is `Usage` where memory ran out or the writer failed:
+/// nothing more is printed then.
 ///
-/// A file is read in pieces of 65,536 bytes. Of one file at a time are held: a piece, the bytes of one event (at most 16,779,264), and the lines of
-/// the events that end in the piece.
+/// A file is read in pieces of 65,536 bytes. Of one file at a time are held: a piece, the bytes of
+/// one event (at most 16,779,264), and the lines of the events that end in the piece.
 pub fn run_events<A: Allocator + Copy, B: Allocator, C: Allocator, O: Open, W: Write, V: Write>(
     alloc: A,
     choice: &Choice<B>,
@@ -46,7 +49,8 @@ fn status_of(is_sound: bool) -> Status
     if is_sound { Status::Done } else { Status::No }
 }
 
-// Prints the chosen events of the file of this name, and says what stands behind them. It answers whether the file is read to its end.
+// Prints the chosen events of the file of this name, and says what stands behind them. It answers
+// whether the file is read to its end.
 fn print_named<A: Allocator + Copy, B: Allocator, O: Open, W: Write, V: Write>(
     alloc: A,
     choice: &Choice<B>,

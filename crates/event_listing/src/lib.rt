@@ -1,4 +1,5 @@
-//! The word `events`: the events that a relay's sinks hold, each as a line of JSON. Nothing is written to a sink.
+//! The word `events`: the events that a relay's sinks hold, each as a line of JSON. Nothing is
+//! written to a sink.
 #![tactic(auto)]
 
 mod choice;

@@ -40,7 +40,8 @@ pub(crate) fn print_held<A: Allocator + Copy, B: Allocator>(
     })
 }
 
-// Adds what is printed of an event to lines, which it takes and gives back. The error is want of memory.
+// Adds what is printed of an event to lines, which it takes and gives back. The error is want of
+// memory.
 fn put_chosen<A: Allocator + Copy, B: Allocator>(
     alloc: A,
     choice: &Choice<B>,

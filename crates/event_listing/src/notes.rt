@@ -11,7 +11,8 @@ use program_text::{Status, put_all};
 use std::alloc::{AllocError, Allocator};
 use std::io::Write;
 
-/// Says what stands behind the events of the file of this name, if anything does. Where there is no memory for it, that is said.
+/// Says what stands behind the events of the file of this name, if anything does. Where there is no
+/// memory for it, that is said.
 pub(crate) fn note_end<A: Allocator, V: Write>(alloc: A, name: &str, end: End, notes: &mut V)
     ensures { (text unseen : List ℕ) × IsEndNote name.now end text × TakesPart (V.contents notes.old) (V.contents notes.new) text unseen }
 {

@@ -11,7 +11,8 @@ use std::alloc::{AllocError, Allocator};
 use std::io;
 use std::io::{ErrorKind, Write};
 
-/// The most bytes that the item of an event has: its first byte, its tag as a str, and its time and record.
+/// The most bytes that the item of an event has: its first byte, its tag as a str, and its time and
+/// record.
 pub const LONGEST_ITEM: usize = 16_779_264;
 
 /// Where the events of a file end.
@@ -19,7 +20,8 @@ pub const LONGEST_ITEM: usize = 16_779_264;
 pub(crate) enum End {
     /// The file is read to its end: its events have so many bytes, and so many stand behind them.
     Ended { at: u64, behind: usize },
-    /// The file is read no further: its events have so many bytes, and no event begins behind them, whatever follows.
+    /// The file is read no further: its events have so many bytes, and no event begins behind them,
+    /// whatever follows.
     Damaged { at: u64 },
 }
 
@@ -55,8 +57,8 @@ impl Stop {
     }
 }
 
-/// Prints the chosen events that a sink's file holds, in their order. It holds a piece, the bytes of one event, and the lines of those that end in the
-/// piece.
+/// Prints the chosen events that a sink's file holds, in their order. It holds a piece, the bytes
+/// of one event, and the lines of those that end in the piece.
 pub(crate) fn print_sink<A: Allocator + Copy, B: Allocator, R: CountedRead, W: Write>(
     alloc: A,
     choice: &Choice<B>,
@@ -128,7 +130,8 @@ impl<A: Allocator + Copy> Held<A> {
         }
     }
 
-    // Prints the chosen events that are whole with the next piece, and takes all of these off. A file has fewer than 2^64 bytes.
+    // Prints the chosen events that are whole with the next piece, and takes all of these off. A
+    // file has fewer than 2^64 bytes.
     fn print<B: Allocator, W: Write>(
         &mut self,
         choice: &Choice<B>,

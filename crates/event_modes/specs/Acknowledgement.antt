@@ -5,7 +5,8 @@ use Rattle.msgpack_bytes.specs.Kinds.{IsText}
 use Rattle.msgpack_bytes.specs.Containers.{Pair, IsMap}
 use Rattle.msgpack_bytes.specs.Names.{IsLastValue}
 
--- the item acknowledges the chunk with this content, however the two spell it: a map whose last "ack" is a str or bin
+-- the item acknowledges the chunk with this content, however the two spell it: a map whose last
+-- "ack" is a str or bin
 pub record IsAcknowledgement (bytes content : List ℕ) : Type 0 where
   pub item : IsItemWithin bytes
   pub pairs : List Pair

@@ -1,4 +1,5 @@
--- The names that chunks are sent under: 16 bytes as text (Forward Protocol Specification v1, "Option", chunk).
+-- The names that chunks are sent under: 16 bytes as text (Forward Protocol Specification v1,
+-- "Option", chunk).
 use Rattle.std.specs.Prelude.{ℕ, ◌<◌, ◌^◌, List, ◌++◌}
 use Rattle.std.specs.Int.{w32, w64, to_be_bytes}
 use Rattle.base64.specs.Engines.{standard}

@@ -1,4 +1,5 @@
--- Why bytes are no message: the first fault, in the order in which the parts of a message are examined.
+-- Why bytes are no message: the first fault, in the order in which the parts of a message are
+-- examined.
 use Rattle.std.specs.Prelude.{ℕ, ◌≡◌, ◌≢◌, ◌⊎◌, List, [], ◌∷◌, ◌++◌, Option, Some, None, codes}
 use Rattle.std.specs.List.{AllByRecursion, concat}
 use Rattle.msgpack_bytes.specs.declared.answers.MsgFault.{MsgFault}
@@ -74,7 +75,8 @@ FrameFault frame fault = ((fault ≡ BadTag) × ((tag : List ℕ) → IsTag fram
     ⊎ (((tag : List ℕ) × IsTag frame.tag tag × CarriedFault frame.carrier fault)
     ⊎ ((tag : List ℕ) × (entries : List (List ℕ)) × IsTag frame.tag tag × Carries frame.carrier entries × OptionFault frame.option fault))
 
--- an item that is neither nil nor a message: it has not the places of any mode, or the first fault in them
+-- an item that is neither nil nor a message: it has not the places of any mode, or the first fault
+-- in them
 abbrev pub ItemFault : List ℕ → ModeFault → Type 0
 ItemFault bytes fault =
     ((fault ≡ NotAMessage) × (IsNil bytes → ⊥) × ((frame : Frame) → IsFrame bytes frame → ⊥))

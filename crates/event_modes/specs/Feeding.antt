@@ -22,7 +22,8 @@ pub record TakesOff (old : Feeding) (arrival : Arrival) (new : Feeding) : Type 0
   pub whole : old.held ≡ front ++ new.held
   pub none : new.fault ≡ None
 
--- what asking for the next does: something is taken off, or more bytes are wanted, or a fault stands for good
+-- what asking for the next does: something is taken off, or more bytes are wanted, or a fault
+-- stands for good
 abbrev pub Takes : {A : Type 0} → Feeding → Next A → Feeding → Type 0
 Takes old (next.Message m) new = TakesOff old (Sent (meaning m)) new
 Takes old next.Heartbeat new = TakesOff old Heartbeat new

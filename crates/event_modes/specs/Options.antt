@@ -22,7 +22,8 @@ pub record IsFit (pair : Pair) : Type 0 where
   pub chunk : IsNamed (codes "chunk") pair → IsChunk pair.value
   pub compressed : IsNamed (codes "compressed") pair → IsUncompressed pair.value
 
--- the item that an acknowledgement has to repeat: the last "chunk", unless that is nil or there is none
+-- the item that an acknowledgement has to repeat: the last "chunk", unless that is nil or there is
+-- none
 abbrev pub AsksFor : List Pair → Option (List ℕ) → Type 0
 AsksFor pairs None = HasNoKey (codes "chunk") pairs ⊎ ((value : List ℕ) × IsLastValue (codes "chunk") pairs value × IsNil value)
 AsksFor pairs (Some item) = IsLastValue (codes "chunk") pairs item × (IsNil item → ⊥)

@@ -27,7 +27,8 @@ answer_of (read.Heartbeat n) = Beats n
 answer_of read.Need = Wants
 answer_of (read.Bad fault) = Refuses fault
 
--- the first n bytes are a message, or the first byte is a nil, or the bytes are open, or there is a fault
+-- the first n bytes are a message, or the first byte is a nil, or the bytes are open, or there is a
+-- fault
 abbrev pub Answers : List ℕ → Answer → Type 0
 Answers bytes (Means parts n) = (n ≤ length bytes) × IsMessage (take n bytes) parts
 Answers bytes (Beats n) = (n ≡ 1) × ((rest : List ℕ) × (bytes ≡ 0xc0 ∷ rest))

@@ -1,4 +1,5 @@
--- What comes on a connection (Forward Protocol Specification v1, "Message Modes"): messages and heartbeats one after another.
+-- What comes on a connection (Forward Protocol Specification v1, "Message Modes"): messages and
+-- heartbeats one after another.
 use Rattle.std.specs.Prelude.{ℕ, ◌≡◌, ◌⊎◌, List, [], ◌∷◌, ◌++◌}
 use Rattle.msgpack_bytes.specs.Item.{IsItemWithin, IsOpen}
 use Rattle.msgpack_bytes.specs.Kinds.{IsNil}

@@ -25,7 +25,8 @@ pub record BeginsEvent (bytes : List ℕ) : Type 0 where
   pub map : BeginsMap first
   pub whole : bytes ≡ time ++ first ∷ rest
 
--- what a message with this tag and no option says of one event, which is stored as these bytes behind an entry's header
+-- what a message with this tag and no option says of one event, which is stored as these bytes
+-- behind an entry's header
 abbrev pub one_event : List ℕ → List ℕ → Parts
 one_event tag event = record { tag = tag; entries = (entry_header ∷ event) ∷ []; ack = None }
 

@@ -49,7 +49,8 @@ pub fn put_ack<A: Allocator>(out: &mut Vec<u8, A>, item: &[u8]) -> Result<(), Al
     Ok(())
 }
 
-/// Reads the acknowledgement that the bytes begin with: a map whose last `ack` is a str or bin, in any spelling.
+/// Reads the acknowledgement that the bytes begin with: a map whose last `ack` is a str or bin, in
+/// any spelling.
 ///
 /// The answer is the only one that holds of the bytes.
 pub fn read_ack(bytes: &[u8]) -> AckRead

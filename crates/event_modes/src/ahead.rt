@@ -6,8 +6,9 @@ ghost use Rattle.event_modes.specs.Ahead.{IsGiven};
 
 use msgpack_bytes::{PieceScan, Scan, Scanner, item_end};
 
-/// A scan of unread bytes, of which more can come: it goes on where it stopped. An item that is whole at the first scan
-/// takes no scanner; the bytes of one that isn't are given to it then, so each byte is looked at twice at most.
+/// A scan of unread bytes, of which more can come: it goes on where it stopped. An item that is
+/// whole at the first scan takes no scanner; the bytes of one that isn't are given to it then, so
+/// each byte is looked at twice at most.
 #[derive(Drop)]
 pub(crate) struct Ahead {
     scanner: Scanner,
@@ -36,7 +37,8 @@ impl Ahead {
         }
     }
 
-    /// Where the item ends that the unread bytes begin with. Where it ends or never can, the next scan begins anew.
+    /// Where the item ends that the unread bytes begin with. Where it ends or never can, the next
+    /// scan begins anew.
     pub(crate) fn scan(&mut self, unread: &[u8]) -> Scan
         requires { IsGiven self.old unread.now }
         ensures right { IsScanned unread.now 0 result }

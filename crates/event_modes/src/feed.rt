@@ -11,10 +11,11 @@ use crate::reading::read_on;
 use std::alloc::{AllocError, Allocator};
 use std::marker::Model;
 
-/// A stream in pieces. Contracts see the bytes that it holds unread, and the fault that it met in them, if any.
+/// A stream in pieces. Contracts see the bytes that it holds unread, and the fault that it met in
+/// them, if any.
 ///
-/// It holds what was fed and not yet taken off: where each piece is followed by calls of `next` up to `Need`,
-/// at most one message and one piece.
+/// It holds what was fed and not yet taken off: where each piece is followed by calls of `next` up
+/// to `Need`, at most one message and one piece.
 #[derive(Drop)]
 pub struct Feed<A: Allocator> {
     bytes: Vec<u8, A>,

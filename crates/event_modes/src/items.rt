@@ -8,7 +8,8 @@ ghost use Rattle.event_modes.specs.Rows.{items_of, AreItems};
 use msgpack_bytes::{Scan, scan};
 use std::marker::Model;
 
-// The first of so many items, and what is behind it. The last one is all that is there, so it isn't scanned.
+// The first of so many items, and what is behind it. The last one is all that is there, so it isn't
+// scanned.
 fn first_item(bytes: &[u8], count: usize) -> (&[u8], &[u8])
     requires some { 0 < count }
     requires items { AreItems count bytes.now }
@@ -24,7 +25,8 @@ fn first_item(bytes: &[u8], count: usize) -> (&[u8], &[u8])
     }
 }
 
-/// Items that stand one after another, each as its bytes. Contracts see the list of those that are left.
+/// Items that stand one after another, each as its bytes. Contracts see the list of those that are
+/// left.
 #[derive(Drop)]
 pub struct Items<'a> {
     bytes: &'a [u8],

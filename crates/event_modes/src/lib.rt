@@ -1,4 +1,5 @@
-//! Messages of the Fluentd Forward Protocol v1: its three modes, acknowledgements, and streams of them.
+//! Messages of the Fluentd Forward Protocol v1: its three modes, acknowledgements, and streams of
+//! them.
 #![tactic(auto)]
 
 mod acks;

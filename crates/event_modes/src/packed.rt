@@ -13,8 +13,8 @@ use crate::message::Entries;
 use msgpack_bytes::{put_array, put_bin, put_map, put_str, put_uint};
 use std::alloc::{AllocError, Allocator};
 
-/// Appends a message in PackedForward mode, with a tag of at most 1,024 bytes and fewer than 2^32 bytes of entries.
-/// With a chunk it asks to be acknowledged.
+/// Appends a message in PackedForward mode, with a tag of at most 1,024 bytes and fewer than 2^32
+/// bytes of entries. With a chunk it asks to be acknowledged.
 ///
 /// The error is want of memory, comes only where `out` had no room, and leaves `out` as it was.
 pub fn put_packed<A: Allocator, B: Allocator>(

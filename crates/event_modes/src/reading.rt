@@ -28,9 +28,11 @@ use std::alloc::{AllocError, Allocator};
 /// How many bytes a tag has at most. A message with a longer one is refused.
 pub const LONGEST_TAG: usize = 1024;
 
-/// Reads the message or the heartbeat that the bytes begin with (Forward Protocol Specification v1, "Message Modes").
+/// Reads the message or the heartbeat that the bytes begin with (Forward Protocol Specification v1,
+/// "Message Modes").
 ///
-/// The answer is the only one that holds of the bytes. An `Err` comes only where there was no memory.
+/// The answer is the only one that holds of the bytes. An `Err` comes only where there was no
+/// memory.
 pub fn read<A: Allocator + Copy>(alloc: A, bytes: &[u8]) -> Result<Read<A>, AllocError>
     ensures right { IfOk result (λ found. Answers bytes.now (answer_of found)) }
     ensures only { (other : Answer) → Answers bytes.now other → IfOk result (λ found. other ≡ answer_of found) }
@@ -38,7 +40,8 @@ pub fn read<A: Allocator + Copy>(alloc: A, bytes: &[u8]) -> Result<Read<A>, Allo
     read_scanned(alloc, bytes, scan(bytes, 0))
 }
 
-/// Reads the same of bytes of which some were scanned before. What was scanned is kept, with an `Err` too.
+/// Reads the same of bytes of which some were scanned before. What was scanned is kept, with an
+/// `Err` too.
 pub(crate) fn read_on<A: Allocator + Copy>(
     alloc: A,
     ahead: &mut Ahead,

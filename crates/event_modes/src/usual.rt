@@ -16,7 +16,8 @@ pub struct Usual<'a> {
     pub event: &'a [u8],
 }
 
-/// What the message says, where its parts are spelled as clients usually do. Any other item is for the walk over its elements.
+/// What the message says, where its parts are spelled as clients usually do. Any other item is for
+/// the walk over its elements.
 pub fn usual_of(item: &[u8]) -> Option<Usual<'_>>
     requires { IsItemWithin item.now }
     ensures { IfSome result (λ usual. IsOneEvent item.now usual.tag.now usual.event.now) }
@@ -33,8 +34,8 @@ pub fn usual_of(item: &[u8]) -> Option<Usual<'_>>
     }
 }
 
-/// Whether an entry is spelled as it is stored, and its time and record begin as clients usually spell them.
-/// Any other entry is for the walk over its elements.
+/// Whether an entry is spelled as it is stored, and its time and record begin as clients usually
+/// spell them. Any other entry is for the walk over its elements.
 pub fn is_usual_entry(entry: &[u8]) -> bool
     requires { IsItemWithin entry.now }
     ensures { IsTrue result → IsStored entry.now }
@@ -76,7 +77,8 @@ fn cut(bytes: &[u8], start: usize, size: usize) -> Option<(&[u8], &[u8])>
     Some(rest.split_at(size))
 }
 
-// Whether an EventTime of ten bytes, or seconds of four or in one byte, stand there, and behind them the first byte of a map.
+// Whether an EventTime of ten bytes, or seconds of four or in one byte, stand there, and behind
+// them the first byte of a map.
 fn begins_event(bytes: &[u8]) -> bool
     ensures { IsTrue result → BeginsEvent bytes.now }
 {

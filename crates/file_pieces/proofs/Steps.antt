@@ -288,7 +288,8 @@ module _ {D : Type 0} (is_honest : D → Type 0) (history : D → History) (open
       → Adds is_honest history opened bytes_left fault_count from to (length bytes) V (λ _. bytes) old new r
   told_as r V told bytes old new same adds = adds_as r (length told) (length bytes) HasAny V (λ _. told) (λ _. bytes) old new adds (omega (arith, ap length same)) (λ h source name seen c has. (tt, same))
 
-  -- Things are added in their order, each of which has so much room and such bytes. What is asked of the source for all of them is W.
+  -- Things are added in their order, each of which has so much room and such bytes. What is asked
+  -- of the source for all of them is W.
   module _ {X : Type 0} (items : List X) (room : X → ℕ) (bytes : List ℕ → X → List ℕ) (W : List ℕ → Type 0) where
     -- the first so many were added
     abbrev pub Added : {T : Type 0} → D → D → ℕ → Result T PieceError → Type 0

@@ -18,7 +18,8 @@ pub record IsLeftOf (IsSo : Disk → Type 0) (folder : Folder) : Type 0 where
   pub so : IsSo disk
   pub stays : StopLeaves disk folder
 
--- the one open file is that of the source, which has these bytes, and the other that of another name
+-- the one open file is that of the source, which has these bytes, and the other that of another
+-- name
 pub record Copies (opened : FileNo → Option (List ℕ)) (disk : Disk) (from to : FileNo) (source name seen : List ℕ) : Type 0 where
   pub source_is : opened from ≡ Some source
   pub name_is : opened to ≡ Some name
@@ -41,8 +42,9 @@ pub record Grows (name : List ℕ) (before after : Disk) : Type 0 where
   pub bytes : List ℕ
   pub grew : Changes name (with_bytes bytes) before after
 
--- The call adds these bytes, which may be some of the source's, where the source has what is asked of it; or, after an error, a beginning of them. At no moment
--- does a stop leave anything else. Files of other names stay as they are, and each open file stays open.
+-- The call adds these bytes, which may be some of the source's, where the source has what is asked
+-- of it; or, after an error, a beginning of them. At no moment does a stop leave anything else.
+-- Files of other names stay as they are, and each open file stays open.
 pub record Adds {D T : Type 0} (is_honest : D → Type 0) (history : D → History) (opened : D → FileNo → Option (List ℕ)) (bytes_left : D → FileNo → ℕ) (fault_count : D → ℕ)
     (from to : FileNo) (size : ℕ) (Has : List ℕ → Type 0) (bytes : List ℕ → List ℕ) (old new : D) (result : Result T PieceError) : Type 0 where
   pub honest : is_honest old → is_honest new

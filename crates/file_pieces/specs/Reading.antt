@@ -7,7 +7,8 @@ use Rattle.file_pieces.specs.Adding.{HasPieceCause}
 use Rattle.file_pieces.specs.declared.error.PieceError.{PieceError}
 use Rattle.file_pieces.specs.declared.error.PieceError.TheVariants.{Short}
 
--- The call gives what is promised of the file's bytes, where the file has what is asked of it. The disk stays as it is.
+-- The call gives what is promised of the file's bytes, where the file has what is asked of it. The
+-- disk stays as it is.
 pub record Reads {D T : Type 0} (is_honest : D → Type 0) (history : D → History) (opened : D → FileNo → Option (List ℕ)) (bytes_left : D → FileNo → ℕ) (fault_count : D → ℕ)
     (file : FileNo) (Has Gives : List ℕ → Type 0) (old new : D) (result : Result T PieceError) : Type 0 where
   pub honest : is_honest old → is_honest new

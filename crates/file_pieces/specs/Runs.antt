@@ -10,7 +10,8 @@ use Rattle.file_pieces.specs.declared.runs.Run.{Run}
 abbrev pub LiesIn : ℕ → ℕ → Extent → Type 0
 LiesIn at span place = (at ≤ place.at) × (place.at + place.length ≤ at + span)
 
--- These places lie in this span. It has at least as many bytes as they have together, and ends within whatever they are all within.
+-- These places lie in this span. It has at least as many bytes as they have together, and ends
+-- within whatever they are all within.
 pub record LieInSpan (at span : ℕ) (places : List Extent) : Type 0 where
   pub lie : AllByRecursion (LiesIn at span) places
   pub room : places_room places ≤ span

@@ -16,9 +16,11 @@ use chunk_journal::Extent;
 use disk_files::{Dir, FileNo, Writing};
 use std::alloc::Allocator;
 
-/// Adds pieces to an open file that has room for them, what they take from another file by no more bytes at once than `buffer` has.
+/// Adds pieces to an open file that has room for them, what they take from another file by no more
+/// bytes at once than `buffer` has.
 ///
-/// `Fault`: the device failed. `Short`: the other file ends before a place does. After an error a beginning of the pieces may be there.
+/// `Fault`: the device failed. `Short`: the other file ends before a place does. After an error a
+/// beginning of the pieces may be there.
 pub fn add_pieces<A: Allocator, D: Dir>(
     dir: &mut D,
     from: FileNo,
@@ -123,7 +125,8 @@ fn copy_run<D: Dir>(
     copy_span(dir, from, to, run, buffer)
 }
 
-// Adds the bytes at the places of a run. One half of the buffer takes the span, and the other what is added of it.
+// Adds the bytes at the places of a run. One half of the buffer takes the span, and the other what
+// is added of it.
 fn copy_span<D: Dir>(
     dir: &mut D,
     from: FileNo,

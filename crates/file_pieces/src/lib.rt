@@ -1,4 +1,5 @@
-//! Bytes at places of a file of a folder: they are read, or added to another file, by pieces that have told bytes too.
+//! Bytes at places of a file of a folder: they are read, or added to another file, by pieces that
+//! have told bytes too.
 #![tactic(auto)]
 
 mod adding;

@@ -9,7 +9,8 @@ ghost use Rattle.file_pieces.specs.Runs.{LiesIn};
 
 use chunk_journal::Extent;
 
-/// Copies the bytes at places of a file, of which `part` begins at `at`, to behind the first so many of `into`, and says where they end.
+/// Copies the bytes at places of a file, of which `part` begins at `at`, to behind the first so
+/// many of `into`, and says where they end.
 pub(crate) fn pack(part: &[u8], at: u64, places: &[Extent], done: usize, into: &mut [u8]) -> usize
     requires lie { AllByRecursion (LiesIn at (length part.now)) places.now }
     requires fits { done + places_room places.now ≤ length into.old }

@@ -6,7 +6,8 @@ ghost use Rattle.file_pieces.specs.Pieces.{piece_room, places_room, total_room};
 use chunk_journal::Extent;
 use std::alloc::Allocator;
 
-/// Bytes to be added to a file: some that are told, and behind them those at places of another file.
+/// Bytes to be added to a file: some that are told, and behind them those at places of another
+/// file.
 #[derive(Drop)]
 pub struct Piece<'a, A: Allocator> {
     /// The bytes that are told.

@@ -14,10 +14,11 @@ use crate::runs::{Run, run_of};
 use chunk_journal::Extent;
 use disk_files::{Dir, FileNo};
 
-/// Reads the bytes at these places of an open file, one behind another. The disk stays as it is. Places that lie near one another are read at once, by no more
-/// bytes than `window` has.
+/// Reads the bytes at these places of an open file, one behind another. The disk stays as it is.
+/// Places that lie near one another are read at once, by no more bytes than `window` has.
 ///
-/// `Fault`: the device failed. `Short`: the file ends before a place does. After an error nothing is known of what `into` holds.
+/// `Fault`: the device failed. `Short`: the file ends before a place does. After an error nothing
+/// is known of what `into` holds.
 pub fn read_places<D: Dir>(
     dir: &mut D,
     file: FileNo,
@@ -45,7 +46,8 @@ pub fn read_places<D: Dir>(
     Ok(())
 }
 
-// Reads the bytes at the places of a run to behind the first so many of `into`, and says where they end.
+// Reads the bytes at the places of a run to behind the first so many of `into`, and says where they
+// end.
 fn read_run<D: Dir>(
     dir: &mut D,
     file: FileNo,
@@ -91,7 +93,8 @@ fn read_place<D: Dir>(
     }
 }
 
-/// Reads the span of a run, and puts the bytes at its places behind the first so many of `into`. Says where they end.
+/// Reads the span of a run, and puts the bytes at its places behind the first so many of `into`.
+/// Says where they end.
 pub(crate) fn read_span<D: Dir>(
     dir: &mut D,
     file: FileNo,

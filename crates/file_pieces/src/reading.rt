@@ -12,7 +12,8 @@ use disk_files::{Dir, FileNo};
 
 /// Reads so many bytes of an open file, from a place on, as `into` has. The disk stays as it is.
 ///
-/// `Fault`: the device failed. `Short`: the file ends before. After an error nothing is known of what `into` holds.
+/// `Fault`: the device failed. `Short`: the file ends before. After an error nothing is known of
+/// what `into` holds.
 pub fn read_exact<D: Dir>(
     dir: &mut D,
     file: FileNo,

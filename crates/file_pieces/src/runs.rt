@@ -16,7 +16,8 @@ pub(crate) struct Run<'a> {
     pub(crate) span: u64,
 }
 
-/// The run with which places begin: the first one, and those that lie near behind one another while the span has no more than so many bytes.
+/// The run with which places begin: the first one, and those that lie near behind one another while
+/// the span has no more than so many bytes.
 pub(crate) fn run_of(places: &[Extent], most: usize) -> Run<'_>
     requires { 0 < length places.now }
     ensures first { result.places.now ≡ take (length result.places.now) places.now }
@@ -40,7 +41,8 @@ pub(crate) fn run_of(places: &[Extent], most: usize) -> Run<'_>
     }
 }
 
-// How many bytes a span has with a place that lies near behind it, if they are no more than so many.
+// How many bytes a span has with a place that lies near behind it, if they are no more than so
+// many.
 fn span_with(at: u64, span: u64, place: Extent, most: u64) -> Option<u64>
     ensures behind { IfSome result (λ longer. at + span ≤ place.at) }
     ensures end { IfSome result (λ longer. place.at + place.length ≡ at + longer) }

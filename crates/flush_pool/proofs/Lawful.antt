@@ -5,7 +5,8 @@ use Rattle.buffer_book.specs.Evidences.{Shows}
 use Rattle.flush_pool.specs.Acts.{Act, Place, Post}
 use Rattle.flush_pool.specs.Laws.{AreLawful, IsVouched, May}
 
--- what was lawful is so with an act that may stand behind it, and for which its courier or its gate answers
+-- what was lawful is so with an act that may stand behind it, and for which its courier or its gate
+-- answers
 pub lawful : {A C G : Type 0} (lets : G → ℕ → Type 0) (gives : C → Claimed → Shows → Type 0)
     (post : Post A C G) (act : Act) (old new : List Act) (place : Place A C G)
     → record { post = post; acts = old } ≡ place → new ≡ act ∷ old

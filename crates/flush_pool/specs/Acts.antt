@@ -7,7 +7,8 @@ use Rattle.retry_waits.specs.declared.settings.RetrySettings.{RetrySettings}
 use Rattle.flush_pool.specs.declared.fault.CarryFault.{CarryFault}
 use Rattle.flush_pool.specs.declared.verdict.Verdict.{Verdict}
 
--- An act, and what came of it. All but a look at whether it is to stop, and a claim that there was no memory for, are on the chunk of a serial.
+-- An act, and what came of it. All but a look at whether it is to stop, and a claim that there was
+-- no memory for, are on the chunk of a serial.
 pub data Act : Type 0 where
   Looked : (stop : Bool) → Act
   Unclaimed : Act
@@ -24,7 +25,8 @@ pub data Act : Type 0 where
   Forgot : (serial : ℕ) → Act
   GaveBack : (serial : ℕ) → Act
 
--- what a worker works with: its buffer, by its name and what lets its chunks go, its courier, its gate, and the settings of its retries
+-- what a worker works with: its buffer, by its name and what lets its chunks go, its courier, its
+-- gate, and the settings of its retries
 pub record Post (A C G : Type 0) : Type 0 where
   pub terms : Terms A
   pub courier : C
@@ -54,7 +56,8 @@ abbrev pub last : List Act → Option Act
 last [] = None
 last (act ∷ acts) = Some act
 
--- the chunk that a worker has in its hands: the one that it claimed last, until that is purged or given back
+-- the chunk that a worker has in its hands: the one that it claimed last, until that is purged or
+-- given back
 abbrev pub held : List Act → Option ℕ
 held [] = None
 held (Claimed serial ∷ acts) = Some serial

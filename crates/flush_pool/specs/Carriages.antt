@@ -9,7 +9,8 @@ pub record Opened (S : Type 0) : Type 0 where
   pub folder : S
   pub path : List ℕ
 
--- the evidence names this chunk, and shows entries that are in a sink: under the chunk's tag, and as many as the chunk has
+-- the evidence names this chunk, and shows entries that are in a sink: under the chunk's tag, and
+-- as many as the chunk has
 abbrev pub IsStoredFor : Claimed → Shows → Type 0
 IsStoredFor claim shown = (stored : StoredView) × (shown ≡ StoredAs (id_of claim) stored)
     × (stored.tag ≡ claim.tag) × (length stored.entries ≡ claim.count)

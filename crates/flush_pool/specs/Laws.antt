@@ -40,7 +40,8 @@ ends_at_act (NotPurged serial shown fault) = ends_at_purge fault
 ends_at_act (NotNoted serial) = Some store.Memory
 ends_at_act _ = None
 
--- the fault by which a worker has to end that did this; it has to also when it then gave its chunk back
+-- the fault by which a worker has to end that did this; it has to also when it then gave its chunk
+-- back
 abbrev pub ends_by : List Act → Option BufferFault
 ends_by [] = None
 ends_by (GaveBack serial ∷ []) = None
@@ -55,15 +56,18 @@ id_at leaf serial = record { relay = leaf.relay; buffer = leaf.buffer; serial = 
 abbrev pub IsTaken : {A : Type 0} → Leaf → Takes A → ℕ → Shows → Type 0
 IsTaken leaf takes serial shown = (named shown ≡ id_at leaf serial) × IsOfKind takes shown
 
--- the evidence is what the courier gave just now for the chunk; or that its retries are over, where that was the verdict just now
+-- the evidence is what the courier gave just now for the chunk; or that its retries are over, where
+-- that was the verdict just now
 abbrev pub IsEarned : Leaf → ℕ → Shows → List Act → Type 0
 IsEarned leaf serial shown acts = (last acts ≡ Some (Carried serial shown)) ⊎ ((shown ≡ Expired (id_at leaf serial)) × (last acts ≡ Some (Judged serial GiveUp)))
 
--- The delivery of the chunk failed just now: the gate never said yes; or its courier failed, and the buffer hasn't; or the purge was refused, and not so that the worker ends.
+-- The delivery of the chunk failed just now: the gate never said yes; or its courier failed, and
+-- the buffer hasn't; or the purge was refused, and not so that the worker ends.
 abbrev pub HasFailed : ℕ → List Act → Type 0
 HasFailed serial acts = (last acts ≡ Some (Asked serial false)) ⊎ ((last acts ≡ Some (Checked serial false)) ⊎ ((shown : Shows) × (fault : PurgeFault) × (last acts ≡ Some (NotPurged serial shown fault)) × (ends_at_purge fault ≡ None)))
 
--- The chunk may be given back: it is to wait; or its delivery failed, which was noted just now; or the worker has to end.
+-- The chunk may be given back: it is to wait; or its delivery failed, which was noted just now; or
+-- the worker has to end.
 abbrev pub IsToGoBack : ℕ → List Act → Type 0
 IsToGoBack serial acts = (last acts ≡ Some (Judged serial Wait)) ⊎ ((last acts ≡ Some (Noted serial)) ⊎ IsSome (ends_by acts))
 
@@ -78,14 +82,16 @@ May leaf takes acts (Looked stop) = (held acts ≡ None) × (ends_by acts ≡ No
 -- it claims a chunk at once behind a look that said no
 May leaf takes acts (Claimed serial) = last acts ≡ Some (Looked false)
 May leaf takes acts Unclaimed = last acts ≡ Some (Looked false)
--- what it claimed is judged, what is to be tried the gate is asked for, and what the gate lets through is carried
+-- what it claimed is judged, what is to be tried the gate is asked for, and what the gate lets
+-- through is carried
 May leaf takes acts (Judged serial verdict) = last acts ≡ Some (Claimed serial)
 May leaf takes acts (Asked serial answer) = last acts ≡ Some (Judged serial Try)
 May leaf takes acts (Carried serial shown) = last acts ≡ Some (Asked serial true)
 May leaf takes acts (NotCarried serial fault) = last acts ≡ Some (Asked serial true)
 -- where the courier failed, but for want of memory, it asks whether the buffer has
 May leaf takes acts (Checked serial failed) = (fault : CarryFault) × (last acts ≡ Some (NotCarried serial fault)) × (fault ≢ carry.Memory)
--- it purges on what the courier gave or at the end of retries, and what is purged the buffer takes; at once what is known of failures is forgotten
+-- it purges on what the courier gave or at the end of retries, and what is purged the buffer takes;
+-- at once what is known of failures is forgotten
 May leaf takes acts (Purged serial shown) = IsEarned leaf serial shown acts × IsTaken leaf takes serial shown
 May leaf takes acts (NotPurged serial shown fault) = IsEarned leaf serial shown acts
 May leaf takes acts (Forgot serial) = WasPurged serial acts

@@ -11,7 +11,8 @@ use Rattle.flush_pool.specs.Counts.{capped}
 abbrev pub begun : Pass
 begun = record { first = None; chunks = 0 }
 
--- the pass ends at this chunk: it began with it, or with it has given back more chunks than have failed
+-- the pass ends at this chunk: it began with it, or with it has given back more chunks than have
+-- failed
 abbrev pub EndsAt : Pass → ℕ → ℕ → Type 0
 EndsAt pass serial failed = (pass.first ≡ Some serial) ⊎ (failed < capped pass.chunks 1)
 
@@ -24,8 +25,9 @@ abbrev pub began_at : Option ℕ → (began times : ℕ) → ℕ
 began_at None began times = times
 began_at (Some first) began times = began
 
--- Behind a chunk that waits a worker takes all chunks up to a count for such that wait only where its pass ends, which began at that count; or where it knew it
--- of this very count, and none that waits is due. Else its pass goes on.
+-- Behind a chunk that waits a worker takes all chunks up to a count for such that wait only where
+-- its pass ends, which began at that count; or where it knew it of this very count, and none that
+-- waits is due. Else its pass goes on.
 abbrev pub IsBehind : Watch → (serial : ℕ) → Others → (times : ℕ) → Seen → Type 0
 IsBehind watch serial others times (All count) = ((watch.all_wait ≡ Some times) × (others.due ≡ false) × (count ≡ times))
     ⊎ (EndsAt watch.pass serial others.failed × (count ≡ began_at watch.pass.first watch.began times))

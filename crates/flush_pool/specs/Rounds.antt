@@ -18,17 +18,20 @@ Holds claim place =
 abbrev pub IsFree : List Act → Type 0
 IsFree acts = (held acts ≡ None) × (ends_by acts ≡ None)
 
--- The worker is done with a chunk, which is counted by what came of it; or it has nothing in its hands and has to end by this fault.
+-- The worker is done with a chunk, which is counted by what came of it; or it has nothing in its
+-- hands and has to end by this fault.
 abbrev pub IsSettled : List Act → List Act → Result Outcome BufferFault → Type 0
 IsSettled old new (Ok outcome) = IsFree new × (counts new ≡ counted outcome (counts old))
 IsSettled old new (Err fault) = (held new ≡ None) × (ends_by new ≡ Some fault)
 
--- A worker ended that did this: it was told to stop, and gives the counts; or it had to end, by this fault, with nothing in its hands.
+-- A worker ended that did this: it was told to stop, and gives the counts; or it had to end, by
+-- this fault, with nothing in its hands.
 abbrev pub HasEnded : List Act → Result Worked BufferFault → Type 0
 HasEnded acts (Ok worked) = (last acts ≡ Some (Looked true)) × (held acts ≡ None) × (worked ≡ counts acts)
 HasEnded acts (Err fault) = (held acts ≡ None) × (ends_by acts ≡ Some fault)
 
--- a worker did what it did by the laws, whose gate lets these serials through and whose courier gives these, and ended so
+-- a worker did what it did by the laws, whose gate lets these serials through and whose courier
+-- gives these, and ended so
 pub record IsWorked {A C G : Type 0} (lets : G → ℕ → Type 0)
     (gives : C → Claimed → Shows → Type 0) (end : Place A C G)
     (answer : Result Worked BufferFault) : Type 0 where

@@ -10,7 +10,8 @@ use Rattle.flush_pool.specs.declared.verdict.Verdict.TheVariants.{Try, Wait, Giv
 abbrev pub IsGivenUp : RetrySettings → Bool → Option Failed → ℕ → Type 0
 IsGivenUp settings expires failed now = (expires ≡ true) × IsOver settings failed now
 
--- the verdict on a chunk with these failures: given up where it is, else tried where its wait has passed, else it waits
+-- the verdict on a chunk with these failures: given up where it is, else tried where its wait has
+-- passed, else it waits
 abbrev pub IsVerdict : RetrySettings → Bool → Option Failed → ℕ → Verdict → Type 0
 IsVerdict settings expires failed now GiveUp = IsGivenUp settings expires failed now
 IsVerdict settings expires failed now Try = (¬ IsGivenUp settings expires failed now) × IsDue settings failed now

@@ -11,7 +11,8 @@ use std::alloc::Allocator;
 use std::marker::Model;
 use std::snapshot::Snapshot;
 
-/// One act of a worker. What shows that a lock was used stands in it where there is such a thing: else the chunk's serial.
+/// One act of a worker. What shows that a lock was used stands in it where there is such a thing:
+/// else the chunk's serial.
 #[derive(Drop)]
 pub(crate) enum Deed<A: Allocator> {
     Looked(bool),

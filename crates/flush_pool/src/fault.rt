@@ -8,7 +8,8 @@ use sink_series::SeriesFault;
 use std::alloc::AllocError;
 use thiserror::Error;
 
-/// Why a chunk wasn't carried to where it belongs. Each is printed by its code; the chunk stays in its buffer.
+/// Why a chunk wasn't carried to where it belongs. Each is printed by its code; the chunk stays in
+/// its buffer.
 #[derive(Clone, Copy, Debug, Drop, PartialEq, Eq, Error)]
 pub enum CarryFault {
     /// `X1`: no server could be reached.

@@ -6,7 +6,8 @@ ghost use Rattle.std.specs.Prelude.{◌≡◌, true};
 pub trait Gate {
     ghost use Rattle.std.specs.Prelude.{ℕ};
 
-    /// What this gate's yes to a serial says. Of one that says nothing of it, nothing is known; but nobody else says it in its place.
+    /// What this gate's yes to a serial says. Of one that says nothing of it, nothing is known; but
+    /// nobody else says it in its place.
     ghost lets: { Self → ℕ → Type 0 } = { λ _ _. Unit {0} };
 
     /// Whether the chunk of this serial may be carried now.

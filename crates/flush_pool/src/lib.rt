@@ -1,5 +1,6 @@
-//! Workers that deliver the chunks of a shared buffer: each claims a chunk, has it carried to where it belongs, and purges
-//! it on the evidence that comes back, or notes that it failed and gives it back.
+//! Workers that deliver the chunks of a shared buffer: each claims a chunk, has it carried to where
+//! it belongs, and purges it on the evidence that comes back, or notes that it failed and gives it
+//! back.
 #![tactic(auto)]
 
 mod acts;

@@ -5,7 +5,8 @@ ghost use Rattle.flush_pool.specs.Passes.{begun, EndsAt, gone_on, IsBehind};
 
 use crate::acts::Others;
 
-/// A pass over the chunks that wait: a worker gives each back and tries the next, until it has seen all that can wait.
+/// A pass over the chunks that wait: a worker gives each back and tries the next, until it has seen
+/// all that can wait.
 #[derive(Clone, Copy, Debug, PartialEq, Eq)]
 pub(crate) struct Pass {
     /// The chunk that it began with.
@@ -25,9 +26,10 @@ impl Pass {
         }
     }
 
-    /// The pass with one more chunk that waits, where so many chunks have failed; or none where it ends there: it has come
-    /// back to its first chunk, or given back more than can wait. Several workers may hide a chunk from one another, so
-    /// that it doesn't come back to the first: the count ends it then.
+    /// The pass with one more chunk that waits, where so many chunks have failed; or none where it
+    /// ends there: it has come back to its first chunk, or given back more than can wait. Several
+    /// workers may hide a chunk from one another, so that it doesn't come back to the first: the
+    /// count ends it then.
     pub(crate) fn then(self, serial: u64, failed: usize) -> Option<Pass>
         ensures ends { IsNone result ↔ EndsAt self serial failed }
         ensures goes_on { IfSome result (λ pass. pass ≡ gone_on self serial) }
@@ -89,8 +91,9 @@ impl Watch {
         }
     }
 
-    /// What is known behind a chunk that waits, which was claimed at this count, and with it this of the others. A pass over all is spared where
-    /// nothing was queued since the last one and no chunk that waits is due.
+    /// What is known behind a chunk that waits, which was claimed at this count, and with it this
+    /// of the others. A pass over all is spared where nothing was queued since the last one and no
+    /// chunk that waits is due.
     pub(crate) fn behind(self, serial: u64, others: Others, times: u64) -> Seen
         ensures { IsBehind self serial others times result }
     {

@@ -19,17 +19,21 @@ use std::sync::atomic::AtomicBool;
 use std::thread::{Threads, join};
 use std::time::Clock;
 
-/// Delivers a buffer's chunks until `stop` is raised: claims one, has it carried, purges it on the evidence that comes back
-/// or gives it back to be tried again, and so on. Several may work on one buffer at once, with one `Retries`.
+/// Delivers a buffer's chunks until `stop` is raised: claims one, has it carried, purges it on the
+/// evidence that comes back or gives it back to be tried again, and so on. Several may work on one
+/// buffer at once, with one `Retries`.
 ///
-/// A chunk that waits after a failure is given back and the next is tried. A worker that finds none to try sleeps until a chunk
-/// is queued, one that waits is due, or it is to stop; it looks for that each ten milliseconds, and is woken at once where one is
-/// queued. A chunk whose retries are over is let go where the buffer allows it. After a chunk was carried it is purged
-/// before `stop` is looked at. `Worked` counts what this worker did: whole rounds, in each of which the chunk that it claimed is
-/// purged, by what the courier gave for it or the end of its retries, or given back.
+/// A chunk that waits after a failure is given back and the next is tried. A worker that finds none
+/// to try sleeps until a chunk is queued, one that waits is due, or it is to stop; it looks for
+/// that each ten milliseconds, and is woken at once where one is queued. A chunk whose retries are
+/// over is let go where the buffer allows it. After a chunk was carried it is purged before `stop`
+/// is looked at. `Worked` counts what this worker did: whole rounds, in each of which the chunk
+/// that it claimed is purged, by what the courier gave for it or the end of its retries, or given
+/// back.
 ///
-/// `Failed`: the buffer's device failed before, and the buffer is to be opened again. `Memory`: a growth was refused. Either
-/// ends the worker; its last chunk is given back, and what it did before stands.
+/// `Failed`: the buffer's device failed before, and the buffer is to be opened again. `Memory`: a
+/// growth was refused. Either ends the worker; its last chunk is given back, and what it did before
+/// stands.
 pub fn work<R: Wait + Clock, D: Dir, A: Allocator + Copy, C: Courier<R, D, A>, G: Gate>(
     rt: &R,
     buffer: &SharedBuffer<D, A>,
@@ -43,8 +47,8 @@ pub fn work<R: Wait + Clock, D: Dir, A: Allocator + Copy, C: Courier<R, D, A>, G
     Worker::new(rt, buffer, courier, gate, retries, stop).work()
 }
 
-/// Runs `work` in so many threads at once, and gives the sums of what they did. Where a thread can't be made, its work is done
-/// when another has ended.
+/// Runs `work` in so many threads at once, and gives the sums of what they did. Where a thread
+/// can't be made, its work is done when another has ended.
 ///
 /// An error is that of the first worker that has one; the others go on until they end.
 pub fn run_pool<

@@ -19,9 +19,10 @@ use std::time::Clock;
 /// For how many chunks a worker asks at each failure whether the buffer still has them.
 const LOOKS: u8 = 2;
 
-/// Which chunks of a buffer failed and when, for all its workers, and the settings by which they wait and are given up.
-/// It knows a chunk from its first failure until a worker purges it. One that left its buffer otherwise is forgotten too: each
-/// failure looks at the two known chunks that were looked at longest ago, so what is kept is bounded by the chunks that the buffer has.
+/// Which chunks of a buffer failed and when, for all its workers, and the settings by which they
+/// wait and are given up. It knows a chunk from its first failure until a worker purges it. One
+/// that left its buffer otherwise is forgotten too: each failure looks at the two known chunks that
+/// were looked at longest ago, so what is kept is bounded by the chunks that the buffer has.
 /// Contracts see the settings.
 #[derive(Drop)]
 pub struct Retries<A: Allocator> {
@@ -51,7 +52,8 @@ impl<A: Allocator + Copy> Retries<A> {
         }
     }
 
-    /// Workers tell by this teller, of which the first place is the buffer, of chunks that are given up.
+    /// Workers tell by this teller, of which the first place is the buffer, of chunks that are
+    /// given up.
     pub fn telling(self, teller: Teller<A>) -> Self
         ensures { result ≡ self }
     {
@@ -89,8 +91,8 @@ impl<A: Allocator + Copy> Retries<A> {
         }
     }
 
-    /// What is to become of the chunk of this serial now, where its buffer lets chunks expire or doesn't: by the settings, at some
-    /// time, and by some failures, which lie behind the lock.
+    /// What is to become of the chunk of this serial now, where its buffer lets chunks expire or
+    /// doesn't: by the settings, at some time, and by some failures, which lie behind the lock.
     pub(crate) fn judge<R: Wait + Clock>(&self, rt: &R, expires: bool, serial: u64) -> Judgement
         ensures serial { result.serial ≡ serial }
         ensures expires { result.expires ≡ expires }

@@ -31,11 +31,12 @@ where
     C: Courier<R, D, A>,
     G: Gate,
 {
-    /// Works until it is told to stop, and gives the counts of what it did. Each chunk that it claims is purged or given back
-    /// before it looks at anything else. It sleeps where no chunk is queued, or where all that are wait. Asks for a
-    /// worker that did nothing yet.
+    /// Works until it is told to stop, and gives the counts of what it did. Each chunk that it
+    /// claims is purged or given back before it looks at anything else. It sleeps where no chunk is
+    /// queued, or where all that are wait. Asks for a worker that did nothing yet.
     ///
-    /// `Memory` and `Failed` end it earlier. The chunk of that round is given back; what was done before stands.
+    /// `Memory` and `Failed` end it earlier. The chunk of that round is given back; what was done
+    /// before stands.
     pub fn work(&mut self) -> Result<Worked, BufferFault>
         requires { self.old.acts ≡ [] }
         ensures post { self.new.post ≡ self.old.post }
@@ -72,7 +73,8 @@ where
         unreachable!()
     }
 
-    // What the worker knows of the queue behind this chunk, which was claimed at this count. Where all that is queued waits, it sleeps first.
+    // What the worker knows of the queue behind this chunk, which was claimed at this count. Where
+    // all that is queued waits, it sleeps first.
     fn watch_on(&self, watch: Watch, serial: u64, outcome: Outcome, times: u64) -> Watch {
         let Outcome::Waits(others) = outcome else {
             return watch.anew();
@@ -83,8 +85,9 @@ where
         }
     }
 
-    // Sleeps where all that was queued up to this count waits, or is in other workers' hands, and one that waits is due or isn't. What is due then has gone
-    // from the buffer, or is with another worker: so it looks again soon.
+    // Sleeps where all that was queued up to this count waits, or is in other workers' hands, and
+    // one that waits is due or isn't. What is due then has gone from the buffer, or is with another
+    // worker: so it looks again soon.
     fn rest_behind(&self, times: u64, due: bool) -> Watch {
         if due {
             self.rest(times);
@@ -144,7 +147,8 @@ where
         }
     }
 
-    // What becomes of a chunk whose courier failed. Where the buffer has failed, whose entries can't be read then, the worker ends.
+    // What becomes of a chunk whose courier failed. Where the buffer has failed, whose entries
+    // can't be read then, the worker ends.
     fn take_fault(&mut self, claim: Claim<A>, fault: CarryFault) -> Result<Outcome, BufferFault>
         requires holds { Holds claim self.old }
         requires failed { last self.old.acts ≡ Some (NotCarried claim.serial fault) }
@@ -162,7 +166,8 @@ where
         self.put_back(claim)
     }
 
-    // Purges a chunk on this evidence. What the buffer refuses counts as a failed delivery, but for where the worker ends.
+    // Purges a chunk on this evidence. What the buffer refuses counts as a failed delivery, but for
+    // where the worker ends.
     fn let_go(&mut self, claim: Claim<A>, evidence: Evidence<A>) -> Result<Outcome, BufferFault>
         requires holds { Holds claim self.old }
         requires earned { IsEarned self.old.post.terms.leaf claim.serial evidence self.old.acts }

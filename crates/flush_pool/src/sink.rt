@@ -19,8 +19,8 @@ use std::snapshot::Snapshot;
 use std::sync::{Mutex, Wait};
 use std::time::Clock;
 
-/// Writes chunks to a sink's files, one at a time: its workers share them behind a lock of its own. They are away only while one
-/// writes, under that lock. Contracts see the sink as it was opened.
+/// Writes chunks to a sink's files, one at a time: its workers share them behind a lock of its own.
+/// They are away only while one writes, under that lock. Contracts see the sink as it was opened.
 #[derive(Drop)]
 pub struct SinkCourier<S: Dir, A: Allocator> {
     sink: Mutex<Option<Rotation<S, A>>>,
@@ -50,7 +50,8 @@ impl<S: Dir, A: Allocator + Copy> SinkCourier<S, A> {
         }
     }
 
-    /// It tells by this teller, of which the first place is the sink, where the files can't be written.
+    /// It tells by this teller, of which the first place is the sink, where the files can't be
+    /// written.
     pub fn telling(self, teller: Teller<A>) -> Self
         ensures { result ≡ self }
     {
@@ -89,8 +90,8 @@ impl<R: Wait + Clock, D: Dir, S: Dir + Drop, A: Allocator + Copy> Courier<R, D, 
 
     /// Reads the chunk's entries, writes them and syncs them.
     ///
-    /// `Memory` writes nothing. `Device`: the chunk couldn't be read, or not be written; after a write that failed, each later one does
-    /// until the sink begins its next file.
+    /// `Memory` writes nothing. `Device`: the chunk couldn't be read, or not be written; after a
+    /// write that failed, each later one does until the sink begins its next file.
     fn carry(&self, rt: &R, chunk: &ClaimView<'_, D, A>) -> Result<Evidence<A>, CarryFault>
         ensures stored { IfOk result (λ evidence. IsStoredFor chunk.now evidence) }
         ensures gives { (shown : Shows) → result ≡ Ok shown → IsStoredFor chunk.now shown }

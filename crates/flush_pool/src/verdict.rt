@@ -18,7 +18,8 @@ pub(crate) enum Verdict {
     GiveUp,
 }
 
-/// What is to become of the chunk of this serial, now. Times are milliseconds since one fixed start.
+/// What is to become of the chunk of this serial, now. Times are milliseconds since one fixed
+/// start.
 /// Where the buffer lets no chunk expire, a chunk whose retries are over is tried like any other.
 pub(crate) fn judge<A: Allocator + Copy>(
     settings: &RetrySettings,

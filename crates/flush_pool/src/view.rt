@@ -14,8 +14,8 @@ use std::sync::Wait;
 
 /// A claimed chunk, and the buffer that it is of. Contracts see what they see of the claim.
 ///
-/// The chunk's entries are read when they are asked for: the buffer's lock is held while they are read, and never while
-/// they are carried.
+/// The chunk's entries are read when they are asked for: the buffer's lock is held while they are
+/// read, and never while they are carried.
 pub struct ClaimView<'a, D: Dir, A: Allocator> {
     buffer: &'a SharedBuffer<D, A>,
     claim: &'a Claim<A>,
@@ -80,9 +80,11 @@ impl<'a, D: Dir, A: Allocator> ClaimView<'a, D, A> {
 }
 
 impl<'a, D: Dir, A: Allocator + Copy> ClaimView<'a, D, A> {
-    /// Reads the chunk's entries under the buffer's lock, which is free again when they are handed out: as many as the claim counts.
+    /// Reads the chunk's entries under the buffer's lock, which is free again when they are handed
+    /// out: as many as the claim counts.
     ///
-    /// The errors are `Memory`, and `Device` where the buffer can't read them; both leave the buffer as it was.
+    /// The errors are `Memory`, and `Device` where the buffer can't read them; both leave the
+    /// buffer as it was.
     pub fn entries<R: Wait>(&self, rt: &R) -> Result<Entries<A>, CarryFault>
         ensures { IfOk result (λ entries. length entries ≡ self.now.count) }
     {

@@ -25,16 +25,19 @@ use std::sync::Wait;
 use std::sync::atomic::{AtomicBool, Ordering};
 use std::time::{Clock, Duration};
 
-/// For how many milliseconds a worker sleeps at most that finds nothing to do, before it looks again.
+/// For how many milliseconds a worker sleeps at most that finds nothing to do, before it looks
+/// again.
 const REST: u64 = 10;
 
-/// How often it sleeps so at most where all that is queued waits, before it looks at each chunk again: for ten seconds.
+/// How often it sleeps so at most where all that is queued waits, before it looks at each chunk
+/// again: for ten seconds.
 const RESTS: u32 = 1_000;
 
-/// A worker at a shared buffer, with all that it shares with the others. Contracts see its post, which is the buffer's name
-/// and what lets its chunks go, its courier, its gate and the settings of its retries, and what this worker did there, one act after another: that is kept
-/// for the proofs alone, and takes no memory. Each act stands where the laws let it stand: a call for it asks so. What a
-/// courier gave, or a gate said, is that of the worker's own.
+/// A worker at a shared buffer, with all that it shares with the others. Contracts see its post,
+/// which is the buffer's name and what lets its chunks go, its courier, its gate and the settings
+/// of its retries, and what this worker did there, one act after another: that is kept for the
+/// proofs alone, and takes no memory. Each act stands where the laws let it stand: a call for it
+/// asks so. What a courier gave, or a gate said, is that of the worker's own.
 ///
 /// What an act answers isn't known from what this worker did, since others do the same at once.
 pub struct Worker<'a, R: Wait, D: Dir, A: Allocator, C: Courier<R, D, A>, G: Gate> {
@@ -83,7 +86,8 @@ where
     C: Courier<R, D, A>,
     G: Gate,
 {
-    /// A worker that did nothing yet, at this buffer, with this courier and gate. It stops where `stop` is raised.
+    /// A worker that did nothing yet, at this buffer, with this courier and gate. It stops where
+    /// `stop` is raised.
     pub fn new(
         rt: &'a R,
         buffer: &'a SharedBuffer<D, A>,
@@ -206,7 +210,8 @@ where
         }
     }
 
-    /// Whether the buffer has failed, whose chunks can neither be read nor purged then: it is asked after its courier failed so.
+    /// Whether the buffer has failed, whose chunks can neither be read nor purged then: it is asked
+    /// after its courier failed so.
     pub(crate) fn has_failed(&mut self, claim: &Claim<A>, fault: CarryFault) -> bool
         requires failed { last self.old.acts ≡ Some (NotCarried claim.now.serial fault) }
         requires other { fault ≢ CarryFault.Memory }
@@ -254,7 +259,8 @@ where
         self.write(&Deed::GaveBack(shown));
     }
 
-    /// Notes that the chunk's delivery failed, and looks for chunks that failed and are gone. The error is want of memory.
+    /// Notes that the chunk's delivery failed, and looks for chunks that failed and are gone. The
+    /// error is want of memory.
     pub(crate) fn note(&mut self, claim: &Claim<A>) -> Result<(), AllocError>
         requires { HasFailed claim.now.serial self.old.acts }
         ensures { IsNoted claim.now.serial self.old self.new result }
@@ -292,8 +298,8 @@ where
         self.buffer.sleep_until_queued(self.rt, times, most);
     }
 
-    /// Sleeps where all that was queued up to that count waits: until one that waits is due, a chunk is queued, or it is to stop. It gives no
-    /// yes where none of these came for long.
+    /// Sleeps where all that was queued up to that count waits: until one that waits is due, a
+    /// chunk is queued, or it is to stop. It gives no yes where none of these came for long.
     pub(crate) fn rest_on(&self, times: u64) -> bool {
         for _ in 0..RESTS {
             self.rest(times);

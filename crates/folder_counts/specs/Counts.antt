@@ -5,7 +5,8 @@ use Rattle.buffer_state.specs.State.{State, is_staged}
 use Rattle.folder_counts.specs.declared.counts.ChunkCounts.{ChunkCounts}
 use Rattle.folder_counts.specs.declared.counts.SinkCounts.{SinkCounts}
 
--- how many chunks grow and how many don't, how many entries they have, and how many bytes these have
+-- how many chunks grow and how many don't, how many entries they have, and how many bytes these
+-- have
 abbrev pub chunk_counts : List Facts → ChunkCounts
 chunk_counts chunks = record {
   staged = count_by (λ facts. is_staged facts.stage) chunks;

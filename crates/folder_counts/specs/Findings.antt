@@ -11,7 +11,8 @@ use Rattle.folder_counts.specs.declared.buffers.Found.TheVariants.{Chunks, Unsea
 use Rattle.folder_counts.specs.declared.counts.ChunkCounts.{ChunkCounts}
 use Rattle.folder_counts.specs.declared.counts.SinkCounts.{SinkCounts}
 
--- a journal of these bytes means so many chunks, and this next serial, and so many bytes are torn at its end
+-- a journal of these bytes means so many chunks, and this next serial, and so many bytes are torn
+-- at its end
 pub record CountsChunks (bytes : List ℕ) (chunks : ChunkCounts) (torn next : ℕ) : Type 0 where
   pub state : State
   pub means : IsMeaningOf bytes (Means state torn)
@@ -25,7 +26,8 @@ IsInJournal bytes Unsealed = EndsUnsealed bytes
 IsInJournal bytes Damaged = IsDamaged bytes
 IsInJournal bytes Unread = Unit {0}
 
--- a sink's file of these bytes holds so many events, their items have so many bytes, and so many stand behind them
+-- a sink's file of these bytes holds so many events, their items have so many bytes, and so many
+-- stand behind them
 pub record CountsEvents (bytes : List ℕ) (events taken torn : ℕ) : Type 0 where
   pub counts : Counts bytes events torn
   pub whole : taken + torn ≡ length bytes
@@ -37,7 +39,8 @@ pub record EndsLong (bytes : List ℕ) : Type 0 where
   pub counts : Counts bytes events torn
   pub long : longest_item < torn
 
--- a sink's file of these bytes counts to this; nothing is said of them where it isn't read to its end
+-- a sink's file of these bytes counts to this; nothing is said of them where it isn't read to its
+-- end
 pub data IsInSink (bytes : List ℕ) (counts : SinkCounts) : Type 0 where
   Whole : (events taken torn : ℕ) → CountsEvents bytes events taken torn → counts ≡ file_of events taken torn → IsInSink bytes counts
   Long : EndsLong bytes → counts ≡ damaged_file → IsInSink bytes counts

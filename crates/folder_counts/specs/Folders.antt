@@ -18,7 +18,8 @@ abbrev pub name_of : Counted → Named
 name_of (OfBuffer buffer) = (Journal, buffer.file)
 name_of (OfSink sink) = (Sink, sink.newest)
 
--- A file is counted so: its path and its number are those that its name says, and what is found in it is in its bytes, where `named` has these.
+-- A file is counted so: its path and its number are those that its name says, and what is found in
+-- it is in its bytes, where `named` has these.
 abbrev pub IsCounted : (List ℕ → Option (List ℕ)) → Counted → Type 0
 IsCounted named (OfBuffer buffer) = IsOwner Journal buffer.file buffer.path buffer.number × IfSome (named buffer.file) (λ bytes. IsInJournal bytes buffer.found)
 IsCounted named (OfSink sink) = IsOwner Sink sink.newest sink.path sink.number × IfSome (named sink.newest) (λ bytes. IsInSink bytes sink.counts)

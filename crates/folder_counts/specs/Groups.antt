@@ -13,7 +13,8 @@ is_unsealed Unsealed = true
 is_unsealed Damaged = false
 is_unsealed Unread = false
 
--- of two generations of a buffer the first counts: it isn't unsealed, and the other is, or has a smaller number
+-- of two generations of a buffer the first counts: it isn't unsealed, and the other is, or has a
+-- smaller number
 abbrev pub outranks : BufferView → BufferView → Bool
 outranks next held = not (is_unsealed next.found) && (is_unsealed held.found || nat_lt held.number next.number)
 
@@ -21,7 +22,8 @@ outranks next held = not (is_unsealed next.found) && (is_unsealed held.found || 
 abbrev pub newer : BufferView → BufferView → BufferView
 newer held next = if outranks next held then next else held
 
--- Parts that have paths, of each path one, with one more: it is joined to the one that has its path, and else stands behind all.
+-- Parts that have paths, of each path one, with one more: it is joined to the one that has its
+-- path, and else stands behind all.
 abbrev pub with_part : {X : Type 0} → (X → List ℕ) → (X → X → X) → List X → X → List X
 with_part path both held next =
     option_map_or (λ i. slice_set held i (both (slice_index_or held i next) next)) (position (λ one. bytes_eq (path one) (path next)) held) (held ++ next ∷ [])

@@ -3,7 +3,8 @@ use Rattle.std.specs.Prelude.{ℕ, ◌≡◌, ◌+◌, List, ◌++◌, length}
 use Rattle.std.specs.List.{AllByRecursion}
 use Rattle.sink_series.specs.Events.{Event, IsEvent, run_of, BeginsNone}
 
--- of these bytes so many events were counted, whose items have so many bytes, and these are held behind them
+-- of these bytes so many events were counted, whose items have so many bytes, and these are held
+-- behind them
 pub record IsHeldAfter (count taken : ℕ) (held seen : List ℕ) : Type 0 where
   pub events : List Event
   pub each : AllByRecursion IsEvent events

@@ -58,6 +58,7 @@ abbrev pub over_lines : Limits → BufferView → List ℕ
 over_lines limits buffer =
     above_line buffer.path (codes " bytes ") limits.bytes (chunks_in buffer.found).bytes ++ above_line buffer.path (codes " chunks ") limits.chunks (chunks_of (chunks_in buffer.found))
 
--- All lines: those of the buffers and of the sinks, in their order, the one of what all buffers hold, and those of the limits that some are above.
+-- All lines: those of the buffers and of the sinks, in their order, the one of what all buffers
+-- hold, and those of the limits that some are above.
 abbrev pub status_lines : Limits → FolderView → List ℕ
 status_lines limits folder = flat_map buffer_line folder.buffers ++ flat_map sink_lines folder.sinks ++ total_line folder.buffers ++ flat_map (over_lines limits) folder.buffers

@@ -17,7 +17,8 @@ use Rattle.folder_counts.specs.declared.metrics.SinkMetric.TheVariants as sink
 abbrev pub escaped : ℕ → List ℕ
 escaped byte = cond ((byte == 34) || (byte == 92)) (92 ∷ byte ∷ []) (cond (byte == 10) (92 ∷ 110 ∷ []) (byte ∷ []))
 
--- the line of a sample: the metric, a label up to the quote in front of its value, the value, and the number
+-- the line of a sample: the metric, a label up to the quote in front of its value, the value, and
+-- the number
 abbrev pub sample_line : List ℕ → List ℕ → List ℕ → ℕ → List ℕ
 sample_line metric label value number = line (metric ++ label ++ flat_map escaped value ++ (34 ∷ 125 ∷ 32 ∷ []) ++ decimal number)
 

@@ -22,7 +22,8 @@ text_of limits Lines folder = status_lines limits folder
 text_of limits Object folder = status_object limits folder
 text_of limits Metrics folder = status_metrics folder
 
--- These files are counted, and this is the text of what they hold, in the order of names, and the status that it means.
+-- These files are counted, and this is the text of what they hold, in the order of names, and the
+-- status that it means.
 pub record IsSaid (named : List ℕ → Option (List ℕ)) (files : List Named) (limits : Limits) (form : Form) (text : List ℕ) (status : Status) : Type 0 where
   pub counted : FolderView
   pub folder : FolderView
@@ -38,6 +39,7 @@ pub record PrintsSaid (named : List ℕ → Option (List ℕ)) (files : List Nam
   pub said : IsSaid named files limits form text meant
   pub printed : IsPrinted old new text meant status
 
--- all that `status` does to a writer, and its status: the text of what the files hold, or that memory ran out
+-- all that `status` does to a writer, and its status: the text of what the files hold, or that
+-- memory ran out
 abbrev pub PrintsStatus : (List ℕ → Option (List ℕ)) → List Named → Limits → Form → Option (List ℕ) → Option (List ℕ) → Status → Type 0
 PrintsStatus named files limits form old new status = PrintsSaid named files limits form old new status ⊎ IsPrinted old new memory_line Usage status

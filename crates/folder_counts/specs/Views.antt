@@ -3,7 +3,8 @@ use Rattle.std.specs.Prelude.{ℕ, List}
 use Rattle.folder_counts.specs.declared.buffers.Found.{Found}
 use Rattle.folder_counts.specs.declared.counts.SinkCounts.{SinkCounts}
 
--- a buffer: its path, and of one generation of its journal the file, the number, and what is found in it
+-- a buffer: its path, and of one generation of its journal the file, the number, and what is found
+-- in it
 pub record BufferView : Type 0 where
   pub path : List ℕ
   pub file : List ℕ

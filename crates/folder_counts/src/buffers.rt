@@ -26,7 +26,8 @@ pub enum Found {
     Unread,
 }
 
-/// A buffer, by the generation of its journal that counts: the greatest that isn't unsealed, where there is one.
+/// A buffer, by the generation of its journal that counts: the greatest that isn't unsealed, where
+/// there is one.
 #[derive(Drop)]
 pub struct Buffer<'a> {
     path: &'a str,

@@ -17,7 +17,8 @@ use program_text::Open;
 use std::alloc::{AllocError, Allocator};
 use std::marker::Model;
 
-/// The buffers and the sinks of a folder, each in the order of their first files until they are sorted.
+/// The buffers and the sinks of a folder, each in the order of their first files until they are
+/// sorted.
 #[derive(Drop)]
 pub struct FolderCounts<'a, A: Allocator> {
     buffers: Vec<Buffer<'a>, A>,
@@ -104,8 +105,10 @@ impl<'a, A: Allocator> FolderCounts<'a, A> {
     }
 }
 
-/// The buffers and the sinks that these files make, each file read in pieces of 65,536 bytes. Of a file are held a piece, one record or event that
-/// isn't whole, and of a journal what its live chunks are, without their entries. The error is want of memory, also for a number of 2^64 or more.
+/// The buffers and the sinks that these files make, each file read in pieces of 65,536 bytes. Of a
+/// file are held a piece, one record or event that isn't whole, and of a journal what its live
+/// chunks are, without their entries. The error is want of memory, also for a number of 2^64 or
+/// more.
 pub fn count_folder<'a, A: Allocator + Copy, B: Allocator, O: Open>(
     alloc: A,
     listed: &'a [DataFile<B>],

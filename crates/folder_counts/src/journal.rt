@@ -1,4 +1,5 @@
-//! A journal, counted: of its bytes are held a piece, a record that isn't whole, and what the live chunks are without their entries.
+//! A journal, counted: of its bytes are held a piece, a record that isn't whole, and what the live
+//! chunks are without their entries.
 
 ghost use Rattle.std.specs.Prelude.{◌≡◌, ℕ, List, IfOk};
 ghost use Rattle.buffer_state.specs.Shown.{seen};

@@ -1,4 +1,5 @@
-//! The word `status`: what the journals and sinks in a relay's data folder hold, counted for each buffer and each sink. Files are read in pieces.
+//! The word `status`: what the journals and sinks in a relay's data folder hold, counted for each
+//! buffer and each sink. Files are read in pieces.
 #![tactic(auto)]
 
 mod buffers;

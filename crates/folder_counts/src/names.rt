@@ -8,7 +8,8 @@ use folder_listing::Kind;
 use numbered_files::Family;
 use std::str;
 
-/// Whose file has this name: the path and the number that make it, as a relay makes names; or the name itself, with 0, where none make it.
+/// Whose file has this name: the path and the number that make it, as a relay makes names; or the
+/// name itself, with 0, where none make it.
 pub(crate) fn owner_of(kind: Kind, name: &str) -> (&str, u32)
     ensures { IsOwner kind name.now result.0.now result.1 }
 {

@@ -26,7 +26,8 @@ impl<'a> Model for Sink<'a> {
 }
 
 impl<'a> Sink<'a> {
-    /// The sink of this path, of whose files this one, with this number, is the newest, and which count to this.
+    /// The sink of this path, of whose files this one, with this number, is the newest, and which
+    /// count to this.
     pub(crate) fn new(path: &'a str, newest: &'a str, number: u32, counts: SinkCounts) -> Sink<'a>
         ensures { result ≡ record { path = path.now; newest = newest.now; number = number; counts = counts } }
     {

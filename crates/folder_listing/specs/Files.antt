@@ -16,8 +16,9 @@ use Rattle.sink_series.specs.Events.{Counts}
 use Rattle.program_text.specs.declared.status.Status.{Status}
 use Rattle.program_text.specs.declared.status.Status.TheVariants.{Done, No, Usage}
 
--- What is found in a file: of a journal the state that it means, and how many bytes are torn at its end; that its whole records end before a Seal;
--- or that it is damaged. Of a sink's file how many events it holds, and how many bytes are torn at its end. Of either that it isn't read.
+-- What is found in a file: of a journal the state that it means, and how many bytes are torn at its
+-- end; that its whole records end before a Seal; or that it is damaged. Of a sink's file how many
+-- events it holds, and how many bytes are torn at its end. Of either that it isn't read.
 pub data Finding : Type 0 where
   Means : (state : State) (torn : ℕ) → Finding
   Unsealed : Finding
@@ -61,12 +62,14 @@ stage_text Staged = codes "staged"
 stage_text Queued = codes "queued"
 stage_text Claimed = codes "claimed"
 
--- the line of a chunk: its serial, its state, its tag, how many entries it has, and how many bytes these have
+-- the line of a chunk: its serial, its state, its tag, how many entries it has, and how many bytes
+-- these have
 abbrev pub chunk_line : Facts → List ℕ
 chunk_line facts =
     line (codes "chunk " ++ decimal facts.serial ++ codes " " ++ stage_text facts.stage ++ codes " " ++ facts.tag ++ codes " " ++ decimal facts.count ++ codes " entries " ++ decimal facts.size ++ codes " bytes")
 
--- the line of a file of this kind and name, and behind that of a journal those of its chunks, by rising serial
+-- the line of a file of this kind and name, and behind that of a journal those of its chunks, by
+-- rising serial
 abbrev pub shown_lines : Kind → List ℕ → Finding → List ℕ
 shown_lines kind name (Means state torn) =
     line (kind_text kind ++ codes " " ++ name ++ codes " bytes " ++ decimal (total_size state) ++ codes " torn " ++ decimal torn) ++ flat_map chunk_line (map numbered_facts state.chunks)
@@ -87,7 +90,8 @@ is_sound Unread = false
 abbrev pub IsShownAs : Kind → List ℕ → Finding → List ℕ → Bool → Type 0
 IsShownAs kind name finding lines sound = (lines ≡ shown_lines kind name finding) × (sound ≡ is_sound finding)
 
--- This is said of the file of this kind and name, whose bytes are what `named` has, where that is known.
+-- This is said of the file of this kind and name, whose bytes are what `named` has, where that is
+-- known.
 abbrev pub IsShown : (List ℕ → Option (List ℕ)) → Kind → List ℕ → List ℕ → Bool → Type 0
 IsShown named kind name lines sound = (finding : Finding) × IsFindingOf kind (named name) finding × IsShownAs kind name finding lines sound
 

@@ -1,4 +1,5 @@
-//! A file, listed: what the bytes of a journal mean, as far as whole records stand there, and how many events a sink's file holds.
+//! A file, listed: what the bytes of a journal mean, as far as whole records stand there, and how
+//! many events a sink's file holds.
 
 ghost use Rattle.std.specs.Prelude.{◌≡◌, ◌-◌, ◌++◌, map, string_bytes, true, IfOk, OnOk};
 ghost use Rattle.std.specs.List.{flat_map};

@@ -1,4 +1,5 @@
-//! A relay's data folder, whose files are opened for reading alone. On standard error it is said what can't be read.
+//! A relay's data folder, whose files are opened for reading alone. On standard error it is said
+//! what can't be read.
 
 use crate::kind::{DataFile, Kind};
 use program_text::{Folder, NamedFile, Open, ReadFault};
@@ -18,7 +19,8 @@ impl<'a> DataFolder<'a> {
         DataFolder { rt, path }
     }
 
-    /// Its journals, and behind them its sinks' files, each sorted by their names. An error says that the folder can't be read, or that there is no memory.
+    /// Its journals, and behind them its sinks' files, each sorted by their names. An error says
+    /// that the folder can't be read, or that there is no memory.
     pub fn files<A: Allocator + Copy>(&self, alloc: A) -> Result<Vec<DataFile<A>, A>, ReadFault> {
         let mut files = Vec::new(alloc);
         self.put_files(alloc, &mut files, Kind::Journal, ".journal")?;

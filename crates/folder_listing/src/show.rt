@@ -9,8 +9,9 @@ use program_text::{Open, Status, put_last};
 use std::alloc::{AllocError, Allocator};
 use std::io::Write;
 
-/// Prints what these files hold, in their order: of each a line, and behind that of a journal one for each chunk. The status is `No` where
-/// one couldn't be read or is damaged; the others are listed all the same.
+/// Prints what these files hold, in their order: of each a line, and behind that of a journal one
+/// for each chunk. The status is `No` where one couldn't be read or is damaged; the others are
+/// listed all the same.
 pub fn run_show<A: Allocator + Copy, B: Allocator, O: Open, W: Write>(
     alloc: A,
     listed: &[DataFile<B>],

@@ -1,4 +1,5 @@
--- The end of a connection that connects (Forward Protocol Specification v1, "Connection Phases", "Response").
+-- The end of a connection that connects (Forward Protocol Specification v1, "Connection Phases",
+-- "Response").
 use Rattle.std.specs.Prelude.{ℕ, ◌≡◌, ◌≤◌, ◌⊎◌, List, [], ◌++◌, length, take, drop, Option, Some, None, Bool, true, false, Result, Ok, Err, IsSome, if◌then◌else◌}
 use Rattle.std.specs.List.{AllByRecursion, concat}
 use Rattle.msgpack_bytes.specs.declared.answers.MsgFault.{MsgFault}
@@ -27,8 +28,8 @@ use Rattle.forward_core.specs.declared.client.Phase.{Phase}
 use Rattle.forward_core.specs.declared.client.Phase.TheVariants as phase
 use Rattle.forward_core.specs.Handshakes.{IsShown}
 
--- where a session stands: a HELO has to come first, then a PONG, then a message may be sent, once, under the name of a chunk
--- where it asks for an acknowledgement; or the session is over
+-- where a session stands: a HELO has to come first, then a PONG, then a message may be sent, once,
+-- under the name of a chunk where it asks for an acknowledgement; or the session is over
 pub data ClientPhase : Type 0 where
   AwaitsHelo : (client : ClientEnd) → ClientPhase
   AwaitsPong : (client : ClientEnd) → ClientPhase
@@ -82,8 +83,8 @@ abbrev pub IsNoReply : List ℕ → Type 0
 IsNoReply bytes = ((why : MsgFault) × IsFaulty why bytes)
     ⊎ ((item : List ℕ) × (more : List ℕ) × IsItemWithin item × IsOther item × (bytes ≡ item ++ more))
 
--- what comes of the first item that isn't passed over: the acknowledgement that is awaited is taken off and is evidence of this chunk;
--- of what is no reply nothing is taken, and the session is over
+-- what comes of the first item that isn't passed over: the acknowledgement that is awaited is taken
+-- off and is evidence of this chunk; of what is no reply nothing is taken, and the session is over
 abbrev pub HearsNext : Option ChunkId → ClientState → List ℕ → Said → ClientState → Type 0
 HearsNext chunk old rest (Sees shown) new = (id : ChunkId) × (item : List ℕ) × (more : List ℕ) × (chunk ≡ Some id) × (shown ≡ Acknowledged id)
     × IsAcknowledgement item (chunk_text id) × (rest ≡ item ++ more) × (new ≡ record old { held = more })
@@ -106,14 +107,16 @@ IsWaiting old says new = IsOpen old.held × (says ≡ Waits) × (new ≡ old)
 abbrev pub IsFailing : HandshakeFault → ClientState → Said → ClientState → Type 0
 IsFailing fault old says new = (says ≡ Fails (Handshake fault)) × (new ≡ record old { phase = Ended })
 
--- What a session makes of an item that should be a PONG: what the client's end does. But it takes none under the client's own name, since whoever has no
--- key can send the client's own digest back under that.
+-- What a session makes of an item that should be a PONG: what the client's end does. But it takes
+-- none under the client's own name, since whoever has no key can send the client's own digest back
+-- under that.
 abbrev pub IsJudged : ClientEnd → List ℕ → Result Unit HandshakeFault → Type 0
 IsJudged client item (Ok _) = IsVerdict client item (Ok tt) × (IsUnderName item client.host → ⊥)
 IsJudged client item (Err fault) = IsVerdict client item (Err fault)
     ⊎ ((fault ≡ WrongDigest) × IsVerdict client item (Ok tt) × IsUnderName item client.host)
 
--- the first item is a PONG that lets the client in, and what is behind it is read as replies; or it is refused
+-- the first item is a PONG that lets the client in, and what is behind it is read as replies; or it
+-- is refused
 abbrev pub ReadsPong : ClientEnd → ClientState → Said → ClientState → Type 0
 ReadsPong client old says new = IsWaiting old says new
     ⊎ (((item : List ℕ) × (more : List ℕ) × IsShown old.held item more × IsJudged client item (Ok tt)
@@ -129,7 +132,8 @@ greeted client nonce more old = record {
   outgoing = old.outgoing ++ ping_bytes client.host client.salt (client_digest client nonce);
 }
 
--- the first item is a HELO, to which the PING is sent, and what is behind it is read as a PONG; or it is refused
+-- the first item is a HELO, to which the PING is sent, and what is behind it is read as a PONG; or
+-- it is refused
 abbrev pub ReadsHelo : ClientEnd → ClientState → Said → ClientState → Type 0
 ReadsHelo client old says new = IsWaiting old says new
     ⊎ (((item : List ℕ) × (more : List ℕ) × (nonce : List ℕ) × IsShown old.held item more × IsHelo item nonce
@@ -145,7 +149,8 @@ ReadsAll Ready old says new = Listens None old says new
 ReadsAll (HasSent chunk) old says new = Listens chunk old says new
 ReadsAll Ended old says new = ⊥
 
--- what a session makes of a piece: what was held unread and the piece are read together; one that is over takes nothing
+-- what a session makes of a piece: what was held unread and the piece are read together; one that
+-- is over takes nothing
 abbrev pub ClientReads : ClientState → List ℕ → Said → ClientState → Type 0
 ClientReads old piece says new = ((old.phase ≡ Ended) × (says ≡ Fails Closed) × (new ≡ old))
     ⊎ ReadsAll old.phase (record old { held = old.held ++ piece }) says new

@@ -8,7 +8,8 @@ use Rattle.forward_core.specs.declared.fault.SessionFault.{SessionFault}
 use Rattle.forward_core.specs.declared.demand.Demand.{Demand}
 use Rattle.forward_core.specs.declared.demand.Demand.TheVariants as demand
 
--- what is wanted of the one who runs a session: to deliver what a message says, or to close the connection
+-- what is wanted of the one who runs a session: to deliver what a message says, or to close the
+-- connection
 pub data Wanted : Type 0 where
   Delivers : (parts : Parts) → Wanted
   Closes : (fault : SessionFault) → Wanted

@@ -1,4 +1,5 @@
--- What a connection is secured by, and what an end of a handshake is shown (Forward Protocol Specification v1, "Handshake Messages").
+-- What a connection is secured by, and what an end of a handshake is shown (Forward Protocol
+-- Specification v1, "Handshake Messages").
 use Rattle.std.specs.Prelude.{ℕ, ◌≡◌, ◌≤◌, ◌⊎◌, List, [], ◌++◌, length, Option, Some, None}
 use Rattle.msgpack_bytes.specs.declared.answers.MsgFault.{MsgFault}
 use Rattle.msgpack_bytes.specs.Item.{IsItemWithin}

@@ -20,7 +20,8 @@ use Rattle.forward_core.specs.Demands.{Wanted, Delivers, Closes, wanted, asked_i
 use Rattle.forward_core.specs.Handshakes.{IsShown}
 use Rattle.forward_core.specs.Streams.{IsStreamOf}
 
--- where a session stands: its HELO is out and a PING has to come first, or messages may come, or it is over
+-- where a session stands: its HELO is out and a PING has to come first, or messages may come, or it
+-- is over
 pub data ServerPhase : Type 0 where
   Awaiting : (server : ServerEnd) → ServerPhase
   Opened : ServerPhase
@@ -44,8 +45,8 @@ abbrev pub close_by : Option ModeFault → List Wanted
 close_by None = []
 close_by (Some fault) = Closes (BadStream fault) ∷ []
 
--- an open session wants the stream's messages delivered, in order, and then, where a fault stands, the connection closed;
--- it sends nothing by itself but what the handshake sent
+-- an open session wants the stream's messages delivered, in order, and then, where a fault stands,
+-- the connection closed; it sends nothing by itself but what the handshake sent
 pub record ReadsOn (sends bytes : List ℕ) (out : Outcome) : Type 0 where
   pub messages : List Parts
   pub rest : List ℕ
@@ -68,7 +69,8 @@ pub record Waits (server : ServerEnd) (bytes : List ℕ) (out : Outcome) : Type 
   pub within : length bytes ≤ most_before_ping
   pub is : out ≡ record { phase = Awaiting server; rest = bytes; sends = []; wants = [] }
 
--- the first item is a PING that shows the key: the PONG is sent, and what is behind the PING is read as messages
+-- the first item is a PING that shows the key: the PONG is sent, and what is behind the PING is
+-- read as messages
 pub record LetsIn (server : ServerEnd) (bytes : List ℕ) (out : Outcome) : Type 0 where
   pub item : List ℕ
   pub more : List ℕ
@@ -77,7 +79,8 @@ pub record LetsIn (server : ServerEnd) (bytes : List ℕ) (out : Outcome) : Type
   pub passed : IsAnswer server item Passed pong
   pub reads : ReadsOn pong more out
 
--- the first item is another, or shows another key: the PONG that says so is sent, and the connection is to be closed
+-- the first item is another, or shows another key: the PONG that says so is sent, and the
+-- connection is to be closed
 pub record ShutsOut (server : ServerEnd) (bytes : List ℕ) (out : Outcome) : Type 0 where
   pub item : List ℕ
   pub more : List ℕ
@@ -87,7 +90,8 @@ pub record ShutsOut (server : ServerEnd) (bytes : List ℕ) (out : Outcome) : Ty
   pub refused : IsAnswer server item (Refused fault) pong
   pub is : out ≡ record { phase = Over; rest = bytes; sends = pong; wants = Closes (Handshake fault) ∷ [] }
 
--- The first item isn't whole, and more has come of it than may: nothing is sent, none of it is kept, and the connection is to be closed.
+-- The first item isn't whole, and more has come of it than may: nothing is sent, none of it is
+-- kept, and the connection is to be closed.
 pub record Overruns (bytes : List ℕ) (out : Outcome) : Type 0 where
   pub begun : IsOpen bytes
   pub past : most_before_ping < length bytes

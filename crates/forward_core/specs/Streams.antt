@@ -17,7 +17,8 @@ abbrev pub EndsSo : List ℕ → Option ModeFault → Type 0
 EndsSo rest None = IsOpen rest
 EndsSo rest (Some fault) = StreamFault rest fault
 
--- the bytes are these messages in this order, heartbeats left out, and then a rest in which none is whole
+-- the bytes are these messages in this order, heartbeats left out, and then a rest in which none is
+-- whole
 pub record IsStreamOf (bytes : List ℕ) (messages : List Parts) (rest : List ℕ) (fault : Option ModeFault) : Type 0 where
   pub arrivals : List Arrival
   pub splits : Splits bytes arrivals rest

@@ -1,4 +1,5 @@
--- What contracts are told of a session's past: all of it in order. How many times something was told only says that the past is finite.
+-- What contracts are told of a session's past: all of it in order. How many times something was
+-- told only says that the past is finite.
 use Rattle.std.specs.Prelude.{ℕ, List}
 use Rattle.ack_receipt.specs.Reservations.{Asked, Reservation}
 

@@ -56,8 +56,8 @@ impl<A: Allocator> Phase<A> {
     }
 }
 
-/// The client's end of one connection, which sends one message. Contracts see where it stands, the bytes that it
-/// holds unread, and those that are to be sent.
+/// The client's end of one connection, which sends one message. Contracts see where it stands, the
+/// bytes that it holds unread, and those that are to be sent.
 ///
 /// It holds what came and is not whole yet: at most one item, and one piece while it is fed.
 #[derive(Drop)]
@@ -80,7 +80,8 @@ impl<A: Allocator> Model for ClientSession<A> {
 }
 
 impl<A: Allocator + Copy> ClientSession<A> {
-    /// A session of a connection that was opened. With security the server's HELO has to come first;
+    /// A session of a connection that was opened. With security the server's HELO has to come
+    /// first;
     /// the salt is to be new for each connection.
     ///
     /// The error is want of memory.
@@ -109,9 +110,9 @@ impl<A: Allocator + Copy> ClientSession<A> {
         })
     }
 
-    /// Sends the message with these entries, under the chunk's name where it is to ask for an acknowledgement.
-    /// Each session sends one, once it is ready. The tag has at most 1,024 bytes, and the entries have fewer than
-    /// 2^32 bytes together.
+    /// Sends the message with these entries, under the chunk's name where it is to ask for an
+    /// acknowledgement. Each session sends one, once it is ready. The tag has at most 1,024 bytes,
+    /// and the entries have fewer than 2^32 bytes together.
     ///
     /// The error is want of memory, and changes nothing.
     pub fn send<B: Allocator>(
@@ -138,10 +139,11 @@ impl<A: Allocator + Copy> ClientSession<A> {
 
     /// Takes a piece of what the server sent, and says what was heard in it.
     ///
-    /// `Seen` comes for the acknowledgement of the chunk that was sent, and the bytes behind it are read by the next call.
-    /// Heartbeats and acknowledgements of other chunks are passed over. Where the server's HELO or PONG isn't one,
-    /// refuses the client or doesn't show the key (`Handshake`), and where what comes is no acknowledgement (`BadAck`),
-    /// the session is over: it says `Closed` from then on.
+    /// `Seen` comes for the acknowledgement of the chunk that was sent, and the bytes behind it are
+    /// read by the next call. Heartbeats and acknowledgements of other chunks are passed over.
+    /// Where the server's HELO or PONG isn't one, refuses the client or doesn't show the key
+    /// (`Handshake`), and where what comes is no acknowledgement (`BadAck`), the session is over:
+    /// it says `Closed` from then on.
     ///
     /// The error is want of memory, and changes nothing.
     pub fn feed(&mut self, piece: &[u8]) -> Result<Heard<A>, AllocError>
@@ -236,7 +238,8 @@ impl<A: Allocator + Copy> ClientSession<A> {
         heard
     }
 
-    /// Whether the message may be sent: the handshake is done, none was sent yet, and no fault came.
+    /// Whether the message may be sent: the handshake is done, none was sent yet, and no fault
+    /// came.
     pub fn ready(&self) -> bool
         ensures { IsTrue result ↔ (self.now.phase ≡ Ready) }
     {

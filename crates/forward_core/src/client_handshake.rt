@@ -40,8 +40,8 @@ pub fn take_helo<A: Allocator + Copy, B: Allocator>(
     }
 }
 
-/// Looks at the PONG that the bytes have to begin with. One that the shared key made, but under the client's own name, is refused as if
-/// of another key.
+/// Looks at the PONG that the bytes have to begin with. One that the shared key made, but under the
+/// client's own name, is refused as if of another key.
 pub fn take_pong<A: Allocator>(client: &Client<A>, bytes: &[u8]) -> First
     requires { IsSome client.now.nonce }
     ensures { TakesPong client.now bytes.now result }

@@ -1,4 +1,5 @@
-//! Both ends of a connection of the Forward Protocol (v1) as values: bytes go in, and bytes and demands come out.
+//! Both ends of a connection of the Forward Protocol (v1) as values: bytes go in, and bytes and
+//! demands come out.
 #![tactic(auto)]
 
 mod client;

@@ -8,7 +8,8 @@ use crate::taken::{Standing, TakenItem};
 use event_modes::{Read, read};
 use std::alloc::{AllocError, Allocator};
 
-/// Reads the messages in the bytes, heartbeats left out, up to where none is whole or a fault stands.
+/// Reads the messages in the bytes, heartbeats left out, up to where none is whole or a fault
+/// stands.
 /// `sends` is what the handshake sends.
 pub fn take_messages<A: Allocator + Copy>(
     alloc: A,
@@ -37,8 +38,8 @@ pub fn take_messages<A: Allocator + Copy>(
     }
 }
 
-/// Reads the messages in these bytes and in those behind them, and says how many of those behind were read. `None` where
-/// the first ones aren't read whole.
+/// Reads the messages in these bytes and in those behind them, and says how many of those behind
+/// were read. `None` where the first ones aren't read whole.
 pub fn take_both<A: Allocator + Copy>(
     alloc: A,
     front: &[u8],

@@ -90,7 +90,8 @@ impl<A: Allocator> Outbox<A> {
         client.helo(item, &mut self.bytes)
     }
 
-    /// The message with these entries is to be sent. The error is want of memory, and changes nothing.
+    /// The message with these entries is to be sent. The error is want of memory, and changes
+    /// nothing.
     pub fn packed<B: Allocator>(
         &mut self,
         tag: &[u8],

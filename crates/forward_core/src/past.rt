@@ -1,4 +1,5 @@
-//! What contracts remember of a session. It has no bytes for a message: a connection that lasts for days costs no more than a new one.
+//! What contracts remember of a session. It has no bytes for a message: a connection that lasts for
+//! days costs no more than a new one.
 
 ghost use Rattle.std.specs.Prelude.{◌≡◌, ◌++◌, ◌∷◌, [], map};
 ghost use Rattle.forward_core.specs.Demands.{asked_in, wanted};

@@ -15,7 +15,8 @@ use event_modes::{AckRead, ChunkId, read_ack};
 use msgpack_bytes::{Scan, scan};
 use std::alloc::Allocator;
 
-/// What a client's session says to the bytes that it took. It can't be dropped, since an evidence can't.
+/// What a client's session says to the bytes that it took. It can't be dropped, since an evidence
+/// can't.
 pub enum Heard<A: Allocator> {
     /// The chunk that was sent is acknowledged.
     Seen(Evidence<A>),
@@ -35,7 +36,8 @@ pub enum Reply<A: Allocator> {
     Other,
 }
 
-/// Listens for the acknowledgement of this chunk, if one is awaited, and says how many bytes were passed over or taken.
+/// Listens for the acknowledgement of this chunk, if one is awaited, and says how many bytes were
+/// passed over or taken.
 pub fn listen_to<A: Allocator>(chunk: Option<ChunkId>, bytes: &[u8]) -> (usize, Heard<A>)
     ensures { IsHeard chunk bytes.now result.0 (said result.1) }
 {

@@ -1,6 +1,7 @@
 //! What a connection is secured by.
 
-/// A host name of this end, and the key that both ends share. Neither is kept longer than the session.
+/// A host name of this end, and the key that both ends share. Neither is kept longer than the
+/// session.
 #[derive(Clone, Copy)]
 pub struct Security<'a> {
     /// At most 1,024 bytes.

@@ -44,11 +44,13 @@ impl<A: Allocator> Phase<A> {
     }
 }
 
-/// The server's end of one connection. Contracts see where it stands, the bytes that it holds unread, those that are
-/// to be sent, what each message asked for that it demanded to be delivered, and the answers that it took.
+/// The server's end of one connection. Contracts see where it stands, the bytes that it holds
+/// unread, those that are to be sent, what each message asked for that it demanded to be delivered,
+/// and the answers that it took.
 ///
-/// It holds what came and is not whole yet: at most one item, and one piece while it is fed; while a PING has to come first, at most 65,536
-/// bytes. What the messages asked for and their answers are there for contracts alone, and take no memory.
+/// It holds what came and is not whole yet: at most one item, and one piece while it is fed; while
+/// a PING has to come first, at most 65,536 bytes. What the messages asked for and their answers
+/// are there for contracts alone, and take no memory.
 #[derive(Drop)]
 pub struct ServerSession<A: Allocator> {
     phase: Phase<A>,
@@ -73,8 +75,8 @@ impl<A: Allocator> Model for ServerSession<A> {
 }
 
 impl<A: Allocator + Copy> ServerSession<A> {
-    /// A session of a connection that was opened. With security the HELO is outgoing, and a PING has to come
-    /// before the first message; the nonce is to be new for each connection.
+    /// A session of a connection that was opened. With security the HELO is outgoing, and a PING
+    /// has to come before the first message; the nonce is to be new for each connection.
     ///
     /// The error is want of memory.
     pub fn open(
@@ -121,14 +123,16 @@ impl<A: Allocator + Copy> ServerSession<A> {
 
     /// Takes a piece of what the client sent, and says what is to be done for it, in order.
     ///
-    /// Each message that is whole now is to be delivered; heartbeats are passed over. Where the client's PING isn't one
-    /// or doesn't show the key, or isn't whole behind 65,536 bytes (`Handshake`), and where what comes is no message
-    /// (`BadStream`), the connection is to be closed, and nothing is read any more.
+    /// Each message that is whole now is to be delivered; heartbeats are passed over. Where the
+    /// client's PING isn't one or doesn't show the key, or isn't whole behind 65,536 bytes
+    /// (`Handshake`), and where what comes is no message (`BadStream`), the connection is to be
+    /// closed, and nothing is read any more.
     ///
     /// A session that met a fault refuses with `Closed`. The only other error is want of memory.
     /// Each error leaves the session as it was.
     pub fn feed(&mut self, piece: &[u8]) -> Result<Vec<Demand<A>, A>, SessionError>
-        // What was held unread and the piece are read together: what they come to is what the session is then.
+        // What was held unread and the piece are read together: what they come to is what the
+        // session is then.
         ensures reads { IfOk result (λ demands. (out : Outcome)
             × ServerReads self.old.phase (self.old.held ++ piece.now) out
             × (self.new ≡ after self.old out) × (map wanted demands.items ≡ out.wants)) }
@@ -145,7 +149,8 @@ impl<A: Allocator + Copy> ServerSession<A> {
         }
     }
 
-    // Reads the piece with what is held, which takes it in. The error is want of memory, and changes nothing.
+    // Reads the piece with what is held, which takes it in. The error is want of memory, and
+    // changes nothing.
     fn read_whole(&mut self, piece: &[u8]) -> Result<Vec<Demand<A>, A>, AllocError>
         requires { self.old.phase ≡ Over → ⊥ }
         ensures reads { IfOk result (λ demands. (out : Outcome)
@@ -167,7 +172,8 @@ impl<A: Allocator + Copy> ServerSession<A> {
         }
     }
 
-    // The same of an open session. What is held takes in only what it lacks of a message: all that is whole behind it is read where it came.
+    // The same of an open session. What is held takes in only what it lacks of a message: all that
+    // is whole behind it is read where it came.
     fn read_on(&mut self, piece: &[u8]) -> Result<Vec<Demand<A>, A>, AllocError>
         requires { self.old.phase ≡ Opened }
         ensures reads { IfOk result (λ demands. (out : Outcome)
@@ -189,7 +195,8 @@ impl<A: Allocator + Copy> ServerSession<A> {
         }
     }
 
-    // Reads what is held, and what came behind it where it lies. The error is want of memory, and changes nothing.
+    // Reads what is held, and what came behind it where it lies. The error is want of memory, and
+    // changes nothing.
     fn read_behind(&mut self, more: &[u8]) -> Result<Vec<Demand<A>, A>, AllocError>
         requires { self.old.phase ≡ Opened }
         ensures reads { IfOk result (λ demands. (out : Outcome)
@@ -204,8 +211,8 @@ impl<A: Allocator + Copy> ServerSession<A> {
         }
     }
 
-    // What was read of what is held and of these bytes behind it, of which what wasn't read is held now. The error is want of memory, and
-    // changes nothing.
+    // What was read of what is held and of these bytes behind it, of which what wasn't read is held
+    // now. The error is want of memory, and changes nothing.
     fn keep_rest(
         &mut self,
         taken: TakenItem<A>,
@@ -279,7 +286,8 @@ impl<A: Allocator + Copy> ServerSession<A> {
         }
     }
 
-    /// Takes the answer to a message that was demanded to be delivered: its bytes are outgoing from now on.
+    /// Takes the answer to a message that was demanded to be delivered: its bytes are outgoing from
+    /// now on.
     ///
     /// The error is want of memory. It changes nothing, and hands the answer back.
     pub fn answer(&mut self, reserved: Reserved<A>) -> Result<(), Unanswered<A>>
@@ -326,7 +334,8 @@ impl<A: Allocator + Copy> ServerSession<A> {
         self.held.len()
     }
 
-    /// What each message asked for that was demanded to be delivered, in order: for contracts alone.
+    /// What each message asked for that was demanded to be delivered, in order: for contracts
+    /// alone.
     pub fn asked(&self) -> &AskedSoFar<A>
         ensures { result.now.all ≡ self.now.asked }
     {

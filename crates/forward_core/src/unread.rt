@@ -14,8 +14,9 @@ const MOST_SPARE: usize = 262_144;
 
 /// Bytes that are held unread, in order. Contracts see their list.
 ///
-/// How far they were scanned is kept beside them: while an item comes in pieces, each of its bytes is looked at once. Once a long item was read,
-/// its memory is given back but for a quarter of a MiB.
+/// How far they were scanned is kept beside them: while an item comes in pieces, each of its bytes
+/// is looked at once. Once a long item was read, its memory is given back but for a quarter of a
+/// MiB.
 #[derive(Drop)]
 pub struct Unread<A: Allocator> {
     bytes: Vec<u8, A>,
@@ -47,7 +48,8 @@ impl<A: Allocator> Unread<A> {
         }
     }
 
-    /// Takes a piece, and says whether all that is held only begins an item. The error is want of memory, and changes nothing.
+    /// Takes a piece, and says whether all that is held only begins an item. The error is want of
+    /// memory, and changes nothing.
     pub fn take(&mut self, piece: &[u8]) -> Result<bool, AllocError>
         ensures ok { OnOk result (self.new ≡ self.old ++ piece.now) }
         ensures begins { IfOk result (λ begins. IsTrue begins ↔ IsOpen self.new) }
@@ -59,8 +61,9 @@ impl<A: Allocator> Unread<A> {
         Ok(begins)
     }
 
-    /// Takes what the piece has of the item that is begun, and says how many bytes these are; all of them where they are none of an item,
-    /// and none where nothing is held. `None`: the whole piece was taken, and what is held still only begins an item.
+    /// Takes what the piece has of the item that is begun, and says how many bytes these are; all
+    /// of them where they are none of an item, and none where nothing is held. `None`: the whole
+    /// piece was taken, and what is held still only begins an item.
     ///
     /// The error is want of memory, and changes nothing.
     pub fn complete(&mut self, piece: &[u8]) -> Result<Option<usize>, AllocError>
@@ -111,7 +114,8 @@ impl<A: Allocator> Unread<A> {
         drop_front(&mut self.bytes, n);
     }
 
-    /// What is held was read, and these bytes are held. The error is want of memory, and changes nothing.
+    /// What is held was read, and these bytes are held. The error is want of memory, and changes
+    /// nothing.
     pub fn replace(&mut self, bytes: &[u8]) -> Result<(), AllocError>
         ensures ok { OnOk result (self.new ≡ bytes.now) }
         ensures err { OnErr result (self.new ≡ self.old) }
@@ -147,7 +151,8 @@ impl<A: Allocator + Copy> Unread<A> {
     }
 }
 
-// Whether the bytes only begin an item. The scanner was given the first of them, and is given the others.
+// Whether the bytes only begin an item. The scanner was given the first of them, and is given the
+// others.
 fn begins_only(scanner: &mut Scanner, bytes: &[u8], given: usize) -> bool
     requires within { given ≤ length bytes.now }
     requires given { IsAfter scanner.old (take given bytes.now) }

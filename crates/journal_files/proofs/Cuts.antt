@@ -89,7 +89,8 @@ sealed_with t is bytes j end journal most more =
       e,
     )
 
--- a beginning of a generation's bytes ends before the Seal, or means what it means after some of the steps
+-- a beginning of a generation's bytes ends before the Seal, or means what it means after some of
+-- the steps
 pub cut : (t : JournalLog) → IsJournalLog t → (n : ℕ) → EndsUnsealed (take n (journal_bytes (records_of t))) ⊎ IsCut t (take n (journal_bytes (records_of t)))
 cut t is n =
     let c = cut_whole (journal_bytes (records_of t)) (records_of t) [] n (journal_of t is) in

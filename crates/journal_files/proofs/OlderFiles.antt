@@ -21,7 +21,8 @@ use Rattle.journal_files.proofs.Strays.{not_some}
 
 -- ---- they are opened
 
--- The disk stays, nothing was refused, and each generation below is still to be looked at, or is open, or isn't there.
+-- The disk stays, nothing was refused, and each generation below is still to be looked at, or is
+-- open, or isn't there.
 pub record Collects {D : Type 0} (honest : D → Type 0) (history : D → History) (opened : D → FileNo → Option (List ℕ)) (faults : D → ℕ) (path : List ℕ) (number : ℕ) (rest : BTreeSet ℕ) (files : BTreeMap ℕ FileNo)
     (first dir : D) : Type 0 where
   pub is_honest : honest first → honest dir
@@ -42,7 +43,8 @@ still_older path number before after files older others = record {
 
 -- ---- they are removed
 
--- Only generations below changed, nothing was refused, and each that was to be removed still is, or is gone.
+-- Only generations below changed, nothing was refused, and each that was to be removed still is, or
+-- is gone.
 pub record Removes {D : Type 0} (honest : D → Type 0) (history : D → History) (opened : D → FileNo → Option (List ℕ)) (faults : D → ℕ) (path : List ℕ) (number : ℕ) (all files : BTreeMap ℕ FileNo) (first dir : D) : Type 0 where
   pub is_honest : honest first → honest dir
   pub so_far : honest first → LeavesOnly (history first) (history dir) (IsLeftOf (ChangesBelow path number (now (history first))))

@@ -17,7 +17,8 @@ use Rattle.journal_files.proofs.Begun.{own_source}
 use Rattle.journal_files.proofs.Names.{same_number}
 use Rattle.journal_files.proofs.Renewing.{none_from, recovers_at, all_at, is_some_name}
 
--- the next generation has this path and number, and copies from the journal's own open file, where entries lie at these places
+-- the next generation has this path and number, and copies from the journal's own open file, where
+-- entries lie at these places
 pub record GoesOnward (opened : FileNo → Option (List ℕ)) (journal : OpenJournal) (path : List ℕ) (number : ℕ) (file : FileNo) (spots : Spots) : Type 0 where
   pub path_is : path ≡ journal.path
   pub number_is : number ≡ journal.number + 1

@@ -121,7 +121,8 @@ entries_found s (x ∷ some) found = (ap (λ (o : Option Chunk). option_map_or (
 
 -- ---- in the loop
 
--- What was told is the first of what is to be told, and its entries are where the places say. What is still to be told is short and small, and is found under its serials.
+-- What was told is the first of what is to be told, and its entries are where the places say. What
+-- is still to be told is short and small, and is found under its serials.
 pub record StillTold {A : Type 0} (pieces : List (Piece A)) (len : ℕ) (from spots : Spots) (rest : Slots) (s : State) : Type 0 where
   pub done : List Record
   pub bytes_so_far : (seen : List ℕ) → length seen < 2 ^ 64 → ArePlaced seen from s → pieces_bytes seen pieces ≡ journal_bytes done

@@ -7,9 +7,11 @@ use Rattle.journal_files.specs.Folders.{journal_name}
 use Rattle.journal_files.specs.JournalLogs.{JournalLog, records_of, durable_records, state_of, IsJournalLog, OpensWithin}
 use Rattle.journal_files.specs.Views.{OpenJournal}
 
--- The disk has the journal, whole: the file of its generation has the records that it told and nothing else, a stop leaves this file
--- with the chunks, the Seal and the durable steps at least, and no greater generation was ever begun.
--- The journal knows how many bytes these are, and where among them the entries of each live chunk lie.
+-- The disk has the journal, whole: the file of its generation has the records that it told and
+-- nothing else, a stop leaves this file with the chunks, the Seal and the durable steps at least,
+-- and no greater generation was ever begun.
+-- The journal knows how many bytes these are, and where among them the entries of each live chunk
+-- lie.
 pub record Keeps (journal : OpenJournal) (disk : Disk) (t : JournalLog) : Type 0 where
   pub logged : IsJournalLog t
   pub first : 1 ≤ journal.number
@@ -23,7 +25,8 @@ pub record Keeps (journal : OpenJournal) (disk : Disk) (t : JournalLog) : Type 0
   pub newest : (n : ℕ) → journal.number < n → n < 2 ^ 32 → disk (journal_name journal.path n) ≡ None
   pub placed : ArePlaced (journal_bytes (records_of t)) journal.places (state_of t)
 
--- Each folder that a stop may leave now opens to the state after some of the steps, all durable ones among them.
+-- Each folder that a stop may leave now opens to the state after some of the steps, all durable
+-- ones among them.
 abbrev pub Recovers : List ℕ → Disk → JournalLog → Type 0
 Recovers path disk t = (folder : Folder) → StopLeaves disk folder → OpensWithin path t folder
 
@@ -35,7 +38,8 @@ HasNoneFrom path disk number = (n : ℕ) → number ≤ n → n < 2 ^ 32 → dis
 abbrev pub HasNoneBelow : List ℕ → Disk → ℕ → Type 0
 HasNoneBelow path disk number = (n : ℕ) → 1 ≤ n → n < number → reads disk (journal_name path n) ≡ None
 
--- Each generation that was ever begun is at or below one that reads. (So no removed one comes back above all that are there.)
+-- Each generation that was ever begun is at or below one that reads. (So no removed one comes back
+-- above all that are there.)
 pub record IsBelowSome (path : List ℕ) (disk : Disk) (n : ℕ) : Type 0 where
   pub number : ℕ
   pub above : n ≤ number
@@ -50,6 +54,7 @@ HasNoStray path disk = (n : ℕ) → 1 ≤ n → n < 2 ^ 32 → IsSome (disk (jo
 abbrev pub HasAllBelow : List ℕ → Disk → ℕ → Type 0
 HasAllBelow path disk number = (n : ℕ) → 1 ≤ n → n < number → IsSome (disk (journal_name path n)) ⊎ IsBelowSome path disk n
 
--- Above all that read, the generations that were begun and removed follow one another without a gap. (So the first number that is free is above all that were ever begun.)
+-- Above all that read, the generations that were begun and removed follow one another without a
+-- gap. (So the first number that is free is above all that were ever begun.)
 abbrev pub HasNoGap : List ℕ → Disk → Type 0
 HasNoGap path disk = (n : ℕ) → 1 ≤ n → n < 2 ^ 32 → IsSome (disk (journal_name path n)) → HasAllBelow path disk n

@@ -1,4 +1,5 @@
--- What opening a folder gives: the meaning of the greatest generation of a journal that isn't to be passed over.
+-- What opening a folder gives: the meaning of the greatest generation of a journal that isn't to be
+-- passed over.
 use Rattle.std.specs.Prelude.{ℕ, ◌≡◌, ◌⊎◌, ◌-◌, ◌<◌, ◌≤◌, ◌^◌, IsSome, List, [], ◌∷◌, ◌++◌, Option, None, Some}
 use Rattle.disk_files.specs.Disk.{Disk, Folder, WasRemoved, reads}
 use Rattle.numbered_files.specs.Names.{ten_digits}
@@ -37,7 +38,8 @@ pub record OpensBy (path : List ℕ) (folder : Folder) (state : State) : Type 0 
   pub highest : IsHighest path folder number bytes
   pub means : IsReplayed bytes state used
 
--- Opening this folder gives this state: what the greatest generation means that isn't passed over, and nothing where there is none.
+-- Opening this folder gives this state: what the greatest generation means that isn't passed over,
+-- and nothing where there is none.
 abbrev pub Opens : List ℕ → Folder → State → Type 0
 Opens path folder state = OpensBy path folder state ⊎ ((state ≡ empty) × PassesAbove path folder 0)
 
@@ -48,7 +50,8 @@ pub record IsDamagedFolder (path : List ℕ) (folder : Folder) : Type 0 where
   pub highest : IsHighest path folder number bytes
   pub damaged : IsDamaged bytes
 
--- the number of the next generation: one above the greatest that was ever begun, and 1 where there is none
+-- the number of the next generation: one above the greatest that was ever begun, and 1 where there
+-- is none
 pub record IsNext (path : List ℕ) (disk : Disk) (number : ℕ) : Type 0 where
   pub some : 0 < number
   pub before : (number ≡ 1) ⊎ (IsSome (reads disk (journal_name path (number - 1))) ⊎ WasRemoved disk (journal_name path (number - 1)))

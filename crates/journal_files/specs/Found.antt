@@ -13,7 +13,8 @@ pub record IsFound (path : List ℕ) (folder : Folder) (number : ℕ) : Type 0 w
   pub there : (number ≡ 0) ⊎ IsSome (folder (journal_name path number))
   pub above : (n : ℕ) → number < n → n < 2 ^ 32 → folder (journal_name path n) ≡ None
 
--- the last number that is taken: that of a generation that is there or was removed, or 0, with none there above it, and the next one free
+-- the last number that is taken: that of a generation that is there or was removed, or 0, with none
+-- there above it, and the next one free
 pub record IsLastTaken (path : List ℕ) (disk : Disk) (number : ℕ) : Type 0 where
   pub begun : (number ≡ 0) ⊎ (IsSome (reads disk (journal_name path number)) ⊎ WasRemoved disk (journal_name path number))
   pub above : (n : ℕ) → number < n → n < 2 ^ 32 → reads disk (journal_name path n) ≡ None
@@ -38,7 +39,8 @@ pub record HasHeard (heard : Heard) : Type 0 where
   pub seen : List ℕ
   pub after : IsAfter heard seen
 
--- the open file is that of a generation, at most this one, and the entries lie at these places of it
+-- the open file is that of a generation, at most this one, and the entries lie at these places of
+-- it
 pub record IsGeneration (opened : FileNo → Option (List ℕ)) (disk : Disk) (path : List ℕ) (greatest : ℕ) (file : FileNo) (spots : Spots) (state : State) : Type 0 where
   pub number : ℕ
   pub within : number ≤ greatest

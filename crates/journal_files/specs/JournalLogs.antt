@@ -31,7 +31,8 @@ state_at_seal t = after (after_all empty t.told) (Seal t.next)
 abbrev pub state_of : JournalLog → State
 state_of t = after_all (state_at_seal t) t.steps
 
--- the state that opening gives where so many of its steps were left: the queue goes by rising serial
+-- the state that opening gives where so many of its steps were left: the queue goes by rising
+-- serial
 abbrev pub reopened_at : JournalLog → ℕ → State
 reopened_at t k = settled (after_all (state_at_seal t) (take k t.steps))
 
@@ -62,7 +63,8 @@ all_durable t = record t { durable = length t.steps }
 abbrev pub new_generation : State → JournalLog
 new_generation state = record { told = flat_map chunk_records state.chunks; next = state.next; steps = []; durable = 0 }
 
--- The folder opens to the state after some of the steps, and those that each stop leaves are among them.
+-- The folder opens to the state after some of the steps, and those that each stop leaves are among
+-- them.
 pub record OpensWithin (path : List ℕ) (t : JournalLog) (folder : Folder) : Type 0 where
   pub steps : ℕ
   pub enough : t.durable ≤ steps

@@ -7,7 +7,8 @@ use Rattle.journal_files.specs.JournalLogs.{JournalLog}
 use Rattle.journal_files.specs.Views.{OpenJournal}
 use Rattle.journal_files.specs.Disks.{Keeps, Recovers, HasNoStray, HasNoGap}
 
--- Recovery: whatever a stop leaves of a journal opens to the state after some of its steps, all durable ones among them.
+-- Recovery: whatever a stop leaves of a journal opens to the state after some of its steps, all
+-- durable ones among them.
 abbrev pub RecoversAll : Type 0
 RecoversAll = (journal : OpenJournal) (disk : Disk) (t : JournalLog) → Keeps journal disk t → Recovers journal.path disk t
 

@@ -13,7 +13,9 @@ use Rattle.journal_files.specs.Views.{OpenJournal}
 abbrev pub ReadsAs : Disk → Disk → Type 0
 ReadsAs before after = (name : List ℕ) → reads after name ≡ reads before name
 
--- The file that was begun stays, and isn't certainly on the disk: it is empty, where the device failed in making it; or the device has failed twice, as the file was written and as it was to be removed.
+-- The file that was begun stays, and isn't certainly on the disk: it is empty, where the device
+-- failed in making it; or the device has failed twice, as the file was written and as it was to be
+-- removed.
 pub record StaysBegun (first last : ℕ) (name : List ℕ) (before after : Disk) : Type 0 where
   pub bytes : List ℕ
   pub new : HasNew name bytes before after
@@ -31,7 +33,8 @@ pub record IsWholeAt (path : List ℕ) (number : ℕ) (disk : Disk) : Type 0 whe
   pub number_is : journal.number ≡ number
   pub keeps : Keeps journal disk (new_generation chunks)
 
--- the file of the generation of this number was given up; or it is whole, and older ones may be gone
+-- the file of the generation of this number was given up; or it is whole, and older ones may be
+-- gone
 abbrev pub LeavesAtMost : List ℕ → ℕ → ℕ → ℕ → Disk → Disk → Type 0
 LeavesAtMost path number first last before after = IsGivenUp first last (journal_name path number) before after ⊎ IsWholeAt path number after
 

@@ -28,7 +28,8 @@ IsUnfinished name bytes before after = SameDisk after before ⊎ HasSome name by
 abbrev pub sealed : List ℕ → File → File
 sealed bytes f = flushed (with_bytes bytes f)
 
--- nothing changed yet, or some of these bytes were added, or all of them and they are synced with all before them
+-- nothing changed yet, or some of these bytes were added, or all of them and they are synced with
+-- all before them
 abbrev pub IsSealing : List ℕ → List ℕ → Disk → Disk → Type 0
 IsSealing name bytes before after = SameDisk after before ⊎ (Partly name bytes before after ⊎ Changes name (sealed bytes) before after)
 

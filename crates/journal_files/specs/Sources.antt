@@ -47,7 +47,8 @@ pub record HasAnyNew (name : List ℕ) (before after : Disk) : Type 0 where
   pub bytes : List ℕ
   pub new : HasNew name bytes before after
 
--- The pieces are added to a new file where there is a file that they are copied from, or a beginning of them after an error; and nothing where there is none.
+-- The pieces are added to a new file where there is a file that they are copied from, or a
+-- beginning of them after an error; and nothing where there is none.
 abbrev pub Fills : {A D T : Type 0} → (D → Type 0) → (D → History) → (D → FileNo → Option (List ℕ)) → (D → FileNo → ℕ) → (D → ℕ) → Option FileNo → FileNo → List (Piece A) → D → D → Result T PieceError → Type 0
 Fills is_honest history opened bytes_left fault_count None to pieces old new result =
     (new ≡ old) × IsOk result

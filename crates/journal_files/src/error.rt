@@ -8,13 +8,15 @@ use thiserror::Error;
 /// Why a journal isn't opened, read or renewed. `Journal::body` never answers `LastGeneration`.
 #[derive(Clone, Copy, Debug, Drop, PartialEq, Eq, Error)]
 pub enum JournalError {
-    /// There was no memory, or entries in the journal begin 2^40 bytes (1 TB) or more behind its beginning.
+    /// There was no memory, or entries in the journal begin 2^40 bytes (1 TB) or more behind its
+    /// beginning.
     #[error("out of memory")]
     Memory,
     /// The device failed.
     #[error("the device failed")]
     Fault,
-    /// A generation has something whole that is no record, or that can't stand there; or it has fewer bytes than were told.
+    /// A generation has something whole that is no record, or that can't stand there; or it has
+    /// fewer bytes than were told.
     #[error("the journal is damaged")]
     Damaged,
     /// There is a generation 4,294,967,295, and none may come behind it.

@@ -40,7 +40,8 @@ pub struct Journal<A: Allocator> {
     pub(crate) len: u64,
     // what is told next
     pub(crate) ready: Vec<u8, A>,
-    // where in the file the entries of live chunks lie, and what telling the next does to these places
+    // where in the file the entries of live chunks lie, and what telling the next does to these
+    // places
     pub(crate) places: Places<A>,
     pub(crate) placing: Placing,
 }
@@ -66,14 +67,16 @@ impl<A: Allocator> Model for Journal<A> {
 }
 
 impl<A: Allocator> Journal<A> {
-    /// Whether the journal has more bytes than this, and more than twice as many as the live chunks have.
+    /// Whether the journal has more bytes than this, and more than twice as many as the live chunks
+    /// have.
     pub fn wants_renewal(&self, live: u128, past: u64) -> bool
         ensures { IsTrue result ↔ ((past < self.now.len) × (2 * live < self.now.len)) }
     {
         self.len > past && live < (u128::from(self.len) + 1) / 2
     }
 
-    /// After its `Ok` each stop leaves all steps that were begun. The error is `Fault`, and changes nothing.
+    /// After its `Ok` each stop leaves all steps that were begun. The error is `Fault`, and changes
+    /// nothing.
     pub fn sync<D: Dir>(&self, dir: &mut D) -> Result<(), DirError>
         requires open { IsOpenIn self.now (D.opened dir.old) }
         ensures ok { D.is_honest dir.old → (t : JournalLog) → Keeps self.now (now (D.history dir.old)) t
@@ -93,8 +96,9 @@ impl<A: Allocator + Copy> Journal<A> {
     /// Spells a record, and makes room for it in the folder, so that `put` needs no memory.
     /// Asks for a tag of at most 1,024 bytes and for at most 16,777,216 bytes behind the length.
     ///
-    /// The error is want of memory, and comes too where a record's entries would begin 2^40 bytes (1 TB) or more behind the journal's
-    /// beginning, or the journal would have 2^64 bytes; then nothing of the folder changed, and the journal tells what it told.
+    /// The error is want of memory, and comes too where a record's entries would begin 2^40 bytes
+    /// (1 TB) or more behind the journal's beginning, or the journal would have 2^64 bytes; then
+    /// nothing of the folder changed, and the journal tells what it told.
     pub fn ready<D: Dir, B: Allocator>(
         &mut self,
         dir: &mut D,
@@ -138,7 +142,8 @@ impl<A: Allocator + Copy> Journal<A> {
 
     /// Tells the record that is ready, and doesn't sync.
     ///
-    /// The error is `Fault`. Then the step is begun, and a stop may leave it or not; the journal is not to be used again.
+    /// The error is `Fault`. Then the step is begun, and a stop may leave it or not; the journal is
+    /// not to be used again.
     pub fn put<D: Dir>(&mut self, dir: &mut D) -> Result<(), DirError>
         requires open { IsOpenIn self.old (D.opened dir.old) }
         requires room { length self.old.ready ≤ D.bytes_left dir.old self.old.file }
@@ -162,7 +167,8 @@ impl<A: Allocator + Copy> Journal<A> {
         told
     }
 
-    /// The entries of a live chunk, one after another, as the file has them; none where there is no such chunk. The disk stays as it is.
+    /// The entries of a live chunk, one after another, as the file has them; none where there is no
+    /// such chunk. The disk stays as it is.
     ///
     /// `Memory`, `Fault`, or `Damaged` where the file has fewer bytes than were told.
     pub fn body<D: Dir>(
@@ -185,13 +191,15 @@ impl<A: Allocator + Copy> Journal<A> {
         read_extents(alloc, dir, self.file, self.places.at(serial))
     }
 
-    /// Goes on in the next generation, which begins with these chunks, claimed ones told as queued. Asks that no chunk's tag
-    /// has more than 1,024 bytes. The older file is removed once the new one is synced.
+    /// Goes on in the next generation, which begins with these chunks, claimed ones told as queued.
+    /// Asks that no chunk's tag has more than 1,024 bytes. The older file is removed once the new
+    /// one is synced.
     ///
-    /// The chunks' entries are copied from the older file. `Damaged`: that has fewer bytes than were told.
-    /// `LastGeneration` comes first, and it and `Memory` change nothing. After `Fault` every stop leaves a folder
-    /// that opens as before; the journal is not to be used again. The new file is removed again where it isn't whole, but where the device
-    /// failed in making it or fails in removing it.
+    /// The chunks' entries are copied from the older file. `Damaged`: that has fewer bytes than
+    /// were told. `LastGeneration` comes first, and it and `Memory` change nothing. After `Fault`
+    /// every stop leaves a folder that opens as before; the journal is not to be used again. The
+    /// new file is removed again where it isn't whole, but where the device failed in making it or
+    /// fails in removing it.
     pub fn renew<D: Dir>(&mut self, dir: &mut D, chunks: &Chunks<A>) -> Result<(), JournalError>
         requires open { IsOpenIn self.old (D.opened dir.old) }
         requires tags { HasShortTags chunks.now }

@@ -5,7 +5,8 @@ ghost use Rattle.journal_files.specs.Laws.{RecoversAll, OpensOneWay, OpensUndama
 use chunk_journal::{answers_one_way, cuts_generation, cuts_whole};
 use numbered_files::names_differ;
 
-/// Whatever a stop leaves of a journal opens to the state after some of its steps, and all steps that were synced are among them.
+/// Whatever a stop leaves of a journal opens to the state after some of its steps, and all steps
+/// that were synced are among them.
 pub fn recovers_all()
     ensures { RecoversAll }
 {
@@ -14,8 +15,9 @@ pub fn recovers_all()
     cuts_generation();
 }
 
-/// Neither a journal that is whole on its disk nor a stop leaves a removed generation above all that are there; and where
-/// there is none, those that were removed leave no gap, which is what opening asks.
+/// Neither a journal that is whole on its disk nor a stop leaves a removed generation above all
+/// that are there; and where there is none, those that were removed leave no gap, which is what
+/// opening asks.
 pub fn has_no_stray()
     ensures kept { KeepsNoStray }
     ensures left { LeavesNoStray }

@@ -1,4 +1,5 @@
-//! A buffer's journal as the files of a folder: one generation after another, and what a stop leaves of them.
+//! A buffer's journal as the files of a folder: one generation after another, and what a stop
+//! leaves of them.
 #![tactic(auto)]
 
 mod error;

@@ -1,4 +1,5 @@
-//! The generations below a new one: they are opened before it is begun, and removed once it is synced.
+//! The generations below a new one: they are opened before it is begun, and removed once it is
+//! synced.
 
 ghost use Rattle.std.specs.Prelude.{◌≡◌, ◌⊎◌, ℕ, ◌<◌, ◌≤◌, ◌^◌, List, Some, None, IsSome, OnOk, OnErr, IfOk, Err};
 ghost use Rattle.std.specs.Ordering.{nat_cmp};

@@ -36,22 +36,25 @@ pub struct Opened<A: Allocator> {
 }
 
 impl<A: Allocator + Copy> Journal<A> {
-    /// Opens the journal whose files' names begin with this path: takes the greatest generation that has a whole Seal, passing over
-    /// those without one, writes what it means as the generation above the greatest there is, and above those that were removed since the
-    /// folder was started, syncs it, and removes the older ones.
+    /// Opens the journal whose files' names begin with this path: takes the greatest generation
+    /// that has a whole Seal, passing over those without one, writes what it means as the
+    /// generation above the greatest there is, and above those that were removed since the folder
+    /// was started, syncs it, and removes the older ones.
     ///
     /// `LastGeneration`: the greatest file there is is number 4,294,967,295; then none is read.
-    /// `Damaged`: the greatest generation that isn't passed over has a whole record that can't stand there, or what is none.
-    /// These two and `Memory` change nothing.
-    /// After `Fault` the folder opens to what it opened to. It reads as before, since the new file is removed again, but where the device
-    /// failed in making it or in removing it; or the new file is whole, and the device failed as older ones were removed.
+    /// `Damaged`: the greatest generation that isn't passed over has a whole record that can't
+    /// stand there, or what is none. These two and `Memory` change nothing.
+    /// After `Fault` the folder opens to what it opened to. It reads as before, since the new file
+    /// is removed again, but where the device failed in making it or in removing it; or the new
+    /// file is whole, and the device failed as older ones were removed.
     pub fn open<D: Dir>(alloc: A, dir: &mut D, path: &[u8]) -> Result<Opened<A>, JournalError>
         ensures opens { D.is_honest dir.old → IfOk result (λ opened.
             OpensNext path.now (now (D.history dir.old)) (now (D.history dir.new)) opened.journal opened.chunks) }
         ensures fresh { IfOk result (λ opened. IsFresh path.now (D.opened dir.new) opened.journal opened.chunks) }
         ensures refused { D.is_honest dir.old → IfErr result (IsRefused path.now
             (D.fault_count dir.old) (D.fault_count dir.new) (now (D.history dir.old)) (now (D.history dir.new))) }
-        // A stop at any moment of the call, whatever it answers, leaves a folder that opens to what one before the call could open to.
+        // A stop at any moment of the call, whatever it answers, leaves a folder that opens to what
+        // one before the call could open to.
         ensures leaves { D.is_honest dir.old → LeavesFolder D.is_honest D.history path.now dir.old dir.new }
         ensures cause { HasReason (D.fault_count dir.old) (D.fault_count dir.new) result JournalError.Fault }
     {
@@ -77,8 +80,9 @@ impl<A: Allocator + Copy> Journal<A> {
     }
 }
 
-// What a folder means, where the entries lie in the open file that says so, if there is one, and the greatest number that is taken: that of
-// a generation that is there or was removed, 0 where there is none. No file is read where the last is there.
+// What a folder means, where the entries lie in the open file that says so, if there is one, and
+// the greatest number that is taken: that of a generation that is there or was removed, 0 where
+// there is none. No file is read where the last is there.
 #[derive(Drop)]
 pub struct Found<A: Allocator> {
     chunks: Chunks<A>,
@@ -203,8 +207,8 @@ fn greatest_of<A: Allocator>(numbers: &BTreeSet<u32, A>) -> u32
     }
 }
 
-// The last number that is taken, where this is the greatest that is there: numbers of removed generations may follow it.
-// The error is want of memory, or of a number.
+// The last number that is taken, where this is the greatest that is there: numbers of removed
+// generations may follow it. The error is want of memory, or of a number.
 fn last_taken<A: Allocator + Copy, D: Dir>(
     alloc: A,
     dir: &D,

@@ -19,7 +19,8 @@ use disk_files::{Dir, FileNo};
 use file_pieces::read_exact;
 use std::alloc::Allocator;
 
-/// All that the file has, fed to an outline. The disk stays as it is. `Damaged` too where the file gets shorter.
+/// All that the file has, fed to an outline. The disk stays as it is. `Damaged` too where the file
+/// gets shorter.
 pub(crate) fn feed_file<A: Allocator + Copy, D: Dir>(
     alloc: A,
     dir: &mut D,

@@ -1,4 +1,5 @@
-//! The pieces in which a generation comes to stand beside the older ones, each a few calls of the folder.
+//! The pieces in which a generation comes to stand beside the older ones, each a few calls of the
+//! folder.
 
 ghost use Rattle.std.specs.Prelude.{◌≡◌, ◌≢◌, ℕ, ◌+◌, ◌-◌, ◌*◌, ◌^◌, ◌<◌, ◌≤◌, List, [], ◌++◌, length, take, Some, None, IsSome, IfSome, OnOk, OnErr, IfOk, Err, IsErrOf};
 ghost use Rattle.disk_files.specs.Disk.{SameDisk, Changes, reads};
@@ -40,11 +41,13 @@ pub(crate) fn generations(path: &[u8]) -> Family<'_>
     }
 }
 
-/// Writes a generation that begins with these chunks, and syncs it. Their entries are copied from the file that there is, where they lie
-/// at these places. All memory is asked for before the folder is changed.
+/// Writes a generation that begins with these chunks, and syncs it. Their entries are copied from
+/// the file that there is, where they lie at these places. All memory is asked for before the
+/// folder is changed.
 ///
-/// After an error the new file is removed again: it stays where the device failed in making it, or fails in removing it too. After `Memory`
-/// nothing changed. `Damaged`: the file has fewer bytes than that.
+/// After an error the new file is removed again: it stays where the device failed in making it, or
+/// fails in removing it too. After `Memory` nothing changed. `Damaged`: the file has fewer bytes
+/// than that.
 pub(crate) fn begin<A: Allocator + Copy, D: Dir>(
     alloc: A,
     dir: &mut D,
@@ -110,7 +113,8 @@ pub(crate) fn begin<A: Allocator + Copy, D: Dir>(
     }
 }
 
-// Removes a file that isn't whole. What is answered is the refusal, or `Fault` where the device fails here.
+// Removes a file that isn't whole. What is answered is the refusal, or `Fault` where the device
+// fails here.
 fn give_up<D: Dir>(dir: &mut D, file: FileNo, refused: JournalError) -> JournalError
     requires open { IsSome (D.opened dir.old file) }
     ensures honest { D.is_honest dir.old → D.is_honest dir.new }
@@ -147,8 +151,8 @@ fn whole_len<A: Allocator>(told: &Told<'_, A>) -> Result<u64, AllocError>
     }
 }
 
-// Makes a file of these pieces, and with room for so many bytes more. A stop leaves some beginning of them, or no file.
-// After an error the file is given up.
+// Makes a file of these pieces, and with room for so many bytes more. A stop leaves some beginning
+// of them, or no file. After an error the file is given up.
 fn make<A: Allocator, D: Dir>(
     dir: &mut D,
     name: &[u8],

@@ -21,8 +21,8 @@ pub enum Placing {
 }
 
 impl Placing {
-    /// How a record that does this is written. One that adds entries may wait for its sync, since nobody
-    /// is answered for them before.
+    /// How a record that does this is written. One that adds entries may wait for its sync, since
+    /// nobody is answered for them before.
     pub(crate) fn writing(&self) -> Writing {
         match self {
             Placing::Adds { .. } => Writing::Back,
@@ -30,7 +30,8 @@ impl Placing {
         }
     }
 
-    /// What this record does, where its bytes end there. The error is want of memory, of a number for the place too.
+    /// What this record does, where its bytes end there. The error is want of memory, of a number
+    /// for the place too.
     pub(crate) fn of<B: Allocator>(item: &Record<'_, B>, end: u64) -> Result<Placing, AllocError>
         ensures { IfOk result (λ placing. placing ≡ placing_of (record_of item.now) end) }
     {
@@ -78,7 +79,8 @@ impl Placing {
     }
 }
 
-/// The place of the last so many bytes before this end. Where there is no number for it, the error is want of memory.
+/// The place of the last so many bytes before this end. Where there is no number for it, the error
+/// is want of memory.
 pub(crate) fn last_extent(end: u64, size: usize) -> Result<Extent, AllocError>
     ensures { IfOk result (λ extent. extent ≡ extent_before end size) }
 {

@@ -16,7 +16,8 @@ use disk_files::{Dir, FileNo};
 use file_pieces::{read_places, room_at};
 use std::alloc::Allocator;
 
-/// The bytes at these places, joined. The disk stays as it is. `Damaged` where the file has fewer bytes.
+/// The bytes at these places, joined. The disk stays as it is. `Damaged` where the file has fewer
+/// bytes.
 pub(crate) fn read_extents<A: Allocator + Copy, D: Dir>(
     alloc: A,
     dir: &mut D,

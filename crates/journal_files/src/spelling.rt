@@ -1,4 +1,5 @@
-//! What a generation begins with: pieces that tell its chunks, whose entries another file has, and where they lie then.
+//! What a generation begins with: pieces that tell its chunks, whose entries another file has, and
+//! where they lie then.
 
 ghost use Rattle.std.specs.Prelude.{◌≡◌, ◌+◌, ◌<◌, ◌≤◌, ◌^◌, ◌++◌, ℕ, List, length, OnOk, IfOk};
 ghost use Rattle.std.specs.List.{AllByRecursion, concat, flat_map};
@@ -21,8 +22,8 @@ use chunk_journal::{
 use file_pieces::Piece;
 use std::alloc::{AllocError, Allocator};
 
-/// What a generation begins with: the pieces that tell its chunks, how many bytes these have, and where in them the chunks' entries lie;
-/// and the Seal.
+/// What a generation begins with: the pieces that tell its chunks, how many bytes these have, and
+/// where in them the chunks' entries lie; and the Seal.
 #[derive(Drop)]
 pub(crate) struct Told<'a, A: Allocator> {
     pub(crate) pieces: Vec<Piece<'a, A>, A>,
@@ -34,7 +35,8 @@ pub(crate) struct Told<'a, A: Allocator> {
 // A chunk is told by so many pieces at most: its Append and its Queue.
 const MOST_PIECES: usize = 2;
 
-/// The records that tell these chunks, by rising serial, and the Seal behind them. The entries lie at these places of another file.
+/// The records that tell these chunks, by rising serial, and the Seal behind them. The entries lie
+/// at these places of another file.
 pub(crate) fn tell_chunks<'a, A: Allocator + Copy>(
     alloc: A,
     chunks: &Chunks<A>,
@@ -72,7 +74,8 @@ pub(crate) fn tell_chunks<'a, A: Allocator + Copy>(
     })
 }
 
-// Adds what tells a chunk behind so many bytes, and the place of its entries, and says how many bytes there are then.
+// Adds what tells a chunk behind so many bytes, and the place of its entries, and says how many
+// bytes there are then.
 fn tell_chunk<'a, A: Allocator + Copy>(
     alloc: A,
     pieces: &mut Vec<Piece<'a, A>, A>,

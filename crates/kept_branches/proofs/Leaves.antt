@@ -64,7 +64,8 @@ module _ {A : Type 0} (net : Network A) (address : Address) (tag : List ℕ) whe
       pub each_leaf : (P : ℕ → ℕ → List ℕ → Type 0) → ((p b : ℕ) (t : List ℕ) → Reaches net address tag p b t → P p b t) → (leaf : BufferNo) → Contains leaves leaf → P at.relay leaf.0 borne
       each_leaf P each leaf inside = each at.relay leaf.0 borne (leaf_reached leaf inside)
 
-      -- so each buffer that it comes to keeps the entry, as far as is known, exactly where there is a leaf, and each does
+      -- so each buffer that it comes to keeps the entry, as far as is known, exactly where there is
+      -- a leaf, and each does
       pub leaves_iff : (buffers : ℕ → ℕ → BufferState) (messages : List Message) (entry kept : List ℕ) (answer : Bool)
           → IsTrue answer ↔ ((leaves ≢ []) × All (λ (leaf : BufferNo). KeepsSoFar buffers messages entry kept at.relay leaf.0 borne) leaves) → IsTrue answer ↔ EachSoFar net buffers messages entry kept address tag
       leaves_iff buffers messages entry kept answer iff = (

@@ -1,4 +1,5 @@
--- That the messages that are found to be settled are those that passed the entry on to where it is kept.
+-- That the messages that are found to be settled are those that passed the entry on to where it is
+-- kept.
 use Rattle.std.proofs.Common.{◌≡◌, ℕ, List, [], ◌∷◌, ◌++◌, Some, slice_get, sym, subst, ◌∙◌, inl, inr}
 use Rattle.std.proofs.lemmas.List.Elements.{Contains-append_cases}
 use Rattle.std.proofs.lemmas.Option.{same_Some}

@@ -1,4 +1,5 @@
--- What is kept of an event along each branch of its way: by the buffer that the branch comes to, or further on.
+-- What is kept of an event along each branch of its way: by the buffer that the branch comes to, or
+-- further on.
 use Rattle.std.specs.Prelude.{◌≡◌, ◌≤◌, ℕ, true, List, length, Some, Contains}
 use Rattle.custody_store.specs.Buffers.{BufferState, Holds}
 use Rattle.custody_store.specs.Contents.{buffer_of}
@@ -17,8 +18,8 @@ use Rattle.tag_pattern.specs.Parts.{most_tag_bytes}
 abbrev pub buffers_of : {A : Type 0} → Places A → ℕ → ℕ → BufferState
 buffers_of places = λ place buffer. buffer_of (contents_at places place buffer)
 
--- The events of a message with this tag, sent to this address, come to the buffer of the relay at this place under that tag: the buffer
--- is a leaf of their way, which ends, and the tag is one.
+-- The events of a message with this tag, sent to this address, come to the buffer of the relay at
+-- this place under that tag: the buffer is a leaf of their way, which ends, and the tag is one.
 pub record Reaches {A : Type 0} (net : Network A) (address : Address) (tag : List ℕ) (place buffer : ℕ) (borne : List ℕ) : Type 0 where
   pub at : Entrance
   pub enters : entrance net address ≡ Some at
@@ -39,8 +40,9 @@ pub record IsPassedOn (entry : List ℕ) (place buffer : ℕ) (tag : List ℕ) (
   pub inside : Contains message.entries entry
   pub answered : message.acknowledged ≡ true
 
--- The buffer keeps the entry under this tag: a live chunk of it has that, or its sink; or a message with that was acknowledged to it
--- whose events come to a buffer, and each buffer that they come to keeps the entry. It is the least such relation.
+-- The buffer keeps the entry under this tag: a live chunk of it has that, or its sink; or a message
+-- with that was acknowledged to it whose events come to a buffer, and each buffer that they come to
+-- keeps the entry. It is the least such relation.
 pub data KeepsAlong {A : Type 0} (net : Network A) (buffers : ℕ → ℕ → BufferState) (messages : List Message) (entry : List ℕ) : ℕ → ℕ → List ℕ → Type 0 where
   has : {place buffer : ℕ} {tag : List ℕ} → Holds (buffers place buffer) (record { tag = tag; entry = entry }) → KeepsAlong net buffers messages entry place buffer tag
   passed : {place buffer : ℕ} {tag : List ℕ} (message : Message) → Contains messages message → IsPassedOn entry place buffer tag message
@@ -48,7 +50,8 @@ pub data KeepsAlong {A : Type 0} (net : Network A) (buffers : ℕ → ℕ → Bu
       → ((p b : ℕ) (t : List ℕ) → Reaches net message.address message.tag p b t → KeepsAlong net buffers messages entry p b t)
       → KeepsAlong net buffers messages entry place buffer tag
 
--- The event of a message with this tag, sent to this address, comes to a buffer, and each buffer that it comes to keeps it.
+-- The event of a message with this tag, sent to this address, comes to a buffer, and each buffer
+-- that it comes to keeps it.
 pub record EachKeeps {A : Type 0} (net : Network A) (buffers : ℕ → ℕ → BufferState) (messages : List Message) (address : Address) (tag entry : List ℕ) : Type 0 where
   pub place : ℕ
   pub buffer : ℕ

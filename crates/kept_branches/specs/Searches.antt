@@ -6,15 +6,18 @@ use Rattle.relay_net.specs.Addresses.{Address}
 use Rattle.relay_net.specs.Network.{Network}
 use Rattle.kept_branches.specs.Branches.{Reaches, IsPassedOn, EachKeeps}
 
--- One of the messages with these numbers was sent from this buffer with the entry under this tag, and acknowledged.
+-- One of the messages with these numbers was sent from this buffer with the entry under this tag,
+-- and acknowledged.
 abbrev pub IsPassedAmong : List Message → List ℕ → List ℕ → ℕ → ℕ → List ℕ → Type 0
 IsPassedAmong messages entry kept place buffer tag = Any (λ number. IsSomeAnd (slice_get messages number) (IsPassedOn entry place buffer tag)) kept
 
--- The buffer keeps the entry under this tag, as far as it is known that each of these messages passed it on to where it is kept.
+-- The buffer keeps the entry under this tag, as far as it is known that each of these messages
+-- passed it on to where it is kept.
 abbrev pub KeepsSoFar : (ℕ → ℕ → BufferState) → List Message → List ℕ → List ℕ → ℕ → ℕ → List ℕ → Type 0
 KeepsSoFar buffers messages entry kept place buffer tag = Holds (buffers place buffer) (record { tag = tag; entry = entry }) ⊎ IsPassedAmong messages entry kept place buffer tag
 
--- The event of a message with this tag, sent to this address, comes to a buffer, and each buffer that it comes to keeps it, as far as that is known.
+-- The event of a message with this tag, sent to this address, comes to a buffer, and each buffer
+-- that it comes to keeps it, as far as that is known.
 pub record EachSoFar {A : Type 0} (net : Network A) (buffers : ℕ → ℕ → BufferState) (messages : List Message) (entry : List ℕ) (kept : List ℕ) (address : Address) (tag : List ℕ) : Type 0 where
   pub place : ℕ
   pub buffer : ℕ
@@ -22,7 +25,8 @@ pub record EachSoFar {A : Type 0} (net : Network A) (buffers : ℕ → ℕ → B
   pub leaf : Reaches net address tag place buffer borne
   pub each : (p b : ℕ) (t : List ℕ) → Reaches net address tag p b t → KeepsSoFar buffers messages entry kept p b t
 
--- The message has the entry and was acknowledged, and passed it on to where it is kept, as far as that is known.
+-- The message has the entry and was acknowledged, and passed it on to where it is kept, as far as
+-- that is known.
 pub record IsSettled {A : Type 0} (net : Network A) (buffers : ℕ → ℕ → BufferState) (messages : List Message) (entry : List ℕ) (kept : List ℕ) (message : Message) : Type 0 where
   pub answered : message.acknowledged ≡ true
   pub inside : Contains message.entries entry

@@ -1,4 +1,5 @@
-//! Whether an entry is kept where it comes to, as far as some messages are known to have passed it on to where it is kept.
+//! Whether an entry is kept where it comes to, as far as some messages are known to have passed it
+//! on to where it is kept.
 
 ghost use Rattle.std.specs.Prelude.{◌↔◌, ◌≢◌, [], All, IfOk, IsSomeAnd, IsTrue, slice_get};
 ghost use Rattle.kept_branches.specs.Branches.{buffers_of, IsFromBuffer, IsPassedOn};
@@ -24,8 +25,8 @@ pub(crate) struct Seen<'a, A: Allocator> {
 }
 
 impl<A: Allocator + Copy> Seen<'_, A> {
-    /// Whether the message has the entry and was acknowledged, and passed it on to where it is kept, as far as the messages of these
-    /// numbers are known to have done so.
+    /// Whether the message has the entry and was acknowledged, and passed it on to where it is
+    /// kept, as far as the messages of these numbers are known to have done so.
     pub(crate) fn is_settled(
         &self,
         message: &Message<A>,
@@ -48,8 +49,9 @@ impl<A: Allocator + Copy> Seen<'_, A> {
         )
     }
 
-    /// Whether the event of a message with this tag, sent to this host and port, comes to a buffer, and each buffer that it comes to
-    /// keeps the entry, as far as the messages of these numbers are known to have passed it on to where it is kept.
+    /// Whether the event of a message with this tag, sent to this host and port, comes to a buffer,
+    /// and each buffer that it comes to keeps the entry, as far as the messages of these numbers
+    /// are known to have passed it on to where it is kept.
     pub(crate) fn each_keeps(
         &self,
         host: &[u8],
@@ -75,7 +77,8 @@ impl<A: Allocator + Copy> Seen<'_, A> {
         }
     }
 
-    // Whether there are such buffers of the relay, and each keeps the entry under this tag, as far as that is known.
+    // Whether there are such buffers of the relay, and each keeps the entry under this tag, as far
+    // as that is known.
     fn leaves_keep(&self, place: usize, leaves: &[BufferNo], tag: &[u8], kept: &[usize]) -> bool
         ensures { IsTrue result ↔ ((leaves.now ≢ []) × All (λ leaf. KeepsSoFar (buffers_of self.now.places.now) self.now.book.now.messages self.now.entry.now kept.now place leaf.0 tag.now) leaves.now) }
     {
@@ -105,7 +108,8 @@ impl<A: Allocator + Copy> Seen<'_, A> {
             || self.is_passed_among(place, buffer, tag, kept)
     }
 
-    // Whether one of the messages of these numbers was sent from the buffer with the entry under this tag, and acknowledged.
+    // Whether one of the messages of these numbers was sent from the buffer with the entry under
+    // this tag, and acknowledged.
     fn is_passed_among(&self, place: usize, buffer: usize, tag: &[u8], kept: &[usize]) -> bool
         ensures { IsTrue result ↔ IsPassedAmong self.now.book.now.messages self.now.entry.now kept.now place buffer tag.now }
     {
@@ -117,7 +121,8 @@ impl<A: Allocator + Copy> Seen<'_, A> {
         false
     }
 
-    // Whether the message of this number is there, was sent from the buffer with the entry under this tag, and was acknowledged.
+    // Whether the message of this number is there, was sent from the buffer with the entry under
+    // this tag, and was acknowledged.
     fn is_passed_in(&self, number: usize, place: usize, buffer: usize, tag: &[u8]) -> bool
         ensures { IsTrue result ↔ IsSomeAnd (slice_get self.now.book.now.messages number) (IsPassedOn self.now.entry.now place buffer tag.now) }
     {

@@ -8,7 +8,8 @@ use relay_net::Net;
 use std::alloc::Allocator;
 use tag_pattern::{Tag, TagError};
 
-/// The tag that the events of a message with this tag bear where it comes in, if it is sent to this host and port.
+/// The tag that the events of a message with this tag bear where it comes in, if it is sent to this
+/// host and port.
 pub(crate) fn entered<A: Allocator + Copy>(
     alloc: A,
     net: &Net<A>,

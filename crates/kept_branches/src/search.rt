@@ -1,4 +1,5 @@
-//! The search for the messages that passed an entry on to where it is kept: one more, until there is none.
+//! The search for the messages that passed an entry on to where it is kept: one more, until there
+//! is none.
 
 ghost use Rattle.std.specs.Prelude.{◌↔◌, ℕ, IfOk, IsTrue};
 ghost use Rattle.kept_branches.specs.Branches.{buffers_of, EachKeeps};
@@ -10,9 +11,10 @@ use message_book::Book;
 use relay_net::Net;
 use std::alloc::{AllocError, Allocator};
 
-/// Whether an event of a message with this tag, sent to this host and port, comes to a buffer, and each buffer that it comes to keeps
-/// the entry: has it in a live chunk or in its sink, or was given an acknowledgement of a message with it whose events are kept so. It
-/// goes through all messages once for each that is found to be kept. The only error is want of memory.
+/// Whether an event of a message with this tag, sent to this host and port, comes to a buffer, and
+/// each buffer that it comes to keeps the entry: has it in a live chunk or in its sink, or was
+/// given an acknowledgement of a message with it whose events are kept so. It goes through all
+/// messages once for each that is found to be kept. The only error is want of memory.
 pub fn each_branch_keeps<A: Allocator + Copy>(
     alloc: A,
     net: &Net<A>,
@@ -50,8 +52,8 @@ fn settle<A: Allocator + Copy>(seen: &Seen<'_, A>) -> Result<Vec<usize, A>, Allo
     Ok(kept)
 }
 
-// The number of a message besides those of these numbers that passed the entry on to where it is kept, as far as those are known to
-// have done so.
+// The number of a message besides those of these numbers that passed the entry on to where it is
+// kept, as far as those are known to have done so.
 fn next_settled<A: Allocator + Copy>(
     seen: &Seen<'_, A>,
     kept: &[usize],
@@ -66,7 +68,8 @@ fn next_settled<A: Allocator + Copy>(
     Ok(None)
 }
 
-// Whether the message of this number is such a one. Where it isn't, it is among these, or didn't do so as far as is known.
+// Whether the message of this number is such a one. Where it isn't, it is among these, or didn't do
+// so as far as is known.
 fn is_new<A: Allocator + Copy>(
     seen: &Seen<'_, A>,
     kept: &[usize],

@@ -10,7 +10,8 @@ use Rattle.plan_lines.specs.Plans.{IsPlanOf}
 use Rattle.relay_net.specs.Network.{Network}
 use Rattle.text_lines.specs.Lines.{text_lines}
 
--- The second plan is the first with labels and reaches added behind its own: it has the same relays, clients and duty.
+-- The second plan is the first with labels and reaches added behind its own: it has the same
+-- relays, clients and duty.
 pub record Extends {A : Type 0} (before after : Subject A) : Type 0 where
   pub net_is : after.net ≡ before.net
   pub relay_lines_are : after.relay_lines ≡ before.relay_lines
@@ -21,16 +22,17 @@ pub record Extends {A : Type 0} (before after : Subject A) : Type 0 where
   pub reaches : List (Reach A)
   pub reaches_are : after.reaches ≡ before.reaches ++ reaches
 
--- Labels and reaches close a network: whatever its clients send is of a label and of reaches where it comes, and where it is sent on to.
--- These are the rules on clients, coverage, relabels and forwards.
+-- Labels and reaches close a network: whatever its clients send is of a label and of reaches where
+-- it comes, and where it is sent on to. These are the rules on clients, coverage, relabels and
+-- forwards.
 pub record IsClosed {A : Type 0} (net : Network A) (labels : List (Label A)) (reaches : List (Reach A)) : Type 0 where
   pub clients : ClientsAreLabelled net labels
   pub covered : ReachesCover net labels reaches
   pub relabels : RelabelsAreLabelled net labels reaches
   pub forwards : ForwardsAreLabelled net labels reaches
 
--- The second text has the lines of the first, and others behind them; with them it says the plan of the first with labels and reaches added,
--- and these close it.
+-- The second text has the lines of the first, and others behind them; with them it says the plan of
+-- the first with labels and reaches added, and these close it.
 pub record IsLabelled (A : Type 0) (confs : List (List ℕ)) (given text : List ℕ) : Type 0 where
   pub lines : List (List ℕ)
   pub lines_are : text_lines text ≡ text_lines given ++ lines
@@ -41,7 +43,8 @@ pub record IsLabelled (A : Type 0) (confs : List (List ℕ)) (given text : List 
   pub extends : Extends before after
   pub closed : IsClosed after.net after.labels after.reaches
 
--- The same of the plan at whose named matches events are let go: the labels and reaches close that one.
+-- The same of the plan at whose named matches events are let go: the labels and reaches close that
+-- one.
 pub record IsLabelledDropping (A : Type 0) (confs : List (List ℕ)) (names : List DropName) (given text : List ℕ) : Type 0 where
   pub lines : List (List ℕ)
   pub lines_are : text_lines text ≡ text_lines given ++ lines

@@ -27,7 +27,8 @@ abbrev pub say_else : List (List ℕ) → Bool
 say_else [] = false
 say_else (word ∷ words) = if (bytes_eq word (codes "label") || bytes_eq word (codes "reach")) then false else true
 
--- whether a line says something else than a label or a reach: one that isn't UTF-8 does, and an empty one doesn't
+-- whether a line says something else than a label or a reach: one that isn't UTF-8 does, and an
+-- empty one doesn't
 abbrev pub is_kept_line : List ℕ → Bool
 is_kept_line line = if is_utf8 line then say_else (words_of line) else true
 

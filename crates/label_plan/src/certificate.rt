@@ -1,4 +1,5 @@
-//! What a plan with more lines has to be: the given plan with labels and reaches added, of which the rules on these hold.
+//! What a plan with more lines has to be: the given plan with labels and reaches added, of which
+//! the rules on these hold.
 
 ghost use Rattle.std.specs.Prelude.{◌≡◌, ◌≤◌, IfOk, IsTrue, All, map, length, take};
 ghost use Rattle.label_plan.specs.Labelling.{IsClosed};
@@ -77,7 +78,8 @@ fn are_label_words(words: &[&str]) -> bool
     }
 }
 
-/// Whether the rules on clients, coverage, relabels and forwards hold of the plan. The only error is want of memory.
+/// Whether the rules on clients, coverage, relabels and forwards hold of the plan. The only error
+/// is want of memory.
 pub(crate) fn is_closed<A: Allocator + Copy>(alloc: A, plan: &Plan<A>) -> Result<bool, AllocError>
     ensures { IfOk result (λ closed. IsTrue closed → IsClosed plan.now.net plan.now.labels plan.now.reaches) }
 {
@@ -94,7 +96,8 @@ pub(crate) fn is_closed<A: Allocator + Copy>(alloc: A, plan: &Plan<A>) -> Result
     )
 }
 
-// Whether these rules hold of a network with the clients of these lines, and of the labels, also as they are looked up, and reaches.
+// Whether these rules hold of a network with the clients of these lines, and of the labels, also as
+// they are looked up, and reaches.
 fn is_closed_by<'a, 'b, A: Allocator + Copy>(
     alloc: A,
     net: &'a Net<A>,

@@ -1,5 +1,6 @@
-//! Labels and reaches, derived from what the clients send: a worklist of labels, each of which is taken through the matches of its scope
-//! once. What is derived here is only proposed: that it closes the plan is decided by the rules' own deciders, of what was written.
+//! Labels and reaches, derived from what the clients send: a worklist of labels, each of which is
+//! taken through the matches of its scope once. What is derived here is only proposed: that it
+//! closes the plan is decided by the rules' own deciders, of what was written.
 
 use crate::lines::{put_label, put_reach};
 use crate::manner::{Manner, Preference};
@@ -145,7 +146,8 @@ impl<'a, A: Allocator + Copy> Deriver<'a, A> {
         Ok(())
     }
 
-    // Takes the label's pattern to a match that it doesn't fit, by each pattern of the match that it meets.
+    // Takes the label's pattern to a match that it doesn't fit, by each pattern of the match that
+    // it meets.
     fn meet(
         &mut self,
         at: Entrance,
@@ -165,8 +167,8 @@ impl<'a, A: Allocator + Copy> Deriver<'a, A> {
         Ok(())
     }
 
-    // The narrower of a label's and a match's pattern. Where neither fits the other, it is the one that all targets of these outputs have
-    // a match for, and else the preferred one.
+    // The narrower of a label's and a match's pattern. Where neither fits the other, it is the one
+    // that all targets of these outputs have a match for, and else the preferred one.
     fn narrower<'p>(
         &self,
         at: Entrance,
@@ -206,7 +208,8 @@ impl<'a, A: Allocator + Copy> Deriver<'a, A> {
         self.spread(at, &found.outputs, pattern, origin)
     }
 
-    // Labels the scopes to which these outputs, those of a match of the scope, send the pattern's tags.
+    // Labels the scopes to which these outputs, those of a match of the scope, send the pattern's
+    // tags.
     fn spread(
         &mut self,
         at: Entrance,
@@ -258,8 +261,9 @@ impl<'a, A: Allocator + Copy> Deriver<'a, A> {
         }
     }
 
-    // Labels the scope behind a source with a prefix. What comes through it for a second time on its way, and fits no label there, is widened:
-    // by `**` in place of the prefix, and then to `**`.
+    // Labels the scope behind a source with a prefix. What comes through it for a second time on
+    // its way, and fits no label there, is widened: by `**` in place of the prefix, and then to
+    // `**`.
     fn enter_gate(
         &mut self,
         at: Entrance,
@@ -320,7 +324,8 @@ impl<'a, A: Allocator + Copy> Deriver<'a, A> {
     }
 }
 
-// Whether each scope to which one of these outputs, those of a match of the scope, sends the pattern's tags has a match that they fit.
+// Whether each scope to which one of these outputs, those of a match of the scope, sends the
+// pattern's tags has a match that they fit.
 fn all_match<A: Allocator + Copy>(
     net: &Net<A>,
     at: Entrance,
@@ -335,7 +340,8 @@ fn all_match<A: Allocator + Copy>(
     true
 }
 
-// Whether each scope to which the output, that of a match of the scope, sends the pattern's tags has a match that they fit.
+// Whether each scope to which the output, that of a match of the scope, sends the pattern's tags
+// has a match that they fit.
 fn has_match<A: Allocator + Copy>(
     net: &Net<A>,
     at: Entrance,

@@ -8,8 +8,8 @@ use std::alloc::{AllocError, Allocator};
 use std::str;
 use text_lines::lines;
 
-/// The lines of a plan that say something else than labels and reaches, comments too, each with a line feed behind it. The only error is
-/// want of memory.
+/// The lines of a plan that say something else than labels and reaches, comments too, each with a
+/// line feed behind it. The only error is want of memory.
 pub fn without_labels<A: Allocator + Copy>(alloc: A, net: &[u8]) -> Result<Vec<u8, A>, AllocError>
     ensures { IfOk result (λ text. text.items ≡ lines_without_labels net.now) }
 {

@@ -14,21 +14,25 @@ use deliberate_drops::{DropError, DropName, DroppedPlanError, plan_with_drops};
 use plan_lines::{Plan, PlanError, conf_names};
 use std::alloc::{AllocError, Allocator};
 
-/// The text of a plan with the labels and reaches that it lacks, each as a line behind its own; its own lines stay as they are. Where it
-/// lacks none, that is the text itself. The configurations are those that the plan names, in their order.
+/// The text of a plan with the labels and reaches that it lacks, each as a line behind its own; its
+/// own lines stay as they are. Where it lacks none, that is the text itself. The configurations are
+/// those that the plan names, in their order.
 ///
-/// What clients send is labelled, each label is taken through the matches of its scope up to the first that it fits, under the narrower of
-/// the two patterns, and each reach goes on to relabels and servers. Where neither pattern fits the other, it is the one that the targets
-/// have matches for, and else the label's; where a rule that keeps events is broken by that, and isn't by the match's, it is the match's.
-/// What comes through a source with a prefix for a second time on its way, and fits no label behind it, is widened: first by `**` in place
-/// of the prefix, and then to `**`.
+/// What clients send is labelled, each label is taken through the matches of its scope up to the
+/// first that it fits, under the narrower of the two patterns, and each reach goes on to relabels
+/// and servers. Where neither pattern fits the other, it is the one that the targets have matches
+/// for, and else the label's; where a rule that keeps events is broken by that, and isn't by the
+/// match's, it is the match's. What comes through a source with a prefix for a second time on its
+/// way, and fits no label behind it, is widened: first by `**` in place of the prefix, and then to
+/// `**`.
 ///
-/// Each line that comes out is derived once, and compared with those of its scope or match that begin with the same literal parts; the rules
-/// are then decided of the whole, as `check` does.
+/// Each line that comes out is derived once, and compared with those of its scope or match that
+/// begin with the same literal parts; the rules are then decided of the whole, as `check` does.
 ///
-/// It answers no text where no lines close the plan: two relays have one number, so that the second can't be named in a line; or what a
-/// name or a pattern is can't be written as a word of a line; or there are more than 65,536 labels, also where each prefix is taken as
-/// `**`. An error is the plan's own, or want of memory.
+/// It answers no text where no lines close the plan: two relays have one number, so that the second
+/// can't be named in a line; or what a name or a pattern is can't be written as a word of a line;
+/// or there are more than 65,536 labels, also where each prefix is taken as `**`. An error is the
+/// plan's own, or want of memory.
 pub fn labelled_text<A: Allocator + Copy>(
     alloc: A,
     net: &[u8],
@@ -42,8 +46,9 @@ pub fn labelled_text<A: Allocator + Copy>(
     Ok(labelled_dropping(alloc, net, confs, &[], &plan)?)
 }
 
-/// The same of the plan at whose named matches events may be let go: its labels and reaches are found from `plan`, which is that one, and
-/// they close the plan that the text says with these matches let go. Behind a relabel or a server of such a match none is found.
+/// The same of the plan at whose named matches events may be let go: its labels and reaches are
+/// found from `plan`, which is that one, and they close the plan that the text says with these
+/// matches let go. Behind a relabel or a server of such a match none is found.
 ///
 /// It answers no text also where a name means no match. The only error is want of memory.
 pub fn labelled_dropping<A: Allocator + Copy>(
@@ -81,7 +86,8 @@ fn text_of<A: Allocator>(attempt: Option<Candidate<A>>) -> Option<Vec<u8, A>>
     }
 }
 
-// The labels' patterns are preferred, unless that breaks a rule, and the matches' patterns break none.
+// The labels' patterns are preferred, unless that breaks a rule, and the matches' patterns break
+// none.
 fn preferred<A: Allocator + Copy>(
     alloc: A,
     net: &[u8],

@@ -1,4 +1,5 @@
-//! The labels and reaches that a plan lacks, found from its configurations and written as lines behind its own.
+//! The labels and reaches that a plan lacks, found from its configurations and written as lines
+//! behind its own.
 #![tactic(auto)]
 
 mod certificate;

@@ -1,6 +1,7 @@
 //! How labels are derived where there is a choice.
 
-/// The pattern of a reach where neither the label's pattern nor the match's fits the other, and nothing else decides.
+/// The pattern of a reach where neither the label's pattern nor the match's fits the other, and
+/// nothing else decides.
 #[derive(Clone, Copy, Debug, PartialEq, Eq)]
 pub(crate) enum Preference {
     /// The label's.

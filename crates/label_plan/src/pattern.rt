@@ -31,7 +31,8 @@ pub(crate) fn prefixed<A: Allocator + Copy>(
     plain_of(alloc, items)
 }
 
-/// The pattern with `**` in front, unless it begins with that: it has each tag that a prefix makes of one of the pattern's.
+/// The pattern with `**` in front, unless it begins with that: it has each tag that a prefix makes
+/// of one of the pattern's.
 pub(crate) fn widened<A: Allocator + Copy>(
     alloc: A,
     pattern: &Plain<A>,

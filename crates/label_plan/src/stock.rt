@@ -11,8 +11,9 @@ use tag_pattern::{PatternItem, Plain};
 // Where patterns stand, and the number of the literal parts that they begin with.
 type Key = (((usize, usize), usize), u64);
 
-/// The labels of each scope of a network, and the reaches of each of its matches, as far as they are known. Patterns are looked up by the literal parts
-/// that they begin with, so that those aren't compared which begin otherwise: a pattern fits one alone whose parts it begins with.
+/// The labels of each scope of a network, and the reaches of each of its matches, as far as they
+/// are known. Patterns are looked up by the literal parts that they begin with, so that those
+/// aren't compared which begin otherwise: a pattern fits one alone whose parts it begins with.
 #[derive(Drop)]
 pub(crate) struct Stock<A: Allocator> {
     alloc: A,

@@ -16,7 +16,8 @@ use std::alloc::{AllocError, Allocator};
 /// A plan with the labels and reaches that it lacked, and which of its rules are broken.
 #[derive(Drop)]
 pub struct LabelledCheck<A: Allocator> {
-    /// The plan's text: the given one with the lines that were added behind it, or the given one itself where none were found.
+    /// The plan's text: the given one with the lines that were added behind it, or the given one
+    /// itself where none were found.
     pub text: Vec<u8, A>,
     /// The plan of this text.
     pub plan: Plan<A>,
@@ -26,8 +27,9 @@ pub struct LabelledCheck<A: Allocator> {
     pub broken: Vec<BrokenRule<A>, A>,
 }
 
-/// Labels the plan of these texts as `labelled_text` does, and says which of its rules are broken then. Where no labels are found, the plan's
-/// own lines are asked. The configurations are those that the plan names, in their order. An error is the plan's own, or want of memory.
+/// Labels the plan of these texts as `labelled_text` does, and says which of its rules are broken
+/// then. Where no labels are found, the plan's own lines are asked. The configurations are those
+/// that the plan names, in their order. An error is the plan's own, or want of memory.
 pub fn check_labelled<A: Allocator + Copy>(
     alloc: A,
     net: &[u8],
@@ -45,8 +47,9 @@ pub fn check_labelled<A: Allocator + Copy>(
     }
 }
 
-/// The same of the plan at whose named matches events may be let go, as `labelled_dropping` labels it: in place of the outputs of each such match stands a sink
-/// that keeps, and the rules are those of that plan. An error is the plan's own, or else that of the first name that means no match.
+/// The same of the plan at whose named matches events may be let go, as `labelled_dropping` labels
+/// it: in place of the outputs of each such match stands a sink that keeps, and the rules are those
+/// of that plan. An error is the plan's own, or else that of the first name that means no match.
 pub fn check_dropping<A: Allocator + Copy>(
     alloc: A,
     net: &[u8],
@@ -75,7 +78,8 @@ pub fn check_dropping<A: Allocator + Copy>(
     })
 }
 
-// The plan of the text, if that names as many configurations as there are and says a plan, and its broken rules. It is a labelled one.
+// The plan of the text, if that names as many configurations as there are and says a plan, and its
+// broken rules. It is a labelled one.
 fn checked<A: Allocator + Copy>(
     alloc: A,
     text: Vec<u8, A>,

@@ -1,4 +1,5 @@
-//! The broken rules of a plan with the labels and reaches that it lacks: both are found in one call.
+//! The broken rules of a plan with the labels and reaches that it lacks: both are found in one
+//! call.
 #![tactic(auto)]
 
 mod labelling;

@@ -89,7 +89,8 @@ answered entry asked new_asked taken new_taken waits e t f = record {
   earned = t f.earned;
 }
 
--- what holds of all holds of the first; and of the others, also where the list of demands is written otherwise
+-- what holds of all holds of the first; and of the others, also where the list of demands is
+-- written otherwise
 pub first_owed : {X : Type 0} (P : X → Type 0) (first : X) (rest all : List X) → all ≡ first ∷ rest → All P all → P first
 first_owed P first rest all e a = All-head P first rest (All-same P (first ∷ rest) all (sym e) a)
 
@@ -226,7 +227,8 @@ on_err (Err _) P p = p
 pub first_becomes : (all rest : List Waits) (w : Waits) (old between new : Standing) → all ≡ w ∷ rest → Becomes w old between → BecomeInOrder rest between new → BecomeInOrder all old new
 first_becomes all rest w old between new e first others = subst (λ (l : List Waits). BecomeInOrder l old new) (sym e) (between, first, others)
 
--- the first of these was settled, and then the others; the connection is closing where there was no memory for the first
+-- the first of these was settled, and then the others; the connection is closing where there was no
+-- memory for the first
 pub first_settled : (all rest : List Waits) (w : Waits) (left left' : List Waits) (session session' : ServerState) (closing closing' took : Bool) (end : Standing)
     → all ≡ w ∷ rest → (closing || not took) ≡ closing'
     → ((was : Bool) → Becomes w (record { left = left; session = session; closing = was }) (record { left = left'; session = session'; closing = was || not took }))

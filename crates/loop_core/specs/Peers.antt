@@ -15,7 +15,8 @@ pub record PeerState : Type 0 where
   pub waits : List Waits
   pub closing : Bool
 
--- The session read the piece behind what it held unread: what both come to is what the session is then.
+-- The session read the piece behind what it held unread: what both come to is what the session is
+-- then.
 pub record IsRead (piece : List ℕ) (old new : ServerState) : Type 0 where
   pub out : Outcome
   pub reads : ServerReads old.phase (old.held ++ piece) out
@@ -52,7 +53,8 @@ pub record IsOwed (entry : Entry) (asked : List Asked) (waits : Waits) : Type 0 
 pub record IsEarned (entry : Entry) (reserved : Reservation) : Type 0 where
   pub goes : IsSomeAnd reserved.filled (λ answer. IsRoutedTo entry reserved.asked answer.tag answer.leaves)
 
--- what a connection keeps of the messages that were demanded, the answers that were taken and the deliveries that wait
+-- what a connection keeps of the messages that were demanded, the answers that were taken and the
+-- deliveries that wait
 pub record IsFaithful (entry : Entry) (asked : List Asked) (taken : List Reservation) (waits : List Waits) : Type 0 where
   pub owed : All (IsOwed entry asked) waits
   pub earned : All (IsEarned entry) taken
@@ -65,7 +67,8 @@ awaited_in waits = map (λ w. w.awaited) waits
 abbrev pub AreAmong : List Awaited → List Waits → Type 0
 AreAmong before waits = All (λ w. Contains before w.awaited) waits
 
--- where the settling of a connection's deliveries stands: those that wait on so far, the session, and whether nothing more is read
+-- where the settling of a connection's deliveries stands: those that wait on so far, the session,
+-- and whether nothing more is read
 pub record Standing : Type 0 where
   pub left : List Waits
   pub session : ServerState
@@ -94,7 +97,8 @@ pub record IsRefused (waits : Waits) (old new : Standing) : Type 0 where
   pub missing : IsAbandoned waits.awaited stub
   pub same : new ≡ old
 
--- There was no memory for its answer, or for it to wait on: it ends without one, and nothing more is read.
+-- There was no memory for its answer, or for it to wait on: it ends without one, and nothing more
+-- is read.
 abbrev pub IsShutOut : Standing → Standing → Type 0
 IsShutOut old new = new ≡ record old { closing = true }
 

@@ -22,7 +22,8 @@ pub enum LoopFault {
     /// A buffer's device failed, and the buffer is to be opened again; or it can't be opened.
     #[error("Buffer")]
     Buffer(BufferFault),
-    /// The numbers of deliveries have run out; or a buffer hasn't the number of its place, which none has of a relay that was read.
+    /// The numbers of deliveries have run out; or a buffer hasn't the number of its place, which
+    /// none has of a relay that was read.
     #[error("NoNumber")]
     NoNumber,
     /// There was no memory.

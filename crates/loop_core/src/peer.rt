@@ -24,7 +24,8 @@ use std::marker::Model;
 use std::mem;
 use std::sync::{Arc, Wait};
 
-/// A client's session, the source that its messages come in at, and their deliveries that wait for receipts, in order.
+/// A client's session, the source that its messages come in at, and their deliveries that wait for
+/// receipts, in order.
 pub struct Peer<A: Allocator> {
     inlet: Arc<Inlet<A>, A>,
     session: ServerSession<A>,
@@ -70,11 +71,13 @@ impl<A: Allocator + Copy> Peer<A> {
         })
     }
 
-    /// Takes a piece of what the client sent, and begins a delivery of each message that is whole now.
+    /// Takes a piece of what the client sent, and begins a delivery of each message that is whole
+    /// now.
     ///
-    /// A fault of the stream or the handshake ends the reading. `NoNumber`: the numbers of deliveries have run out. `Memory`:
-    /// the connection is to be closed, since what came may be lost; what began before stands. After an error the session is as it
-    /// was, or has read the piece: then of some of its messages no delivery began.
+    /// A fault of the stream or the handshake ends the reading. `NoNumber`: the numbers of
+    /// deliveries have run out. `Memory`: the connection is to be closed, since what came may be
+    /// lost; what began before stands. After an error the session is as it was, or has read the
+    /// piece: then of some of its messages no delivery began.
     pub fn receive<R: Wait, D: Dir + Drop>(
         &mut self,
         rt: &R,
@@ -150,7 +153,8 @@ impl<A: Allocator + Copy> Peer<A> {
         self.why = Some(closing_of(fault));
     }
 
-    // Begins the delivery of a message under a number of its own, unless its way is a loop. Where a buffer refuses, it is abandoned.
+    // Begins the delivery of a message under a number of its own, unless its way is a loop. Where a
+    // buffer refuses, it is abandoned.
     fn deliver<R: Wait, D: Dir + Drop>(
         &mut self,
         rt: &R,
@@ -197,15 +201,17 @@ impl<A: Allocator + Copy> Peer<A> {
         Ok(())
     }
 
-    /// Answers, in the order of their messages, the deliveries that have all their receipts, and ends those that a buffer
-    /// refused. Without memory for an answer, or to wait on, nothing more is read: the client is to send again.
+    /// Answers, in the order of their messages, the deliveries that have all their receipts, and
+    /// ends those that a buffer refused. Without memory for an answer, or to wait on, nothing more
+    /// is read: the client is to send again.
     pub fn settle<R: Wait, D: Dir + Drop>(&mut self, rt: &R, alloc: A, lanes: &mut Lanes<D, A>)
         ensures entry { self.new.entry ≡ self.old.entry }
         ensures lanes { lanes.new ≡ lanes.old }
         // What waits on waited before: nothing, where no buffer's receipts come later.
         ensures waited { AreAmong (awaited_in self.old.waits) self.new.waits }
         ensures ended { NoneLater lanes.old.later → self.new.waits ≡ [] }
-        // None is answered behind one that waits on, and none ends without an answer but where a buffer refused it, or nothing more is read.
+        // None is answered behind one that waits on, and none ends without an answer but where a
+        // buffer refused it, or nothing more is read.
         ensures order { BecomeInOrder self.old.waits (record { left = []; session = self.old.session; closing = self.old.closing })
             (record { left = self.new.waits; session = self.new.session; closing = self.new.closing }) }
         ensures closed { self.old.closing ≡ true → self.new.closing ≡ true }
@@ -272,8 +278,9 @@ impl<A: Allocator + Copy> Peer<A> {
         !self.waiting.is_empty()
     }
 
-    /// Each answer that the session took names the tag and the buffers that its message had to be stored under and in, by the relay's matches and the
-    /// connection's source. The call does nothing: it stands for what the type keeps.
+    /// Each answer that the session took names the tag and the buffers that its message had to be
+    /// stored under and in, by the relay's matches and the connection's source. The call does
+    /// nothing: it stands for what the type keeps.
     pub fn answers_are_earned(&self)
         ensures { All (IsEarned self.now.entry) self.now.session.taken }
     {
@@ -321,8 +328,8 @@ fn abandon_all<R: Wait, D: Dir + Drop, A: Allocator + Copy>(
     rest.destroy_empty();
 }
 
-// Settles these deliveries of a session whose messages come in here, and gives those that wait on. Where there was no memory for one of them,
-// the connection is closing.
+// Settles these deliveries of a session whose messages come in here, and gives those that wait on.
+// Where there was no memory for one of them, the connection is closing.
 fn settle_all<R: Wait, D: Dir + Drop, A: Allocator + Copy>(
     rt: &R,
     alloc: A,
@@ -352,7 +359,8 @@ fn settle_all<R: Wait, D: Dir + Drop, A: Allocator + Copy>(
     later
 }
 
-// Settles a delivery behind those that wait on, and says whether there was memory for its answer, or for it to wait on.
+// Settles a delivery behind those that wait on, and says whether there was memory for its answer,
+// or for it to wait on.
 fn settle_one<R: Wait, D: Dir + Drop, A: Allocator + Copy>(
     rt: &R,
     inlet: &Inlet<A>,

@@ -9,8 +9,8 @@ use loss_rules::Duty;
 use relay_net::Net;
 use std::alloc::{AllocError, Allocator};
 
-/// The text, if `text_loses_event` says that it loses an event: whoever says so of what this gives says it of the very text that was tried. The
-/// only error is want of memory.
+/// The text, if `text_loses_event` says that it loses an event: whoever says so of what this gives
+/// says it of the very text that was tried. The only error is want of memory.
 pub fn if_losing_text<A: Allocator + Copy>(
     alloc: A,
     net: &Net<A>,
@@ -26,8 +26,9 @@ pub fn if_losing_text<A: Allocator + Copy>(
     }
 }
 
-/// Whether the network takes each of the steps of the text, and then an event that was acknowledged to a client isn't kept as is asked:
-/// then `replay` takes them, and lists the event as lost. The only error is want of memory.
+/// Whether the network takes each of the steps of the text, and then an event that was acknowledged
+/// to a client isn't kept as is asked: then `replay` takes them, and lists the event as lost. The
+/// only error is want of memory.
 pub fn text_loses_event<A: Allocator + Copy>(
     alloc: A,
     net: &Net<A>,
@@ -43,7 +44,8 @@ pub fn text_loses_event<A: Allocator + Copy>(
     }
 }
 
-/// The steps, where they lose an event, and only there, as `loses_event` says. The only error is want of memory.
+/// The steps, where they lose an event, and only there, as `loses_event` says. The only error is
+/// want of memory.
 pub fn if_losing<A: Allocator + Copy>(
     alloc: A,
     net: &Net<A>,
@@ -60,8 +62,8 @@ pub fn if_losing<A: Allocator + Copy>(
     }
 }
 
-/// Whether the network takes each of the steps, and then an event that was acknowledged to a client isn't kept as is asked. The only error is
-/// want of memory.
+/// Whether the network takes each of the steps, and then an event that was acknowledged to a client
+/// isn't kept as is asked. The only error is want of memory.
 pub fn loses_event<A: Allocator + Copy>(
     alloc: A,
     net: &Net<A>,

@@ -22,9 +22,9 @@ abbrev pub StandInOrder : {A : Type 0} → List (BrokenRule A) → Type 0
 StandInOrder [] = Unit {0}
 StandInOrder {A} (first ∷ others) = ((other : BrokenRule A) → Contains others other → rule_number first.rule < rule_number other.rule) × StandInOrder others
 
--- These are the broken rules of the plan: each is broken first at its place, and with the others these are all places where it is broken;
--- each rule that isn't listed holds; they stand in their order, so that the first of them is the checker's answer, which is a yes where
--- there are none.
+-- These are the broken rules of the plan: each is broken first at its place, and with the others
+-- these are all places where it is broken; each rule that isn't listed holds; they stand in their
+-- order, so that the first of them is the checker's answer, which is a yes where there are none.
 pub record AreBrokenRules {A : Type 0} (plan : Subject A) (found : List (BrokenRule A)) : Type 0 where
   pub broken : (one : BrokenRule A) → Contains found one → IsBrokenAt plan one.rule one.place
   pub places : (one : BrokenRule A) → Contains found one → AreBrokenPlaces plan one.rule (one.place ∷ one.others.items)

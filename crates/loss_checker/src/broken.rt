@@ -1,4 +1,5 @@
-//! Every rule that is broken of a plan, and every place where it is: all rules are asked, whatever the others answer.
+//! Every rule that is broken of a plan, and every place where it is: all rules are asked, whatever
+//! the others answer.
 
 ghost use Rattle.std.specs.Prelude.{◌≡◌, ◌+◌, [], IfOk, OnOk};
 ghost use Rattle.loss_rules.specs.Breaks.{IsKept, rule_number};
@@ -13,8 +14,8 @@ use loss_rules::{
 use plan_lines::Plan;
 use std::alloc::{AllocError, Allocator};
 
-/// A rule that is broken, and every place where it is: by lines of the plan, or by relays in the order of the plan and then by lines
-/// of their configurations.
+/// A rule that is broken, and every place where it is: by lines of the plan, or by relays in the
+/// order of the plan and then by lines of their configurations.
 #[derive(Debug, Drop)]
 pub struct BrokenRule<A: Allocator> {
     /// The rule.
@@ -25,13 +26,14 @@ pub struct BrokenRule<A: Allocator> {
     pub others: Vec<Place, A>,
 }
 
-/// The rules that don't hold of the plan, in the order of `Rule`, each with all places where it is broken; the first place of the first
-/// of them is what `check` answers.
+/// The rules that don't hold of the plan, in the order of `Rule`, each with all places where it is
+/// broken; the first place of the first of them is what `check` answers.
 ///
-/// Labels and reaches are looked up by their scope and their match. A pattern is compared first with one that is spelled like it, where
-/// there is one, and else with all of the scope, so that the time may grow as the square of a scope's length; hosts and numbers of relays
-/// are gone through for each that is named. Memory is needed for what labels and reaches are looked up in, to look for a cycle of relabels, and for the places. The only
-/// error is want of it.
+/// Labels and reaches are looked up by their scope and their match. A pattern is compared first
+/// with one that is spelled like it, where there is one, and else with all of the scope, so that
+/// the time may grow as the square of a scope's length; hosts and numbers of relays are gone
+/// through for each that is named. Memory is needed for what labels and reaches are looked up in,
+/// to look for a cycle of relabels, and for the places. The only error is want of it.
 pub fn broken_rules<A: Allocator + Copy>(
     alloc: A,
     plan: &Plan<A>,

@@ -10,14 +10,16 @@ use loss_rules::{Answer, Duty};
 use plan_lines::Plan;
 use std::alloc::{AllocError, Allocator};
 
-/// Whether each rule holds of the plan; or else the first rule that is broken, in the order of `Rule`, and where it is
-/// broken first: by lines of the plan, or by relays in the order of the plan and then by lines of their configurations.
-/// It takes the time and the memory of `broken_rules`. The only error is want of memory.
+/// Whether each rule holds of the plan; or else the first rule that is broken, in the order of
+/// `Rule`, and where it is broken first: by lines of the plan, or by relays in the order of the
+/// plan and then by lines of their configurations. It takes the time and the memory of
+/// `broken_rules`. The only error is want of memory.
 pub fn check<A: Allocator + Copy>(alloc: A, plan: &Plan<A>) -> Result<Answer, AllocError>
     ensures answer { IfOk result (IsAnswer plan.now) }
     // A yes means that the rules hold under which nothing is lost.
     ensures rules_kept { IfOk result (λ answer. answer ≡ Answer.Yes → AreKeepingRulesKept plan.now.net plan.now.labels plan.now.reaches) }
-    // Under the duty every it means besides that each output of each reached match keeps, or is a relabel.
+    // Under the duty every it means besides that each output of each reached match keeps, or is a
+    // relabel.
     ensures each_keeps { IfOk result (λ answer. answer ≡ Answer.Yes → plan.now.duty ≡ Duty.Every → EachOutputKeeps plan.now.net plan.now.reaches) }
 {
     let broken = broken_rules(alloc, plan)?;

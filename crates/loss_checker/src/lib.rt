@@ -1,5 +1,5 @@
-//! The loss checker: whether each rule holds of a plan, so that its network loses no event that was acknowledged,
-//! or else the first rule that is broken, and where; and every rule that is broken.
+//! The loss checker: whether each rule holds of a plan, so that its network loses no event that was
+//! acknowledged, or else the first rule that is broken, and where; and every rule that is broken.
 #![tactic(auto)]
 
 mod broken;

@@ -90,7 +90,8 @@ scope-within net place scope rule output found at = within-relay (relay_at net p
 
 -- ---- the graph
 
--- In this line of the relay one of the first matches of the scope, if it is reached, has a relabel to that target.
+-- In this line of the relay one of the first matches of the scope, if it is reached, has a relabel
+-- to that target.
 abbrev pub HasRelabelBelow : {A : Type 0} → Network A → List (Reach A) → ℕ → ℕ → ℕ → ℕ → ℕ → Type 0
 HasRelabelBelow {A} net reaches place scope count target line = (rule output : ℕ) × (found : Output A) × (rule < count) × (output_in_rule net place scope rule output ≡ Some found)
     × IsReached reaches place scope rule × RelabelsTo found target × (line_of found ≡ line)
@@ -145,7 +146,8 @@ module _ {A : Type 0} (net : Network A) (reaches : List (Reach A)) (place scope 
   )
 
 module _ {A : Type 0} (net : Network A) (reaches : List (Reach A)) (place : ℕ) where
-  -- The graph has a list for each of the first scopes, so many of them: the relabels of its reached matches.
+  -- The graph has a list for each of the first scopes, so many of them: the relabels of its reached
+  -- matches.
   pub record IsBuilt (count : ℕ) (graph : List (List Relabel)) : Type 0 where
     pub sized : length graph ≡ count
     pub is : (scope target line : ℕ) → scope < count → HasRelabel graph scope target line ↔ HasReachedRelabel net reaches place scope target line

@@ -51,7 +51,8 @@ among-gone graph scope relabels relabel xs ys gone is =
 
 -- ---- the scopes of a relay
 
--- In this line one of the first scopes, so many of them, has a relabel from whose target a chain leads back.
+-- In this line one of the first scopes, so many of them, has a relabel from whose target a chain
+-- leads back.
 abbrev pub IsBefore : List (List Relabel) → ℕ → ℕ → Type 0
 IsBefore graph count line = (scope : ℕ) × (scope < count) × IsOnCycleFrom graph scope line
 

@@ -40,8 +40,8 @@ module _ {A : Type 0} where
       h (any_matched net place scope label any) rule found (rule_listed net place scope rule ∙ is)
       (λ before other less there. none before other less (sym (rule_listed net place scope before) ∙ there))
 
-  -- What the search through a scope's matches knows before the match at this place: the label's pattern fits none so far, and
-  -- whether all so far are covered.
+  -- What the search through a scope's matches knows before the match at this place: the label's
+  -- pattern fits none so far, and whether all so far are covered.
   pub record Passed (matches : List (MatchRule A)) (reaches : List (Reach A)) (place scope : ℕ) (label : List Item) (rule : ℕ) (covered : Bool) : Type 0 where
     pub fits_none : FitsNoneOf matches rule label
     pub covered_is : IsTrue covered ↔ ((before : ℕ) (found : MatchRule A) → before < rule → slice_get matches before ≡ Some found → All (IsCovered reaches place scope before label) found.patterns.items)

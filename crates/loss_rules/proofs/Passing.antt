@@ -1,4 +1,5 @@
--- How the tags of labels go on: to the reaches of the match that takes an event, and from there to further labels.
+-- How the tags of labels go on: to the reaches of the match that takes an event, and from there to
+-- further labels.
 use Rattle.std.proofs.Common.{ℕ, List, Option, Some, None, subst₂, inl, inr, Any, All}
 use Rattle.std.proofs.lemmas.List.Elements.{All-contains}
 use Rattle.tag_pattern.specs.Items.{Item}
@@ -28,7 +29,8 @@ pub entered-tag : (prefix : Option (List ℕ)) (p : List Item) (tag : List ℕ) 
 entered-tag None p tag h = h
 entered-tag (Some prefix) p tag h = (same_behind prefix p tag).0 h
 
--- where each reach of a match fits a label of a scope, with this in front, a tag of a reach with this in front is one of a label there
+-- where each reach of a match fits a label of a scope, with this in front, a tag of a reach with
+-- this in front is one of a label there
 pub reach-labelled : {A : Type 0} (labels : List (Label A)) (reaches : List (Reach A)) (place scope rule to_place to_scope : ℕ) (prefix : Option (List ℕ)) (tag : List ℕ) → EachReach reaches place scope rule (FitsLabelWith labels to_place to_scope prefix)
     → IsReachedTag reaches place scope rule tag → IsLabelledTag labels to_place to_scope (entered_tag prefix tag)
 reach-labelled labels reaches place scope rule to_place to_scope prefix tag each (k, reach, less, is, (of, (i, p, within, here, h))) =

@@ -19,7 +19,8 @@ share_back : {A : Type 0} (one two : Output A) → SharePath one two → SharePa
 share_back one two (path, inl h) = (path, inl (h.1, h.0))
 share_back one two (path, inr h) = (path, inr (h.1, h.0))
 
--- where each output is the first with its paths, no two share one: of two each would stand behind the other
+-- where each output is the first with its paths, no two share one: of two each would stand behind
+-- the other
 pub firsts_are_distinct : {A : Type 0} (net : Network A) → EachOutput net (IsFirstOfPath net) → PathsAreDistinct net
 firsts_are_distinct net first place scope rule output found at s r o other there share = by (equal_or_not s scope) (equal_or_not r rule) (equal_or_not o output)
   where

@@ -110,7 +110,8 @@ own-place : {A : Type 0} (relay : Option (Relay A)) → ((r : Relay A) → relay
 own-place None own scope rule output found e s r o other there buffer h k = absurd (cc)
 own-place (Some relay) own scope rule output found e s r o other there buffer h k = own relay refl scope rule output found e s r o other there buffer h k
 
--- where each buffer belongs to one output, the output that stands there is the one that is found for its buffer
+-- where each buffer belongs to one output, the output that stands there is the one that is found
+-- for its buffer
 pub output-found : {A : Type 0} (net : Network A) → BuffersAreDistinct net → (place scope rule output : ℕ) (found : Output A) (buffer : ℕ) → output_in_rule net place scope rule output ≡ Some found → buffer_number found ≡ Some buffer
     → output_at net place buffer ≡ Some found
 output-found {A} net distinct place scope rule output found buffer e h =

@@ -12,7 +12,8 @@ use Rattle.route_graph.proofs.Members.{cons-cases, cons-head, nil-none}
 use Rattle.route_graph.proofs.WalkLaws.{leads-on}
 use Rattle.loss_rules.proofs.Members.{contains-map, map-contains}
 
--- What is marked and what is to come fits the graph: all of it is led to, and what is marked leads no further.
+-- What is marked and what is to come fits the graph: all of it is led to, and what is marked leads
+-- no further.
 pub record IsVisit (graph : List (List Relabel)) (start : ℕ) (marks : List Bool) (ahead : List ℕ) : Type 0 where
   pub sized : length marks ≡ length graph
   pub marked : (scope : ℕ) → scope < length graph → mark_at marks scope ≡ true → Chain (Leads graph) start scope

@@ -41,7 +41,8 @@ record IsKeptAt {A : Type 0} (net : Network A) (place scope : ℕ) (tag : List �
   leaf : IsLeaf (table_at net place) tag scope buffer
   keeps : IsSomeAnd (output_at net place buffer) Keeps
 
--- The scope was gone through: it is one of the relay, and a chain of relabels leads on from it to the other.
+-- The scope was gone through: it is one of the relay, and a chain of relabels leads on from it to
+-- the other.
 record IsBehind {A : Type 0} (net : Network A) (place : ℕ) (tag : List ℕ) (scope before : ℕ) : Type 0 where
   within : before < scope_count (relay_at net place)
   next : ℕ

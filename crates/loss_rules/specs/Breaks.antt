@@ -22,7 +22,8 @@ use Rattle.loss_rules.specs.declared.label.Label.{Label}
 use Rattle.loss_rules.specs.declared.label.Reach.{Reach}
 use Rattle.loss_rules.specs.declared.label.RelayLine.{RelayLine}
 
--- All that the rules speak of: a network, the lines of its relays and clients in the plan, labels, reaches, and what is asked of matches.
+-- All that the rules speak of: a network, the lines of its relays and clients in the plan, labels,
+-- reaches, and what is asked of matches.
 pub record Subject (A : Type 0) : Type 0 where
   pub net : Network A
   pub relay_lines : List (RelayLine A)  -- for each relay of the network
@@ -33,7 +34,8 @@ pub record Subject (A : Type 0) : Type 0 where
 
 -- In configurations: by relays in the order of the plan, and by lines.
 
--- This is broken in the first relay in which it is broken anywhere, and in the first such line of its configuration.
+-- This is broken in the first relay in which it is broken anywhere, and in the first such line of
+-- its configuration.
 pub record IsFirstLine (Breaks : ℕ → ℕ → Type 0) (place line : ℕ) : Type 0 where
   pub breaks : Breaks place line
   pub relays_before : (p l : ℕ) → p < place → ¬ Breaks p l
@@ -47,7 +49,8 @@ BreaksAtMatch {A} net P place line = (scope r : ℕ) × (found : MatchRule A) ×
 abbrev pub BreaksAtOutput : {A : Type 0} → Network A → (ℕ → ℕ → ℕ → ℕ → Output A → Type 0) → ℕ → ℕ → Type 0
 BreaksAtOutput {A} net P place line = (scope r output : ℕ) × (found : Output A) × (output_in_rule net place scope r output ≡ Some found) × (line_of found ≡ line) × ¬ P place scope r output found
 
--- Each other output of the relay that shares a path with the output at this place stands in a later line.
+-- Each other output of the relay that shares a path with the output at this place stands in a later
+-- line.
 abbrev pub IsFirstOfPath : {A : Type 0} → Network A → ℕ → ℕ → ℕ → ℕ → Output A → Type 0
 IsFirstOfPath {A} net place scope rule output found = (s r o : ℕ) (other : Output A) → output_in_rule net place s r o ≡ Some other
     → ¬ ((s ≡ scope) × (r ≡ rule) × (o ≡ output)) → SharePath other found → line_of found < line_of other
@@ -77,7 +80,8 @@ BreaksAtClient {A} net lines P line = (number : ℕ) × (client : Client A) × (
 abbrev pub BreaksAtLabel : {A : Type 0} → List (Label A) → (Label A → Type 0) → ℕ → Type 0
 BreaksAtLabel labels P line = Any (λ label. (label.line ≡ line) × ¬ P label) labels
 
--- Numbers, folders and addresses: each relay's line of the plan, then its sources, then the next relay.
+-- Numbers, folders and addresses: each relay's line of the plan, then its sources, then the next
+-- relay.
 
 -- All is new in the relays before this one.
 pub record AreNewBefore {A : Type 0} (net : Network A) (lines : List (RelayLine A)) (place : ℕ) : Type 0 where
@@ -136,7 +140,8 @@ IsBrokenAt s rule.ForwardsAreLabelled = IsInConf s.net (BreaksAtServer s.net (λ
 IsBrokenAt s rule.PathsAreDistinct = IsInConf s.net (BreaksAtOutput s.net (IsFirstOfPath s.net))
 IsBrokenAt s rule.NoRelabelCycle = IsInConf s.net (BreaksAtOutput s.net (λ p scope r output found. IsOnNoCycle s.net s.reaches p scope r found))
 
--- The answer is yes, and each rule holds; or it is no, and the rule is the first that is broken, first at this place.
+-- The answer is yes, and each rule holds; or it is no, and the rule is the first that is broken,
+-- first at this place.
 abbrev pub IsAnswer : {A : Type 0} → Subject A → Answer → Type 0
 IsAnswer s answer.Yes = (each : Rule) → IsKept s each
 IsAnswer s (answer.No broken at) = ((before : Rule) → rule_number before < rule_number broken → IsKept s before) × IsBrokenAt s broken at

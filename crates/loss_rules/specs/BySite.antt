@@ -1,4 +1,5 @@
--- Patterns by the site that they are of: the places of a relay, of a scope in it and of a match in that.
+-- Patterns by the site that they are of: the places of a relay, of a scope in it and of a match in
+-- that.
 use Rattle.std.specs.Prelude.{◌≡◌, ◌↔◌, ℕ, List, [], map, Any, Contains}
 use Rattle.std.specs.Option.{option_map_or}
 use Rattle.std.specs.Ordering.{nat_cmp, ordering_then}

@@ -29,7 +29,8 @@ conf_places relay lines = map (λ line. place.Conf relay line) lines
 abbrev pub AreInPlan : (ℕ → Type 0) → List Place → Type 0
 AreInPlan Breaks places = (lines : List ℕ) × AreLines Breaks lines × (places ≡ plan_places lines)
 
--- These are the places in these relays, of which the first has this place in the plan: one relay after another, as it is said of each.
+-- These are the places in these relays, of which the first has this place in the plan: one relay
+-- after another, as it is said of each.
 abbrev pub AreByRelays : {A : Type 0} → (ℕ → Node A → List Place → Type 0) → ℕ → List (Node A) → List Place → Type 0
 AreByRelays Are at [] places = places ≡ []
 AreByRelays Are at (node ∷ nodes) places = (here later : List Place) × Are at node here × AreByRelays Are (at + 1) nodes later × (places ≡ here ++ later)
@@ -42,7 +43,8 @@ AreInRelay Breaks at node places = (lines : List ℕ) × AreLines (Breaks at) li
 abbrev pub AreInConf : {A : Type 0} → Network A → (ℕ → ℕ → Type 0) → List Place → Type 0
 AreInConf net Breaks places = AreByRelays (AreInRelay Breaks) 0 net.relays places
 
--- Numbers, folders and addresses: each relay's line of the plan, then its sources, then the next relay.
+-- Numbers, folders and addresses: each relay's line of the plan, then its sources, then the next
+-- relay.
 
 -- This is the place of the relay's line of the plan, if the relay isn't new.
 abbrev pub IsOwnPlace : {A : Type 0} → Network A → List (RelayLine A) → ℕ → List Place → Type 0
@@ -58,7 +60,8 @@ AreTwiceInRelay net lines at node places = (own sources : List Place) × IsOwnPl
 abbrev pub AreTwice : {A : Type 0} → Network A → List (RelayLine A) → List Place → Type 0
 AreTwice net lines places = AreByRelays (AreTwiceInRelay net lines) 0 net.relays places
 
--- These are the places where the rule is broken: each of them, and no other; by lines of the plan, or by relays and then by their lines.
+-- These are the places where the rule is broken: each of them, and no other; by lines of the plan,
+-- or by relays and then by their lines.
 abbrev pub AreBrokenPlaces : {A : Type 0} → Subject A → Rule → List Place → Type 0
 AreBrokenPlaces s rule.AddressesAreDistinct = AreTwice s.net s.relay_lines
 AreBrokenPlaces s rule.ServersAreSources = AreInConf s.net (BreaksAtServer s.net (λ p scope r server. IsSome (entrance s.net (address_of_server server))))

@@ -1,4 +1,5 @@
--- The relabels of a relay's reached matches, as a graph of its scopes: for each scope the relabels from there.
+-- The relabels of a relay's reached matches, as a graph of its scopes: for each scope the relabels
+-- from there.
 use Rattle.std.specs.Prelude.{ℕ, List, [], Option, Some, None, Contains, ◌↔◌, slice_index_or}
 use Rattle.relay_conf.specs.declared.output.Output.{Output}
 use Rattle.relay_conf.specs.declared.output.Output.TheVariants as output

@@ -1,5 +1,5 @@
--- The rules under which a network of relays loses no event that was acknowledged to a client. They compare patterns, and know no
--- tags, steps or buffers' contents.
+-- The rules under which a network of relays loses no event that was acknowledged to a client. They
+-- compare patterns, and know no tags, steps or buffers' contents.
 use Rattle.std.specs.Prelude.{◌≡◌, ◌≢◌, ◌<◌, ℕ, List, Option, Some, None, slice_get, string_bytes, All, Any, IsSome, IsSomeAnd, ◌⊎◌}
 use Rattle.std.specs.Option.{option_and_then}
 use Rattle.relay_conf.specs.Views.{kind_view}
@@ -43,7 +43,8 @@ source_in net place source = option_and_then (λ node. slice_get node.relay.sour
 abbrev pub IsBefore : (place source : ℕ) → (other_place other_source : ℕ) → Type 0
 IsBefore place source p s = (p < place) ⊎ ((p ≡ place) × (s < source))
 
--- The source with this place in the relay at this place has another address than each source before it.
+-- The source with this place in the relay at this place has another address than each source before
+-- it.
 abbrev pub SourceIsNew : {A : Type 0} → Network A → ℕ → ℕ → Type 0
 SourceIsNew {A} net place source = (p s : ℕ) → IsBefore place source p s → (one two : Source A) (first second : Node A)
     → source_in net p s ≡ Some one → source_in net place source ≡ Some two → slice_get net.relays p ≡ Some first → slice_get net.relays place ≡ Some second
@@ -62,7 +63,8 @@ ServersAreSources net = EachServer net (λ place scope rule server. IsSome (entr
 
 -- 3. Clients are labelled.
 
--- Each pattern of the client, with the prefix of its source in front, fits a label of the scope that the source leads into.
+-- Each pattern of the client, with the prefix of its source in front, fits a label of the scope
+-- that the source leads into.
 abbrev pub IsLabelledClient : {A : Type 0} → Network A → List (Label A) → Client A → Type 0
 IsLabelledClient net labels client = IsSomeAnd (entrance net (address_of_client net client)) (λ at. All (FitsLabelWith labels at.relay at.scope (prefix_at net (address_of_client net client))) client.patterns.items)
 
@@ -90,7 +92,8 @@ LabelsAreMatched net labels = All (IsMatchedLabel net) labels
 
 -- 5. Reaches cover.
 
--- The label's pattern and this pattern of the match have nothing in common, or one of them fits a reach of the match.
+-- The label's pattern and this pattern of the match have nothing in common, or one of them fits a
+-- reach of the match.
 abbrev pub IsCovered : {A : Type 0} → List (Reach A) → ℕ → ℕ → ℕ → List Item → List Item → Type 0
 IsCovered reaches place scope rule label pattern = (¬ Meets pattern label) ⊎ (FitsReach reaches place scope rule label ⊎ FitsReach reaches place scope rule pattern)
 
@@ -98,8 +101,8 @@ IsCovered reaches place scope rule label pattern = (¬ Meets pattern label) ⊎ 
 abbrev pub FitsNoneBefore : {A : Type 0} → Network A → ℕ → ℕ → ℕ → List Item → Type 0
 FitsNoneBefore {A} net place scope rule label = (before : ℕ) (found : MatchRule A) → before < rule → rule_at net place scope before ≡ Some found → ¬ FitsMatch label found
 
--- The reaches of each match, up to and with the first that the label's pattern fits, cover what the two may have in common. Where it
--- fits none, nothing is asked for.
+-- The reaches of each match, up to and with the first that the label's pattern fits, cover what the
+-- two may have in common. Where it fits none, nothing is asked for.
 abbrev pub ReachesCoverLabel : {A : Type 0} → Network A → List (Reach A) → ℕ → ℕ → List Item → Type 0
 ReachesCoverLabel {A} net reaches place scope label = IsMatched net place scope label → (rule : ℕ) (found : MatchRule A) → rule_at net place scope rule ≡ Some found
     → FitsNoneBefore net place scope rule label → All (IsCovered reaches place scope rule label) found.patterns.items
@@ -126,7 +129,8 @@ ReachedMatchesKeep net reaches = EachMatch net (λ place scope rule found. IsRea
 abbrev pub AllKeepOrRelabel : {A : Type 0} → MatchRule A → Type 0
 AllKeepOrRelabel rule = All (λ found. Keeps found ⊎ ((scope : ℕ) × RelabelsTo found scope)) rule.outputs.items
 
--- The match does what the plan asks of it: one of its outputs keeps or sends events on, and under the duty every each of them.
+-- The match does what the plan asks of it: one of its outputs keeps or sends events on, and under
+-- the duty every each of them.
 abbrev pub DoesDuty : {A : Type 0} → Duty → MatchRule A → Type 0
 DoesDuty duty.Any rule = KeepsOrRelabels rule
 DoesDuty duty.Every rule = KeepsOrRelabels rule × AllKeepOrRelabel rule
@@ -151,8 +155,8 @@ RelabelsAreLabelled net labels reaches = EachOutput net (λ place scope rule out
 
 -- 8. Forwards are labelled.
 
--- Each reach of the match, with the prefix of the source that the server is in front, fits a label of the scope that this source leads
--- into. Where the server is no source, nothing is asked for.
+-- Each reach of the match, with the prefix of the source that the server is in front, fits a label
+-- of the scope that this source leads into. Where the server is no source, nothing is asked for.
 abbrev pub IsLabelledServer : {A : Type 0} → Network A → List (Label A) → List (Reach A) → ℕ → ℕ → ℕ → Address → Type 0
 IsLabelledServer net labels reaches place scope rule address = (at : _) → entrance net address ≡ Some at → EachReach reaches place scope rule (FitsLabelWith labels at.relay at.scope (prefix_at net address))
 
@@ -193,7 +197,8 @@ HasReachedRelabel {A} net reaches place scope target line = (rule output : ℕ) 
 abbrev pub GoesOn : {A : Type 0} → Network A → List (Reach A) → ℕ → ℕ → ℕ → Type 0
 GoesOn net reaches place scope target = (line : ℕ) × HasReachedRelabel net reaches place scope target line
 
--- Where the output is a relabel of a reached match, no chain of such relabels leads from its target back to its scope.
+-- Where the output is a relabel of a reached match, no chain of such relabels leads from its target
+-- back to its scope.
 abbrev pub IsOnNoCycle : {A : Type 0} → Network A → List (Reach A) → ℕ → ℕ → ℕ → Output A → Type 0
 IsOnNoCycle net reaches place scope rule found = IsReached reaches place scope rule → (target : ℕ) → RelabelsTo found target → ¬ Chain (GoesOn net reaches place) target scope
 
@@ -201,7 +206,8 @@ IsOnNoCycle net reaches place scope rule found = IsReached reaches place scope r
 abbrev pub NoRelabelCycle : {A : Type 0} → Network A → List (Reach A) → Type 0
 NoRelabelCycle net reaches = EachOutput net (λ place scope rule output found. IsOnNoCycle net reaches place scope rule found)
 
--- The rules that keep events: all but those on what is distinct, which serve that no two relays, buffers or sinks are taken for one.
+-- The rules that keep events: all but those on what is distinct, which serve that no two relays,
+-- buffers or sinks are taken for one.
 pub record AreKeepingRulesKept {A : Type 0} (net : Network A) (labels : List (Label A)) (reaches : List (Reach A)) : Type 0 where
   pub servers : ServersAreSources net
   pub clients : ClientsAreLabelled net labels

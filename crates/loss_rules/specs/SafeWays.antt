@@ -21,14 +21,15 @@ pub record IsFirstTaker {A : Type 0} (net : Network A) (place scope : ℕ) (tag 
   pub has : HaveTag found.patterns.items tag
   pub others : (before : ℕ) (other : MatchRule A) → before < rule → rule_at net place scope before ≡ Some other → ¬ HaveTag other.patterns.items tag
 
--- Wherever the output of this buffer forwards to, the tag is one of a label there, with the prefix that it gets there.
+-- Wherever the output of this buffer forwards to, the tag is one of a label there, with the prefix
+-- that it gets there.
 abbrev pub IsLabelledOnward : {A : Type 0} → Network A → List (Label A) → ℕ → ℕ → List ℕ → Type 0
 IsLabelledOnward {A} net labels place buffer tag = (found : Output A) (server : Server A) (at : Entrance) → output_at net place buffer ≡ Some found
     → Contains (servers_of found) server → entrance net (address_of_server server) ≡ Some at → IsLabelledTag labels at.relay at.scope (tag_at net (address_of_server server) tag)
 
--- The tag's way from this scope keeps the event: the match that takes it has a reach with the tag; no chain of relabels comes back; an
--- output that keeps is among those reached; and whatever is reached forwards only to where the tag, as it is prefixed there, is one of a
--- label.
+-- The tag's way from this scope keeps the event: the match that takes it has a reach with the tag;
+-- no chain of relabels comes back; an output that keeps is among those reached; and whatever is
+-- reached forwards only to where the tag, as it is prefixed there, is one of a label.
 pub record IsSafeWay {A : Type 0} (net : Network A) (labels : List (Label A)) (reaches : List (Reach A)) (place scope : ℕ) (tag : List ℕ) : Type 0 where
   pub rule : ℕ
   pub taken : IsFirstTaker net place scope tag rule
@@ -44,7 +45,8 @@ abbrev pub LabelledTagsAreSafe : Type 0 → Type 0
 LabelledTagsAreSafe A = (net : Network A) (labels : List (Label A)) (reaches : List (Reach A)) → BuffersAreDistinct net → AreKeepingRulesKept net labels reaches
     → (place scope : ℕ) (tag : List ℕ) → IsLabelledTag labels place scope tag → IsSafeWay net labels reaches place scope tag
 
--- Where each output of each reached match keeps or is a relabel besides, each leaf of such a way is of an output that keeps.
+-- Where each output of each reached match keeps or is a relabel besides, each leaf of such a way is
+-- of an output that keeps.
 abbrev pub LabelledLeavesKeep : Type 0 → Type 0
 LabelledLeavesKeep A = (net : Network A) (labels : List (Label A)) (reaches : List (Reach A)) → BuffersAreDistinct net → AreKeepingRulesKept net labels reaches → EachOutputKeeps net reaches
     → (place scope : ℕ) (tag : List ℕ) → IsLabelledTag labels place scope tag → (buffer : ℕ) → IsLeaf (table_at net place) tag scope buffer → IsSomeAnd (output_at net place buffer) Keeps

@@ -14,7 +14,8 @@ use Rattle.relay_net.specs.Outputs.{servers_of}
 abbrev pub rule_at : {A : Type 0} → Network A → ℕ → ℕ → ℕ → Option (MatchRule A)
 rule_at net place scope rule = option_and_then (λ found. slice_get found.matches.items rule) (option_and_then (λ relay. slice_get relay.scopes.items scope) (relay_at net place))
 
--- the matches of this scope of the relay at this place, in the order of the text; none, where there is no such scope
+-- the matches of this scope of the relay at this place, in the order of the text; none, where there
+-- is no such scope
 abbrev pub matches_at : {A : Type 0} → Network A → ℕ → ℕ → List (MatchRule A)
 matches_at net place scope = option_map_or (λ found. found.matches.items) (option_and_then (λ relay. slice_get relay.scopes.items scope) (relay_at net place)) []
 
@@ -34,7 +35,8 @@ EachMatch {A} net P = (place scope rule : ℕ) (found : MatchRule A) → rule_at
 abbrev pub EachOutput : {A : Type 0} → Network A → (ℕ → ℕ → ℕ → ℕ → Output A → Type 0) → Type 0
 EachOutput {A} net P = (place scope rule output : ℕ) (found : Output A) → output_in_rule net place scope rule output ≡ Some found → P place scope rule output found
 
--- This holds of each server of each output, by the places of the relay, of the scope and of the match.
+-- This holds of each server of each output, by the places of the relay, of the scope and of the
+-- match.
 abbrev pub EachServer : {A : Type 0} → Network A → (ℕ → ℕ → ℕ → Server A → Type 0) → Type 0
 EachServer {A} net P = EachOutput net (λ place scope rule output found. (server : Server A) → Contains (servers_of found) server → P place scope rule server)
 

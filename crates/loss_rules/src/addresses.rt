@@ -1,4 +1,5 @@
-//! The rule on what relays are known by: numbers, folders and the addresses of sources are distinct.
+//! The rule on what relays are known by: numbers, folders and the addresses of sources are
+//! distinct.
 
 ghost use Rattle.std.specs.Prelude.{◌≡◌, ◌↔◌, ◌<◌, ◌≤◌, ℕ, [], List, ◌++◌, IfOk, OnOk, IsTrue, Any, Some, length};
 ghost use Rattle.relay_conf.specs.declared.relay.Source.{Source};
@@ -18,9 +19,10 @@ use relay_conf::Source;
 use relay_net::{Net, Node};
 use std::alloc::{AllocError, Allocator};
 
-/// Each relay with the number or the folder of one before it, and each source with the address of one before it: a relay's line
-/// of the plan, then its sources, then the next relay. The lines are those of the network's relays. Each relay is compared with
-/// those before it, and each source with theirs. The only error is want of memory.
+/// Each relay with the number or the folder of one before it, and each source with the address of
+/// one before it: a relay's line of the plan, then its sources, then the next relay. The lines are
+/// those of the network's relays. Each relay is compared with those before it, and each source with
+/// theirs. The only error is want of memory.
 pub fn addresses_are_distinct<A: Allocator + Copy, B: Allocator + Copy>(
     alloc: B,
     net: &Net<A>,
@@ -39,7 +41,8 @@ pub fn addresses_are_distinct<A: Allocator + Copy, B: Allocator + Copy>(
     Ok(places)
 }
 
-// Adds the line of the relay at this place, unless it has another number than each before it, and another folder.
+// Adds the line of the relay at this place, unless it has another number than each before it, and
+// another folder.
 fn put_own_place<A: Allocator + Copy, B: Allocator>(
     net: &Net<A>,
     lines: &[RelayLine<A>],
@@ -93,7 +96,8 @@ fn is_new_to<A: Allocator + Copy>(
     )
 }
 
-// The lines of sources of the relay at this place that have the address of one before, in rising order.
+// The lines of sources of the relay at this place that have the address of one before, in rising
+// order.
 fn source_lines<A: Allocator + Copy, B: Allocator>(
     alloc: B,
     net: &Net<A>,
@@ -113,7 +117,8 @@ fn source_lines<A: Allocator + Copy, B: Allocator>(
     Ok(lines)
 }
 
-// Whether the source of this number of the relay at this place has another address than each before it.
+// Whether the source of this number of the relay at this place has another address than each before
+// it.
 fn source_is_new<A: Allocator + Copy>(net: &Net<A>, place: usize, number: usize) -> bool
     requires { (source : Source A) × (source_in net.now place number ≡ Some source) }
     ensures { IsTrue result ↔ SourceIsNew net.now place number }

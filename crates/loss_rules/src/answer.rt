@@ -11,9 +11,11 @@ pub enum Rule {
     ClientsAreLabelled,
     /// Each label fits a pattern of some match of its scope.
     LabelsAreMatched,
-    /// Of each match, up to and with the first that a label fits, the reaches cover what label and match may have in common.
+    /// Of each match, up to and with the first that a label fits, the reaches cover what label and
+    /// match may have in common.
     ReachesCover,
-    /// Each reached match has an output that keeps, or a relabel; under the duty every each of its outputs is one of these.
+    /// Each reached match has an output that keeps, or a relabel; under the duty every each of its
+    /// outputs is one of these.
     ReachedMatchesKeep,
     /// Each reach of a match with a relabel fits a label of the relabel's target.
     RelabelsAreLabelled,

@@ -13,12 +13,13 @@ use std::collections::BTreeMap;
 use std::marker::Model;
 use tag_pattern::{Plain, Prefix};
 
-/// Lists of patterns, each of a site: the places of a relay, of a scope in it and of a match in that. Each call takes steps by
-/// the logarithm of the number of sites and patterns.
+/// Lists of patterns, each of a site: the places of a relay, of a scope in it and of a match in
+/// that. Each call takes steps by the logarithm of the number of sites and patterns.
 #[derive(Drop)]
 pub(crate) struct PatternsBySite<'a, A: Allocator> {
     lists: BTreeMap<((usize, usize), usize), Vec<&'a [Plain<A>], A>, A>,
-    // For the number of each pattern the place of a list of its site that has such a one: a hint, on which nothing rests.
+    // For the number of each pattern the place of a list of its site that has such a one: a hint,
+    // on which nothing rests.
     places: BTreeMap<u64, usize, A>,
 }
 
@@ -70,7 +71,8 @@ impl<'a, A: Allocator + Copy> PatternsBySite<'a, A> {
         Ok(())
     }
 
-    /// The place among the lists of this site where the pattern may stand, with this prefix in front if there is one; it may also be past them.
+    /// The place among the lists of this site where the pattern may stand, with this prefix in
+    /// front if there is one; it may also be past them.
     pub fn hint(
         &self,
         site: ((usize, usize), usize),
@@ -132,7 +134,8 @@ impl<'a, A: Allocator + Copy> Labels<'a, A> {
         self.by_scope.at(((scope.relay, scope.scope), 0))
     }
 
-    /// The place among these where the pattern may stand, with the prefix in front if there is one; it may also be past them.
+    /// The place among these where the pattern may stand, with the prefix in front if there is one;
+    /// it may also be past them.
     pub(crate) fn hint(
         &self,
         scope: Entrance,

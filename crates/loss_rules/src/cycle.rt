@@ -12,12 +12,13 @@ use crate::ordered::put_conf_places;
 use relay_net::Net;
 use std::alloc::{AllocError, Allocator};
 
-/// Each relabel on a cycle: a relabel of a reached match from whose target a chain of such relabels, which may be empty, leads
-/// back to its own scope.
+/// Each relabel on a cycle: a relabel of a reached match from whose target a chain of such
+/// relabels, which may be empty, leads back to its own scope.
 ///
-/// For each such relabel all that its target leads to is gone through, so the time of a relay grows by the number of
-/// its relabels, times that of its relabels and scopes; and each of its matches is looked up among the reaches. The memory
-/// that is taken holds the scopes and the relabels of one relay at a time. The only error is want of memory.
+/// For each such relabel all that its target leads to is gone through, so the time of a relay grows
+/// by the number of its relabels, times that of its relabels and scopes; and each of its matches is
+/// looked up among the reaches. The memory that is taken holds the scopes and the relabels of one
+/// relay at a time. The only error is want of memory.
 pub fn no_relabel_cycle<A: Allocator + Copy, B: Allocator + Copy>(
     alloc: A,
     net: &Net<B>,

@@ -40,7 +40,8 @@ fn fits_any_entered<A: Allocator>(
     false
 }
 
-// Whether the pattern, with the prefix in front if there is one, fits one of the list at this place, if there is one.
+// Whether the pattern, with the prefix in front if there is one, fits one of the list at this
+// place, if there is one.
 fn fits_at<A: Allocator>(
     prefix: Option<&Prefix<A>>,
     pattern: &Plain<A>,
@@ -55,7 +56,8 @@ fn fits_at<A: Allocator>(
     }
 }
 
-/// Whether the pattern, with the prefix in front if there is one, fits a label of this scope. Where it may stand is looked at first.
+/// Whether the pattern, with the prefix in front if there is one, fits a label of this scope. Where
+/// it may stand is looked at first.
 pub(crate) fn fits_label<A: Allocator + Copy>(
     labels: &Labels<'_, A>,
     scope: Entrance,
@@ -76,7 +78,8 @@ pub(crate) fn fits_label<A: Allocator + Copy>(
     false
 }
 
-/// Whether each of the patterns, with the prefix in front if there is one, fits a label of this scope.
+/// Whether each of the patterns, with the prefix in front if there is one, fits a label of this
+/// scope.
 pub(crate) fn all_fit_label<A: Allocator + Copy>(
     labels: &Labels<'_, A>,
     scope: Entrance,
@@ -103,7 +106,8 @@ fn fits_any_at<A: Allocator>(pattern: &Plain<A>, lists: &[&[Plain<A>]], place: u
     }
 }
 
-/// Whether the pattern fits a reach of the match at this site. Where it may stand is looked at first.
+/// Whether the pattern fits a reach of the match at this site. Where it may stand is looked at
+/// first.
 pub(crate) fn fits_reach<A: Allocator + Copy>(
     reaches: &Reaches<'_, A>,
     at: Site,
@@ -130,7 +134,8 @@ pub(crate) fn is_reached<A: Allocator + Copy>(reaches: &Reaches<'_, A>, at: Site
     !reaches.at(at).is_empty()
 }
 
-/// Whether each reach of the match at this site, with the prefix in front if there is one, fits a label of this scope.
+/// Whether each reach of the match at this site, with the prefix in front if there is one, fits a
+/// label of this scope.
 pub(crate) fn reaches_fit_label<A: Allocator + Copy>(
     labels: &Labels<'_, A>,
     reaches: &Reaches<'_, A>,

@@ -82,7 +82,8 @@ impl<A: Allocator> ScopeRelabels<A> {
     }
 }
 
-/// The relabels of the reached matches of a relay. To contracts it is the list of them for each scope of the relay.
+/// The relabels of the reached matches of a relay. To contracts it is the list of them for each
+/// scope of the relay.
 #[derive(Drop)]
 pub(crate) struct RelabelGraph<A: Allocator> {
     scopes: Vec<ScopeRelabels<A>, A>,
@@ -98,7 +99,8 @@ impl<A: Allocator> Model for RelabelGraph<A> {
 }
 
 impl<A: Allocator + Copy> RelabelGraph<A> {
-    /// The relabels of the reached matches of the relay at this place. Each of its matches is looked up among the reaches.
+    /// The relabels of the reached matches of the relay at this place. Each of its matches is
+    /// looked up among the reaches.
     pub fn new<B: Allocator + Copy>(
         alloc: A,
         net: &Net<B>,

@@ -1,11 +1,12 @@
-//! Numbers of patterns, under which it is noted where they stand. Different patterns may have one number, so what is found by it is a hint: it
-//! is tried, and nothing rests on it.
+//! Numbers of patterns, under which it is noted where they stand. Different patterns may have one
+//! number, so what is found by it is a hint: it is tried, and nothing rests on it.
 
 use std::alloc::Allocator;
 use std::hash::{FoldHasher, Hasher};
 use tag_pattern::{PatternItem, Plain};
 
-/// The number of a pattern of this site, with this prefix in front if there is one: that of the text of both.
+/// The number of a pattern of this site, with this prefix in front if there is one: that of the
+/// text of both.
 pub(crate) fn number_of<A: Allocator>(
     site: ((usize, usize), usize),
     prefix: Option<&[u8]>,
@@ -28,7 +29,8 @@ pub(crate) fn number_of<A: Allocator>(
     hasher.finish()
 }
 
-// Adds these bytes and a dot, one after another, so that a prefix of several parts counts as these parts.
+// Adds these bytes and a dot, one after another, so that a prefix of several parts counts as these
+// parts.
 fn put_part(hasher: &mut FoldHasher, bytes: &[u8]) {
     for byte in bytes {
         hasher.write_u8(*byte);

@@ -16,7 +16,8 @@ pub struct Label<A: Allocator> {
     pub line: usize,
 }
 
-/// The tags that may reach a match, as one line of a plan says. Several reaches of one match add up.
+/// The tags that may reach a match, as one line of a plan says. Several reaches of one match add
+/// up.
 #[derive(Drop)]
 pub struct Reach<A: Allocator> {
     /// The place of the relay in the plan, counted from 0.

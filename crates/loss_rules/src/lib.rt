@@ -1,4 +1,5 @@
-//! The rules under which a network of relays loses no event that was acknowledged, and each place where one is broken.
+//! The rules under which a network of relays loses no event that was acknowledged, and each place
+//! where one is broken.
 #![tactic(auto)]
 
 mod addresses;

@@ -30,7 +30,8 @@ pub(crate) fn plan_places<B: Allocator>(
     Ok(places)
 }
 
-/// Adds the places of these lines of the configuration of the relay with this number. The only error is want of memory.
+/// Adds the places of these lines of the configuration of the relay with this number. The only
+/// error is want of memory.
 pub(crate) fn put_conf_places<B: Allocator>(
     relay: u32,
     lines: &[usize],

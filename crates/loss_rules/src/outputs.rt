@@ -18,8 +18,9 @@ use relay_conf::{MatchRule, Output};
 use relay_net::{Entrance, Net, keeps};
 use std::alloc::{AllocError, Allocator};
 
-/// Each match that has a reach, and neither an output that keeps nor a relabel; or, under the duty every, an output that is none of
-/// these. For each match its reaches are looked up once. The only error is want of memory.
+/// Each match that has a reach, and neither an output that keeps nor a relabel; or, under the duty
+/// every, an output that is none of these. For each match its reaches are looked up once. The only
+/// error is want of memory.
 pub fn reached_matches_keep<'a, 'b, A: Allocator + Copy, B: Allocator + Copy>(
     alloc: B,
     net: &Net<A>,
@@ -33,8 +34,8 @@ pub fn reached_matches_keep<'a, 'b, A: Allocator + Copy, B: Allocator + Copy>(
 }
 
 /// Each relabel with a reach of its match that fits no label of the relabel's target.
-/// For each relabel each pattern of its match's reaches is compared with those of the target's labels. The only error is want of
-/// memory.
+/// For each relabel each pattern of its match's reaches is compared with those of the target's
+/// labels. The only error is want of memory.
 pub fn relabels_are_labelled<'a, 'b, A: Allocator + Copy, B: Allocator + Copy>(
     alloc: B,
     net: &Net<A>,
@@ -74,7 +75,8 @@ impl<A: Allocator + Copy> Requirement<MatchRule<A>> for KeepsIfReached<'_, '_, A
     }
 }
 
-// Each reach of the output's match fits a label of the scope that the output sends events on to, if it is a relabel.
+// Each reach of the output's match fits a label of the scope that the output sends events on to, if
+// it is a relabel.
 #[derive(Drop)]
 struct RelabelsToLabel<'a, 'b, A: Allocator> {
     labels: &'a Labels<'b, A>,

@@ -57,7 +57,8 @@ impl<A: Allocator + Copy> Requirement<Output<A>> for HasOwnPaths<'_, A> {
     }
 }
 
-// The output is another one than that at the site only if it stands in a later line, or shares no path with it.
+// The output is another one than that at the site only if it stands in a later line, or shares no
+// path with it.
 #[derive(Drop)]
 struct IsBehind<'a, A: Allocator> {
     at: Site,
@@ -84,7 +85,8 @@ impl<A: Allocator> Requirement<Output<A>> for IsBehind<'_, A> {
 }
 
 impl<A: Allocator> IsBehind<'_, A> {
-    // Whether the output at this site is the same one, shares no path with it, or stands in a later line.
+    // Whether the output at this site is the same one, shares no path with it, or stands in a later
+    // line.
     fn is_behind(&self, at: Site, found: &Output<A>) -> bool
         ensures { IsTrue result ↔ StandsBehind self.now.at self.now.found.now at found.now }
     {

@@ -18,10 +18,10 @@ use relay_net::Net;
 use std::alloc::{AllocError, Allocator};
 use tag_pattern::{Plain, apart};
 
-/// Each line of a client with a pattern that fits no label of the scope that its source leads into, with the source's prefix in
-/// front.
-/// The lines are those of the network's clients. Each pattern of a client is compared with those of the labels of that scope. The
-/// only error is want of memory.
+/// Each line of a client with a pattern that fits no label of the scope that its source leads into,
+/// with the source's prefix in front.
+/// The lines are those of the network's clients. Each pattern of a client is compared with those of
+/// the labels of that scope. The only error is want of memory.
 pub fn clients_are_labelled<A: Allocator + Copy, B: Allocator + Copy>(
     alloc: B,
     net: &Net<A>,
@@ -41,7 +41,8 @@ pub fn clients_are_labelled<A: Allocator + Copy, B: Allocator + Copy>(
 }
 
 /// Each line of a label with a pattern that fits no pattern of a match of its scope.
-/// Each pattern of a label is compared with those of all matches of its scope. The only error is want of memory.
+/// Each pattern of a label is compared with those of all matches of its scope. The only error is
+/// want of memory.
 pub fn labels_are_matched<A: Allocator + Copy, B: Allocator + Copy>(
     alloc: B,
     net: &Net<A>,
@@ -58,10 +59,11 @@ pub fn labels_are_matched<A: Allocator + Copy, B: Allocator + Copy>(
     plan_places(alloc, &lines)
 }
 
-/// Each line of a label with a pattern that has something in common with a match, up to and with the first match that it fits,
-/// which the reaches of that match don't cover. A pattern that fits no match asks for nothing.
-/// For each pattern of a label and each pattern of a match of its scope the reaches of that match are gone through. The only error
-/// is want of memory.
+/// Each line of a label with a pattern that has something in common with a match, up to and with
+/// the first match that it fits, which the reaches of that match don't cover. A pattern that fits
+/// no match asks for nothing.
+/// For each pattern of a label and each pattern of a match of its scope the reaches of that match
+/// are gone through. The only error is want of memory.
 pub fn reaches_cover<A: Allocator + Copy, B: Allocator + Copy>(
     alloc: B,
     net: &Net<A>,
@@ -79,7 +81,8 @@ pub fn reaches_cover<A: Allocator + Copy, B: Allocator + Copy>(
     plan_places(alloc, &lines)
 }
 
-// Whether each pattern of the client of this number fits a label of the scope that its source leads into.
+// Whether each pattern of the client of this number fits a label of the scope that its source leads
+// into.
 fn is_labelled<A: Allocator + Copy>(net: &Net<A>, labels: &Labels<'_, A>, number: usize) -> bool
     ensures { IsTrue result ↔ IsSomeAnd (slice_get net.now.clients number) (IsLabelledClient net.now labels.now) }
 {
@@ -120,7 +123,8 @@ fn is_matched<A: Allocator>(matches: &[MatchRule<A>], pattern: &Plain<A>) -> boo
     false
 }
 
-// Whether the reaches cover what each pattern of the label has in common with the matches of its scope.
+// Whether the reaches cover what each pattern of the label has in common with the matches of its
+// scope.
 fn all_covered<A: Allocator + Copy>(
     net: &Net<A>,
     reaches: &Reaches<'_, A>,
@@ -143,8 +147,8 @@ fn all_covered<A: Allocator + Copy>(
     true
 }
 
-// Whether the reaches cover what the label's pattern has in common with these matches, those of the site's scope, up to and
-// with the first that it fits.
+// Whether the reaches cover what the label's pattern has in common with these matches, those of the
+// site's scope, up to and with the first that it fits.
 fn reaches_cover_label<A: Allocator + Copy>(
     matches: &[MatchRule<A>],
     reaches: &Reaches<'_, A>,
@@ -169,7 +173,8 @@ fn reaches_cover_label<A: Allocator + Copy>(
     true
 }
 
-// Whether the reaches of the match at this site cover what the label's pattern has in common with each of the match's.
+// Whether the reaches of the match at this site cover what the label's pattern has in common with
+// each of the match's.
 fn is_match_covered<A: Allocator + Copy>(
     reaches: &Reaches<'_, A>,
     at: Site,
@@ -186,7 +191,8 @@ fn is_match_covered<A: Allocator + Copy>(
     true
 }
 
-// Whether the label's pattern and this one of the match have nothing in common, or one of them fits a reach of the match.
+// Whether the label's pattern and this one of the match have nothing in common, or one of them fits
+// a reach of the match.
 fn is_pattern_covered<A: Allocator + Copy>(
     reaches: &Reaches<'_, A>,
     at: Site,

@@ -1,4 +1,5 @@
-//! What a rule asks of the things in a configuration, and the search for the lines in which it is broken.
+//! What a rule asks of the things in a configuration, and the search for the lines in which it is
+//! broken.
 
 ghost use Rattle.std.specs.Prelude.{◌≡◌, ◌++◌, ◌∷◌, ℕ, [], cond, IfOk, OnOk};
 ghost use Rattle.relay_conf.specs.declared.relay.MatchRule.{MatchRule};
@@ -24,7 +25,8 @@ pub(crate) trait Requirement<T> {
 
     ghost breaks: { Self → Site → T → ℕ → Type 0 };
 
-    /// Adds the lines in which the thing, which stands at this site, isn't as it should be. The only error is want of memory.
+    /// Adds the lines in which the thing, which stands at this site, isn't as it should be. The
+    /// only error is want of memory.
     fn add_lines<B: Allocator + Copy>(
         &self,
         at: Site,

@@ -15,7 +15,8 @@ use relay_conf::Server;
 use relay_net::Net;
 use std::alloc::{AllocError, Allocator};
 
-/// Each server whose address is that of no source of the plan. Each server is looked for once. The only error is want of memory.
+/// Each server whose address is that of no source of the plan. Each server is looked for once. The
+/// only error is want of memory.
 pub fn servers_are_sources<A: Allocator + Copy, B: Allocator + Copy>(
     alloc: B,
     net: &Net<A>,
@@ -26,10 +27,10 @@ pub fn servers_are_sources<A: Allocator + Copy, B: Allocator + Copy>(
     broken_places(alloc, net, &OfOutputs(OfServers(IsSource { net })))
 }
 
-/// Each server with a reach of its match that fits no label of the scope that the server leads into, with the prefix in front that
-/// the server's source has.
-/// For each server each pattern of its match's reaches is compared with those of the labels of that scope. The only error is want
-/// of memory.
+/// Each server with a reach of its match that fits no label of the scope that the server leads
+/// into, with the prefix in front that the server's source has.
+/// For each server each pattern of its match's reaches is compared with those of the labels of that
+/// scope. The only error is want of memory.
 pub fn forwards_are_labelled<'a, 'b, A: Allocator + Copy, B: Allocator + Copy>(
     alloc: B,
     net: &'a Net<A>,

@@ -23,7 +23,8 @@ impl<A: Allocator> ScopeSearch<A> {
         self.ahead.pop()
     }
 
-    /// Whether the scope was gone through. One that isn't there leads nowhere, and counts as gone through.
+    /// Whether the scope was gone through. One that isn't there leads nowhere, and counts as gone
+    /// through.
     pub fn is_marked(&self, scope: usize) -> bool
         ensures { result ≡ mark_at self.now.marks.items scope }
     {

@@ -7,7 +7,8 @@ use tag_pattern::{PatternItem, Tag};
 // How many spots two patterns have at most: each has 32 items.
 const MOST_SPOTS: usize = 33 * 33;
 
-// How far two patterns are gone through along a tag: so many items of each, from which other spot, and by which part of the tag, if by one.
+// How far two patterns are gone through along a tag: so many items of each, from which other spot,
+// and by which part of the tag, if by one.
 #[derive(Clone, Copy)]
 struct Spot<'p> {
     first: usize,
@@ -19,7 +20,8 @@ struct Spot<'p> {
 // The items of a pattern.
 type Items<'p, A> = &'p [PatternItem<Vec<u8, A>>];
 
-/// A tag of both patterns, if there is one that isn't empty: one with as few parts as can be, and this for each that both leave open.
+/// A tag of both patterns, if there is one that isn't empty: one with as few parts as can be, and
+/// this for each that both leave open.
 pub(crate) fn common_tag<'p, A: Allocator + Copy>(
     alloc: A,
     first: Items<'p, A>,

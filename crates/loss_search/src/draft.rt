@@ -1,4 +1,5 @@
-//! A list of steps that is being written, with the numbers that its messages, deliveries and chunks get.
+//! A list of steps that is being written, with the numbers that its messages, deliveries and chunks
+//! get.
 
 use relay_net::{Entrance, Net};
 use std::alloc::{AllocError, Allocator};
@@ -13,7 +14,8 @@ struct Appended {
     is_emptied: bool,
 }
 
-/// Steps that the machine hasn't taken yet. Each delivery is appended to a new chunk, so that a chunk has one event.
+/// Steps that the machine hasn't taken yet. Each delivery is appended to a new chunk, so that a
+/// chunk has one event.
 #[derive(Drop)]
 pub(crate) struct Draft<'n, A: Allocator> {
     alloc: A,
@@ -42,7 +44,8 @@ impl<'n, A: Allocator + Copy> Draft<'n, A> {
         self.steps
     }
 
-    /// The name of the chunk with this serial, of this buffer of the relay at this place. A relay that isn't there is named as no relay is.
+    /// The name of the chunk with this serial, of this buffer of the relay at this place. A relay
+    /// that isn't there is named as no relay is.
     pub fn name(&self, place: usize, buffer: usize, serial: u64) -> ChunkName {
         ChunkName {
             relay: self.number(place),
@@ -88,7 +91,8 @@ impl<'n, A: Allocator + Copy> Draft<'n, A> {
         Ok(number)
     }
 
-    /// The delivery is appended to a new chunk of this buffer of the relay where it came in. The chunk's serial is the result.
+    /// The delivery is appended to a new chunk of this buffer of the relay where it came in. The
+    /// chunk's serial is the result.
     pub fn append(
         &mut self,
         delivery: u64,

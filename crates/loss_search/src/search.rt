@@ -16,8 +16,8 @@ use tag_pattern::{Plain, Tag};
 // How many walks are tried at most for one tag.
 const MOST_WALKS_OF_A_TAG: usize = 256;
 
-// How much is tried in all, and how much of that once steps are known, for shorter ones: a comparison of two patterns costs one, a walk as
-// much as some.
+// How much is tried in all, and how much of that once steps are known, for shorter ones: a
+// comparison of two patterns costs one, a walk as much as some.
 const MOST_WORK: u32 = 400_000;
 
 const MOST_WORK_BEHIND: u32 = 32_000;
@@ -27,14 +27,16 @@ const WORK_OF_A_WALK: u32 = 16;
 // No event is acknowledged in fewer steps.
 const FEWEST_STEPS: usize = 3;
 
-/// Steps that the network takes, after which an event that was acknowledged to a client isn't kept as is asked. None where none are found,
-/// which doesn't mean that there are none.
+/// Steps that the network takes, after which an event that was acknowledged to a client isn't kept
+/// as is asked. None where none are found, which doesn't mean that there are none.
 ///
-/// One event is tried at a time, under tags that a pattern of its client has in common with those that are given first, then tags of the
-/// client's pattern alone, then those that it has in common with the patterns of the network's matches, and then tags of up to three words of
-/// these and of the clients' patterns; then under such tags with empty parts. It is followed to each buffer on its way, and on through the
-/// servers that these forward to; each output is tried by what it lets go of. Of the steps so found the shortest are taken, and of equally
-/// many the first; once some are found, the search for shorter ones is bounded. The only error is want of memory.
+/// One event is tried at a time, under tags that a pattern of its client has in common with those
+/// that are given first, then tags of the client's pattern alone, then those that it has in common
+/// with the patterns of the network's matches, and then tags of up to three words of these and of
+/// the clients' patterns; then under such tags with empty parts. It is followed to each buffer on
+/// its way, and on through the servers that these forward to; each output is tried by what it lets
+/// go of. Of the steps so found the shortest are taken, and of equally many the first; once some
+/// are found, the search for shorter ones is bounded. The only error is want of memory.
 pub fn find<A: Allocator + Copy>(
     alloc: A,
     net: &Net<A>,
@@ -73,8 +75,8 @@ fn shortest<A: Allocator + Copy>(
     Ok(search.best)
 }
 
-// A network in which steps are looked for, what is asked of its matches, how much work is left, and the shortest steps so far that
-// lose an event. Each call does so much work at most as is left.
+// A network in which steps are looked for, what is asked of its matches, how much work is left, and
+// the shortest steps so far that lose an event. Each call does so much work at most as is left.
 #[derive(Drop)]
 struct Search<'n, A: Allocator> {
     alloc: A,
@@ -85,8 +87,8 @@ struct Search<'n, A: Allocator> {
 }
 
 impl<A: Allocator + Copy> Search<'_, A> {
-    // Tries tags of the clients' patterns: those in common with the patterns that are given first, any, and those in common with others;
-    // with this for each part that is left open.
+    // Tries tags of the clients' patterns: those in common with the patterns that are given first,
+    // any, and those in common with others; with this for each part that is left open.
     fn try_patterns(
         &mut self,
         first: &[&Plain<A>],
@@ -138,7 +140,8 @@ impl<A: Allocator + Copy> Search<'_, A> {
         Ok(())
     }
 
-    // Tries events of a client with a tag of up to three of these words: with an empty part, or without one.
+    // Tries events of a client with a tag of up to three of these words: with an empty part, or
+    // without one.
     fn try_words(&mut self, words: &[&[u8]], has_empty: bool) -> Result<(), AllocError> {
         for (client, sender) in self.net.clients().iter().enumerate() {
             for pattern in &sender.patterns {
@@ -179,7 +182,8 @@ impl<A: Allocator + Copy> Search<'_, A> {
         Ok(())
     }
 
-    // Tries the walk with these choices. How many ways go on from where it is open, if it is, is the result.
+    // Tries the walk with these choices. How many ways go on from where it is open, if it is, is
+    // the result.
     fn try_walk(
         &mut self,
         client: usize,
@@ -197,7 +201,8 @@ impl<A: Allocator + Copy> Search<'_, A> {
         }
     }
 
-    // Keeps the steps, if they are fewer than those so far and lose an event. Less is tried then, and nothing where there can be no fewer.
+    // Keeps the steps, if they are fewer than those so far and lose an event. Less is tried then,
+    // and nothing where there can be no fewer.
     fn keep(&mut self, steps: Vec<Step<A>, A>) -> Result<(), AllocError> {
         let count = steps.len();
         if self.best.as_ref().is_some_and(|best| best.len() <= count) {

@@ -27,15 +27,16 @@ impl<A: Allocator + Copy> Tags<A> {
         }
     }
 
-    /// Adds tags of the pattern, with this for each part that it leaves open: one with a part where it may have any number of them, and
-    /// one with none there.
+    /// Adds tags of the pattern, with this for each part that it leaves open: one with a part where
+    /// it may have any number of them, and one with none there.
     pub fn add_of(&mut self, alloc: A, pattern: &Plain<A>, open: &[u8]) -> Result<(), AllocError> {
         self.add(tag_of(alloc, pattern.items(), open, true)?)?;
         self.add(tag_of(alloc, pattern.items(), open, false)?)
     }
 
-    /// Adds tags that the pattern has in common with the other, and with what is left of that without its first parts, where prefixes may
-    /// stand; with this for each part that they leave open.
+    /// Adds tags that the pattern has in common with the other, and with what is left of that
+    /// without its first parts, where prefixes may stand; with this for each part that they leave
+    /// open.
     pub fn add_common(
         &mut self,
         alloc: A,
@@ -53,7 +54,8 @@ impl<A: Allocator + Copy> Tags<A> {
         Ok(())
     }
 
-    /// Adds the tags of the pattern that are up to three of these words, each as a part: those with an empty part, or those without.
+    /// Adds the tags of the pattern that are up to three of these words, each as a part: those with
+    /// an empty part, or those without.
     pub fn add_of_words(
         &mut self,
         alloc: A,
@@ -109,8 +111,8 @@ impl<A: Allocator + Copy> Tags<A> {
     }
 }
 
-// The tag of these items, with this for each part that they leave open, and in place of any number of parts with one or none, if it is
-// one and not empty.
+// The tag of these items, with this for each part that they leave open, and in place of any number
+// of parts with one or none, if it is one and not empty.
 fn tag_of<A: Allocator + Copy>(
     alloc: A,
     items: &[PatternItem<Vec<u8, A>>],

@@ -49,7 +49,8 @@ struct Chunk<A: Allocator> {
     tag: Tag<A>,
 }
 
-// A walk so far: its steps, the chunks that are still to be lost, and how many of the choices it took.
+// A walk so far: its steps, the chunks that are still to be lost, and how many of the choices it
+// took.
 #[derive(Drop)]
 struct Walk<'n, A: Allocator> {
     alloc: A,
@@ -61,8 +62,9 @@ struct Walk<'n, A: Allocator> {
     ahead: VecDeque<Chunk<A>, A>,
 }
 
-/// Steps by which an event of this client, under this tag, may be lost. Where several servers could lose it, or, under the duty every,
-/// several branches, the next of the choices is taken; where there is none, the walk is open.
+/// Steps by which an event of this client, under this tag, may be lost. Where several servers could
+/// lose it, or, under the duty every, several branches, the next of the choices is taken; where
+/// there is none, the walk is open.
 pub(crate) fn walk_event<'n, A: Allocator + Copy>(
     alloc: A,
     net: &'n Net<A>,

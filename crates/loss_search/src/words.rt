@@ -35,7 +35,8 @@ fn add_patterns<'n, A: Allocator>(
     Ok(())
 }
 
-/// Words that stand in the patterns of the clients, and in these, each once, behind one for what they leave open: some, where there are many.
+/// Words that stand in the patterns of the clients, and in these, each once, behind one for what
+/// they leave open: some, where there are many.
 pub(crate) fn words_of<'n, A: Allocator + Copy>(
     alloc: A,
     net: &'n Net<A>,

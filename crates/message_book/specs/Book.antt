@@ -9,7 +9,8 @@ use Rattle.message_book.specs.declared.message.Acknowledged.{Acknowledged}
 use Rattle.message_book.specs.declared.sender.Sender.{Sender}
 use Rattle.message_book.specs.declared.sender.Sender.TheVariants.{Client, Chunk}
 
--- A message that was sent to an address. An acknowledgement of it was given to its sender, or not yet.
+-- A message that was sent to an address. An acknowledgement of it was given to its sender, or not
+-- yet.
 pub record Message : Type 0 where
   pub sender : Sender
   pub address : Address
@@ -17,8 +18,8 @@ pub record Message : Type 0 where
   pub entries : List (List ℕ)
   pub acknowledged : Bool
 
--- a delivery of the message with this number, under the tag that its events bear where it came in, with the buffers of its relay that
--- it was appended to, in that order
+-- a delivery of the message with this number, under the tag that its events bear where it came in,
+-- with the buffers of its relay that it was appended to, in that order
 pub record Delivery : Type 0 where
   pub message : ℕ
   pub entrance : Entrance
@@ -68,7 +69,8 @@ changed_at xs number change = option_map_or (λ x. slice_set xs number (change x
 abbrev pub acknowledged_message : Message → Message
 acknowledged_message message = record message { acknowledged = true }
 
--- the events that become acknowledged to a client where a message is acknowledged: once each, at the first time
+-- the events that become acknowledged to a client where a message is acknowledged: once each, at
+-- the first time
 abbrev pub newly_acknowledged : Sender → Bool → List ℕ → List (List ℕ) → List Told
 newly_acknowledged (Client number) false tag entries = told_to number tag entries
 newly_acknowledged (Client number) true tag entries = []

@@ -13,8 +13,9 @@ use std::alloc::{AllocError, Allocator};
 use std::marker::Model;
 use tag_pattern::Tag;
 
-/// All messages that were ever sent in a network, all deliveries of them, and the events that were acknowledged to clients.
-/// Messages and deliveries are numbered from 0. It knows no rule of the network's steps.
+/// All messages that were ever sent in a network, all deliveries of them, and the events that were
+/// acknowledged to clients. Messages and deliveries are numbered from 0. It knows no rule of the
+/// network's steps.
 #[derive(Drop)]
 pub struct Book<A: Allocator> {
     messages: Vec<Message<A>, A>,
@@ -87,7 +88,8 @@ impl<A: Allocator + Copy> Book<A> {
         }
     }
 
-    /// A message is sent to this address, with copies of the tag and the entries. An `Err` changes nothing.
+    /// A message is sent to this address, with copies of the tag and the entries. An `Err` changes
+    /// nothing.
     pub fn send(
         &mut self,
         sender: Sender,
@@ -104,8 +106,8 @@ impl<A: Allocator + Copy> Book<A> {
         Ok(())
     }
 
-    /// A delivery of a message is opened where it comes in, under this tag, with room for so many buffers. An `Err` changes
-    /// nothing.
+    /// A delivery of a message is opened where it comes in, under this tag, with room for so many
+    /// buffers. An `Err` changes nothing.
     pub fn begin(
         &mut self,
         message: usize,
@@ -122,7 +124,8 @@ impl<A: Allocator + Copy> Book<A> {
         Ok(())
     }
 
-    /// Makes room for one more buffer that the delivery is appended to, if it has none. An `Err` changes nothing.
+    /// Makes room for one more buffer that the delivery is appended to, if it has none. An `Err`
+    /// changes nothing.
     pub fn make_room(&mut self, delivery: usize) -> Result<(), AllocError>
         requires { delivery < length self.old.deliveries }
         ensures ok { OnOk result (self.new ≡ record self.old { room = changed_at self.old.room delivery with_room }) }
@@ -151,8 +154,8 @@ impl<A: Allocator + Copy> Book<A> {
         opened.end();
     }
 
-    /// A relay of the network acknowledges the message to its sender. Where that is a client, its events are acknowledged,
-    /// once each. An `Err` changes nothing.
+    /// A relay of the network acknowledges the message to its sender. Where that is a client, its
+    /// events are acknowledged, once each. An `Err` changes nothing.
     pub fn answer(&mut self, message: usize) -> Result<(), AllocError>
         requires { message < length self.old.messages }
         ensures ok { OnOk result (self.new ≡ record self.old { messages = changed_at self.old.messages message acknowledged_message; acknowledged = self.old.acknowledged ++ option_map_or events_told (slice_get self.old.messages message) [] }) }
@@ -166,8 +169,9 @@ impl<A: Allocator + Copy> Book<A> {
         Ok(())
     }
 
-    /// The message is acknowledged to its sender, outside what clients are told: by somebody outside the network, or to a
-    /// relay. No event becomes acknowledged to a client by that, and it takes no memory.
+    /// The message is acknowledged to its sender, outside what clients are told: by somebody
+    /// outside the network, or to a relay. No event becomes acknowledged to a client by that, and
+    /// it takes no memory.
     pub fn answer_outside(&mut self, message: usize)
         requires { message < length self.old.messages }
         ensures { self.new ≡ record self.old { messages = changed_at self.old.messages message acknowledged_message } }

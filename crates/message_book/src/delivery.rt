@@ -31,7 +31,8 @@ impl<A: Allocator> Model for Delivery<A> {
 }
 
 impl<A: Allocator> Delivery<A> {
-    /// An open delivery of the message that came in there, under this tag, with room for so many buffers.
+    /// An open delivery of the message that came in there, under this tag, with room for so many
+    /// buffers.
     pub(crate) fn new(
         alloc: A,
         message: usize,
@@ -85,7 +86,8 @@ impl<A: Allocator> Delivery<A> {
         self.appended.contains(&buffer)
     }
 
-    /// Whether nothing ended it by its number. (A restart of its relay ends it too, which is kept elsewhere.)
+    /// Whether nothing ended it by its number. (A restart of its relay ends it too, which is kept
+    /// elsewhere.)
     pub fn is_open(&self) -> bool
         ensures { result ≡ self.now.delivery.is_open }
     {

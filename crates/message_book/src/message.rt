@@ -20,7 +20,8 @@ pub struct Acknowledged<A: Allocator> {
     pub event: Event<A>,
 }
 
-/// A message that was sent to an address. An acknowledgement of it was given to its sender, or not yet.
+/// A message that was sent to an address. An acknowledgement of it was given to its sender, or not
+/// yet.
 #[derive(Drop)]
 pub struct Message<A: Allocator> {
     sender: Sender,
@@ -109,7 +110,8 @@ impl<A: Allocator> Message<A> {
         self.acknowledged = true;
     }
 
-    /// Copies of the events that an acknowledgement tells its client: none, where it is no client's, or was acknowledged.
+    /// Copies of the events that an acknowledgement tells its client: none, where it is no
+    /// client's, or was acknowledged.
     pub(crate) fn events_told(&self, alloc: A) -> Result<Vec<Acknowledged<A>, A>, AllocError>
     where
         A: Copy,

@@ -7,7 +7,8 @@ pub enum Sender {
     Client {
         number: usize,
     },
-    /// A relay, from the chunk with this id: its place among the relays, the buffer, and the chunk's serial.
+    /// A relay, from the chunk with this id: its place among the relays, the buffer, and the
+    /// chunk's serial.
     Chunk {
         place: usize,
         buffer: usize,

@@ -1,4 +1,5 @@
-//! MessagePack items: vectors from outside, printed text, and that the calls succeed, which no clause says.
+//! MessagePack items: vectors from outside, printed text, and that the calls succeed, which no
+//! clause says.
 
 use msgpack_bytes::{
     Head, MsgFault, PieceScan, Scan, Scanner, head, put_array, put_bin, put_bool, put_map, put_str,
@@ -106,7 +107,8 @@ fn scans_in_pieces(rt: HostRuntime) {
     }
 }
 
-// What a scanner answers to bytes that come one by one: how many times more is asked for, and the answer then.
+// What a scanner answers to bytes that come one by one: how many times more is asked for, and the
+// answer then.
 fn one_by_one(bytes: &[u8]) -> (usize, PieceScan) {
     let mut scanner = Scanner::new();
     for (i, byte) in bytes.iter().enumerate() {
@@ -172,8 +174,8 @@ fn scans_to_the_limit(rt: HostRuntime) -> Result<(), Fail> {
     Ok(())
 }
 
-// The table of formats: for first bytes from one to another, where an item ends behind which zeros stand,
-// and by how much later for each next one.
+// The table of formats: for first bytes from one to another, where an item ends behind which zeros
+// stand, and by how much later for each next one.
 static FORMATS: [(u8, u8, usize, usize); 37] = [
     (0x00, 0x7f, 1, 0),
     (0x80, 0x8f, 1, 2),

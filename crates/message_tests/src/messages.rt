@@ -316,7 +316,8 @@ fn fed_for_long(rt: HostRuntime) -> Result<(), Fail> {
     Ok(())
 }
 
-// What is fed, whether it is taken, what comes then, and how much is held. Bad bytes stay, and no more are taken.
+// What is fed, whether it is taken, what comes then, and how much is held. Bad bytes stay, and no
+// more are taken.
 static BEHIND: [(&[u8], Came, Came, usize); 4] = [
     (b"\xa1\x6b\xa1\x76", Came::Need, Came::Tag(b'a'), 0),
     (b"\xc0\xc1\x00", Came::Need, Came::Heartbeat, 2),

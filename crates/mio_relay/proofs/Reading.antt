@@ -7,7 +7,8 @@ use Rattle.loop_core.specs.Peers.{PeerState}
 use Rattle.mio_relay.specs.Connections.{AreReceived, Brings, ConnectionState, Hears, IsReceived, IsSameConnection, MayRead}
 use Rattle.mio_relay.proofs.Slots.{no_not_yes}
 
--- what holds where it was received well, or else where that is answered well, holds one or the other
+-- what holds where it was received well, or else where that is answered well, holds one or the
+-- other
 pub either : {T U E F : Type 0} (received : Result T E) (result : Result U F) (P Q : Type 0) → OnOk received P → OnErr received (OnOk result Q) → OnOk result (P ⊎ Q)
 either (Ok _) (Ok _) P Q p q = inl p
 either (Err _) (Ok _) P Q p q = inr q
@@ -22,7 +23,8 @@ on_ok_too (Err _) P Q f p = tt
 pub none_came : (old new : ConnectionState) (came : List ℕ) → came ≡ [] → Brings old new came → IsReceived old new
 none_came old new came none brings = record { came = came; conveys = brings.conveys; told = inl (none, brings.peer) }
 
--- what came was received by the session, which was so before and behind it, or the connection is broken
+-- what came was received by the session, which was so before and behind it, or the connection is
+-- broken
 pub is_received : {T U E F : Type 0} (old between new : ConnectionState) (came front : List ℕ) (before after : PeerState) (received : Result T E) (result : Result U F)
     → Brings old between came → new.traffic ≡ between.traffic → front ≡ came → before ≡ between.peer → new.peer ≡ after
     → OnOk received (Hears front before.session after.session) → OnErr received (OnOk result (new.is_broken ≡ true)) → OnOk result (IsReceived old new)

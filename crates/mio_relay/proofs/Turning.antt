@@ -171,7 +171,8 @@ leaves_on : (time : ℕ) (a b c : Option ConnectionState) → MayLose time a b �
 leaves_on time a b c (inl e) q = inl (subst (λ (o : Option ConnectionState). StandsOn o c) e q)
 leaves_on time a b c (inr p) q = inr (record { may = p.may; gone = none_behind b c p.gone q })
 
--- a turn, of its parts: what was there stood and others came, some were closed, and the others stood on
+-- a turn, of its parts: what was there stood and others came, some were closed, and the others
+-- stood on
 turned : (time : ℕ) (old stood closed new : List (Option ConnectionState)) → EachKey (ComesOn time) old stood → EachKey (MayLose time) stood closed → StandOn closed new
     → AreTurned time old new
 turned time old stood closed new came lost stand = record {
@@ -180,7 +181,8 @@ turned time old stood closed new came lost stand = record {
   left = λ k. leaves_on time (at_key stood k) (at_key closed k) (at_key new k) (lost k) (stand k);
 }
 
--- one of a loop: what was noted stood, the time was set, others were taken in, some were closed, and the others stood on
+-- one of a loop: what was noted stood, the time was set, others were taken in, some were closed,
+-- and the others stood on
 pub turned_by : {A : Type 0} (old noted timed taken closed new : LoopState A) → StandOn old.connections noted.connections → timed.connections ≡ noted.connections
     → TakesIn timed taken → EachKey (MayLose taken.time) taken.connections closed.connections → closed.time ≡ taken.time → StandOn closed.connections new.connections
     → new.time ≡ closed.time → AreTurned new.time old.connections new.connections

@@ -12,7 +12,8 @@ use Rattle.relay_sockets.specs.Endpoints.{Endpoint, Origin, CameAt, IsPortOf}
 use Rattle.relay_sockets.specs.Traffics.{Traffic, Conveys}
 use Rattle.loop_core.specs.Peers.{IsRead, PeerState}
 
--- a source as clients meet it: where it listens, where its messages go, and what it asks its clients to prove
+-- a source as clients meet it: where it listens, where its messages go, and what it asks its
+-- clients to prove
 pub record Served : Type 0 where
   pub endpoint : Endpoint
   pub entry : Entry
@@ -47,7 +48,8 @@ pub record Hosted : Type 0 where
 abbrev pub sources_in : List Hosted → List Served
 sources_in hosted = map (λ h. h.source) hosted
 
--- What was bound are the addresses of the sources, in their order, and nothing else; and each listener has the number of its place.
+-- What was bound are the addresses of the sources, in their order, and nothing else; and each
+-- listener has the number of its place.
 pub record AreListening (bound : List Endpoint) (hosted : List Hosted) : Type 0 where
   pub own : bound ≡ map (λ h. h.source.endpoint) hosted
   pub numbered : (place : ℕ) → IfSome (slice_get hosted place) (λ h. h.number ≡ place)
@@ -56,8 +58,9 @@ pub record AreListening (bound : List Endpoint) (hosted : List Hosted) : Type 0 
 abbrev pub ArePortsOf : List Served → List ℕ → Type 0
 ArePortsOf sources ports = AllZip (λ source port. IsPortOf port source.endpoint) sources ports
 
--- a connection: where it came in, and when, by the time of the loop in milliseconds; what went over it, as far as that is known, and its session; whether its
--- stream failed, whether it takes no bytes for now, and whether its client has ended its sending, and all of that was read
+-- a connection: where it came in, and when, by the time of the loop in milliseconds; what went over
+-- it, as far as that is known, and its session; whether its stream failed, whether it takes no
+-- bytes for now, and whether its client has ended its sending, and all of that was read
 pub record ConnectionState : Type 0 where
   pub origin : Origin
   pub came : ℕ
@@ -88,7 +91,8 @@ pub record Brings (old new : ConnectionState) (came : List ℕ) : Type 0 where
 abbrev pub Hears : (came : List ℕ) → ServerState → ServerState → Type 0
 Hears came old new = IsRead came old new ⊎ ((old.phase ≡ Over) × (new ≡ old))
 
--- Bytes came over a connection, or none, and its session was told all of them and nothing else; where some of them may be lost, the connection is broken.
+-- Bytes came over a connection, or none, and its session was told all of them and nothing else;
+-- where some of them may be lost, the connection is broken.
 pub record IsReceived (old new : ConnectionState) : Type 0 where
   pub came : List ℕ
   pub conveys : Conveys old.traffic new.traffic [] came
@@ -98,7 +102,8 @@ pub record IsReceived (old new : ConnectionState) : Type 0 where
 abbrev pub most_outgoing : ℕ
 most_outgoing = 1048576
 
--- A connection may be read: its stream didn't fail, its session wants more, and its client takes what is outgoing.
+-- A connection may be read: its stream didn't fail, its session wants more, and its client takes
+-- what is outgoing.
 pub record MayRead (connection : ConnectionState) : Type 0 where
   pub whole : connection.is_broken ≡ false
   pub wants : connection.peer.closing ≡ false
@@ -108,7 +113,8 @@ pub record MayRead (connection : ConnectionState) : Type 0 where
 abbrev pub most_pieces : ℕ
 most_pieces = 4
 
--- So many pieces came over a connection, one after another: each while it might be read, and the session was told each before the next one came.
+-- So many pieces came over a connection, one after another: each while it might be read, and the
+-- session was told each before the next one came.
 abbrev pub AreReceived : ℕ → ConnectionState → ConnectionState → Type 0
 AreReceived zero old new = new ≡ old
 AreReceived (suc pieces) old new = (between : ConnectionState) × AreReceived pieces old between × MayRead between × IsReceived between new
@@ -121,8 +127,9 @@ IsFlushed connection = (connection.peer.session.outgoing ≡ []) ⊎ ((connectio
 abbrev pub IsSettled : ConnectionState → Type 0
 IsSettled connection = connection.peer.waits ≡ []
 
--- A connection is done: no delivery of it waits; nothing more is read, since its stream failed, its session wants no more or its client has ended its
--- sending; and what is outgoing was written, or is of a session that wants no more and whose client takes none for now.
+-- A connection is done: no delivery of it waits; nothing more is read, since its stream failed, its
+-- session wants no more or its client has ended its sending; and what is outgoing was written, or
+-- is of a session that wants no more and whose client takes none for now.
 pub record IsDone (connection : ConnectionState) : Type 0 where
   pub settled : IsSettled connection
   pub over : (connection.is_broken ≡ true) ⊎ ((connection.peer.closing ≡ true) ⊎ (connection.has_ended ≡ true))
@@ -132,7 +139,8 @@ pub record IsDone (connection : ConnectionState) : Type 0 where
 abbrev pub time_for_ping : ℕ
 time_for_ping = 10000
 
--- A connection is late at this time: its client hasn't shown the key that it has to show, and the time for that is over.
+-- A connection is late at this time: its client hasn't shown the key that it has to show, and the
+-- time for that is over.
 pub record IsLate (time : ℕ) (connection : ConnectionState) : Type 0 where
   pub awaits : awaits_ping connection.peer.session.phase ≡ true
   pub past : connection.came + time_for_ping < time
@@ -201,7 +209,8 @@ AreInTime time slots = All (HoldsInTime time) slots
 abbrev pub AreInTimeBelow : ℕ → ℕ → List (Option ConnectionState) → Type 0
 AreInTimeBelow time end slots = AllBelow (HoldsInTime time) end slots
 
--- A session that begins: its messages go where the source's do, and its client has to prove the source's key, if it has one.
+-- A session that begins: its messages go where the source's do, and its client has to prove the
+-- source's key, if it has one.
 pub record BeginsAt (source : Served) (nonce : List ℕ) (peer : PeerState) : Type 0 where
   pub security : Option Security
   pub asks : credentials_in security ≡ source.asks

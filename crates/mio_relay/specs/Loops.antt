@@ -10,9 +10,10 @@ use Rattle.relay_sockets.specs.Endpoints.{Endpoint}
 use Rattle.mio_relay.specs.Connections.{AreFlushed, AreSettled, ConnectionState, Served}
 use Rattle.mio_relay.specs.Turning.{ComesOn, EachKey}
 
--- a loop: the addresses that were bound, its sources in the order of the configuration, its connections by their keys, its buffers by their places,
--- the same as it uses them, how many numbers deliveries have had, its time in milliseconds, the fault of a turn that ended it, if one did, and why its
--- network refuses to wait for sockets, where it is known to
+-- a loop: the addresses that were bound, its sources in the order of the configuration, its
+-- connections by their keys, its buffers by their places, the same as it uses them, how many
+-- numbers deliveries have had, its time in milliseconds, the fault of a turn that ended it, if one
+-- did, and why its network refuses to wait for sockets, where it is known to
 pub record LoopState (A : Type 0) : Type 0 where
   pub bound : List Endpoint
   pub sources : List Served
@@ -24,7 +25,8 @@ pub record LoopState (A : Type 0) : Type 0 where
   pub fault : Option LoopFault
   pub refusal : Option NetFault
 
--- a relay that listens at its sources: the addresses that were bound, the sources, its number, and its outputs that have buffers
+-- a relay that listens at its sources: the addresses that were bound, the sources, its number, and
+-- its outputs that have buffers
 pub record BoundState (A : Type 0) : Type 0 where
   pub bound : List Endpoint
   pub sources : List Served
@@ -39,15 +41,16 @@ pub record Stays {A : Type 0} (old new : LoopState A) : Type 0 where
   pub lanes : KeepsLanes old.lanes new.lanes
   pub numbers : old.numbers ≤ new.numbers
 
--- What a call does before connections are closed: it is the same time, for the buffers too, and each
--- connection goes on; others came in at this time.
+-- What a call does before connections are closed: it is the same time, for the buffers too, and
+-- each connection goes on; others came in at this time.
 pub record TakesIn {A : Type 0} (old new : LoopState A) : Type 0 where
   pub time : new.time ≡ old.time
   pub lanes_time : new.lanes.time ≡ old.lanes.time
   pub connections : EachKey (ComesOn old.time) old.connections new.connections
 
--- no delivery waits that didn't: the same appends wait, and the same buffers' receipts come later, and where none waited none does; nor is anything outgoing
--- that a stream would take, where nothing was; and the same chunks are staged at the same time of the buffers
+-- no delivery waits that didn't: the same appends wait, and the same buffers' receipts come later,
+-- and where none waited none does; nor is anything outgoing that a stream would take, where nothing
+-- was; and the same chunks are staged at the same time of the buffers
 pub record Rests {A : Type 0} (old new : LoopState A) : Type 0 where
   pub waiting : new.lanes.waiting ≡ old.lanes.waiting
   pub later : new.lanes.later ≡ old.lanes.later

@@ -37,8 +37,8 @@ impl<N: Network + Drop, D: Dir + Drop, A: Allocator + Copy> InLoop<N, D, A> {
         }
     }
 
-    // Takes the next connection in that waits at one source; whether there may be more. Where the loop has as many as it may, they wait there
-    // until one closes.
+    // Takes the next connection in that waits at one source; whether there may be more. Where the
+    // loop has as many as it may, they wait there until one closes.
     fn accept_one<R: Wait>(&mut self, rt: &R, place: usize) -> bool
         ensures stays { Stays self.old self.new }
         ensures takes { TakesIn self.old self.new }

@@ -42,8 +42,8 @@ impl<N: Network + Drop, A: Allocator> Model for BoundRelay<N, A> {
     ghost invariant = { λ b. AreListening (N.bound b.network) b.listeners.items };
 }
 
-/// A relay that is ready, since its buffers are open: the loop that takes messages in, for each of its buffered outputs what flush threads are given,
-/// and the ports of its sources.
+/// A relay that is ready, since its buffers are open: the loop that takes messages in, for each of
+/// its buffered outputs what flush threads are given, and the ports of its sources.
 pub struct OpenRelay<N: Network + Drop, D: Dir + Drop, A: Allocator> {
     pub turning: InLoop<N, D, A>,
     pub jobs: Vec<DeliveryJob<D, A>, A>,
@@ -53,7 +53,8 @@ pub struct OpenRelay<N: Network + Drop, D: Dir + Drop, A: Allocator> {
 impl<N: Network + Drop, A: Allocator + Copy> BoundRelay<N, A> {
     /// Listens at each source of the relay, over a network that has no listener yet.
     ///
-    /// `Bind`: an address can't be had. `Poll`: the system reports nothing of sockets, or gives no random bytes. `Memory`.
+    /// `Bind`: an address can't be had. `Poll`: the system reports nothing of sockets, or gives no
+    /// random bytes. `Memory`.
     pub fn bind<R: RandomSource>(
         rt: &R,
         alloc: A,
@@ -88,7 +89,8 @@ impl<N: Network + Drop, A: Allocator + Copy> BoundRelay<N, A> {
 
     /// Opens the buffers of its outputs, those with files in these folders.
     ///
-    /// `Buffer`: a buffer, or the folders, can't be opened. `NoNumber`: a buffer has no number of 32 bits. `Memory`.
+    /// `Buffer`: a buffer, or the folders, can't be opened. `NoNumber`: a buffer has no number of
+    /// 32 bits. `Memory`.
     pub fn open<D: Dir + Drop, F: Folders<D, A>>(
         self,
         folders: &F,
@@ -99,7 +101,8 @@ impl<N: Network + Drop, A: Allocator + Copy> BoundRelay<N, A> {
         // Each job is of one output, with the buffer that the loop has for it.
         ensures jobs { IfOk result (λ opened. (map (λ job. job.output) opened.jobs.items ≡ self.outputs)
             × (map (λ job. job.terms) opened.jobs.items ≡ opened.turning.buffers)) }
-        // The loop queues what is staged in these buffers when their outputs' settings say: what was when they were opened, since then.
+        // The loop queues what is staged in these buffers when their outputs' settings say: what
+        // was when they were opened, since then.
         ensures planned { IfOk result (λ opened. ArePlanned opened.turning.time opened.jobs.items opened.turning.lanes.plans) }
         ensures placed { IfOk result (λ opened. ArePlaced (F.place folders.now) opened.jobs.items) }
         ensures ports { IfOk result (λ opened. ArePortsOf self.sources opened.ports) }

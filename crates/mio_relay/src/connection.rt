@@ -42,8 +42,9 @@ const MOST_PIECES: usize = 4;
 /// How long a client has to show the key, in milliseconds.
 const TIME_FOR_PING: u64 = 10_000;
 
-/// A client's stream with its session. Contracts see where and when the stream came in and what went over it, the session, whether the
-/// stream failed, and whether it answered that it takes no bytes for now, or that its client has ended its sending.
+/// A client's stream with its session. Contracts see where and when the stream came in and what
+/// went over it, the session, whether the stream failed, and whether it answered that it takes no
+/// bytes for now, or that its client has ended its sending.
 ///
 /// It is no `Drop`, as its session isn't: `into_parts` ends it.
 pub struct Connection<S: Wire, A: Allocator> {
@@ -95,7 +96,8 @@ pub struct ConnectionParts<S: Wire, A: Allocator> {
 }
 
 impl<S: Wire, A: Allocator + Copy> Connection<S, A> {
-    /// A stream that was just accepted, with its session, at the source with this place, and at this time in milliseconds.
+    /// A stream that was just accepted, with its session, at the source with this place, and at
+    /// this time in milliseconds.
     pub fn new(stream: S, peer: Peer<A>, source: usize, time: u64) -> Self
         ensures { result ≡ record { origin = S.origin stream; came = time; traffic = S.traffic stream; peer = peer; is_broken = false; is_blocked = S.refuses stream; has_ended = S.has_ended stream } }
     {
@@ -154,10 +156,11 @@ impl<S: Wire, A: Allocator + Copy> Connection<S, A> {
             && self.peer.outgoing().len() <= MOST_OUTGOING
     }
 
-    /// Reads up to four pieces, while there are some, and has each received before the next one is read.
+    /// Reads up to four pieces, while there are some, and has each received before the next one is
+    /// read.
     ///
-    /// The error is that the numbers of deliveries have run out. Where what came may be lost for want of memory, the connection is to be
-    /// closed: its client is to send again.
+    /// The error is that the numbers of deliveries have run out. Where what came may be lost for
+    /// want of memory, the connection is to be closed: its client is to send again.
     pub fn read<R: Wait, D: Dir + Drop>(
         &mut self,
         rt: &R,
@@ -171,7 +174,8 @@ impl<S: Wire, A: Allocator + Copy> Connection<S, A> {
         ensures time { lanes.new.time ≡ lanes.old.time }
         // Nothing is read of a connection that wants no reading.
         ensures only { MayRead self.old ⊎ ((result ≡ Ok tt) × (self.new ≡ self.old)) }
-        // Each piece that came was received, in order, and no more than a turn has for one connection.
+        // Each piece that came was received, in order, and no more than a turn has for one
+        // connection.
         ensures received { OnOk result ((pieces : ℕ) × (pieces ≤ most_pieces) × AreReceived pieces self.old self.new) }
         // Each message that was demanded got its number, unless the connection is to be closed.
         ensures numbered { OnOk result ((numbers.new + length self.old.peer.session.asked ≡ numbers.old + length self.new.peer.session.asked)
@@ -249,7 +253,8 @@ impl<S: Wire, A: Allocator + Copy> Connection<S, A> {
         0
     }
 
-    /// How many bytes of what isn't whole it holds; none where it is broken, since it is to be closed.
+    /// How many bytes of what isn't whole it holds; none where it is broken, since it is to be
+    /// closed.
     pub fn held_len(&self) -> usize
         ensures { result ≡ held_by self.now }
     {
@@ -306,8 +311,8 @@ impl<S: Wire, A: Allocator + Copy> Connection<S, A> {
         }
     }
 
-    /// Whether the connection is to be closed at this time, in milliseconds: it is done, or its client hasn't shown the key that it had ten
-    /// seconds to show.
+    /// Whether the connection is to be closed at this time, in milliseconds: it is done, or its
+    /// client hasn't shown the key that it had ten seconds to show.
     pub fn is_over(&self, time: u64) -> bool
         ensures may { result ≡ true → MayClose time self.now }
         ensures late { result ≡ false → IsLate time self.now → ⊥ }
@@ -322,8 +327,8 @@ impl<S: Wire, A: Allocator + Copy> Connection<S, A> {
         self.peer.awaits_ping() && time.saturating_sub(self.came) > TIME_FOR_PING
     }
 
-    // Whether the stream failed; or nothing more is read, and all was written that the client takes. A client that ended its own sending is
-    // waited for, for as long as it takes.
+    // Whether the stream failed; or nothing more is read, and all was written that the client
+    // takes. A client that ended its own sending is waited for, for as long as it takes.
     fn is_done(&self) -> bool
         ensures { result ≡ true → IsDone self.now }
     {

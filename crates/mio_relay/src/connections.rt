@@ -17,7 +17,8 @@ use std::alloc::{AllocError, Allocator};
 use std::marker::Model;
 use std::sync::Wait;
 
-/// Connections by keys, which a slab gives and takes back: it can't hold the connections themselves, since these can't be dropped.
+/// Connections by keys, which a slab gives and takes back: it can't hold the connections
+/// themselves, since these can't be dropped.
 pub struct Connections<S: Wire, A: Allocator> {
     keys: Slab<(), A>,
     slots: Vec<Option<Connection<S, A>>, A>,
@@ -55,7 +56,8 @@ impl<S: Wire + Drop, A: Allocator + Copy> Connections<S, A> {
         self.slots.len()
     }
 
-    /// Makes room for one more, and gives the key that it is to have; `None` where there is none. The error is want of memory.
+    /// Makes room for one more, and gives the key that it is to have; `None` where there is none.
+    /// The error is want of memory.
     pub fn make_room(&mut self) -> Result<Option<usize>, AllocError>
         ensures goes { GoOn self.old self.new }
         ensures stands { StandOn self.old self.new }
@@ -73,7 +75,8 @@ impl<S: Wire + Drop, A: Allocator + Copy> Connections<S, A> {
         }
     }
 
-    /// Puts a connection at this key, which `make_room` gave, and gives it back where it can't stay: there is no room, or one is there.
+    /// Puts a connection at this key, which `make_room` gave, and gives it back where it can't
+    /// stay: there is no room, or one is there.
     pub fn put(&mut self, key: usize, connection: Connection<S, A>) -> Option<Connection<S, A>>
         ensures served { (sources : List Served) → AreServed sources self.old → IsServed sources connection → AreServed sources self.new }
         ensures gets { EachKey (MayGet connection) self.old self.new }
@@ -108,7 +111,8 @@ impl<S: Wire + Drop, A: Allocator + Copy> Connections<S, A> {
         taken
     }
 
-    /// How many bytes of what isn't whole they hold together; or some number past what they may hold, where it is more.
+    /// How many bytes of what isn't whole they hold together; or some number past what they may
+    /// hold, where it is more.
     pub fn held(&self) -> usize
         ensures { result ≤ most_held → held_in self.now ≤ most_held }
     {
@@ -157,7 +161,8 @@ impl<S: Wire + Drop, A: Allocator + Copy> Connections<S, A> {
         }
     }
 
-    /// Reads a few pieces for the connection at this key, if its stream has some, and has them received. See `Connection::read`.
+    /// Reads a few pieces for the connection at this key, if its stream has some, and has them
+    /// received. See `Connection::read`.
     pub fn read<R: Wait, D: Dir + Drop>(
         &mut self,
         key: usize,

@@ -10,7 +10,8 @@ use std::alloc::Allocator;
 /// How many bytes of what isn't whole connections hold together at most, behind a turn.
 pub const MOST_HELD: usize = 268_435_456;
 
-/// How many bytes of what isn't whole these hold together; or some number past what they may hold, where it is more.
+/// How many bytes of what isn't whole these hold together; or some number past what they may hold,
+/// where it is more.
 pub fn held_in<S: Wire, A: Allocator + Copy>(slots: &[Option<Connection<S, A>>]) -> usize
     ensures { result ≤ most_held → held_in slots.now ≤ most_held }
 {

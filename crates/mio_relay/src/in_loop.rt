@@ -87,13 +87,14 @@ impl<N: Network + Drop, D: Dir + Drop, A: Allocator> Model for InLoop<N, D, A> {
       refusal = N.refusal l.network;
     } };
 
-    // Each source is bound at its address, each connection is served as one of the source at whose listener it came in, and the loop uses the
-    // relay's own buffers, in their order.
+    // Each source is bound at its address, each connection is served as one of the source at whose
+    // listener it came in, and the loop uses the relay's own buffers, in their order.
     ghost invariant = { λ l. AreListening (N.bound l.network) l.listeners.items × AreServed (sources_in l.listeners.items) l.connections
         × (l.lanes.terms ≡ map (λ buffer. arc_value buffer) l.buffers.items) };
 }
 
-/// What is left of a loop that ended: nothing else than `InLoop::run` makes it. Contracts see why it ended.
+/// What is left of a loop that ended: nothing else than `InLoop::run` makes it. Contracts see why
+/// it ended.
 #[derive(Drop)]
 pub struct Ended<A: Allocator> {
     stubs: Vec<Stub<A>, A>,
@@ -130,12 +131,13 @@ where
     R::A: Clone,
     A: Allocator + Copy,
 {
-    /// Listens at each source of the relay by the system's sockets, and then opens its buffers, those with files in the folder of
-    /// this path, which is made where it isn't there.
+    /// Listens at each source of the relay by the system's sockets, and then opens its buffers,
+    /// those with files in the folder of this path, which is made where it isn't there.
     ///
-    /// `Path`: two outputs share the path of their buffers, or of their sinks. `NoNumber`: a buffer hasn't the number of its place.
-    /// `Bind`: an address can't be had. No file was touched then. `Buffer`: a buffer, or the folder, can't be opened. `Poll`: the
-    /// system gives no sockets or no random bytes. `Memory`.
+    /// `Path`: two outputs share the path of their buffers, or of their sinks. `NoNumber`: a buffer
+    /// hasn't the number of its place. `Bind`: an address can't be had. No file was touched then.
+    /// `Buffer`: a buffer, or the folder, can't be opened. `Poll`: the system gives no sockets or
+    /// no random bytes. `Memory`.
     pub fn open(
         rt: R,
         alloc: A,
@@ -217,16 +219,16 @@ impl<N: Network + Drop, D: Dir + Drop, A: Allocator + Copy> InLoop<N, D, A> {
         Ok(turning)
     }
 
-    /// Each connection is served as one of the source at whose listener it came in. The call does nothing: it stands for what the
-    /// type keeps.
+    /// Each connection is served as one of the source at whose listener it came in. The call does
+    /// nothing: it stands for what the type keeps.
     pub fn are_served(&self)
         ensures { AreServed self.now.sources self.now.connections }
     {
         let _ = &self.network;
     }
 
-    /// The buffers that messages are stored in are the relay's, in the order of their numbers. The call does nothing: it stands for what
-    /// the type keeps.
+    /// The buffers that messages are stored in are the relay's, in the order of their numbers. The
+    /// call does nothing: it stands for what the type keeps.
     pub fn uses_its_buffers(&self)
         ensures { self.now.lanes.terms ≡ self.now.buffers }
     {
@@ -246,35 +248,39 @@ impl<N: Network + Drop, D: Dir + Drop, A: Allocator + Copy> InLoop<N, D, A> {
         Some(self.network.port(listener.socket()))
     }
 
-    /// Keeps what is left of deliveries from now on, for an audit; else the buffers' books account for it at once.
+    /// Keeps what is left of deliveries from now on, for an audit; else the buffers' books account
+    /// for it at once.
     pub fn keep_stubs(&mut self)
         ensures { Stays self.old self.new }
     {
         self.lanes.keep_stubs(self.alloc);
     }
 
-    /// From now on it is told of clients that are closed by what they sent, by this teller, whose places are the sources, in their order.
+    /// From now on it is told of clients that are closed by what they sent, by this teller, whose
+    /// places are the sources, in their order.
     pub fn tell_by(&mut self, clients: Teller<A>)
         ensures { self.new ≡ self.old }
     {
         self.clients = clients;
     }
 
-    /// From now on it is told of messages that buffers refuse and of chunks that they drop, by this teller, whose places are the
-    /// buffers, in their order.
+    /// From now on it is told of messages that buffers refuse and of chunks that they drop, by this
+    /// teller, whose places are the buffers, in their order.
     pub fn tell_of_buffers(&mut self, buffers: &Teller<A>)
         ensures { self.new ≡ self.old }
     {
         self.lanes.tell_by(buffers);
     }
 
-    /// Waits for sockets for at most ten milliseconds, and does what is to be done: takes connections in, reads at most four
-    /// pieces from each, appends each message's entries to its buffers, makes one sync for each buffer that needs one, and then
-    /// answers.
+    /// Waits for sockets for at most ten milliseconds, and does what is to be done: takes
+    /// connections in, reads at most four pieces from each, appends each message's entries to its
+    /// buffers, makes one sync for each buffer that needs one, and then answers.
     ///
-    /// Each delivery that began is acknowledged or abandoned when it returns, but for those whose receipts there was no memory
-    /// for: they wait for the next turn, in which nothing is read. After an error there is no further turn: `Buffer` where a buffer has a fault that
-    /// ends it, `NoNumber` where the numbers of deliveries have run out, and `Poll` and `Memory` where the system reports nothing of sockets.
+    /// Each delivery that began is acknowledged or abandoned when it returns, but for those whose
+    /// receipts there was no memory for: they wait for the next turn, in which nothing is read.
+    /// After an error there is no further turn: `Buffer` where a buffer has a fault that ends it,
+    /// `NoNumber` where the numbers of deliveries have run out, and `Poll` and `Memory` where the
+    /// system reports nothing of sockets.
     pub fn turn<R: Wait>(&mut self, rt: &R) -> Result<(), LoopFault>
         requires { self.old.fault ≡ None }
         ensures stays { Stays self.old self.new }
@@ -282,7 +288,8 @@ impl<N: Network + Drop, D: Dir + Drop, A: Allocator + Copy> InLoop<N, D, A> {
         ensures faultless { OnOk result (self.new.lanes.fault ≡ None) }
         ensures came { IfErr result (IsReason self.new.lanes.fault) }
         ensures ended { self.new.fault ≡ fault_in result }
-        // What is to be queued at this time is, unless there was no memory for it or a device refused it.
+        // What is to be queued at this time is, unless there was no memory for it or a device
+        // refused it.
         ensures queued { OnOk result (AreQueued self.new.lanes) }
         ensures timed { OnOk result (self.new.lanes.time ≡ self.new.time) }
         // Each append has its receipt, but for those of buffers whose receipts come later.
@@ -385,8 +392,8 @@ impl<N: Network + Drop, D: Dir + Drop, A: Allocator + Copy> InLoop<N, D, A> {
         self.fault
     }
 
-    /// Turns until the flag is set, or a fault comes; then ends what waits, without an answer. A buffer's fault that stands is told also
-    /// where the flag is set.
+    /// Turns until the flag is set, or a fault comes; then ends what waits, without an answer. A
+    /// buffer's fault that stands is told also where the flag is set.
     pub fn run<R: Wait>(self, rt: &R, stop: &AtomicBool) -> Ended<A>
         ensures { IsTold self.lanes.fault result }
     {
@@ -395,7 +402,8 @@ impl<N: Network + Drop, D: Dir + Drop, A: Allocator + Copy> InLoop<N, D, A> {
         turning.end(rt, end)
     }
 
-    // Turns until the flag is seen set, unless a turn ended the loop before. The error is that of the last turn.
+    // Turns until the flag is seen set, unless a turn ended the loop before. The error is that of
+    // the last turn.
     fn go_on<R: Wait>(&mut self, rt: &R, stop: &AtomicBool) -> Result<Told, LoopFault>
         ensures stays { Stays self.old self.new }
         ensures ended { IfSome self.old.fault (λ fault. (result ≡ Err fault) × (self.new ≡ self.old)) }

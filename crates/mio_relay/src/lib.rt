@@ -1,4 +1,5 @@
-//! The relay on sockets: a loop that takes messages in and answers them once they are stored, over any network.
+//! The relay on sockets: a loop that takes messages in and answers them once they are stored, over
+//! any network.
 #![tactic(auto)]
 
 mod accepting;

@@ -8,14 +8,15 @@ use libc::types::rlimit;
 /// How many connections a loop has at most, however many descriptors there are.
 const MOST_CONNECTIONS: usize = 1_024;
 
-/// How many descriptors are kept at most for what is no connection that came in: listeners, files, and the connections to other relays.
+/// How many descriptors are kept at most for what is no connection that came in: listeners, files,
+/// and the connections to other relays.
 const MOST_KEPT: usize = 64;
 
 /// How many descriptors a process is taken to have, where the system doesn't say.
 const USUAL_DESCRIPTORS: usize = 1_024;
 
-/// How many connections a loop has at most in a process that may have so many descriptors: 1,024, and no more than leave a quarter of the
-/// descriptors for all else, or 64 where that is fewer.
+/// How many connections a loop has at most in a process that may have so many descriptors: 1,024,
+/// and no more than leave a quarter of the descriptors for all else, or 64 where that is fewer.
 pub fn most_connections(descriptors: usize) -> usize
     ensures { result ≡ most_connections descriptors }
 {

@@ -18,8 +18,8 @@ use std::alloc::{AllocError, Allocator};
 use std::marker::Model;
 use std::sync::Arc;
 
-/// A source of the configuration: the socket that listens there, where its messages go, and what its clients have to prove. Contracts
-/// see the socket's number, and the source.
+/// A source of the configuration: the socket that listens there, where its messages go, and what
+/// its clients have to prove. Contracts see the socket's number, and the source.
 #[derive(Drop)]
 pub struct Listener<N: Network, A: Allocator> {
     socket: N::Listener,
@@ -51,7 +51,8 @@ impl<N: Network, A: Allocator> Listener<N, A> {
         &self.socket
     }
 
-    // What clients have to show in the handshake, if anything; `Err` where this end's name is too long for one.
+    // What clients have to show in the handshake, if anything; `Err` where this end's name is too
+    // long for one.
     fn security(&self) -> Result<Option<Security<'_>>, ()>
         ensures hosted { IfOk result IsHosted }
         ensures asks { IfOk result (λ security. credentials_in security ≡ self.now.source.asks) }
@@ -71,9 +72,11 @@ pub fn loop_fault(fault: NetFault) -> LoopFault
     }
 }
 
-/// Listens at each of the sources of the relay with this number, whose events go so, over a network that has no listener yet.
+/// Listens at each of the sources of the relay with this number, whose events go so, over a network
+/// that has no listener yet.
 ///
-/// `Bind` where an address can't be had, `Poll` where the system reports nothing of a socket, and `Memory`.
+/// `Bind` where an address can't be had, `Poll` where the system reports nothing of a socket, and
+/// `Memory`.
 pub fn listen<N: Network, A: Allocator + Copy>(
     alloc: A,
     network: &mut N,
@@ -128,8 +131,9 @@ fn listen_at<N: Network, A: Allocator + Copy>(
     }
 }
 
-/// A session that begins with this nonce: it is of the source with this place, and its client has to prove that source's key. `None` where there
-/// is no such source, or where its name is too long for a handshake. The error is want of memory.
+/// A session that begins with this nonce: it is of the source with this place, and its client has
+/// to prove that source's key. `None` where there is no such source, or where its name is too long
+/// for a handshake. The error is want of memory.
 pub fn peer_at<N: Network, A: Allocator + Copy>(
     alloc: A,
     listeners: &[Listener<N, A>],

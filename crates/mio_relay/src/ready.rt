@@ -8,8 +8,8 @@ use relay_sockets::Network;
 use std::alloc::{AllocError, Allocator};
 use std::marker::Model;
 
-/// The ports at which the sources of a relay take connections, in their order, where its buffers are open too: no other crate makes them than
-/// by `BoundRelay::open`.
+/// The ports at which the sources of a relay take connections, in their order, where its buffers
+/// are open too: no other crate makes them than by `BoundRelay::open`.
 #[derive(Drop)]
 pub struct ReadyPorts<A: Allocator> {
     ports: Vec<u16, A>,
@@ -24,7 +24,8 @@ impl<A: Allocator> Model for ReadyPorts<A> {
 }
 
 impl<A: Allocator + Copy> ReadyPorts<A> {
-    /// The ports of these listeners of a network: where 0 was asked for, the one that the system chose. The error is want of memory.
+    /// The ports of these listeners of a network: where 0 was asked for, the one that the system
+    /// chose. The error is want of memory.
     pub(crate) fn of<N: Network>(
         alloc: A,
         network: &N,

@@ -66,7 +66,8 @@ impl<N: Network + Drop, D: Dir + Drop, A: Allocator + Copy> InLoop<N, D, A> {
         note_all(&self.notes, &mut self.ready, &mut self.connections);
     }
 
-    // Reads what came from each connection, a few pieces at most. The error is that the numbers of deliveries have run out.
+    // Reads what came from each connection, a few pieces at most. The error is that the numbers of
+    // deliveries have run out.
     pub(crate) fn read_all<R: Wait>(&mut self, rt: &R) -> Result<(), NoNumber>
         ensures stays { Stays self.old self.new }
         ensures takes { TakesIn self.old self.new }
@@ -168,7 +169,8 @@ impl<N: Network + Drop, D: Dir + Drop, A: Allocator + Copy> InLoop<N, D, A> {
         }
     }
 
-    // While connections hold too much of what isn't whole, breaks off the one that holds most of it: the next turn closes it.
+    // While connections hold too much of what isn't whole, breaks off the one that holds most of
+    // it: the next turn closes it.
     pub(crate) fn shed<R: Wait>(&mut self, rt: &R)
         ensures stays { Stays self.old self.new }
         ensures stands { StandOn self.old.connections self.new.connections }

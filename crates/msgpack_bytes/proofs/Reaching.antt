@@ -14,7 +14,8 @@ use Rattle.msgpack_bytes.proofs.Stack.{set_here}
 use Rattle.msgpack_bytes.proofs.StepFacts.{told}
 use Rattle.msgpack_bytes.proofs.Innermost.{Keeps, whole_some, opens_some, keeps_first, keeps_end, keeps_last, keeps_pop, keeps_whole, keeps_opens}
 
--- the counts, and one for a level with none inside it; each item that is missing takes one byte or more
+-- the counts, and one for a level with none inside it; each item that is missing takes one byte or
+-- more
 pub record Reaches (bytes : List ℕ) (i : ℕ) (missing : List ℕ) (left levels limit : ℕ) : Type 0 where
   pub keeps : Keeps bytes 0 i (missing ++ 0 ∷ []) left levels (limit - (i + left))
   pub fits : i + left ≤ limit
@@ -106,7 +107,8 @@ module _ {bytes : List ℕ} {i : ℕ} {missing : List ℕ} {left levels limit : 
 
 -- ---- the same in what is there
 
--- the level has to end so that each item that is missing outside it has room for one byte, among the bytes that are there too
+-- the level has to end so that each item that is missing outside it has room for one byte, among
+-- the bytes that are there too
 pub record Bounded (bytes : List ℕ) (i : ℕ) (missing : List ℕ) (left levels limit : ℕ) : Type 0 where
   pub spare : ℕ
   pub reaches : Reaches bytes i missing left levels (limit + spare)

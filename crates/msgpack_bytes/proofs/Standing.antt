@@ -186,7 +186,8 @@ module _ (seen piece front missing : List ℕ) (levels room came at : ℕ) (s : 
 
 -- ---- from piece to piece
 
--- where a scan stood before the piece it still stands, and `front` has the first bytes of what was cut and follows
+-- where a scan stood before the piece it still stands, and `front` has the first bytes of what was
+-- cut and follows
 pub begun_stands : (s : Scanning) (seen piece front : List ℕ) → IsBegun s seen → ((part : List ℕ) → length part ≡ s.place.came → BeginsSame 5 s.front part → BeginsSame 5 front (part ++ piece))
     → Stands seen piece front s.missing s.place 0
 begun_stands s seen piece front b fill =
@@ -226,7 +227,8 @@ zeros_begin (suc (suc (suc (suc (suc k))))) h = absurd (omega arith)
 one_taken : (seen piece : List ℕ) (a b : PieceScan) → IsTaken seen piece a → IsTaken seen piece b → a ≡ b
 one_taken seen piece a b p q = p.2 ∙ ap (counted_from (length seen)) (one_answer (seen ++ piece) 0 p.0 q.0 p.1 q.1) ∙ sym q.2
 
--- for whatever bytes were seen before, the answer is right, and the scanner has then seen the piece too
+-- for whatever bytes were seen before, the answer is right, and the scanner has then seen the piece
+-- too
 abbrev pub Tells : Scanning → Scanning → List ℕ → PieceScan → Type 0
 Tells old new piece answer = (seen : List ℕ) → IsAfter old seen → IsTaken seen piece answer × IsAfter new (seen ++ piece)
 

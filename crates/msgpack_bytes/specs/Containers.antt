@@ -1,4 +1,5 @@
--- Arrays and maps, as the items that stand in them (MessagePack specification, "array format family", "map format family").
+-- Arrays and maps, as the items that stand in them (MessagePack specification, "array format
+-- family", "map format family").
 use Rattle.std.specs.Prelude.{ℕ, ◌≡◌, List, [], ◌∷◌, ◌++◌, length}
 use Rattle.std.specs.List.{AllByRecursion, concat, flat_map}
 use Rattle.msgpack_bytes.specs.Item.{Item}
@@ -8,7 +9,8 @@ use Rattle.msgpack_bytes.specs.Kinds.{IsArrayHeader, IsMapHeader}
 pub record IsPart (bytes : List ℕ) : Type 0 where
   pub item : Item 63 bytes
 
--- an array of these elements, each of which is such an item: its header, in any spelling, and the elements one after another
+-- an array of these elements, each of which is such an item: its header, in any spelling, and the
+-- elements one after another
 pub record IsArrayOf (IsElement : List ℕ → Type 0) (items : List (List ℕ)) (bytes : List ℕ) : Type 0 where
   pub header : List ℕ
   pub counted : IsArrayHeader (length items) header
@@ -34,7 +36,8 @@ abbrev pub pair_items : List Pair → List (List ℕ)
 pair_items [] = []
 pair_items (pair ∷ pairs) = pair.key ∷ pair.value ∷ pair_items pairs
 
--- a map of these pairs in this order, whose keys and values are such items: its header, in any spelling, and the pairs one after another
+-- a map of these pairs in this order, whose keys and values are such items: its header, in any
+-- spelling, and the pairs one after another
 pub record IsMapOf (IsElement : List ℕ → Type 0) (pairs : List Pair) (bytes : List ℕ) : Type 0 where
   pub header : List ℕ
   pub counted : IsMapHeader (length pairs) header

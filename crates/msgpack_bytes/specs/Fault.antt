@@ -8,7 +8,8 @@ use Rattle.msgpack_bytes.specs.declared.format.Shape.TheVariants.{Fixed, Sized, 
 use Rattle.msgpack_bytes.specs.Format.{items_in, shape_of}
 use Rattle.msgpack_bytes.specs.Item.{IsContainerHeader, Row, Item, deepest, IsItemWithin, IsOpen}
 
--- the bytes of a container so far: its header, fewer whole items than it has, and a part of the next
+-- the bytes of a container so far: its header, fewer whole items than it has, and a part of the
+-- next
 pub record IsWithin (part rest : List ℕ → Type 0) (bytes : List ℕ) : Type 0 where
   pub container : Container
   pub n : ℕ
@@ -22,7 +23,8 @@ pub record IsWithin (part rest : List ℕ → Type 0) (bytes : List ℕ) : Type 
   pub next : rest behind
   pub whole : bytes ≡ header ++ (before ++ behind)
 
--- after these bytes of an item of this depth, the next byte begins an item in which containers may nest `left` deep
+-- after these bytes of an item of this depth, the next byte begins an item in which containers may
+-- nest `left` deep
 unfoldable pub Awaits : ℕ → ℕ → List ℕ → Type 0
 Awaits left zero bytes = (bytes ≡ []) × (left ≡ 0)
 Awaits left (suc depth) bytes = ((bytes ≡ []) × (left ≡ suc depth)) ⊎ IsWithin (Item depth) (Awaits left depth) bytes

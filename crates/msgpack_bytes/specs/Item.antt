@@ -22,7 +22,8 @@ Counts (Holds container count) c n count_bytes = (container ≡ c) × (count_byt
 Counts (Counted container width) c n count_bytes = (container ≡ c) × (length count_bytes ≡ width) × (n ≡ big_endian count_bytes)
 Counts Never c n count_bytes = ⊥
 
--- the header of a scalar of this kind with n bytes of content: a first byte, and the length if there is one
+-- the header of a scalar of this kind with n bytes of content: a first byte, and the length if
+-- there is one
 abbrev pub IsScalarHeader : Kind → ℕ → List ℕ → Type 0
 IsScalarHeader kind n [] = ⊥
 IsScalarHeader kind n (first ∷ length_bytes) = Sizes (shape_of first) kind n length_bytes

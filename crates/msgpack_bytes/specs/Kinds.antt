@@ -40,7 +40,8 @@ twos_complement bytes =
     then pos (big_endian bytes)
     else pos (big_endian bytes) -ℤ pos (2 ^ (8 * length bytes))
 
--- "int format family": a fixint is its own byte, unsigned below 80 and in two's complement from e0 on; no byte is above ff
+-- "int format family": a fixint is its own byte, unsigned below 80 and in two's complement from e0
+-- on; no byte is above ff
 pub data IsInteger (bytes : List ℕ) (value : ℤ) : Type 0 where
   Positive : (byte : ℕ) → byte < 0x80 → bytes ≡ byte ∷ [] → value ≡ pos byte → IsInteger bytes value
   Negative : (byte : ℕ) → 0xe0 ≤ byte → bytes ≡ byte ∷ [] → value ≡ pos byte -ℤ pos 0x100 → IsInteger bytes value

@@ -38,7 +38,8 @@ abbrev pub IsLongOnly : Type 0
 IsLongOnly =
     (bytes : List ℕ) → (fault : IsFaulty TooLong bytes) → ((more : List ℕ) × Item deepest (fault.shortest ++ more)) × ((more : List ℕ) → Item deepest (fault.shortest ++ more) → longest < length (fault.shortest ++ more))
 
--- reading by recursion, of which the proofs speak: an item is read, whatever follows, and nothing else is
+-- reading by recursion, of which the proofs speak: an item is read, whatever follows, and nothing
+-- else is
 abbrev pub IsItemRead : Type 0
 IsItemRead = (depth : ℕ) (bytes rest : List ℕ) → (run depth bytes ≡ Ok rest) ↔ ((item : List ℕ) × Item depth item × (bytes ≡ item ++ rest))
 

@@ -16,7 +16,8 @@ counted_from before (scan.End end) = taken.End (end - before)
 counted_from before scan.Need = taken.Need
 counted_from before (scan.Bad fault) = taken.Bad fault
 
--- what is right to answer to a piece, behind the bytes that were seen before: what a scan of all of them answers
+-- what is right to answer to a piece, behind the bytes that were seen before: what a scan of all of
+-- them answers
 abbrev pub IsTaken : List ℕ → List ℕ → PieceScan → Type 0
 IsTaken seen piece answer = (whole : Scan) × IsScanned (seen ++ piece) 0 whole × (answer ≡ counted_from (length seen) whole)
 
@@ -32,7 +33,8 @@ abbrev pub owed : List ℕ → ℕ → ℕ
 owed counts zero = 0
 owed counts (suc k) = slice_index counts k + owed counts k
 
--- what is behind the missing items of the levels below k, of which the innermost has items of that depth
+-- what is behind the missing items of the levels below k, of which the innermost has items of that
+-- depth
 abbrev pub finish : List ℕ → ℕ → ℕ → List ℕ → Result (List ℕ) Stop
 finish counts depth zero bytes = Ok bytes
 finish counts depth (suc k) bytes = then_ (many (run depth) (slice_index counts k) bytes) (owed counts k) (finish counts (suc depth) k)
@@ -41,7 +43,8 @@ finish counts depth (suc k) bytes = then_ (many (run depth) (slice_index counts 
 abbrev pub Reads : List ℕ → List ℕ → ℕ → ℕ → Type 0
 Reads front missing depth levels = (back : List ℕ) → run deepest (front ++ back) ≡ finish missing depth levels back
 
--- the bytes up to i are read, on so many levels items are missing, and so many bytes may be added to the least end
+-- the bytes up to i are read, on so many levels items are missing, and so many bytes may be added
+-- to the least end
 pub record State (bytes : List ℕ) (at i : ℕ) (missing : List ℕ) (levels room : ℕ) : Type 0 where
   pub here : (depth : ℕ) → depth + levels ≡ 65 → Reads (slice_range bytes at i) missing depth levels
   pub size : length missing ≡ 65
@@ -54,7 +57,8 @@ pub record State (bytes : List ℕ) (at i : ℕ) (missing : List ℕ) (levels ro
 abbrev pub LacksBytes : List ℕ → Type 0
 LacksBytes bytes = (n : ℕ) × (front_of bytes ≡ Lacks n)
 
--- the bytes so far are whole scalars and headers, of whose items these are missing, and a part of the next
+-- the bytes so far are whole scalars and headers, of whose items these are missing, and a part of
+-- the next
 pub record IsBegun (s : Scanning) (seen : List ℕ) : Type 0 where
   pub done : ℕ
   pub state : State seen 0 done s.missing s.place.levels s.place.room

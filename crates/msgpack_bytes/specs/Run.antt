@@ -1,4 +1,5 @@
--- Items read from the front, by recursion on how deep they may nest: the form in which proofs use them.
+-- Items read from the front, by recursion on how deep they may nest: the form in which proofs use
+-- them.
 use Rattle.std.specs.Prelude.{ℕ, zero, suc, ◌+◌, ◌-◌, ◌*◌, ◌^◌, List, [], ◌∷◌, length, drop, Result, Ok, Err, nat_lt, if◌then◌else◌}
 use Rattle.msgpack_bytes.specs.declared.format.Shape.{Shape}
 use Rattle.msgpack_bytes.specs.declared.format.Shape.TheVariants.{Fixed, Sized, Holds, Counted, Never}

@@ -75,7 +75,8 @@ IsSmall step.Wrong = Unit {0}
 abbrev pub BeginsSame : ℕ → List ℕ → List ℕ → Type 0
 BeginsSame n xs ys = (k : ℕ) → k < n → slice_index xs k ≡ slice_index ys k
 
--- these bytes stand where the next item begins: `came` of them in earlier pieces, of which `front` has the first, and the others in the piece
+-- these bytes stand where the next item begins: `came` of them in earlier pieces, of which `front`
+-- has the first, and the others in the piece
 pub record IsNext (front : List ℕ) (came : ℕ) (piece : List ℕ) (at : ℕ) (all : List ℕ) : Type 0 where
   pub fresh : came ≡ 0 → all ≡ drop at piece
   pub size : 0 < came → length all ≡ came + length piece

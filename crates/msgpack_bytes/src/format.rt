@@ -64,7 +64,8 @@ pub struct Count {
     pub next: usize,
 }
 
-/// What the first bytes of an item tell, where those of its length or count that are missing count as 0.
+/// What the first bytes of an item tell, where those of its length or count that are missing count
+/// as 0.
 #[derive(Clone, Copy, Debug, Drop, PartialEq, Eq)]
 pub enum Told {
     /// A scalar of so many bytes.

@@ -45,7 +45,8 @@ fn read(bytes: &[u8], start: usize, first: u8, shape: Shape) -> Option<Head>
     }
 }
 
-// The content of a scalar of this shape, where all of it is there; the first byte is before `start`.
+// The content of a scalar of this shape, where all of it is there; the first byte is before
+// `start`.
 fn content(bytes: &[u8], start: usize, shape: Shape) -> Option<Span>
     requires start { start ≤ length bytes.now }
     requires fit { (first : ℕ) × IsFitShape first shape }

@@ -9,7 +9,8 @@ pub fn prefix_free()
     ensures one_front { HasOneFront }
 {}
 
-/// The parts of a container are items that nest one less deep; those of an item within the limits are within them too.
+/// The parts of a container are items that nest one less deep; those of an item within the limits
+/// are within them too.
 pub fn parts()
     ensures deeper { IsItemDeeper }
     ensures parts { HasParts }

@@ -26,8 +26,8 @@ const HEADER: usize = 5;
 
 /// A scan of one item whose bytes come in pieces: each piece is looked at once, whatever its size.
 ///
-/// It keeps how many items are missing on each level, and the first bytes of what is cut; it takes no memory.
-/// `IsAfter` ties it to the bytes that it was given so far, one piece after another.
+/// It keeps how many items are missing on each level, and the first bytes of what is cut; it takes
+/// no memory. `IsAfter` ties it to the bytes that it was given so far, one piece after another.
 #[derive(Drop)]
 pub struct Scanner {
     // How many items each level still lacks; a fixed stack, so that no input asks for memory.
@@ -68,8 +68,9 @@ impl Scanner {
         }
     }
 
-    /// Takes the next piece, and answers as `scan` does of all bytes so far, with the end counted from the piece's
-    /// first byte: 0 where the item ended before it. So `End` and `Bad` stay, whatever follows.
+    /// Takes the next piece, and answers as `scan` does of all bytes so far, with the end counted
+    /// from the piece's first byte: 0 where the item ended before it. So `End` and `Bad` stay,
+    /// whatever follows.
     pub fn take(&mut self, piece: &[u8]) -> PieceScan
         ensures right { (seen : List ℕ) → IsAfter self.old seen → IsTaken seen piece.now result }
         ensures only { (seen : List ℕ) → IsAfter self.old seen → (other : PieceScan) → IsTaken seen piece.now other → other ≡ result }
@@ -133,7 +134,8 @@ fn fill(front: &mut [u8; HEADER], came: usize, follow: &[u8])
     }
 }
 
-// The first bytes of what is cut, of which `came` bytes stood in earlier pieces and these in the last.
+// The first bytes of what is cut, of which `came` bytes stood in earlier pieces and these in the
+// last.
 fn kept(front: &[u8; HEADER], came: usize, rest: &[u8]) -> [u8; HEADER]
     ensures { (all : List ℕ) → (came ≡ 0 → all ≡ rest.now) → (0 < came → BeginsSame 5 front.now all) → BeginsSame 5 result all }
 {

@@ -9,9 +9,9 @@ use crate::format::{Container, ScanStep, Told};
 use crate::number::number_at;
 use crate::table::is_single;
 
-/// The step where the next item begins, of which `came` bytes stood in earlier pieces; the others are those of this
-/// piece from `at` on. `front` has the first five of all, with 0 for those that are missing, where some came before.
-/// `may_open` says whether a container may stand there.
+/// The step where the next item begins, of which `came` bytes stood in earlier pieces; the others
+/// are those of this piece from `at` on. `front` has the first five of all, with 0 for those that
+/// are missing, where some came before. `may_open` says whether a container may stand there.
 #[inline(always)]
 pub fn next_step(front: &[u8; 5], came: usize, piece: &[u8], at: usize, may_open: bool) -> ScanStep
     requires within { at ≤ length piece.now }
@@ -80,7 +80,8 @@ pub fn single(bytes: &[u8], at: usize) -> bool
     is_single(bytes[at])
 }
 
-/// What the item at `at` tells, by the first byte alone or with the bytes of a length or a count behind it.
+/// What the item at `at` tells, by the first byte alone or with the bytes of a length or a count
+/// behind it.
 #[inline(always)]
 #[tactic(auto, unfolding(crate::specs::Format::shape_of))]
 pub fn tell(bytes: &[u8], at: usize) -> Told
@@ -126,7 +127,8 @@ pub fn tell(bytes: &[u8], at: usize) -> Told
     }
 }
 
-// A scalar whose length has `width` bytes behind the first one, and whose content has `extra` bytes more.
+// A scalar whose length has `width` bytes behind the first one, and whose content has `extra` bytes
+// more.
 #[inline(always)]
 fn sized(bytes: &[u8], at: usize, width: usize, extra: usize) -> Told
     requires at { at < length bytes.now }

@@ -29,7 +29,8 @@ pub fn scan(bytes: &[u8], at: usize) -> Scan
     }
 }
 
-// Where the item ends that the bytes begin with. What has no end here has been looked at in vain, and is for the scanner.
+// Where the item ends that the bytes begin with. What has no end here has been looked at in vain,
+// and is for the scanner.
 #[inline(always)]
 fn scan_front(bytes: &[u8]) -> Scan
     ensures { IsScanned bytes.now 0 result }
@@ -53,7 +54,8 @@ fn scan_anew(bytes: &[u8]) -> Scan
     }
 }
 
-/// The index behind the item that the bytes begin with, which is whole where one is given; of other bytes `scan` says more.
+/// The index behind the item that the bytes begin with, which is whole where one is given; of other
+/// bytes `scan` says more.
 #[inline(always)]
 pub fn item_end(bytes: &[u8]) -> Option<usize>
     ensures { IfSome result (λ end. IsScanned bytes.now 0 (Scan.End end)) }
@@ -71,7 +73,8 @@ pub fn item_end(bytes: &[u8]) -> Option<usize>
     }
 }
 
-// The end of the container that the bytes begin with, whose header has `size` bytes, and which has so many items, if it is whole.
+// The end of the container that the bytes begin with, whose header has `size` bytes, and which has
+// so many items, if it is whole.
 #[inline(never)]
 fn items_end(bytes: &[u8], size: usize, items: u32) -> Option<usize>
     requires opens { ScanStep.Opens items size ≡ step_of true bytes.now }
@@ -79,14 +82,14 @@ fn items_end(bytes: &[u8], size: usize, items: u32) -> Option<usize>
     requires there { size + items ≤ length bytes.now }
     ensures { IfSome result (λ end. IsScanned bytes.now 0 (Scan.End end)) }
 {
-    // How many items each level still lacks outside the innermost, of which there are at most so many; a fixed stack,
-    // so that no input asks for memory.
+    // How many items each level still lacks outside the innermost, of which there are at most so
+    // many; a fixed stack, so that no input asks for memory.
     let mut missing = [0; DEEPEST];
     let mut levels = 2;
     // What the innermost level still lacks.
     let mut left = items;
-    // Where the innermost level has to end, so that each item that is missing outside it has room for one byte, both
-    // in what is there and in the longest item.
+    // Where the innermost level has to end, so that each item that is missing outside it has room
+    // for one byte, both in what is there and in the longest item.
     let mut limit = bytes.len().min(LONGEST);
     let mut i = size;
     loop {

@@ -10,7 +10,8 @@ use std::test::Fail;
 enum Act {
     // This is told of a place.
     Tell(usize, Notice),
-    // It is looked at this time what is to be said: this of a place, with so many left out, or nothing.
+    // It is looked at this time what is to be said: this of a place, with so many left out, or
+    // nothing.
     Say(u64, Option<(usize, Notice, u64)>),
 }
 

@@ -13,7 +13,8 @@ ten_digits n =
     digit n 1000000000 ∷ digit n 100000000 ∷ digit n 10000000 ∷ digit n 1000000 ∷ digit n 100000
     ∷ digit n 10000 ∷ digit n 1000 ∷ digit n 100 ∷ digit n 10 ∷ digit n 1 ∷ []
 
--- the name of a file: what all names begin with, a dot, the number in ten digits, a dot, and what all names end with
+-- the name of a file: what all names begin with, a dot, the number in ten digits, a dot, and what
+-- all names end with
 abbrev pub file_name : Family → ℕ → List ℕ
 file_name family number = family.path.now ++ 46 ∷ (ten_digits number ++ 46 ∷ family.kind.now)
 

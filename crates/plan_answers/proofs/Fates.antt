@@ -76,7 +76,8 @@ listed_all asked net w events lines lost told so_far = record {
   lost_is = so_far.lost_is;
 }
 
--- what is listed of a world in its network, in the network that it was run in, and so of what is asked there and of how many steps there were
+-- what is listed of a world in its network, in the network that it was run in, and so of what is
+-- asked there and of how many steps there were
 pub relisted : {A S E : Type 0} (asked asked' : Duty) (net net' : Network A) (steps steps' : ℕ) (listed : Result S E) (lines : S → List ℕ) (status : S → Status) (w : World)
     → asked ≡ asked' → net ≡ net' → steps ≡ steps'
     → IfOk listed (λ said. IsWorldListing asked net w steps (lines said) (status said)) → IfOk listed (λ said. IsWorldListing asked' net' w steps' (lines said) (status said))

@@ -1,4 +1,5 @@
--- From steps that were run in the network of a plan to what is said of the text that they come from.
+-- From steps that were run in the network of a plan to what is said of the text that they come
+-- from.
 use Rattle.std.proofs.Common.{Result, ℕ, List, length, inl}
 use Rattle.std.specs.Prelude.{IfOk}
 use Rattle.std.proofs.lemmas.Result.{IfOk-weaker}

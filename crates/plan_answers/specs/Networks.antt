@@ -24,7 +24,8 @@ use Rattle.program_text.specs.Texts.{IsTextOf}
 
 -- What is read.
 
--- The text of a plan, and of each configuration that it names, as they were read: `named` has what each name's text is, where that is known.
+-- The text of a plan, and of each configuration that it names, as they were read: `named` has what
+-- each name's text is, where that is known.
 pub record AreRead (net : Option (List ℕ)) (named : List ℕ → Option (List ℕ)) (text : List ℕ) (confs : List (List ℕ)) : Type 0 where
   pub net_is : IsTextOf net text
   pub confs_are : AllZip (λ name conf. IsTextOf (named name) conf) (confs_named text) confs

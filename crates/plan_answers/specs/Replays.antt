@@ -27,7 +27,8 @@ pub record Fate : Type 0 where
   pub told : Told
   pub is_held : Bool
 
--- These are the events of the world that were acknowledged to clients, in that order, each with what became of it.
+-- These are the events of the world that were acknowledged to clients, in that order, each with
+-- what became of it.
 pub record AreFates {A : Type 0} (asked : Duty) (net : Network A) (w : World) (fates : List Fate) : Type 0 where
   pub events : map (λ fate. fate.told) fates ≡ w.acknowledged
   pub held : All (λ fate. IsTrue fate.is_held ↔ IsKeptAs asked net w fate.told) fates
@@ -44,7 +45,8 @@ told_line is_held event = line (cond is_held (codes "held ") (codes "lost ") ++ 
 abbrev pub fate_line : Fate → List ℕ
 fate_line fate = told_line fate.is_held fate.told.event
 
--- the last line: how many steps were taken, how many events acknowledged, and how many of these are lost
+-- the last line: how many steps were taken, how many events acknowledged, and how many of these are
+-- lost
 abbrev pub summary_line : ℕ → ℕ → ℕ → List ℕ
 summary_line steps acknowledged lost = line (codes "steps " ++ decimal steps ++ codes " acknowledged " ++ decimal acknowledged ++ codes " lost " ++ decimal lost)
 
@@ -59,7 +61,8 @@ pub record AreListed {A : Type 0} (asked : Duty) (net : Network A) (w : World) (
   pub lines_are : lines ≡ flat_map fate_line fates
   pub lost_is : lost ≡ lost_among fates
 
--- The listing of a world after so many steps: a line for each event that was acknowledged, and the last line.
+-- The listing of a world after so many steps: a line for each event that was acknowledged, and the
+-- last line.
 pub record IsWorldListing {A : Type 0} (asked : Duty) (net : Network A) (w : World) (steps : ℕ) (written : List ℕ) (status : Status) : Type 0 where
   pub lines : List ℕ
   pub lost : ℕ
@@ -80,14 +83,16 @@ pub record IsRefusalLine (number : ℕ) (fault : StepFault) (written : List ℕ)
   pub lines : written ≡ line (codes "refused step " ++ decimal number ++ codes " " ++ code)
   pub is_status : status ≡ No
 
--- Where the answer is yes, the rules hold of the plan under which nothing is lost, with what it asks of each match.
+-- Where the answer is yes, the rules hold of the plan under which nothing is lost, with what it
+-- asks of each match.
 pub record IsYesEarned {A : Type 0} (plan : Subject A) (found : Answer) : Type 0 where
   pub rules : found ≡ answer.Yes → AreKeepingRulesKept plan.net plan.labels plan.reaches
   pub each_output : found ≡ answer.Yes → plan.duty ≡ duty.Every → EachOutputKeeps plan.net plan.reaches
 
--- The steps of the text were all taken in the network of a plan with this answer, and this is listed of what they lead to. In that world
--- nothing is made up, whatever the answer is; where it is yes, nothing that was acknowledged is lost, and, where the plan asks for it, each
--- branch keeps.
+-- The steps of the text were all taken in the network of a plan with this answer, and this is
+-- listed of what they lead to. In that world nothing is made up, whatever the answer is; where it
+-- is yes, nothing that was acknowledged is lost, and, where the plan asks for it, each branch
+-- keeps.
 pub record AreTaken {A : Type 0} (plan : Subject A) (found : Answer) (text written : List ℕ) (status : Status) : Type 0 where
   pub steps : List (Step A)
   pub read : SayAll (text_lines text) steps

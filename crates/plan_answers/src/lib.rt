@@ -1,4 +1,5 @@
-//! The words `check` and `replay`: what the checker says of a plan, and what becomes of the events that steps send.
+//! The words `check` and `replay`: what the checker says of a plan, and what becomes of the events
+//! that steps send.
 #![tactic(auto)]
 
 mod network;

@@ -1,4 +1,5 @@
-//! A plan is read whole and the checker's line printed; behind an answer steps are taken, and their listing is printed.
+//! A plan is read whole and the checker's line printed; behind an answer steps are taken, and their
+//! listing is printed.
 
 ghost use Rattle.std.specs.Prelude.{◌≡◌, ◌≤◌, ◌+◌, length, map, string_bytes, IfOk, IfErr};
 ghost use Rattle.std.specs.List.{AllZip};
@@ -15,9 +16,9 @@ use program_text::{
 use std::alloc::{AllocError, Allocator};
 use std::io::Write;
 
-/// Prints what the checker says of the plan that `net` gives, with the configurations that it names: its answer, or
-/// the plan's first fault. Each text is read whole before a fault of the plan is looked for, by 16,777,216 calls of its
-/// reader at most.
+/// Prints what the checker says of the plan that `net` gives, with the configurations that it
+/// names: its answer, or the plan's first fault. Each text is read whole before a fault of the plan
+/// is looked for, by 16,777,216 calls of its reader at most.
 pub fn run_check<A: Allocator + Copy, R: CountedRead, O: Open, W: Write>(
     alloc: A,
     net: &mut R,
@@ -33,10 +34,12 @@ pub fn run_check<A: Allocator + Copy, R: CountedRead, O: Open, W: Write>(
     }
 }
 
-/// Prints what `run_check` does. Where that is an answer, it takes the steps that `steps` gives in the plan's network, and prints
-/// what becomes of the events that were acknowledged, or why a step isn't taken; nothing of the steps is read before. In the world
-/// that the steps lead to, whatever a sink holds a client sent; where the answer is yes, each event that was acknowledged is held under a
-/// tag that it may bear, and kept along each branch of its way if the plan asks for that. So behind a yes each is printed as held.
+/// Prints what `run_check` does. Where that is an answer, it takes the steps that `steps` gives in
+/// the plan's network, and prints what becomes of the events that were acknowledged, or why a step
+/// isn't taken; nothing of the steps is read before. In the world that the steps lead to, whatever
+/// a sink holds a client sent; where the answer is yes, each event that was acknowledged is held
+/// under a tag that it may bear, and kept along each branch of its way if the plan asks for that.
+/// So behind a yes each is printed as held.
 ///
 /// Each of the two readers is called 16,777,216 times at most.
 pub fn run_replay<A: Allocator + Copy, R: CountedRead, S: CountedRead, O: Open, W: Write>(
@@ -167,7 +170,8 @@ pub fn read_confs<A: Allocator + Copy, O: Open>(
     Ok(confs)
 }
 
-// What becomes of the steps that are read, in the network of the plan, whichever answer the plan has.
+// What becomes of the steps that are read, in the network of the plan, whichever answer the plan
+// has.
 fn replay_read<A: Allocator + Copy, S: CountedRead>(
     alloc: A,
     plan: &Plan<A>,

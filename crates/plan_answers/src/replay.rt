@@ -18,10 +18,11 @@ pub struct Said<A: Allocator> {
     pub status: Status,
 }
 
-/// Takes the steps of the text, one after another, in the plan's network before its first step, and lists what becomes of
-/// the events that they acknowledge; or which step is refused first; or which line is of no step's form. The only
-/// error is want of memory. An event is lost where it isn't kept as the plan asks. Whichever answer the plan has: where a yes means that
-/// the plan keeps the rules, nothing is lost under a yes.
+/// Takes the steps of the text, one after another, in the plan's network before its first step, and
+/// lists what becomes of the events that they acknowledge; or which step is refused first; or which
+/// line is of no step's form. The only error is want of memory. An event is lost where it isn't
+/// kept as the plan asks. Whichever answer the plan has: where a yes means that the plan keeps the
+/// rules, nothing is lost under a yes.
 pub fn replay<A: Allocator + Copy>(
     alloc: A,
     plan: &Plan<A>,

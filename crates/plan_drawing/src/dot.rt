@@ -15,13 +15,13 @@ use std::alloc::{AllocError, Allocator};
 // What a red node or edge has.
 const RED: &str = "color=red, fontcolor=red, ";
 
-/// The plan as a graph in Graphviz's language, `digraph plan`: a cluster for each relay, a node for each client,
-/// source, scope, match and output, and edges along which tags go, with the tags where they come in at a client and
-/// where a match takes them. What stands in a line where a rule is broken is red; what is broken elsewhere is a red
-/// node of its own.
+/// The plan as a graph in Graphviz's language, `digraph plan`: a cluster for each relay, a node for
+/// each client, source, scope, match and output, and edges along which tags go, with the tags where
+/// they come in at a client and where a match takes them. What stands in a line where a rule is
+/// broken is red; what is broken elsewhere is a red node of its own.
 ///
-/// Names stand in quotes; only printed characters of ASCII are shown as they are. Each row is compared with each broken
-/// place. The only error is want of memory.
+/// Names stand in quotes; only printed characters of ASCII are shown as they are. Each row is
+/// compared with each broken place. The only error is want of memory.
 pub fn draw_dot<A: Allocator + Copy>(
     alloc: A,
     plan: &Plan<A>,
@@ -50,7 +50,8 @@ impl<A: Allocator + Copy> Sheet<'_, A> {
         Ok(())
     }
 
-    // Adds the node of a row, or the beginning of a relay's cluster behind the end of the one before.
+    // Adds the node of a row, or the beginning of a relay's cluster behind the end of the one
+    // before.
     fn put_node_or_cluster(
         &self,
         out: &mut Vec<u8, A>,
@@ -231,7 +232,8 @@ impl<A: Allocator + Copy> Sheet<'_, A> {
         self.put_edge(out, id, &to, b"", row)
     }
 
-    // Adds the edge of a server to the source where it leads; to no node of the plan, where it leads nowhere.
+    // Adds the edge of a server to the source where it leads; to no node of the plan, where it
+    // leads nowhere.
     fn put_server(
         &self,
         out: &mut Vec<u8, A>,

@@ -30,7 +30,8 @@ fn put_shown<A: Allocator>(text: &mut Vec<u8, A>, byte: u8) -> Result<(), AllocE
     }
 }
 
-/// Adds the bytes in quotes, as Graphviz reads them: with `\` in front of a quote or `\`, and ASCII alone.
+/// Adds the bytes in quotes, as Graphviz reads them: with `\` in front of a quote or `\`, and ASCII
+/// alone.
 pub(crate) fn put_quoted<A: Allocator + Copy>(
     alloc: A,
     out: &mut Vec<u8, A>,

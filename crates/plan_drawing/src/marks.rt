@@ -104,8 +104,8 @@ fn has_reach<A: Allocator + Copy>(plan: &Plan<A>, at: Entrance, index: usize, li
     false
 }
 
-// Whether the row stands in this line of the configuration of the relay at this place; an output in its match's line is
-// not asked.
+// Whether the row stands in this line of the configuration of the relay at this place; an output in
+// its match's line is not asked.
 fn is_of_conf_line<A: Allocator>(row: &Row<'_, A>, relay: usize, line: usize) -> bool {
     match row {
         Row::Source { place, source, .. } => *place == relay && source.line == line,

@@ -1,5 +1,5 @@
-//! What a picture shows of a plan, in the order in which it does: a row for each client, and for each relay with all
-//! that it has.
+//! What a picture shows of a plan, in the order in which it does: a row for each client, and for
+//! each relay with all that it has.
 
 use plan_lines::Plan;
 use relay_conf::{MatchRule, Output, Scope, Server, Source};
@@ -57,8 +57,8 @@ pub(crate) enum Row<'a, A: Allocator> {
 /// Rows, in the order in which they are shown.
 pub(crate) type Rows<'a, A> = Vec<Row<'a, A>, A>;
 
-/// All rows of the plan: the clients, then each relay with its sources, and its scopes with their matches and what
-/// these have.
+/// All rows of the plan: the clients, then each relay with its sources, and its scopes with their
+/// matches and what these have.
 pub(crate) fn rows_of<A: Allocator + Copy>(
     alloc: A,
     plan: &Plan<A>,

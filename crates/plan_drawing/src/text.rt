@@ -14,13 +14,13 @@ use std::alloc::{AllocError, Allocator};
 // Where what is said of a row begins.
 const NOTE_COLUMN: usize = 48;
 
-/// The plan as lines of text: each client and where it comes in, then each relay with its sources and scopes, the
-/// matches of a scope with the tags that reach them, and each output with whether it keeps and where its servers lead.
-/// Behind the line of what stands in a line where a rule is broken there is a mark, `! K6 is broken here`; what is
-/// broken elsewhere is marked at the end.
+/// The plan as lines of text: each client and where it comes in, then each relay with its sources
+/// and scopes, the matches of a scope with the tags that reach them, and each output with whether
+/// it keeps and where its servers lead. Behind the line of what stands in a line where a rule is
+/// broken there is a mark, `! K6 is broken here`; what is broken elsewhere is marked at the end.
 ///
-/// Only printed characters of ASCII are shown as they are. Each row is compared with each broken place. The only error
-/// is want of memory.
+/// Only printed characters of ASCII are shown as they are. Each row is compared with each broken
+/// place. The only error is want of memory.
 pub fn draw_text<A: Allocator + Copy>(
     alloc: A,
     plan: &Plan<A>,

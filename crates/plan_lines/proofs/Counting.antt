@@ -128,7 +128,8 @@ one_more_name line = by (conf_named line) refl
 pub names_counted : (line : List ℕ) → (line_form line ≡ no_form → ⊥) → length (filter_map conf_named (line ∷ [])) ≡ confs_in (line_form line)
 names_counted line formed = one_more_name line ∙ one_line line formed
 
--- where as many relays stand before the line as configurations are named there, a relay's line has its own
+-- where as many relays stand before the line as configurations are named there, a relay's line has
+-- its own
 pub has_its_conf : (line : List ℕ) (before others : List (List ℕ)) (relays : ℕ) → relays ≡ length (filter_map conf_named before)
     → HasItsConf (line_form line) relays (length (filter_map conf_named (before ++ line ∷ others)))
 has_its_conf line before others relays e = by (line_form line) refl

@@ -67,7 +67,8 @@ NamesNone plan _ = ⊥
 abbrev pub HasRelayFault : List ℕ → RelayFault → Type 0
 HasRelayFault text fault = (elements : List Tree) × IsConfiguration text elements × IsRelayRefusal elements (relay_error.Fault fault)
 
--- a fault of a configuration, which this line names: of its text, of what its elements say, or that memory ran out
+-- a fault of a configuration, which this line names: of its text, of what its elements say, or that
+-- memory ran out
 abbrev pub IsTextFault : ℕ → List ℕ → PlanError → Type 0
 IsTextFault line text (error.BadText n fault) = (n ≡ line) × HasTextFault text fault.kind fault.line
 IsTextFault line text (error.BadRelay n fault) = (n ≡ line) × HasRelayFault text fault
@@ -89,7 +90,8 @@ Refuses confs line form plan (error.BadText n fault) = (n ≡ line) × OfItsConf
 Refuses confs line form plan (error.BadRelay n fault) = (n ≡ line) × OfItsConf confs plan form (λ text. HasRelayFault text fault)
 Refuses confs line form plan error.Memory = Unit {0}
 
--- Of the text's lines one can't stand where it does, and those before it say a plan: it is the first such line.
+-- Of the text's lines one can't stand where it does, and those before it say a plan: it is the
+-- first such line.
 pub record IsRefusedLine (A : Type 0) (text : List ℕ) (confs : List (List ℕ)) (fault : PlanError) : Type 0 where
   pub before : List (List ℕ)
   pub refused : List ℕ

@@ -10,8 +10,8 @@ use Rattle.loss_rules.specs.declared.label.Duty.TheVariants.{Any, Every}
 use Rattle.relay_faults.specs.Examined.{words_of}
 use Rattle.text_lines.specs.Lines.{text_lines}
 
--- What a line is by its fields: it says nothing, names a relay, a client, tags that may reach a scope or a match, says what is asked of
--- matches, or is none of these.
+-- What a line is by its fields: it says nothing, names a relay, a client, tags that may reach a
+-- scope or a match, says what is asked of matches, or is none of these.
 pub data LineForm : Type 0 where
   nothing : LineForm
   a_relay : (number host folder conf : List ℕ) → LineForm

@@ -10,8 +10,8 @@ use Rattle.plan_lines.specs.declared.parts.PlanParts.{PlanParts}
 abbrev pub plan_of : {A : Type 0} → PlanParts A → Subject A
 plan_of parts = record { net = network parts.relays.items parts.clients.items; relay_lines = parts.relay_lines.items; client_lines = parts.client_lines.items; labels = parts.labels.items; reaches = parts.reaches.items; duty = parts.duty }
 
--- Nothing is missing, and nothing is there twice: each client sends to a source, each relay and each client has a line, and no two outputs of
--- a relay share a buffer.
+-- Nothing is missing, and nothing is there twice: each client sends to a source, each relay and
+-- each client has a line, and no two outputs of a relay share a buffer.
 pub record IsWhole {A : Type 0} (plan : Subject A) : Type 0 where
   pub enter : all_enter plan.net.relays plan.net.clients ≡ true
   pub relay_lines : length plan.relay_lines ≡ length plan.net.relays

@@ -29,8 +29,8 @@ network relays clients = record { relays = relays; clients = clients }
 abbrev pub empty_plan : (A : Type 0) → Subject A
 empty_plan A = record { net = network [] []; relay_lines = []; client_lines = []; labels = []; reaches = []; duty = duty.Any }
 
--- Where the relay, the scope or the match stands that a line names. Relays and matches are counted from 0, and so are
--- scopes, of which the main one is the first.
+-- Where the relay, the scope or the match stands that a line names. Relays and matches are counted
+-- from 0, and so are scopes, of which the main one is the first.
 
 -- the name of the scope that a field means: `.` is the main scope, whose name is empty
 abbrev pub scope_name : List ℕ → List ℕ
@@ -109,8 +109,8 @@ Adds confs line (a_reach number scope index patterns) before after = AddsReach l
 Adds confs line (a_duty asked) before after = after ≡ record before { duty = asked }
 Adds confs line no_form before after = ⊥
 
--- These lines, from the first of the text on, say this plan: no lines say nothing, and each line adds to what those
--- before it say. Lines are counted from 1.
+-- These lines, from the first of the text on, say this plan: no lines say nothing, and each line
+-- adds to what those before it say. Lines are counted from 1.
 pub data Say {A : Type 0} (confs : List (List ℕ)) : List (List ℕ) → Subject A → Type 0 where
   none : Say confs [] (empty_plan A)
   one_more : {lines : List (List ℕ)} {before after : Subject A} (line : List ℕ)

@@ -314,7 +314,8 @@ fn source_of<A: Allocator>(relay: &Relay<A>, port: u64) -> Option<&Source<A>>
         .find(|source| u64::from(source.port) == port)
 }
 
-/// The place of the scope that a word means, in the relay: of equal names the first; `.` is the main scope.
+/// The place of the scope that a word means, in the relay: of equal names the first; `.` is the
+/// main scope.
 pub fn scope_of<A: Allocator>(relay: &Relay<A>, word: &str) -> Option<usize>
     ensures { result ≡ meant_scope relay.now word.now }
 {

@@ -6,8 +6,8 @@ use std::alloc::{AllocError, AllocFailed};
 use std::error::Error;
 use std::fmt;
 
-/// Why a plan wasn't read. Lines of the plan are counted from 1. Prints its code and its line, as `N1 line 3`, and
-/// behind them a configuration's own fault, as `N5 line 1 G3 line 3`; or `memory`.
+/// Why a plan wasn't read. Lines of the plan are counted from 1. Prints its code and its line, as
+/// `N1 line 3`, and behind them a configuration's own fault, as `N5 line 1 G3 line 3`; or `memory`.
 #[derive(Clone, Copy, Debug, PartialEq, Eq)]
 pub enum PlanError {
     /// A line of none of the forms, or one that isn't UTF-8.

@@ -10,8 +10,9 @@ use std::alloc::{AllocError, Allocator};
 use std::str;
 use text_lines::lines;
 
-/// The configurations that a plan names, lent from its text: the last field of each line of five fields that is
-/// UTF-8 and begins with `relay`, in the order of the lines. The error is want of memory.
+/// The configurations that a plan names, lent from its text: the last field of each line of five
+/// fields that is UTF-8 and begins with `relay`, in the order of the lines. The error is want of
+/// memory.
 pub fn conf_names<'t, A: Allocator + Copy>(
     alloc: A,
     net: &'t [u8],

@@ -14,7 +14,8 @@ use relay_net::{Client, Node};
 use std::alloc::Allocator;
 use text_lines::lines;
 
-/// What the lines of a plan say, each kind in the order of its lines. `Plan::of_parts` makes a plan of it.
+/// What the lines of a plan say, each kind in the order of its lines. `Plan::of_parts` makes a plan
+/// of it.
 #[derive(Drop)]
 pub struct PlanParts<A: Allocator> {
     /// The relays.

@@ -14,8 +14,8 @@ use relay_net::Net;
 use std::alloc::{AllocError, Allocator};
 use std::marker::Model;
 
-/// A network of relays with its clients, the tags that may reach each scope and each match, and what is asked of matches. To contracts it is what
-/// the rules of a network speak of.
+/// A network of relays with its clients, the tags that may reach each scope and each match, and
+/// what is asked of matches. To contracts it is what the rules of a network speak of.
 #[derive(Drop)]
 pub struct Plan<A: Allocator> {
     net: Net<A>,
@@ -39,21 +39,23 @@ impl<A: Allocator> Model for Plan<A> {
 }
 
 impl<A: Allocator + Copy> Plan<A> {
-    /// Reads a plan, of which these are the configurations that it names: one for each name that `conf_names` gives,
-    /// in their order. Lines are UTF-8 and end with LF, a CR before it is dropped; their fields are parted by spaces and
-    /// tabs. Empty lines and lines that begin with `#` say nothing, and each other line is one of these:
+    /// Reads a plan, of which these are the configurations that it names: one for each name that
+    /// `conf_names` gives, in their order. Lines are UTF-8 and end with LF, a CR before it is
+    /// dropped; their fields are parted by spaces and tabs. Empty lines and lines that begin with
+    /// `#` say nothing, and each other line is one of these:
     ///
-    /// - `relay NUMBER HOST FOLDER CONF`: a relay. The number is at most 4,294,967,295; of equal ones the first is
-    ///   meant. The folder is letters, digits, `_` and `-`.
+    /// - `relay NUMBER HOST FOLDER CONF`: a relay. The number is at most 4,294,967,295; of equal
+    ///   ones the first is meant. The folder is letters, digits, `_` and `-`.
     /// - `client NUMBER PORT PATTERN ..`: clients that send tags of these patterns to that source.
     /// - `label NUMBER SCOPE PATTERN ..`: tags that may reach the scope; `.` is the main scope.
-    /// - `reach NUMBER SCOPE INDEX PATTERN ..`: tags that may reach the match of the scope, counted from 0.
-    /// - `duty any` or `duty every`: whether one output of each reached match has to keep, or each. The last one counts; without one it
-    ///   is `any`.
+    /// - `reach NUMBER SCOPE INDEX PATTERN ..`: tags that may reach the match of the scope, counted
+    ///   from 0.
+    /// - `duty any` or `duty every`: whether one output of each reached match has to keep, or each.
+    ///   The last one counts; without one it is `any`.
     ///
-    /// A relay stands before those that name it. An error is that of the first line that can't stand where it does: one
-    /// of another form, then a bad number, a fault of its configuration, something that isn't there, and a bad pattern.
-    /// The only other error is `Memory`.
+    /// A relay stands before those that name it. An error is that of the first line that can't
+    /// stand where it does: one of another form, then a bad number, a fault of its configuration,
+    /// something that isn't there, and a bad pattern. The only other error is `Memory`.
     pub fn read(alloc: A, net: &[u8], confs: &[Vec<u8, A>]) -> Result<Plan<A>, PlanError>
         requires { length confs.now ≡ length (confs_named net.now) }
         ensures plan { IfOk result (λ plan. IsPlanOf net.now (texts confs.now) plan) }
@@ -90,7 +92,8 @@ impl<A: Allocator + Copy> Plan<A> {
         }
     }
 
-    /// The network: its relays and its clients, in the order of their lines. No two outputs of a relay share a buffer.
+    /// The network: its relays and its clients, in the order of their lines. No two outputs of a
+    /// relay share a buffer.
     pub fn net(&self) -> &Net<A>
         ensures net { result.now ≡ self.now.net }
         ensures distinct { BuffersAreDistinct self.now.net }

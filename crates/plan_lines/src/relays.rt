@@ -11,7 +11,8 @@ use std::alloc::{AllocError, Allocator};
 use std::collections::BTreeMap;
 use std::marker::Model;
 
-/// Relays in the order of their lines. Each call takes steps by the logarithm of how many there are. To contracts it is their list.
+/// Relays in the order of their lines. Each call takes steps by the logarithm of how many there
+/// are. To contracts it is their list.
 #[derive(Drop)]
 pub(crate) struct Relays<A: Allocator> {
     nodes: Vec<Node<A>, A>,
@@ -85,7 +86,8 @@ impl<A: Allocator + Copy> Relays<A> {
     }
 }
 
-// Notes that the relay with this number stands at this place, unless one with the number stands before it.
+// Notes that the relay with this number stands at this place, unless one with the number stands
+// before it.
 fn note<A: Allocator + Copy>(
     places: &mut BTreeMap<u32, usize, A>,
     number: u32,

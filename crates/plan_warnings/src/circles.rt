@@ -10,8 +10,8 @@ use loss_rules::line_of;
 use relay_conf::{MatchRule, Output};
 use std::alloc::{AllocError, Allocator};
 
-/// Warns of each circle of forwards, with each relay that is on it once; these are the servers that lead to relays of the plan. The only error
-/// is want of memory.
+/// Warns of each circle of forwards, with each relay that is on it once; these are the servers that
+/// lead to relays of the plan. The only error is want of memory.
 pub(crate) fn put_circles<A: Allocator + Copy>(
     about: &Subject<'_, A>,
     links: &[Link<'_, A>],
@@ -42,8 +42,8 @@ fn put_along<A: Allocator + Copy>(
     Ok(())
 }
 
-// Warns of the circle that this reach is on, if it is on one, and takes the marks of those on it: of those ahead of it, from which
-// one comes to it.
+// Warns of the circle that this reach is on, if it is on one, and takes the marks of those on it:
+// of those ahead of it, from which one comes to it.
 fn put_circle<A: Allocator + Copy>(
     about: &Subject<'_, A>,
     start: usize,

@@ -24,8 +24,8 @@ pub(crate) enum Steps {
     Relabels,
 }
 
-/// For each reach of the plan those that its events may come to by one of these steps; none for those of relays without a mark here. The only
-/// error is want of memory.
+/// For each reach of the plan those that its events may come to by one of these steps; none for
+/// those of relays without a mark here. The only error is want of memory.
 pub(crate) fn flow<A: Allocator + Copy>(
     about: &Subject<'_, A>,
     steps: Steps,
@@ -89,7 +89,8 @@ fn add_of_output<A: Allocator + Copy>(
     }
 }
 
-/// Adds those that the events of the reach may come to behind these servers. The only error is want of memory.
+/// Adds those that the events of the reach may come to behind these servers. The only error is want
+/// of memory.
 pub(crate) fn add_of_servers<A: Allocator + Copy>(
     about: &Subject<'_, A>,
     reach: &Reach<A>,

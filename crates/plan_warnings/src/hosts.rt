@@ -5,8 +5,8 @@ use crate::notes::Notes;
 use crate::subject::Subject;
 use std::alloc::{AllocError, Allocator};
 
-/// Warns of each server whose host is no address of its own machine, while its source listens on such a one alone. The
-/// only error is want of memory.
+/// Warns of each server whose host is no address of its own machine, while its source listens on
+/// such a one alone. The only error is want of memory.
 pub(crate) fn put_hosts<A: Allocator + Copy>(
     about: &Subject<'_, A>,
     links: &[Link<'_, A>],

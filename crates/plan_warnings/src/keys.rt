@@ -6,7 +6,8 @@ use crate::subject::Subject;
 use relay_conf::Security;
 use std::alloc::{AllocError, Allocator};
 
-/// Warns of each server at which another key is asked for than the output has. The only error is want of memory.
+/// Warns of each server at which another key is asked for than the output has. The only error is
+/// want of memory.
 pub(crate) fn put_keys<A: Allocator + Copy>(
     about: &Subject<'_, A>,
     links: &[Link<'_, A>],

@@ -1,4 +1,5 @@
-//! Warnings beside a yes: what may keep events from arriving, or let them arrive for ever, where none is lost.
+//! Warnings beside a yes: what may keep events from arriving, or let them arrive for ever, where
+//! none is lost.
 #![tactic(auto)]
 
 mod circles;

@@ -12,8 +12,8 @@ use relay_conf::{BufferSettings, MatchRule, Output};
 use relay_net::settings as buffer_of;
 use std::alloc::{AllocError, Allocator};
 
-/// Warns of each output whose chunks may be greater than what a buffer takes that they come to, by the servers and from
-/// there by relabels. The only error is want of memory.
+/// Warns of each output whose chunks may be greater than what a buffer takes that they come to, by
+/// the servers and from there by relabels. The only error is want of memory.
 pub(crate) fn put_limits<A: Allocator + Copy>(
     about: &Subject<'_, A>,
     forwards: &[Forward<'_, A>],
@@ -97,7 +97,8 @@ fn put_of_forward<A: Allocator + Copy>(
     Ok(())
 }
 
-// The outputs of the matches of these reaches, by relays in the order of the plan and then by lines.
+// The outputs of the matches of these reaches, by relays in the order of the plan and then by
+// lines.
 fn outputs_of<'a, A: Allocator + Copy>(
     about: &Subject<'a, A>,
     reaches: &[usize],

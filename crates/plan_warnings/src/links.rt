@@ -17,7 +17,8 @@ pub(crate) struct Forward<'a, A: Allocator> {
     pub settings: &'a ForwardSettings<A>,
 }
 
-/// A server of such an output, and the source of the plan that it leads to, with the place of that one's relay.
+/// A server of such an output, and the source of the plan that it leads to, with the place of that
+/// one's relay.
 #[derive(Clone, Copy)]
 pub(crate) struct Link<'a, A: Allocator> {
     pub from: Forward<'a, A>,
@@ -58,7 +59,8 @@ fn add_forwards<'a, A: Allocator + Copy>(
     Ok(())
 }
 
-/// The servers of these outputs that lead to a source of the plan, in that order. The only error is want of memory.
+/// The servers of these outputs that lead to a source of the plan, in that order. The only error is
+/// want of memory.
 pub(crate) fn links<'a, A: Allocator + Copy>(
     about: &Subject<'a, A>,
     forwards: &[Forward<'a, A>],
@@ -70,7 +72,8 @@ pub(crate) fn links<'a, A: Allocator + Copy>(
     Ok(found)
 }
 
-/// For each relay of a network of so many those that it forwards to by these servers, by their places. The only error is want of memory.
+/// For each relay of a network of so many those that it forwards to by these servers, by their
+/// places. The only error is want of memory.
 pub(crate) fn relays_ahead<A: Allocator + Copy>(
     alloc: A,
     count: usize,

@@ -48,7 +48,8 @@ impl<A: Allocator + Copy> Notes<A> {
         self.put(about.alloc, front.as_bytes())
     }
 
-    /// Adds where that is: this line of the configuration of the relay at this place, and what stands there.
+    /// Adds where that is: this line of the configuration of the relay at this place, and what
+    /// stands there.
     pub fn put_place(
         &mut self,
         about: &Subject<'_, A>,

@@ -1,4 +1,5 @@
-//! What may be on a circle: steps that come from nowhere are taken away, again and again, and those that lead nowhere.
+//! What may be on a circle: steps that come from nowhere are taken away, again and again, and those
+//! that lead nowhere.
 
 use crate::flow::Numbers;
 use crate::search::{is_marked, next_of, put_mark};
@@ -32,8 +33,8 @@ fn add_back<A: Allocator>(
     Ok(())
 }
 
-/// Of each whether it is on a circle, or one comes to it from a circle and from it to a circle. The only error is want
-/// of memory.
+/// Of each whether it is on a circle, or one comes to it from a circle and from it to a circle. The
+/// only error is want of memory.
 pub(crate) fn between_circles<A: Allocator + Copy>(
     alloc: A,
     flow: &[Numbers<A>],
@@ -49,8 +50,8 @@ pub(crate) fn between_circles<A: Allocator + Copy>(
     Ok(between)
 }
 
-// Of each whether it is on a circle, or one comes to it from a circle: what is left where those to which no step leads
-// are taken away with their own steps, again and again.
+// Of each whether it is on a circle, or one comes to it from a circle: what is left where those to
+// which no step leads are taken away with their own steps, again and again.
 fn behind_circles<A: Allocator + Copy>(
     alloc: A,
     flow: &[Numbers<A>],

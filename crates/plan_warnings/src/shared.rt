@@ -10,7 +10,8 @@ use std::collections::BTreeMap;
 // How many of such relays are shown.
 const MOST_SHOWN: usize = 3;
 
-// The relays that have a configuration, by their places, and whether an output has some of them as its servers, and others not.
+// The relays that have a configuration, by their places, and whether an output has some of them as
+// its servers, and others not.
 #[derive(Drop)]
 struct Alike<A: Allocator> {
     places: Numbers<A>,
@@ -20,9 +21,10 @@ struct Alike<A: Allocator> {
 // The relays of each configuration, by its name.
 type ByName<'t, A> = BTreeMap<&'t str, Alike<A>, A>;
 
-/// Warns of each configuration, by the order of the names, that several relays have which aren't all servers of the same outputs, as
-/// a hub and its spare are: where a line of the plan was copied and its file's name was left, the wrong relay was looked at. These are
-/// the plan's links. The only error is want of memory.
+/// Warns of each configuration, by the order of the names, that several relays have which aren't
+/// all servers of the same outputs, as a hub and its spare are: where a line of the plan was copied
+/// and its file's name was left, the wrong relay was looked at. These are the plan's links. The
+/// only error is want of memory.
 pub(crate) fn put_shared<A: Allocator + Copy>(
     about: &Subject<'_, A>,
     links: &[Link<'_, A>],
@@ -88,7 +90,8 @@ fn part_all<'t, A: Allocator + Copy>(
     Ok(())
 }
 
-// Notes the relays of each configuration of which some are among these servers of an output, and some aren't.
+// Notes the relays of each configuration of which some are among these servers of an output, and
+// some aren't.
 fn part<'t, A: Allocator + Copy>(
     about: &Subject<'t, A>,
     servers: &[usize],

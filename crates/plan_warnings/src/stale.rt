@@ -7,8 +7,9 @@ use loss_rules::Reach;
 use plan_lines::Plan;
 use std::alloc::{AllocError, Allocator};
 
-/// Adds what is said of each `reach` of the plan that has no tag in common with its match, as one that was written for another
-/// configuration; in the order of the plan. The only error is want of memory.
+/// Adds what is said of each `reach` of the plan that has no tag in common with its match, as one
+/// that was written for another configuration; in the order of the plan. The only error is want of
+/// memory.
 pub(crate) fn put_stale<A: Allocator + Copy>(
     about: &Subject<'_, A>,
     notes: &mut Notes<A>,

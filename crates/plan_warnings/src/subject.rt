@@ -5,7 +5,8 @@ use plan_lines::Plan;
 use rule_advice::Texts;
 use std::alloc::{AllocError, Allocator};
 
-/// A plan, the texts that it was read from, and for each of its relays the numbers of the relay's reaches.
+/// A plan, the texts that it was read from, and for each of its relays the numbers of the relay's
+/// reaches.
 #[derive(Drop)]
 pub(crate) struct Subject<'a, A: Allocator> {
     pub alloc: A,
@@ -29,7 +30,8 @@ impl<'a, A: Allocator + Copy> Subject<'a, A> {
         })
     }
 
-    /// The numbers of the reaches of the relay at this place, counted from 0 in the order of the plan.
+    /// The numbers of the reaches of the relay at this place, counted from 0 in the order of the
+    /// plan.
     pub fn reaches_of(&self, place: usize) -> &[usize] {
         match self.reaches.get(place) {
             Some(numbers) => numbers.as_slice(),

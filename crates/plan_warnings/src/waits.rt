@@ -8,8 +8,8 @@ use std::alloc::{AllocError, Allocator};
 // The longest wait for an acknowledgement that isn't warned of, in seconds.
 const LONG_WAIT: u64 = 60;
 
-/// Warns of each output with several servers that waits for an acknowledgement for more than a minute. The only error
-/// is want of memory.
+/// Warns of each output with several servers that waits for an acknowledgement for more than a
+/// minute. The only error is want of memory.
 pub(crate) fn put_waits<A: Allocator + Copy>(
     about: &Subject<'_, A>,
     forwards: &[Forward<'_, A>],

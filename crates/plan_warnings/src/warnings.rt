@@ -17,11 +17,12 @@ use plan_lines::Plan;
 use rule_advice::Texts;
 use std::alloc::{AllocError, Allocator};
 
-/// Adds to the lines what may keep events of this plan from arriving, or let them arrive for ever, though none is lost:
-/// circles of forwards, keys that differ, sources that their own machine alone reaches, buffers that are too small for
-/// what is sent to them, long waits for a silent server, configurations that several relays have, and reaches that have
-/// nothing in common with their matches. Each line begins with `#`; where there is nothing to warn of, none is added. The
-/// only error is want of memory, which leaves the lines as they were.
+/// Adds to the lines what may keep events of this plan from arriving, or let them arrive for ever,
+/// though none is lost: circles of forwards, keys that differ, sources that their own machine alone
+/// reaches, buffers that are too small for what is sent to them, long waits for a silent server,
+/// configurations that several relays have, and reaches that have nothing in common with their
+/// matches. Each line begins with `#`; where there is nothing to warn of, none is added. The only
+/// error is want of memory, which leaves the lines as they were.
 pub fn put_warnings<A: Allocator + Copy>(
     alloc: A,
     plan: &Plan<A>,
@@ -36,9 +37,10 @@ pub fn put_warnings<A: Allocator + Copy>(
     lines.extend_from_slice(notes.bytes())
 }
 
-/// Adds to the lines what `put_warnings` says of reaches that have nothing in common with their matches, and nothing else: labels that
-/// were derived from such a line may be what breaks a rule. Each line begins with `#`. The only error is want of memory, which leaves
-/// the lines as they were.
+/// Adds to the lines what `put_warnings` says of reaches that have nothing in common with their
+/// matches, and nothing else: labels that were derived from such a line may be what breaks a rule.
+/// Each line begins with `#`. The only error is want of memory, which leaves the lines as they
+/// were.
 pub fn put_stale_reaches<A: Allocator + Copy>(
     alloc: A,
     plan: &Plan<A>,

@@ -51,7 +51,8 @@ module _ {A : Type 0} (net : Network A) (here : Sending) (at : Entrance) (enters
       let l = leaf_of leaves n.leads.buffer ((are n.leads.buffer).1 comes.leaf) in
       (l.0, l.1, (subst (λ b. SendsTo net at.relay b next.address) (sym l.2) sends, n.leads.borne_is ∙ sym is))
 
--- The events of a message go on in none where it doesn't come in, where they bear too long a tag, and where their way is a loop.
+-- The events of a message go on in none where it doesn't come in, where they bear too long a tag,
+-- and where their way is a loop.
 module _ {A : Type 0} (net : Network A) (here next : Sending) where
   pub no_entrance : entrance net here.address ≡ None → GoesOn net here next → ⊥
   no_entrance none n = absurd (let enters = n.leads.enters in cc)

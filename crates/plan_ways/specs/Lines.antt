@@ -47,14 +47,16 @@ abbrev pub way_text : {A B : Type 0} → Network A → ℕ → Way B → List �
 way_text net place (Leaves buffers) = buffers_text net place (numbers_of buffers.items)
 way_text net place Loop = codes " loop"
 
--- The events bear this tag, of at most 1,024 bytes, in the relay, they go this way there, and this is the text of both.
+-- The events bear this tag, of at most 1,024 bytes, in the relay, they go this way there, and this
+-- is the text of both.
 pub record IsWayText {A : Type 0} (net : Network A) (at : Entrance) (tag text : List ℕ) : Type 0 where
   pub short : length tag ≤ most_tag_bytes
   pub way : Way A
   pub is_way : IsWay (table_at net at.relay) tag at.scope way
   pub text_is : text ≡ codes " " ++ tag ++ way_text net at.relay way
 
--- what stands behind the relay's folder: the tag that the events of the message bear there, with its way, or that it is too long for one
+-- what stands behind the relay's folder: the tag that the events of the message bear there, with
+-- its way, or that it is too long for one
 abbrev pub IsBehind : {A : Type 0} → Network A → Entrance → (borne text : List ℕ) → Type 0
 IsBehind net at borne text = ((most_tag_bytes < length borne) × (text ≡ codes " is no tag")) ⊎ IsWayText net at borne text
 
@@ -62,7 +64,8 @@ IsBehind net at borne text = ((most_tag_bytes < length borne) × (text ≡ codes
 abbrev pub folder_at : {A : Type 0} → Subject A → ℕ → List ℕ
 folder_at plan place = option_map_or (λ line. string_bytes line.folder) (slice_get plan.relay_lines place) []
 
--- A message comes in at a relay, and this is said of it: the relay's folder, and what stands behind it.
+-- A message comes in at a relay, and this is said of it: the relay's folder, and what stands behind
+-- it.
 pub record ComesIn {A : Type 0} (plan : Subject A) (sent : Sending) (text : List ℕ) : Type 0 where
   pub at : Entrance
   pub enters : entrance plan.net sent.address ≡ Some at
@@ -90,8 +93,9 @@ abbrev pub last_note : Bool → List ℕ
 last_note true = []
 last_note false = line (codes "# what follows isn't listed")
 
--- The messages with these tags that the plan's clients send, and those on the way from them, have a line each, and behind these each of the tags
--- that no client sends; a last line says so where there are more messages.
+-- The messages with these tags that the plan's clients send, and those on the way from them, have a
+-- line each, and behind these each of the tags that no client sends; a last line says so where
+-- there are more messages.
 pub record AreWays {A : Type 0} (plan : Subject A) (tags : List (List ℕ)) (lines : List ℕ) : Type 0 where
   pub starts : List Sending
   pub start : Adds (IsOfClient plan.net tags) [] starts
@@ -118,6 +122,7 @@ pub record PrintsNoPlan (A : Type 0) (net : Option (List ℕ)) (named : List ℕ
   pub is_stop : IsStopOf A net named stopped
   pub printed : PrintsStop stopped old new status
 
--- all that `ways` does to a writer with a plan, and its status: the ways, or why no plan is read, or that memory ran out
+-- all that `ways` does to a writer with a plan, and its status: the ways, or why no plan is read,
+-- or that memory ran out
 abbrev pub PrintsPlanWays : (A : Type 0) → Option (List ℕ) → (List ℕ → Option (List ℕ)) → List (List ℕ) → (old new : Option (List ℕ)) → Status → Type 0
 PrintsPlanWays A net named tags old new status = PrintsListing A net named tags old new status ⊎ (PrintsNoPlan A net named old new status ⊎ IsPrinted old new memory_line Usage status)

@@ -21,7 +21,8 @@ sending address tag = record { address = address; tag = tag }
 abbrev pub Through : {X Y : Type 0} → (X → Y → Type 0) → List X → Y → Type 0
 Through {X} P xs y = (x : X) × Contains xs x × P x y
 
--- To this address goes a message with this tag, of at most 1,024 bytes, which one of the patterns has.
+-- To this address goes a message with this tag, of at most 1,024 bytes, which one of the patterns
+-- has.
 pub record IsSentUnder (patterns : List (List Item)) (address : Address) (tag : List ℕ) (sent : Sending) : Type 0 where
   pub short : length tag ≤ most_tag_bytes
   pub has : HaveTag patterns tag
@@ -45,11 +46,13 @@ pub data IsOnItsWay {A : Type 0} (net : Network A) (starts : List Sending) : Sen
   begun : {one : Sending} → Contains starts one → IsOnItsWay net starts one
   goes_on : {here next : Sending} → IsOnItsWay net starts here → GoesOn net here next → IsOnItsWay net starts next
 
--- how many messages are looked at: a prefix that each round of a circle puts in front makes a new tag each time
+-- how many messages are looked at: a prefix that each round of a circle puts in front makes a new
+-- tag each time
 abbrev pub most_looked_at : ℕ
 most_looked_at = 10000
 
--- These are on their way from the first ones, each once: those themselves, and all that are, or else some of more than are looked at.
+-- These are on their way from the first ones, each once: those themselves, and all that are, or
+-- else some of more than are looked at.
 pub record AreOnTheirWay {A : Type 0} (net : Network A) (starts sent : List Sending) (are_all : Bool) : Type 0 where
   pub begin : (one : Sending) → Contains starts one → Contains sent one
   pub only : (one : Sending) → Contains sent one → IsOnItsWay net starts one
@@ -57,7 +60,8 @@ pub record AreOnTheirWay {A : Type 0} (net : Network A) (starts sent : List Send
   pub once : AllPairs (λ one other. one ≢ other) sent
   pub many : are_all ≡ false → most_looked_at < length sent
 
--- The list grew by some of which this holds, and has all of which it holds. If each stood in it once, each does.
+-- The list grew by some of which this holds, and has all of which it holds. If each stood in it
+-- once, each does.
 pub record Adds {X : Type 0} (P : X → Type 0) (old new : List X) : Type 0 where
   pub more : List X
   pub new_is : new ≡ old ++ more

@@ -20,9 +20,11 @@ use route_listing::{entered, put_output};
 use std::alloc::{AllocError, Allocator};
 use std::io::Write;
 
-/// Prints where these tags go through the relays of the plan that `net` gives, from each of its clients that sends one: a line for each
-/// message on the way, with the address that it is sent to, its tag, the folder of the relay there, the tag that its events bear in it, and
-/// the outputs that they go to, each with its line in the relay's configuration. Or it prints the plan's first fault.
+/// Prints where these tags go through the relays of the plan that `net` gives, from each of its
+/// clients that sends one: a line for each message on the way, with the address that it is sent to,
+/// its tag, the folder of the relay there, the tag that its events bear in it, and the outputs that
+/// they go to, each with its line in the relay's configuration. Or it prints the plan's first
+/// fault.
 pub fn run_plan_ways<A: Allocator + Copy, B: Allocator, R: CountedRead, O: Open, W: Write>(
     alloc: A,
     net: &mut R,

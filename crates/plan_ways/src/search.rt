@@ -8,7 +8,8 @@ use crate::sent::Sent;
 use relay_net::Net;
 use std::alloc::{AllocError, Allocator};
 
-/// How many messages are looked at: a prefix that each round of a circle puts in front makes a new tag each time.
+/// How many messages are looked at: a prefix that each round of a circle puts in front makes a new
+/// tag each time.
 const MOST: usize = 10_000;
 
 /// Messages on their way, and whether they are all that are.

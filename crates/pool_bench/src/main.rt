@@ -1,5 +1,5 @@
-//! What bench/pool measures: workers at a shared buffer in memory, with a courier that does nothing, claims while many chunks wait, and
-//! messages that are settled as they go.
+//! What bench/pool measures: workers at a shared buffer in memory, with a courier that does
+//! nothing, claims while many chunks wait, and messages that are settled as they go.
 //!
 //!     pool_bench purge WORKERS THOUSANDS    purges so many thousand queued chunks by so many workers, and prints how many a second
 //!     pool_bench claim QUEUED THOUSANDS     claims and gives back so many thousand times while so many thousand chunks are queued
@@ -44,7 +44,8 @@ const RETRIES: RetrySettings = RetrySettings {
     forever: true,
 };
 
-// A buffer in a folder of any kind: over one in memory all that is said of it would be in view at each call.
+// A buffer in a folder of any kind: over one in memory all that is said of it would be in view at
+// each call.
 type Shelf<D> = SharedBuffer<D, Global>;
 
 // Carries nothing anywhere, and stops the workers at the last chunk.
@@ -213,7 +214,8 @@ fn let_go<R: Wait, D: Dir>(rt: &R, shelf: &Shelf<D>, serial: u64) -> io::Result<
     }
 }
 
-// Appends so many messages to one chunk, settles each, and lets the chunk go: whether all went well.
+// Appends so many messages to one chunk, settles each, and lets the chunk go: whether all went
+// well.
 fn settle_chunk<R: Wait, D: Dir>(
     rt: &R,
     alloc: Global,

@@ -12,7 +12,8 @@ use std::time::Clock;
 // How many digests a courier makes at most while it waits for the other.
 const MOST_DIGESTS: u32 = 1_000_000;
 
-// Works at each of two chunks until the other's carry has begun too, and stops the workers once both are carried.
+// Works at each of two chunks until the other's carry has begun too, and stops the workers once
+// both are carried.
 #[derive(Drop)]
 pub struct Meeting<'a> {
     pub first: AtomicBool,
@@ -87,7 +88,8 @@ pub enum Answer {
     Fault(CarryFault),
 }
 
-// Answers one thing of the chunk with serial 0 and another of all others, and stops the workers after so many carries.
+// Answers one thing of the chunk with serial 0 and another of all others, and stops the workers
+// after so many carries.
 #[derive(Drop)]
 pub struct Scripted<'a> {
     pub first: Answer,

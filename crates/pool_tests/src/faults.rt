@@ -50,7 +50,8 @@ fn carried<R: Wait + Clock, D: Dir, S: Dir + Drop>(
     }
 }
 
-// What the courier of a sink in the second folder answers of a chunk in the first, and what is queued then.
+// What the courier of a sink in the second folder answers of a chunk in the first, and what is
+// queued then.
 fn carried_over<R: Wait + Clock, D: Dir + Drop, S: Dir + Drop>(
     alloc: Global,
     rt: &R,
@@ -80,8 +81,9 @@ fn a_device_that_fails_is_told(rt: HostRuntime) -> Result<(), Fail> {
     Ok(())
 }
 
-// What one worker does in this folder with so many chunks that go so, and a courier that answers this of the first and that of the others,
-// and is over after so many carries; and what is queued then.
+// What one worker does in this folder with so many chunks that go so, and a courier that answers
+// this of the first and that of the others, and is over after so many carries; and what is queued
+// then.
 fn worked_on<R: Wait + Clock, D: Dir + Drop>(
     alloc: Global,
     rt: &R,
@@ -119,7 +121,8 @@ fn a_chunk_that_waits_keeps_no_other(rt: HostRuntime) -> Result<(), Fail> {
     Ok(())
 }
 
-// What a courier answers of the one chunk of a buffer that goes by an acknowledgement or once it is written, and how the worker ends.
+// What a courier answers of the one chunk of a buffer that goes by an acknowledgement or once it is
+// written, and how the worker ends.
 static ALONE: [(bool, Answer, Option<BufferFault>); 3] = [
     // Evidence that the buffer doesn't take is a failure.
     (true, Answer::Written, None),
@@ -271,7 +274,8 @@ fn a_chunk_whose_retries_are_over_goes(rt: HostRuntime) -> Result<(), Fail> {
     Ok(())
 }
 
-// Of how many chunks failures are known after one of two chunks failed and was dropped, and then the other failed.
+// Of how many chunks failures are known after one of two chunks failed and was dropped, and then
+// the other failed.
 fn known_of_the_dropped<R: Wait + Clock, D: Dir>(
     rt: &R,
     shelf: &Shelf<D>,

@@ -1,4 +1,5 @@
-//! Tests of flush threads: workers at work side by side, and what becomes of chunks whose delivery fails.
+//! Tests of flush threads: workers at work side by side, and what becomes of chunks whose delivery
+//! fails.
 #![tactic(auto)]
 
 #[cfg(test)]

@@ -10,7 +10,8 @@ use sink_rotation::{ONE_FILE, Rotation};
 use sink_series::SeriesFault;
 use std::alloc::{AllocError, Global};
 
-// What is behind the lock in these tests, in a folder of any kind: over one in memory all that is said of it would be in view at each call.
+// What is behind the lock in these tests, in a folder of any kind: over one in memory all that is
+// said of it would be in view at each call.
 pub type Shelf<D> = SharedBuffer<D, Global>;
 
 const LEAF: Leaf = Leaf {
@@ -52,7 +53,8 @@ fn entries(alloc: Global) -> Result<Entries<Global>, AllocError> {
     Ok(entries)
 }
 
-// A buffer in this folder with so many queued chunks of one entry each, by serials from 0, whose chunks go so.
+// A buffer in this folder with so many queued chunks of one entry each, by serials from 0, whose
+// chunks go so.
 pub fn filled<D: Dir + Drop>(
     alloc: Global,
     dir: D,

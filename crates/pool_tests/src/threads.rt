@@ -79,7 +79,8 @@ fn two_chunks_are_carried_at_once(rt: HostRuntime) -> Result<(), Fail> {
     Ok(())
 }
 
-// How many of two chunks two workers purge behind a gate that keeps the first, and how many are queued then.
+// How many of two chunks two workers purge behind a gate that keeps the first, and how many are
+// queued then.
 fn kept_by_a_gate<R: Wait + Clock + Threads + Sync, D: Dir + Drop + Send>(
     alloc: Global,
     rt: &R,
@@ -129,7 +130,8 @@ fn count_of<S: Dir + Drop>(
     Ok(series.content()?.len())
 }
 
-// What two workers do with three chunks for a sink in the second folder, how many are queued then, and how many events the sink has.
+// What two workers do with three chunks for a sink in the second folder, how many are queued then,
+// and how many events the sink has.
 fn written<R: Wait + Clock + Threads + Sync, D: Dir + Drop + Send, S: Dir + Drop + Send>(
     alloc: Global,
     rt: &R,

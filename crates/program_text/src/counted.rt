@@ -7,8 +7,8 @@ ghost use Rattle.std.specs.Io.KnownBytes.{ReadConsumes};
 use std::io;
 use std::io::{Read, Stdin};
 
-/// A reader of which clauses can say how often it is called. So whatever the reader is, also one that
-/// never ends, they say how often at most.
+/// A reader of which clauses can say how often it is called. So whatever the reader is, also one
+/// that never ends, they say how often at most.
 pub trait CountedRead {
     // the bytes that calls will give from here on, where they are known
     ghost remaining: { Self → Option (List ℕ) } = { λ _. None };
@@ -16,8 +16,8 @@ pub trait CountedRead {
     // how often it was called, where it counts that
     ghost calls: { Self → ℕ } = { λ _. 0 };
 
-    /// Reads into the front of the piece, and gives how many bytes it read: none at the end, and where
-    /// the piece has no room.
+    /// Reads into the front of the piece, and gives how many bytes it read: none at the end, and
+    /// where the piece has no room.
     fn read(&mut self, piece: &mut [u8]) -> io::Result<usize>
         ensures bound { ReadsAtMost result piece.new }
         ensures bytes { ReadConsumes (remaining self.old) (remaining self.new) result piece.new }

@@ -1,5 +1,5 @@
-//! What the words of a program share: the status that the process ends with, texts that are read whole or opened by their
-//! names, output that is written whole, and the version.
+//! What the words of a program share: the status that the process ends with, texts that are read
+//! whole or opened by their names, output that is written whole, and the version.
 #![tactic(auto)]
 
 mod counted;

@@ -16,7 +16,8 @@ pub const MOST_READS: u32 = 16_777_216;
 /// How many bytes are read at once, so that a long text takes but few reads.
 pub const PIECE: usize = 65_536;
 
-/// How many bytes a text that is read whole has at most: 1 GiB. One that goes on is one whose reader fails.
+/// How many bytes a text that is read whole has at most: 1 GiB. One that goes on is one whose
+/// reader fails.
 pub const MOST_BYTES: usize = 1_073_741_824;
 
 /// Why a text isn't read.
@@ -29,8 +30,8 @@ pub enum ReadFault {
 }
 
 impl ReadFault {
-    /// Why a text isn't read whose reader failed so, or couldn't be had. A file that is opened when it is first read may
-    /// want memory for its path then.
+    /// Why a text isn't read whose reader failed so, or couldn't be had. A file that is opened when
+    /// it is first read may want memory for its path then.
     pub fn of(error: &io::Error) -> ReadFault
         ensures memory { error_kind error.now ≡ ErrorKind.OutOfMemory → result ≡ ReadFault.Memory }
         ensures read { error_kind error.now ≢ ErrorKind.OutOfMemory → result ≡ ReadFault.Read }

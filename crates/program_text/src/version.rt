@@ -11,7 +11,8 @@ use std::io::Write;
 /// The version of all programs of this repository.
 pub const VERSION: &str = "0.1.0";
 
-/// Prints the name of a program and the version, as a line; where there is no memory for it, that is said.
+/// Prints the name of a program and the version, as a line; where there is no memory for it, that
+/// is said.
 pub fn print_version<A: Allocator, W: Write>(alloc: A, name: &str, out: &mut W) -> Status
     ensures { PrintsVersion name.now VERSION.now (W.contents out.old) (W.contents out.new) result }
 {

@@ -23,8 +23,8 @@ pub enum Act {
     Body(u64),
 }
 
-/// Opens the buffer in this folder, whose journal is to be renewed past so many bytes. A folder that doesn't open is handed back with its
-/// fault.
+/// Opens the buffer in this folder, whose journal is to be renewed past so many bytes. A folder
+/// that doesn't open is handed back with its fault.
 pub fn open<D: Dir, A: Allocator + Copy>(
     alloc: A,
     dir: D,
@@ -170,7 +170,8 @@ fn tell_bodies<D: Dir>(buffer: &mut Buffer<D, Heap<'_>>, told: &mut Told) {
     }
 }
 
-/// Tells what a buffer shows: its chunks and their entries, the first of its queue, and whether something isn't synced or failed.
+/// Tells what a buffer shows: its chunks and their entries, the first of its queue, and whether
+/// something isn't synced or failed.
 pub fn tell_buffer<D: Dir>(buffer: &mut Buffer<D, Heap<'_>>, told: &mut Told) {
     let chunks = buffer.chunks();
     told.number(chunks.next_serial());

@@ -11,7 +11,8 @@ use refusing_alloc::Refusing;
 use std::alloc::{AllocError, Global};
 use std::mem::replace;
 
-// Chunks of which one grows are queued, claimed, given back, purged and dropped. The journal is renewed with chunks in each stage, and with few.
+// Chunks of which one grows are queued, claimed, given back, purged and dropped. The journal is
+// renewed with chunks in each stage, and with few.
 static SCRIPT: [Act; 36] = [
     Act::Stage(b'a', 1),
     Act::Append(b'b', 2),

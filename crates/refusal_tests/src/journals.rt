@@ -1,4 +1,5 @@
-//! Journals are written and replayed, whole and by pieces, and the items of a sink's file are counted.
+//! Journals are written and replayed, whole and by pieces, and the items of a sink's file are
+//! counted.
 
 use crate::told::Told;
 use crate::trial::{Heap, Trial, refused_in_turn};
@@ -10,7 +11,8 @@ use sink_series::count_events;
 use std::alloc::{AllocError, Global};
 use std::mem::replace;
 
-// Three chunks, of which one is queued, a Seal of 9, two chunks more, an entry more, a queueing and a removal.
+// Three chunks, of which one is queued, a Seal of 9, two chunks more, an entry more, a queueing and
+// a removal.
 static JOURNAL: &[u8] =
     b"\0\0\0\x13\x02\0\0\0\0\0\0\0\x00\0\x01a\0\0\0\x01\x92\x01\x80\0\0\0\x09\x03\0\0\0\0\0\0\0\0\0\0\0\x13\x02\0\0\0\0\0\0\0\x03\0\x01b\0\0\0\x01\x92\x02\x80\0\0\0\x13\x02\0\0\0\0\0\0\0\x05\0\x01c\0\0\0\x01\x92\x03\x80\0\0\0\x09\x01\0\0\0\0\0\0\0\x09\0\0\0\x13\x02\0\0\0\0\0\0\0\x09\0\x01d\0\0\0\x01\x92\x04\x80\0\0\0\x13\x02\0\0\0\0\0\0\0\x0a\0\x01e\0\0\0\x01\x92\x05\x80\0\0\0\x13\x02\0\0\0\0\0\0\0\x0a\0\x01e\0\0\0\x01\x92\x06\x80\0\0\0\x09\x03\0\0\0\0\0\0\0\x09\0\0\0\x09\x04\0\0\0\0\0\0\0\0";
 
@@ -75,7 +77,8 @@ impl<'a> Trial<'a> for Reading {
     fn close(&self, _state: Heap<'a>, _told: &mut Told) {}
 }
 
-// A journal comes by pieces, up to this place, and all that is behind it is fed then; or it is finished behind few pieces.
+// A journal comes by pieces, up to this place, and all that is behind it is fed then; or it is
+// finished behind few pieces.
 #[derive(Clone, Copy, Debug)]
 enum Outlining {
     Feed(usize),

@@ -1,5 +1,5 @@
-//! Each request for memory of a call is refused in turn: the call says so, what there was stays, and the next try
-//! succeeds.
+//! Each request for memory of a call is refused in turn: the call says so, what there was stays,
+//! and the next try succeeds.
 #![tactic(auto)]
 
 #[cfg(test)]

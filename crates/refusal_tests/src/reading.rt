@@ -46,7 +46,8 @@ impl<'a> Trial<'a> for Bytes {
     fn close(&self, _state: Heap<'a>, _told: &mut Told) {}
 }
 
-// A message comes in pieces of one byte, up to this one, which is fed with all that is behind it; or what came then is taken off.
+// A message comes in pieces of one byte, up to this one, which is fed with all that is behind it;
+// or what came then is taken off.
 #[derive(Clone, Copy)]
 enum Fed {
     Feed(usize),

@@ -27,8 +27,8 @@ type Shelf<'a, D> = SharedBuffer<D, Heap<'a>>;
 
 type Waiting<'a> = Vec<Pending<Heap<'a>>, Heap<'a>>;
 
-/// A shared buffer with a delivery that isn't appended yet, appends that wait for receipts, what was claimed last, and what is left of
-/// deliveries.
+/// A shared buffer with a delivery that isn't appended yet, appends that wait for receipts, what
+/// was claimed last, and what is left of deliveries.
 pub struct Shop<'a, D: Dir> {
     heap: Heap<'a>,
     shelf: Shelf<'a, D>,
@@ -119,7 +119,8 @@ impl<'a, D: Dir + Drop> Shop<'a, D> {
 }
 
 impl<'a, D: Dir> Shop<'a, D> {
-    /// Begins the delivery that comes next, and makes the room that the shop itself needs for a call.
+    /// Begins the delivery that comes next, and makes the room that the shop itself needs for a
+    /// call.
     pub fn prepare(&mut self, tag: u8, number: u8) -> Option<()> {
         self.waiting.reserve(1).ok()?;
         self.stubs.reserve(8).ok()?;

@@ -106,7 +106,8 @@ fn with_ample_memory<'a, T: Trial<'a>>(alloc: Global, heap: Heap<'a>, trial: &T)
 enum Went {
     // No request was refused, and all is as it is with ample memory.
     Through,
-    // One was refused, and the answer was want of memory; what there was stayed, and the next try is as with ample memory.
+    // One was refused, and the answer was want of memory; what there was stayed, and the next try
+    // is as with ample memory.
     Refused,
     Wrong,
 }
@@ -153,7 +154,8 @@ fn goes<'a, T: Trial<'a>>(
     went_if(holds, Went::Refused)
 }
 
-// Whether what is left behind the call with this request refused is what was left before it, where the call doesn't go through.
+// Whether what is left behind the call with this request refused is what was left before it, where
+// the call doesn't go through.
 fn leaves<'a, T: Trial<'a>>(
     alloc: Global,
     heap: Heap<'a>,
@@ -196,8 +198,8 @@ fn refused<'a, T: Trial<'a>>(
     })
 }
 
-/// How many requests a call makes, each of which is refused, with all behind it and alone; or the one at which it goes
-/// wrong, which is the first where it goes wrong with ample memory.
+/// How many requests a call makes, each of which is refused, with all behind it and alone; or the
+/// one at which it goes wrong, which is the first where it goes wrong with ample memory.
 pub fn refused_in_turn<'a, T: Trial<'a>>(
     alloc: Global,
     heap: Heap<'a>,

@@ -6,7 +6,8 @@ ghost use Rattle.std.specs.Prelude.{◌≡◌};
 use std::alloc::{AllocError, Allocator};
 use std::cell::Cell;
 
-/// What is refused: the request behind so many served ones, and those behind that one too unless it is refused alone.
+/// What is refused: the request behind so many served ones, and those behind that one too unless it
+/// is refused alone.
 #[derive(Clone, Copy)]
 struct Plan {
     // how many requests are served before one is refused
@@ -17,10 +18,11 @@ struct Plan {
     refused: u64,
 }
 
-/// Serves and refuses requests as it was last told. Pass `&heap` where an allocator is taken: a `&` to it is `Copy`.
+/// Serves and refuses requests as it was last told. Pass `&heap` where an allocator is taken: a `&`
+/// to it is `Copy`.
 ///
-/// A request is a block that is asked for, or one that is to grow or shrink. Blocks that are given back are always
-/// taken.
+/// A request is a block that is asked for, or one that is to grow or shrink. Blocks that are given
+/// back are always taken.
 pub struct Refusing<B: Allocator> {
     inner: B,
     plan: Cell<Plan>,

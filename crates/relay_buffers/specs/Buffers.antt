@@ -11,7 +11,8 @@ use Rattle.relay_ports.specs.declared.buffered.BufferedOutput.{BufferedOutput}
 use Rattle.relay_ports.specs.Outputs.{settings_of}
 use Rattle.relay_buffers.specs.Owners.{IsBufferOf, IsPlanned, IsSetAs, Owned}
 
--- these are the buffers of these outputs of the relay with this number, one for each, in their order
+-- these are the buffers of these outputs of the relay with this number, one for each, in their
+-- order
 abbrev pub AreBuffersOf : {A B : Type 0} → ℕ → List (BufferedOutput A) → List (Terms B) → Type 0
 AreBuffersOf number outputs buffers = AllZip (IsBufferOf number) outputs buffers
 
@@ -19,7 +20,8 @@ AreBuffersOf number outputs buffers = AllZip (IsBufferOf number) outputs buffers
 abbrev pub ArePlanned : {A : Type 0} → (since : ℕ) → List (Owned A) → List Plan → Type 0
 ArePlanned since owned plans = AllZip (IsPlanned since) owned plans
 
--- an output whose buffer is open: the folder as the opening found it, and when its staged chunks are queued
+-- an output whose buffer is open: the folder as the opening found it, and when its staged chunks
+-- are queued
 pub record OpenState (D A : Type 0) : Type 0 where
   pub owned : Owned A
   pub folder : D
@@ -29,7 +31,8 @@ pub record OpenState (D A : Type 0) : Type 0 where
 abbrev pub ArePlaced : {A : Type 0} → (path : BufferKind A → Option (List ℕ)) → List (Owned A) → Type 0
 ArePlaced path owned = All (λ one. one.path ≡ path (settings_of one.output).kind) owned
 
--- A buffer was opened as its output's settings say, in a folder for its kind: if that is honest, its chunks are those that the journal there means.
+-- A buffer was opened as its output's settings say, in a folder for its kind: if that is honest,
+-- its chunks are those that the journal there means.
 pub record IsOpenIn {D A : Type 0} (is_for : BufferKind A → D → Type 0) (is_honest : D → Type 0) (history : D → History) (one : OpenState D A) : Type 0 where
   pub set : IsSetAs (settings_of one.owned.output) one.owned.opened
   pub folder : is_for (settings_of one.owned.output).kind one.folder

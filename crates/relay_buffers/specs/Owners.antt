@@ -11,7 +11,8 @@ use Rattle.relay_conf.specs.declared.buffer.BufferSettings.{BufferSettings}
 use Rattle.relay_ports.specs.declared.buffered.BufferedOutput.{BufferedOutput}
 use Rattle.relay_ports.specs.Outputs.{AreTakesOf, number_of, settings_of}
 
--- a buffer as it was opened: what it takes at most, how long its journal is never too long, the name of its files, and its chunks
+-- a buffer as it was opened: what it takes at most, how long its journal is never too long, the
+-- name of its files, and its chunks
 pub record Opened : Type 0 where
   pub limits : Limits
   pub renewed_past : ℕ
@@ -31,7 +32,8 @@ pub record Shared (D A : Type 0) : Type 0 where
 abbrev pub limits_of : {A : Type 0} → BufferSettings A → Limits
 limits_of settings = record { chunk = settings.chunk_limit_size; total = settings.total_limit_size }
 
--- past how many bytes the journal of such a buffer may be written anew: 16 MiB in memory, and 256 MiB on a disk
+-- past how many bytes the journal of such a buffer may be written anew: 16 MiB in memory, and 256
+-- MiB on a disk
 abbrev pub renewed_past_of : {A : Type 0} → BufferKind A → ℕ
 renewed_past_of Memory = 16777216
 renewed_past_of (File path) = 268435456
@@ -47,12 +49,14 @@ pub record IsSetAs {A : Type 0} (settings : BufferSettings A) (buffer : Opened) 
   pub renewed_past : buffer.renewed_past ≡ renewed_past_of settings.kind
   pub name : IsNamedBy settings.kind buffer.name
 
--- the buffer is of this output of the relay with this number: it has the output's number, and its chunks go as the output's settings say
+-- the buffer is of this output of the relay with this number: it has the output's number, and its
+-- chunks go as the output's settings say
 pub record IsBufferOf {A B : Type 0} (number : ℕ) (found : BufferedOutput A) (terms : Terms B) : Type 0 where
   pub leaf : terms.leaf ≡ record { relay = number; buffer = number_of found }
   pub takes : AreTakesOf found terms.takes
 
--- an output of the relay with this number, and its buffer, also as it was opened, and in which folder of the system, if it isn't in memory
+-- an output of the relay with this number, and its buffer, also as it was opened, and in which
+-- folder of the system, if it isn't in memory
 pub record Owned (A : Type 0) : Type 0 where
   pub number : ℕ
   pub output : BufferedOutput A
@@ -69,11 +73,13 @@ pub record IsOwned {A : Type 0} (owned : Owned A) : Type 0 where
   pub buffer : IsBufferOf owned.number owned.output owned.terms
   pub set : IsSetAs (settings_of owned.output) owned.opened
 
--- staged chunks are queued when these settings say: at once, or after their interval, which is in milliseconds here
+-- staged chunks are queued when these settings say: at once, or after their interval, which is in
+-- milliseconds here
 abbrev pub IsScheduledBy : {A : Type 0} → BufferSettings A → Plan → Type 0
 IsScheduledBy settings plan = (plan.mode ≡ settings.flush_mode) × (plan.interval ≡ min (settings.flush_interval * 1000) (2 ^ 64 - 1))
 
--- The output's staged chunks are queued when its settings say: they are those that its buffer had when it was opened, since then.
+-- The output's staged chunks are queued when its settings say: they are those that its buffer had
+-- when it was opened, since then.
 pub record IsPlanned {A : Type 0} (since : ℕ) (owned : Owned A) (plan : Plan) : Type 0 where
   pub scheduled : IsScheduledBy (settings_of owned.output) plan
   pub staged : plan.chunks ≡ staged_at since owned.opened.chunks

@@ -15,8 +15,9 @@ use std::sync::Arc;
 
 /// A buffered output whose chunks are to be delivered, with its own buffer.
 ///
-/// All that the configuration says of the output is there: where its chunks go, by how many threads, and when they are tried again.
-/// Contracts see the buffer also as it was opened, which is the very one that is shared, and in which folder.
+/// All that the configuration says of the output is there: where its chunks go, by how many
+/// threads, and when they are tried again. Contracts see the buffer also as it was opened, which is
+/// the very one that is shared, and in which folder.
 #[derive(Drop)]
 pub struct DeliveryJob<D: Dir + Drop, A: Allocator> {
     number: u32,
@@ -37,7 +38,8 @@ impl<D: Dir + Drop, A: Allocator> Model for DeliveryJob<D, A> {
 }
 
 impl<D: Dir + Drop, A: Allocator> DeliveryJob<D, A> {
-    /// This output of the relay with this number, and its buffer, which was opened in the folder of the system with this path, or in memory.
+    /// This output of the relay with this number, and its buffer, which was opened in the folder of
+    /// the system with this path, or in memory.
     pub(crate) fn new(
         number: u32,
         output: BufferedOutput<A>,
@@ -70,7 +72,8 @@ impl<D: Dir + Drop, A: Allocator> DeliveryJob<D, A> {
         self.share.buffer()
     }
 
-    /// The buffer is the output's own, and was opened as the output's settings say. The call does nothing: it stands for what the type keeps.
+    /// The buffer is the output's own, and was opened as the output's settings say. The call does
+    /// nothing: it stands for what the type keeps.
     pub fn is_owned(&self)
         ensures { IsOwned self.now }
     {

@@ -1,4 +1,5 @@
-//! The buffers of a relay: opened as its outputs say, and given to the loop and to the flush threads, each with its own output.
+//! The buffers of a relay: opened as its outputs say, and given to the loop and to the flush
+//! threads, each with its own output.
 #![tactic(auto)]
 
 mod folders;

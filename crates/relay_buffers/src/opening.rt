@@ -27,8 +27,9 @@ use std::marker::Model;
 /// The name under which a buffer in memory keeps its journal, in a folder of its own.
 const MEMORY_NAME: &[u8] = b"memory";
 
-/// An output whose buffer is open: what flush threads are given of it, and what the loop is given, which is the same buffer with its
-/// staged chunks. Contracts see the output with its buffer, the folder as the opening found it, and when the staged chunks are queued.
+/// An output whose buffer is open: what flush threads are given of it, and what the loop is given,
+/// which is the same buffer with its staged chunks. Contracts see the output with its buffer, the
+/// folder as the opening found it, and when the staged chunks are queued.
 #[derive(Drop)]
 pub struct OpenOutput<D: Dir + Drop, A: Allocator> {
     pub(crate) job: DeliveryJob<D, A>,
@@ -50,10 +51,12 @@ impl<D: Dir + Drop, A: Allocator> Model for OpenOutput<D, A> {
         × IsScheduledBy (settings_of o.job.output) o.schedule };
 }
 
-/// Makes the folders of the relay's buffers ready, and opens the buffers of these outputs, in their order.
+/// Makes the folders of the relay's buffers ready, and opens the buffers of these outputs, in their
+/// order.
 ///
-/// `Buffer` where the folders can't be made ready or a buffer can't be opened, `NoNumber` for a buffer that has no number of 32 bits,
-/// and `Memory`: the buffers before it are closed then, and keep what they have.
+/// `Buffer` where the folders can't be made ready or a buffer can't be opened, `NoNumber` for a
+/// buffer that has no number of 32 bits, and `Memory`: the buffers before it are closed then, and
+/// keep what they have.
 pub fn open_all<D: Dir + Drop, A: Allocator + Copy, F: Folders<D, A>>(
     alloc: A,
     number: u32,
@@ -115,7 +118,8 @@ fn open_one<D: Dir + Drop, A: Allocator + Copy, F: Folders<D, A>>(
     })
 }
 
-// A buffer that was opened, when its staged chunks are queued, and in which folder of the system it is.
+// A buffer that was opened, when its staged chunks are queued, and in which folder of the system it
+// is.
 #[derive(Drop)]
 struct OpenBuffer<D: Dir + Drop, A: Allocator> {
     buffer: Buffer<D, A>,

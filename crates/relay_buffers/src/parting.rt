@@ -11,15 +11,16 @@ use disk_files::Dir;
 use std::alloc::{AllocError, Allocator};
 use std::sync::Arc;
 
-/// The buffers of a relay, each in three places: as the loop uses it, in a list that can be looked at, and with its output for whoever
-/// delivers its chunks.
+/// The buffers of a relay, each in three places: as the loop uses it, in a list that can be looked
+/// at, and with its output for whoever delivers its chunks.
 pub struct RelayParts<D: Dir + Drop, A: Allocator> {
     pub lanes: Lanes<D, A>,
     pub buffers: Vec<Arc<SharedBuffer<D, A>, A>, A>,
     pub jobs: Vec<DeliveryJob<D, A>, A>,
 }
 
-/// Gives each open output to the loop and to its threads, in their order. The error is want of memory.
+/// Gives each open output to the loop and to its threads, in their order. The error is want of
+/// memory.
 pub fn parts_of<D: Dir + Drop, A: Allocator + Copy>(
     alloc: A,
     opened: Vec<OpenOutput<D, A>, A>,

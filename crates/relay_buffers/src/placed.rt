@@ -15,8 +15,8 @@ pub struct PlacedDir<D, A: Allocator> {
     pub path: Option<String<A>>,
 }
 
-/// The folder of the system with this path, which has to be there by the first call. The error is want of memory, and has the
-/// runtime again.
+/// The folder of the system with this path, which has to be there by the first call. The error is
+/// want of memory, and has the runtime again.
 ///
 /// What the system does can't be stated: this is trusted to hand it the path that is noted.
 pub fn real_dir<R, A>(

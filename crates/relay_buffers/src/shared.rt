@@ -11,8 +11,8 @@ use std::marker::Model;
 use std::snapshot::Snapshot;
 use std::sync::Arc;
 
-/// A share of a buffer. Contracts see its terms, and the buffer as it was opened: that is the very one that is shared, since shares are
-/// made where there is no other.
+/// A share of a buffer. Contracts see its terms, and the buffer as it was opened: that is the very
+/// one that is shared, since shares are made where there is no other.
 #[derive(Drop)]
 pub(crate) struct Share<D: Dir + Drop, A: Allocator> {
     buffer: Arc<SharedBuffer<D, A>, A>,
@@ -29,8 +29,8 @@ impl<D: Dir + Drop, A: Allocator> Model for Share<D, A> {
 }
 
 impl<D: Dir + Drop, A: Allocator + Copy> Share<D, A> {
-    /// Shares this buffer under this name, whose chunks go so: one share for the loop, and one for flush threads. The error is want
-    /// of memory.
+    /// Shares this buffer under this name, whose chunks go so: one share for the loop, and one for
+    /// flush threads. The error is want of memory.
     pub fn two_of(
         alloc: A,
         buffer: Buffer<D, A>,

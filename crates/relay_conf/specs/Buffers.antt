@@ -12,7 +12,8 @@ buffer_number (output.Relabel target line) = None
 buffer_number (output.Forward settings line) = Some settings.number.0
 buffer_number (output.File settings line) = Some settings.number.0
 
--- the output with this place in a match, which has this place in a scope, which has this place in the relay
+-- the output with this place in a match, which has this place in a scope, which has this place in
+-- the relay
 abbrev pub output_in_relay : {A : Type 0} → Relay A → ℕ → ℕ → ℕ → Option (Output A)
 output_in_relay relay scope rule output = option_and_then (λ found. slice_get found.outputs.items output) (option_and_then (λ found. slice_get found.matches.items rule) (slice_get relay.scopes.items scope))
 

@@ -97,7 +97,8 @@ security_of settings = record {
 abbrev pub security_in : List Tree → Option SecurityMeaning
 security_in children = option_map (λ t. security_of (settings_of t)) (last_child (codes "security") children)
 
--- a source: port 24224 of every local address, the main scope, and no prefix, where nothing else is said
+-- a source: port 24224 of every local address, the main scope, and no prefix, where nothing else is
+-- said
 abbrev pub source_of : List Tree → Tree → SourceMeaning
 source_of elements t = record {
   port = read_or port_of 24224 (value_of (codes "port") (settings_of t));
@@ -204,7 +205,8 @@ has_buffer h settings = (bytes_eq h.name (codes "match") || bytes_eq h.name (cod
 abbrev pub one_if : Bool → ℕ
 one_if b = if b then 1 else 0
 
--- how many outputs with a buffer are in an element, itself included, and in elements one after the other
+-- how many outputs with a buffer are in an element, itself included, and in elements one after the
+-- other
 abbrev mutual
   pub tree_buffers : Tree → ℕ
   tree_buffers (tree h settings children) =
@@ -214,7 +216,8 @@ abbrev mutual
   trees_buffers no_trees = 0
   trees_buffers (more_trees t ts) = tree_buffers t + trees_buffers ts
 
--- The elements of this name, each with how many buffers stand before it in the text, where n stand before the first.
+-- The elements of this name, each with how many buffers stand before it in the text, where n stand
+-- before the first.
 abbrev pub numbered : List ℕ → ℕ → List Tree → List (ℕ × Tree)
 numbered name n [] = []
 numbered name n (t ∷ ts) = if is_named name t then (n, t) ∷ numbered name (n + tree_buffers t) ts else numbered name (n + tree_buffers t) ts
@@ -224,7 +227,8 @@ abbrev pub is_copy : Option OutputType → Bool
 is_copy (Some outputs.Copy) = true
 is_copy _ = false
 
--- the outputs of a match, of which the first buffer has this number: those of its stores where it is a copy, else its own
+-- the outputs of a match, of which the first buffer has this number: those of its stores where it
+-- is a copy, else its own
 abbrev pub outputs_of : List Tree → ℕ → Tree → List OutputMeaning
 outputs_of elements n t =
     if is_copy (kind_of (settings_of t)) then map (λ p. output_of elements p.0 p.1) (numbered (codes "store") n (children_of t))

@@ -40,8 +40,8 @@ pub record IsScopeOf {A : Type 0} (elements : List Tree) (n : ℕ) (t : Tree) (s
 abbrev pub AreScopesOf : {A : Type 0} → List Tree → ℕ → List Tree → List (Scope A) → Type 0
 AreScopesOf elements n ts scopes = AllZip (λ p scope. IsScopeOf elements p.0 p.1 scope) (numbered (codes "label") n ts) scopes
 
--- The relay that the elements describe: its sources, the main scope of the matches outside labels, and a scope for each
--- label, all in the order of the text.
+-- The relay that the elements describe: its sources, the main scope of the matches outside labels,
+-- and a scope for each label, all in the order of the text.
 pub record IsRelayOf {A : Type 0} (elements : List Tree) (relay : Relay A) : Type 0 where
   pub main : Scope A
   pub labelled : List (Scope A)

@@ -8,7 +8,8 @@ use std::alloc::Allocator;
 #[derive(Clone, Copy, Debug, PartialEq, Eq)]
 pub struct BufferNo(pub usize);
 
-/// One output. Its line, counted from 1, is that of its `<store>`, or of its `<match>` without a copy.
+/// One output. Its line, counted from 1, is that of its `<store>`, or of its `<match>` without a
+/// copy.
 #[derive(Drop)]
 pub enum Output<A: Allocator> {
     /// The event is let go.

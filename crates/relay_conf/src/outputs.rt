@@ -1,4 +1,5 @@
-//! Outputs, matches and scopes, filled from elements, with their buffers numbered in the order of the text.
+//! Outputs, matches and scopes, filled from elements, with their buffers numbered in the order of
+//! the text.
 
 ghost use Rattle.std.specs.Prelude.{◌≡◌, ◌&&◌, ◌||◌, map, filter, IfOk, codes, string_bytes, ◌+◌};
 ghost use Rattle.conf_text.specs.Views.{setting, tree_of};

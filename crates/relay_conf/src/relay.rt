@@ -26,7 +26,8 @@ pub struct Source<A: Allocator> {
     pub bind: String<A>,
     /// The scope that its events enter.
     pub label: ScopeNo,
-    /// What is put in front of the tags of its events, with a dot, if anything (this project's profile).
+    /// What is put in front of the tags of its events, with a dot, if anything (this project's
+    /// profile).
     pub prefix: Option<Prefix<A>>,
     /// What its clients must prove in the handshake, if anything.
     pub security: Option<Security<A>>,

@@ -1,4 +1,5 @@
--- The faults that the sections of a configuration may have, in the order in which they are looked for.
+-- The faults that the sections of a configuration may have, in the order in which they are looked
+-- for.
 use Rattle.std.specs.Prelude.{ℕ, ◌||◌, ◌&&◌, ◌==◌, not, Bool, true, false, List, [], ◌∷◌, ◌++◌, codes, filter, length, Option, Some, None, is_none, if◌then◌else◌, unwrap_or, option_and_then}
 use Rattle.std.specs.List.{list_any, flat_map, slice_split}
 use Rattle.std.specs.Str.{bytes_eq}

@@ -11,7 +11,8 @@ use Rattle.relay_faults.specs.declared.fault.RelayError.TheVariants as errors
 abbrev pub fault_at : RelayFaultKind → ℕ → RelayFault
 fault_at kind line = record { kind = kind; line = line }
 
--- What is found where a configuration is gone through: a fault, or a text in a line that is one unless it is a pattern.
+-- What is found where a configuration is gone through: a fault, or a text in a line that is one
+-- unless it is a pattern.
 pub data Finding : Type 0 where
   a_fault : RelayFaultKind → ℕ → Finding
   a_pattern : List ℕ → ℕ → Finding
@@ -46,7 +47,8 @@ abbrev pub Refuses : List Finding → RelayError → Type 0
 Refuses findings errors.Memory = ⊤
 Refuses findings (errors.Fault f) = FirstStands findings f
 
--- a call that goes through the findings: nothing is wrong, or it answers the first fault, or memory ran out
+-- a call that goes through the findings: nothing is wrong, or it answers the first fault, or memory
+-- ran out
 abbrev pub Examines : {X : Type 0} → List Finding → Result X RelayError → Type 0
 Examines findings (Ok x) = AllPass findings
 Examines findings (Err e) = Refuses findings e

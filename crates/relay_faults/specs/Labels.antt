@@ -29,7 +29,8 @@ abbrev pub targets_found : List Tree → List Setting → List Finding
 targets_found elements [] = []
 targets_found elements (s ∷ rest) = target_found elements s ++ targets_found elements rest
 
--- the same of all parameters in an element, and in elements one after the other, outside what is passed over
+-- the same of all parameters in an element, and in elements one after the other, outside what is
+-- passed over
 abbrev mutual
   pub tree_targets : List Tree → Tree → List Finding
   tree_targets elements (tree h settings children) =

@@ -79,7 +79,8 @@ buffer_rows =
     ∷ row (codes "total_limit_size") form.Size
     ∷ []
 
--- the parameters of an output of this type (Fluentd, out_forward, out_file, out_copy, out_relabel, out_null)
+-- the parameters of an output of this type (Fluentd, out_forward, out_file, out_copy, out_relabel,
+-- out_null)
 abbrev pub output_rows : OutputType → List NamedForm
 output_rows outputs.Forward =
     row (codes "require_ack_response") form.Flag
@@ -175,6 +176,7 @@ opening_in sections.OtherMatch name = Some (opening.Plain sections.Passed)
 opening_in sections.OtherStore name = Some (opening.Plain sections.Passed)
 opening_in _ name = None
 
--- what is wrong with a section that may not stand where it does: Fluentd's other sections are out of the profile
+-- what is wrong with a section that may not stand where it does: Fluentd's other sections are out
+-- of the profile
 abbrev pub refusal : List ℕ → RelayFaultKind
 refusal name = if bytes_eq name (codes "filter") || bytes_eq name (codes "worker") || bytes_eq name (codes "secondary") then kinds.OutOfProfile else kinds.UnknownSection

@@ -15,10 +15,12 @@ use crate::section::Section;
 use conf_text::Element;
 use std::alloc::Allocator;
 
-/// Goes through the elements of a configuration. An error is the first fault, or that memory ran out.
+/// Goes through the elements of a configuration. An error is the first fault, or that memory ran
+/// out.
 ///
-/// Sections are gone through in the order of the text: a section's name and argument, its type, its parameters, its
-/// children, and then what it lacks. Labels come after all others, in the order of the text.
+/// Sections are gone through in the order of the text: a section's name and argument, its type, its
+/// parameters, its children, and then what it lacks. Labels come after all others, in the order of
+/// the text.
 pub fn examine_elements<A: Allocator + Copy>(
     alloc: A,
     elements: &[Element<A>],

@@ -226,7 +226,8 @@ fn lacks_child<A: Allocator>(children: &[Element<A>], name: &str) -> bool
     true
 }
 
-/// Whether a buffer of these parameters has its chunks in files: not, where no line says a type that is known.
+/// Whether a buffer of these parameters has its chunks in files: not, where no line says a type
+/// that is known.
 pub fn has_files<A: Allocator>(pairs: &[Pair<A>]) -> bool
     ensures { result ≡ has_files (map setting pairs.now) }
 {

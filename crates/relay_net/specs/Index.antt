@@ -17,7 +17,8 @@ use Rattle.relay_net.specs.declared.index.OutputPlace.{OutputPlace}
 abbrev pub output_in : {A : Type 0} → Relay A → OutputPlace → Option (Output A)
 output_in relay place = output_in_relay relay place.scope place.rule place.output
 
--- the place of the first of these outputs with this buffer, where this is the place of the first of them
+-- the place of the first of these outputs with this buffer, where this is the place of the first of
+-- them
 abbrev pub among_outputs : {A : Type 0} → ℕ → ℕ → ℕ → List (Output A) → ℕ → Option OutputPlace
 among_outputs scope rule output [] buffer = None
 among_outputs scope rule output (o ∷ outputs) buffer =

@@ -15,7 +15,8 @@ use Rattle.relay_net.specs.declared.address.Entrance.{Entrance}
 use Rattle.relay_net.specs.declared.node.Client.{Client}
 use Rattle.relay_net.specs.declared.node.Node.{Node}
 
--- a network: its relays, and those who send to them, each in the order of the plan; clients are numbered from 0
+-- a network: its relays, and those who send to them, each in the order of the plan; clients are
+-- numbered from 0
 pub record Network (A : Type 0) : Type 0 where
   pub relays : List (Node A)
   pub clients : List (Client A)
@@ -72,11 +73,13 @@ abbrev pub prefix_from : {A : Type 0} → List (Node A) → Address → Option (
 prefix_from [] address = None
 prefix_from (node ∷ nodes) address = prefix_or (source_at node address) (prefix_from nodes address)
 
--- what is put in front of the tags of messages to this address: the prefix of the first source of the plan that has it
+-- what is put in front of the tags of messages to this address: the prefix of the first source of
+-- the plan that has it
 abbrev pub prefix_at : {A : Type 0} → Network A → Address → Option (List ℕ)
 prefix_at net address = prefix_from net.relays address
 
--- the tag that the events of a message with this tag bear where it comes in, if it is sent to this address
+-- the tag that the events of a message with this tag bear where it comes in, if it is sent to this
+-- address
 abbrev pub tag_at : {A : Type 0} → Network A → Address → List ℕ → List ℕ
 tag_at net address tag = entered_tag (prefix_at net address) tag
 

@@ -10,8 +10,8 @@ use relay_conf::{MatchRule, Output, Relay, Scope};
 use std::alloc::{AllocError, Allocator};
 use std::collections::BTreeMap;
 
-/// Where an output stands in its relay: its scope, the match in that scope and its place in that match, each
-/// counted from 0.
+/// Where an output stands in its relay: its scope, the match in that scope and its place in that
+/// match, each counted from 0.
 #[derive(Clone, Copy)]
 pub(crate) struct OutputPlace {
     scope: usize,

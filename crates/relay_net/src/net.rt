@@ -17,10 +17,11 @@ use std::alloc::{AllocError, Allocator};
 use std::marker::Model;
 use tag_pattern::{Prefix, Tag};
 
-/// A network: its relays and its clients, each in the order of the plan. To contracts it is these two lists.
+/// A network: its relays and its clients, each in the order of the plan. To contracts it is these
+/// two lists.
 ///
-/// Beside them it keeps, for each relay, its routes and where its outputs stand, so that no step of the network
-/// looks through a configuration.
+/// Beside them it keeps, for each relay, its routes and where its outputs stand, so that no step of
+/// the network looks through a configuration.
 #[derive(Drop)]
 pub struct Net<A: Allocator> {
     alloc: A,
@@ -52,8 +53,8 @@ pub struct Refused<A: Allocator> {
 }
 
 impl<A: Allocator + Copy> Net<A> {
-    /// The network of these relays and clients, each of whom sends to a source, as `enter` says. The only error
-    /// is want of memory; it hands relays and clients back.
+    /// The network of these relays and clients, each of whom sends to a source, as `enter` says.
+    /// The only error is want of memory; it hands relays and clients back.
     pub fn new(
         alloc: A,
         relays: Vec<Node<A>, A>,
@@ -121,8 +122,9 @@ impl<A: Allocator + Copy> Net<A> {
             .position(|node| u64::from(node.number) == number)
     }
 
-    /// Where a message to this host and port comes in: at the first source with that address, in the order of the
-    /// relays and then of their sources. It looks at each relay's host, and at the sources of those that have it.
+    /// Where a message to this host and port comes in: at the first source with that address, in
+    /// the order of the relays and then of their sources. It looks at each relay's host, and at the
+    /// sources of those that have it.
     pub fn entrance(&self, host: &[u8], port: u16) -> Option<Entrance>
         ensures { result ≡ entrance self.now (record { host = host.now; port = port }) }
     {
@@ -137,7 +139,8 @@ impl<A: Allocator + Copy> Net<A> {
         None
     }
 
-    /// What is put in front of the tags of messages to this host and port: the prefix of the first source with that address.
+    /// What is put in front of the tags of messages to this host and port: the prefix of the first
+    /// source with that address.
     pub fn prefix(&self, host: &[u8], port: u16) -> Option<&Prefix<A>>
         ensures { option_copied result ≡ prefix_at self.now (record { host = host.now; port = port }) }
     {
@@ -149,8 +152,8 @@ impl<A: Allocator + Copy> Net<A> {
         None
     }
 
-    /// The output with this buffer of the relay at this place: of equal numbers the first. No configuration is
-    /// looked through for it.
+    /// The output with this buffer of the relay at this place: of equal numbers the first. No
+    /// configuration is looked through for it.
     pub fn output(&self, place: usize, buffer: usize) -> Option<&Output<A>>
         ensures { option_copied result ≡ output_at self.now place buffer }
     {
@@ -163,8 +166,8 @@ impl<A: Allocator + Copy> Net<A> {
         }
     }
 
-    /// Whether the chunks of this buffer of the relay at this place are in memory; where there is no such buffer
-    /// they aren't.
+    /// Whether the chunks of this buffer of the relay at this place are in memory; where there is
+    /// no such buffer they aren't.
     pub fn is_in_memory(&self, place: usize, buffer: usize) -> bool
         ensures { result ≡ is_in_memory self.now place buffer }
     {
@@ -174,8 +177,9 @@ impl<A: Allocator + Copy> Net<A> {
         }
     }
 
-    /// The way of an event with this tag that comes in there: a loop, or the buffers that it reaches, each once, in
-    /// the order first reached. From an entrance whose relay or scope isn't there it reaches nothing.
+    /// The way of an event with this tag that comes in there: a loop, or the buffers that it
+    /// reaches, each once, in the order first reached. From an entrance whose relay or scope isn't
+    /// there it reaches nothing.
     pub fn way<B: Allocator>(&self, at: Entrance, tag: &Tag<B>) -> Result<Way<A>, AllocError>
         ensures way { IfOk result (IsWay (table_at self.now at.relay) tag.now at.scope) }
         ensures leaves { IfOk result (HasLeaves (table_at self.now at.relay) tag.now at.scope) }

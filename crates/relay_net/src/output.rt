@@ -52,8 +52,9 @@ pub fn is_in_memory<A: Allocator>(output: &Output<A>) -> bool
     }
 }
 
-/// Whether the output lets go of nothing before it is delivered: its buffer is a file, retries for ever and
-/// refuses what comes where it is full, and it asks for acknowledgements where it forwards.
+/// Whether the output lets go of nothing before it is delivered: its buffer is a file, retries for
+/// ever and refuses what comes where it is full, and it asks for acknowledgements where it
+/// forwards.
 pub fn keeps<A: Allocator>(output: &Output<A>) -> bool
     ensures { IsTrue result ↔ Keeps output.now }
 {

@@ -24,7 +24,8 @@ abbrev pub left_out_of : Option Pending → ℕ
 left_out_of None = 0
 left_out_of (Some pending) = min (pending.left_out + 1) (2 ^ 64 - 1)
 
--- a place once this was told: the next line has it, and the notices before it are counted. That it works is passed over where it didn't fail
+-- a place once this was told: the next line has it, and the notices before it are counted. That it
+-- works is passed over where it didn't fail
 abbrev pub told : Notice → Slot → Slot
 told notice slot = if is_good notice && not slot.is_failing then slot
     else record { pending = Some (record { notice = notice; left_out = left_out_of slot.pending }); due = slot.due; is_failing = not (is_good notice) }
@@ -49,7 +50,8 @@ said now slot = record { pending = None; due = min (now + quiet) (2 ^ 64 - 1); i
 abbrev pub IsQuiet : ℕ → Slot → Type 0
 IsQuiet now slot = (slot.pending ≡ None) ⊎ (now < slot.due)
 
--- This is said now of its place, all that was told of it, and there nothing was said for a while; of the others nothing is.
+-- This is said now of its place, all that was told of it, and there nothing was said for a while;
+-- of the others nothing is.
 pub record IsSaid (now : ℕ) (due : Due) (old new : List Slot) : Type 0 where
   pub slot : Slot
   pub at : slice_get old due.place ≡ Some slot

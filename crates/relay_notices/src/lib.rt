@@ -1,7 +1,8 @@
-//! What a relay says of itself while it runs: that a server fails, a chunk was given up, a client was closed.
+//! What a relay says of itself while it runs: that a server fails, a chunk was given up, a client
+//! was closed.
 //!
-//! Each notice is told of a place, as a server, a buffer or a source. Of a place there is at most one line in ten seconds; it has the last notice,
-//! and says how many were left out before it.
+//! Each notice is told of a place, as a server, a buffer or a source. Of a place there is at most
+//! one line in ten seconds; it has the last notice, and says how many were left out before it.
 #![tactic(auto)]
 
 mod limiter;

@@ -49,7 +49,8 @@ impl<A: Allocator> Limiter<A> {
         }
     }
 
-    /// What is to be said now: the first place of which something was told, and nothing said for ten seconds. `None` where there is none.
+    /// What is to be said now: the first place of which something was told, and nothing said for
+    /// ten seconds. `None` where there is none.
     pub fn take(&mut self, now: u64) -> Option<Due>
         ensures said { IfSome result (λ due. IsSaid now due self.old self.new) }
         ensures none { IfNone result (All (IsQuiet now) self.old) }

@@ -4,7 +4,8 @@ use crate::slot::Pending;
 use jiff::Timestamp;
 use std::alloc::{AllocError, Allocator};
 
-/// A line that says this of the place with this name, so many seconds after 1970 began. The error is want of memory.
+/// A line that says this of the place with this name, so many seconds after 1970 began. The error
+/// is want of memory.
 pub fn line_of<A: Allocator + Copy>(
     alloc: A,
     second: u64,

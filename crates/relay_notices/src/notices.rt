@@ -5,8 +5,8 @@ use crate::notice::Notice;
 use std::alloc::{AllocError, Allocator};
 use std::sync::{Arc, Mutex, Wait};
 
-/// What was told of a relay's places and isn't said yet, and the places' names. Threads share it: no call holds its lock longer than for a
-/// look at each place, and none but `new` takes memory.
+/// What was told of a relay's places and isn't said yet, and the places' names. Threads share it:
+/// no call holds its lock longer than for a look at each place, and none but `new` takes memory.
 #[derive(Drop)]
 pub struct Notices<A: Allocator> {
     names: Vec<String<A>, A>,

@@ -8,15 +8,16 @@ use crate::notice::Notice;
 /// For how long nothing more is said of a place behind a line, in milliseconds.
 const QUIET: u64 = 10_000;
 
-/// What is to be said of a place: the last notice, and how many before it are left out. That number stays at the greatest u64.
+/// What is to be said of a place: the last notice, and how many before it are left out. That number
+/// stays at the greatest u64.
 #[derive(Clone, Copy, Debug, PartialEq, Eq)]
 pub struct Pending {
     pub notice: Notice,
     pub left_out: u64,
 }
 
-/// What is known of a place: what is to be said of it, from when on something may be said, in milliseconds, and whether the last notice was
-/// that it fails.
+/// What is known of a place: what is to be said of it, from when on something may be said, in
+/// milliseconds, and whether the last notice was that it fails.
 #[derive(Clone, Copy, Debug, PartialEq, Eq)]
 pub struct Slot {
     pub pending: Option<Pending>,

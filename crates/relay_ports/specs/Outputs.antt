@@ -79,8 +79,9 @@ pub record HaveOther {A : Type 0} (one other : BufferedOutput A) : Type 0 where
 abbrev pub HaveOwnPaths : {A : Type 0} → List (BufferedOutput A) → Type 0
 HaveOwnPaths outputs = AllPairs HaveOther outputs
 
--- This shows that the output has a chunk: an acknowledgement where it forwards and requires one, that the chunk was sent where it
--- forwards and requires none, the files of its sink where it writes these.
+-- This shows that the output has a chunk: an acknowledgement where it forwards and requires one,
+-- that the chunk was sent where it forwards and requires none, the files of its sink where it
+-- writes these.
 abbrev pub IsBasisOf : {A B : Type 0} → BufferedOutput A → Basis B → Type 0
 IsBasisOf (Forward settings) Acknowledged = settings.require_ack_response ≡ true
 IsBasisOf (Forward settings) (Stored sink) = ⊥

@@ -51,8 +51,9 @@ impl<A: Allocator> BufferedOutput<A> {
     }
 }
 
-/// What lets a chunk of the output's buffer go: an acknowledgement where the output requires one, the sink's files where it
-/// writes these, and else that the chunk was sent. The error is want of memory.
+/// What lets a chunk of the output's buffer go: an acknowledgement where the output requires one,
+/// the sink's files where it writes these, and else that the chunk was sent. The error is want of
+/// memory.
 pub fn takes_of<A: Allocator, B: Allocator>(
     alloc: B,
     output: &BufferedOutput<A>,
@@ -79,7 +80,8 @@ pub fn takes_of<A: Allocator, B: Allocator>(
     })
 }
 
-/// The outputs of these scopes that have buffers, each whole, in the order of the text. The error is want of memory.
+/// The outputs of these scopes that have buffers, each whole, in the order of the text. The error
+/// is want of memory.
 pub fn buffered_outputs<A: Allocator + Copy>(
     alloc: A,
     scopes: Vec<Scope<A>, A>,

@@ -16,8 +16,8 @@ use std::marker::Model;
 use std::sync::Arc;
 use tag_pattern::{Prefix, Tag, TagError};
 
-/// What a source makes of messages: the relay's number and where its events go, the scope that they come into, and the prefix
-/// that their tags get, if any.
+/// What a source makes of messages: the relay's number and where its events go, the scope that they
+/// come into, and the prefix that their tags get, if any.
 #[derive(Drop)]
 pub struct Inlet<A: Allocator> {
     number: u32,
@@ -35,8 +35,8 @@ impl<A: Allocator> Model for Inlet<A> {
     ghost view = { λ i. record { number = i.number; table = arc_value i.routes; scope = i.scope.0; prefix = i.prefix } };
 }
 
-/// Where a message goes: the tag that its entries are stored under, and the buffers that have to store it before it is
-/// answered, by their places in the relay and as leaves of a delivery.
+/// Where a message goes: the tag that its entries are stored under, and the buffers that have to
+/// store it before it is answered, by their places in the relay and as leaves of a delivery.
 #[derive(Drop)]
 pub struct Branches<A: Allocator> {
     pub tag: Tag<A>,
@@ -69,8 +69,8 @@ impl<A: Allocator + Copy> Inlet<A> {
         self.number
     }
 
-    /// Where a message goes. One without entries goes nowhere; `None` where no delivery of it is to begin, since its way is a
-    /// loop, or its tag is too long with the prefix.
+    /// Where a message goes. One without entries goes nowhere; `None` where no delivery of it is to
+    /// begin, since its way is a loop, or its tag is too long with the prefix.
     ///
     /// The error is want of memory.
     pub fn branches<B: Allocator>(

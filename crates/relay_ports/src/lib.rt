@@ -1,5 +1,5 @@
-//! A relay as it runs: its sources and outputs, which buffers have to store a message before it is answered, and what lets the chunks
-//! of an output's buffer go.
+//! A relay as it runs: its sources and outputs, which buffers have to store a message before it is
+//! answered, and what lets the chunks of an output's buffer go.
 #![tactic(auto)]
 
 mod buffered;

@@ -36,7 +36,8 @@ fn is_at<A: Allocator>(output: &BufferedOutput<A>, place: usize) -> bool
     output.number().0 == place
 }
 
-/// Whether no two outputs share the path of their buffers, or of their sinks. Each is compared with all that stand before it.
+/// Whether no two outputs share the path of their buffers, or of their sinks. Each is compared with
+/// all that stand before it.
 pub(crate) fn have_own_paths<A: Allocator>(outputs: &[BufferedOutput<A>]) -> bool
     ensures { IsTrue result ↔ HaveOwnPaths outputs.now }
 {

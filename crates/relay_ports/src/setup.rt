@@ -18,8 +18,8 @@ use std::sync::Arc;
 /// How many buffers a relay has at most: their numbers have 32 bits.
 const MOST_BUFFERS: usize = 4_294_967_295;
 
-/// What a relay is that was read: its number, where its events go, its sources, and its outputs that have buffers. Each of these has
-/// the number of its place, and no two share a path.
+/// What a relay is that was read: its number, where its events go, its sources, and its outputs
+/// that have buffers. Each of these has the number of its place, and no two share a path.
 #[derive(Drop)]
 pub struct RelaySetup<A: Allocator> {
     number: u32,
@@ -55,8 +55,9 @@ pub struct SetupParts<A: Allocator> {
 impl<A: Allocator + Copy> RelaySetup<A> {
     /// What this relay is under this number.
     ///
-    /// `Number`: a buffer has another number than its place, or none of 32 bits; a relay that was read has none such. `Path`: two
-    /// outputs share the path of their buffers, or of their sinks. `Memory`.
+    /// `Number`: a buffer has another number than its place, or none of 32 bits; a relay that was
+    /// read has none such. `Path`: two outputs share the path of their buffers, or of their sinks.
+    /// `Memory`.
     pub fn new(alloc: A, relay: Relay<A>, number: u32) -> Result<RelaySetup<A>, SetupFault>
         ensures setup { IfOk result (λ setup. setup ≡ setup_of number relay) }
         ensures runs { IfOk result (λ _. CanRun (outputs_in relay.scopes.items)) }

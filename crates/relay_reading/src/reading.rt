@@ -32,8 +32,8 @@ impl From<ReadFault> for ConfStop {
     }
 }
 
-/// The relay that the text describes, each of whose buffers is that of one output. Else the first fault of the text, or of what it
-/// says; or the text isn't read.
+/// The relay that the text describes, each of whose buffers is that of one output. Else the first
+/// fault of the text, or of what it says; or the text isn't read.
 pub fn read_relay<A: Allocator + Copy, R: CountedRead>(
     alloc: A,
     input: &mut R,

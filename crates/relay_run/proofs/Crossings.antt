@@ -1,4 +1,5 @@
--- What carries chunks may be shared by threads, and what starts a buffer's flush threads may go to a thread.
+-- What carries chunks may be shared by threads, and what starts a buffer's flush threads may go to
+-- a thread.
 use denote.RattleType.{RattleType}
 use denote.Enum.Declared.{shape}
 use denote.Param.Send.{IsSend, IsSync, Frees, sendable, enum_send, enum_sync}

@@ -32,14 +32,16 @@ pub record PoolState : Type 0 where
   pub job : Owned heap.the_row.Denot
   pub carrier : Carrier
 
--- this carries to the sink that was opened by this name, in the folder that was made for it, which is that of the system with this path
+-- this carries to the sink that was opened by this name, in the folder that was made for it, which
+-- is that of the system with this path
 abbrev pub IsSinkAt : (folder name : List ℕ) → Carrier → Type 0
 IsSinkAt folder name (Servers sender) = ⊥
 IsSinkAt folder name (Sink courier placed) = (courier.path ≡ name)
     × (courier.folder ≡ placed.value.dir)
     × (option_map string_bytes placed.value.path ≡ Some folder)
 
--- the output's chunks are carried by a courier to its servers, as its settings say, or to the sink of its path, in this folder
+-- the output's chunks are carried by a courier to its servers, as its settings say, or to the sink
+-- of its path, in this folder
 abbrev pub IsCarrierOf : {A : Type 0} → (folder : List ℕ) → BufferedOutput A → Carrier → Type 0
 IsCarrierOf folder (Forward settings) (Servers sender) = sender ≡ sender_of settings sender.dialer
 IsCarrierOf folder (Forward settings) (Sink courier placed) = ⊥
@@ -49,20 +51,23 @@ IsCarrierOf folder (File settings) carrier = IsSinkAt folder (string_bytes setti
 abbrev pub IsPoolOf : (folder : List ℕ) → PoolState → Type 0
 IsPoolOf folder pool = IsCarrierOf folder pool.job.output pool.carrier
 
--- What this gave for a chunk, over connections with these origins and this traffic: by a courier, what that gives of a chunk that was sent to one of its
--- servers; and of a sink, that the chunk's entries are in it.
+-- What this gave for a chunk, over connections with these origins and this traffic: by a courier,
+-- what that gives of a chunk that was sent to one of its servers; and of a sink, that the chunk's
+-- entries are in it.
 abbrev pub IsCarriedBy : {S : Type 0} → (origin : S → Origin) → (traffic : S → Traffic)
     → Carrier → Claimed → Shows → Type 0
 IsCarriedBy origin traffic (Servers sender) claim shown = IsSent origin traffic sender claim shown
 IsCarriedBy origin traffic (Sink courier placed) claim shown = IsStoredFor claim shown
 
--- a relay that runs: its loop, the ports of its sources, and what delivers the chunks of its outputs
+-- a relay that runs: its loop, the ports of its sources, and what delivers the chunks of its
+-- outputs
 pub record RelayState : Type 0 where
   pub turning : LoopState heap.the_row.Denot
   pub ports : List ℕ
   pub pools : List PoolState
 
--- a pool that ended, and how: with what its workers did together, or with the fault of the first that has one
+-- a pool that ended, and how: with what its workers did together, or with the fault of the first
+-- that has one
 pub record PoolEnded : Type 0 where
   pub pool : PoolState
   pub done : Result Worked BufferFault
@@ -71,7 +76,8 @@ pub record PoolEnded : Type 0 where
 abbrev pub LetsAll : OpenGate → ℕ → Type 0
 LetsAll gate serial = Unit {0}
 
--- So ended as many workers as the pool has threads, at its own buffer, with its own carrier and the retry settings of its output, where each of them had done nothing.
+-- So ended as many workers as the pool has threads, at its own buffer, with its own carrier and the
+-- retry settings of its output, where each of them had done nothing.
 abbrev pub HaveEnded : {S : Type 0} → (origin : S → Origin) → (traffic : S → Traffic)
     → PoolEnded → Type 0
 HaveEnded origin traffic end = (gate : OpenGate)
@@ -90,7 +96,8 @@ first_fault (Some fault) pools = Some fault
 first_fault None [] = None
 first_fault None (pool ∷ pools) = first_fault (fault_of pool.done) pools
 
--- a relay that ran: its loop, its ports, the fault that the loop ended with, and how its pools ended
+-- a relay that ran: its loop, its ports, the fault that the loop ended with, and how its pools
+-- ended
 pub record RelayEnded : Type 0 where
   pub turning : LoopState heap.the_row.Denot
   pub ports : List ℕ
@@ -101,8 +108,9 @@ pub record RelayEnded : Type 0 where
 abbrev pub relay_of : RelayEnded → RelayState
 relay_of ended = record { turning = ended.turning; ports = ended.ports; pools = map (λ end. end.pool) ended.pools }
 
--- A relay that listens goes on to run, with its files in this folder. It takes messages in at the same sources and addresses, it has a buffer
--- for each of its outputs, and each output has what delivers its chunks, from the very buffer that the loop has for it.
+-- A relay that listens goes on to run, with its files in this folder. It takes messages in at the
+-- same sources and addresses, it has a buffer for each of its outputs, and each output has what
+-- delivers its chunks, from the very buffer that the loop has for it.
 pub record Continues (folder : List ℕ) (bound : BoundState heap.the_row.Denot) (relay : RelayState) : Type 0 where
   pub sources : relay.turning.sources ≡ bound.sources
   pub listens : relay.turning.bound ≡ bound.bound
@@ -113,14 +121,16 @@ pub record Continues (folder : List ℕ) (bound : BoundState heap.the_row.Denot)
   pub placed : ArePlaced (path_for folder) (map (λ pool. pool.job) relay.pools)
   pub pools : All (IsPoolOf folder) relay.pools
 
--- A relay listens at the address of each source of this setup, and nowhere else, and has its number and its outputs.
+-- A relay listens at the address of each source of this setup, and nowhere else, and has its number
+-- and its outputs.
 pub record IsBoundAs (setup : Setup heap.the_row.Denot) (bound : BoundState heap.the_row.Denot) : Type 0 where
   pub sources : bound.sources ≡ map (served_as setup.number setup.table) setup.sources
   pub listens : bound.bound ≡ map (λ source. source.endpoint) bound.sources
   pub number : bound.number ≡ setup.number
   pub outputs : bound.outputs ≡ setup.outputs
 
--- What runs is this relay, whole, with its files in this folder: it listened as its setup says, and went on so.
+-- What runs is this relay, whole, with its files in this folder: it listened as its setup says, and
+-- went on so.
 pub record Runs (folder : List ℕ) (setup : Setup heap.the_row.Denot) (relay : RelayState) : Type 0 where
   pub bound : BoundState heap.the_row.Denot
   pub is : IsBoundAs setup bound

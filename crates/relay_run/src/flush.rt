@@ -45,14 +45,16 @@ pub type Folder = SystemDir<HostRuntime, Global>;
 // The folder of a sink.
 type Placed = PlacedDir<RealDir<HostRuntime, Global>, Global>;
 
-// A sink's next file is begun behind 1 GiB or a day; and a minute after the last one, where that can't be written.
+// A sink's next file is begun behind 1 GiB or a day; and a minute after the last one, where that
+// can't be written.
 const FILE_LIMITS: FileLimits = FileLimits {
     bytes: 1_073_741_824,
     millis: 86_400_000,
     pause: 60_000,
 };
 
-/// Carries chunks to servers, or to the files of a sink. Contracts see besides the folder as it was made for the sink, with its path.
+/// Carries chunks to servers, or to the files of a sink. Contracts see besides the folder as it was
+/// made for the sink, with its path.
 #[derive(Drop)]
 pub enum Carrier {
     Servers(TcpCourier<Connects, Global>),
@@ -80,8 +82,8 @@ impl<R: Wait + Net + Clock, D: Dir> Courier<R, D, Global> for Carrier {
     }
 }
 
-/// What one thread has that starts an output's flush threads: its buffer, and what carries its chunks. Contracts see the job that it is made
-/// of, which says whose buffer it is.
+/// What one thread has that starts an output's flush threads: its buffer, and what carries its
+/// chunks. Contracts see the job that it is made of, which says whose buffer it is.
 #[derive(Drop)]
 pub struct Pool {
     buffer: Arc<SharedBuffer<Folder, Global>>,
@@ -110,10 +112,11 @@ impl Model for Pool {
 }
 
 impl Pool {
-    /// Makes what carries the chunks of this output, whose buffer has this number: a courier to its servers, or its sink, which is opened
-    /// in this folder.
+    /// Makes what carries the chunks of this output, whose buffer has this number: a courier to its
+    /// servers, or its sink, which is opened in this folder.
     ///
-    /// `Buffer`: the sink's files can't be made. `Poll`: the system gives no random bytes. `Memory`.
+    /// `Buffer`: the sink's files can't be made. `Poll`: the system gives no random bytes.
+    /// `Memory`.
     pub fn open<R: RandomSource + Wait>(
         rt: &R,
         home: Home<'_>,
@@ -137,7 +140,8 @@ impl Pool {
         })
     }
 
-    /// Delivers chunks until the relay stops, by as many threads as the output has. Where the buffer has failed, it stops the relay.
+    /// Delivers chunks until the relay stops, by as many threads as the output has. Where the
+    /// buffer has failed, it stops the relay.
     pub fn run<R>(self, rt: &R) -> PoolEnd
     where
         R: Wait
@@ -168,7 +172,8 @@ impl Pool {
     }
 }
 
-/// How a pool ended: with what its workers did, or with the fault of the first that has one. Contracts see which pool it was.
+/// How a pool ended: with what its workers did, or with the fault of the first that has one.
+/// Contracts see which pool it was.
 #[derive(Drop)]
 pub struct PoolEnd {
     done: Result<Worked, BufferFault>,

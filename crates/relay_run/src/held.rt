@@ -8,8 +8,9 @@ use std::rt::Files;
 
 type OpenFolder = <HostRuntime as Files>::File;
 
-/// A folder that no other relay takes while this is there: the system's advisory lock on the folder itself. It leaves no file, and ends
-/// with the process, however that ends. Where the system has no such locks, nothing is held, and the relay runs all the same.
+/// A folder that no other relay takes while this is there: the system's advisory lock on the folder
+/// itself. It leaves no file, and ends with the process, however that ends. Where the system has no
+/// such locks, nothing is held, and the relay runs all the same.
 #[derive(Drop)]
 pub(crate) struct HeldFolder(Option<OpenFolder>);
 

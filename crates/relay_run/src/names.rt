@@ -5,7 +5,8 @@ use std::alloc::{AllocError, Global};
 
 type Names = Vec<String, Global>;
 
-/// Where the places of each kind begin in the list of a relay's places. The first place is the relay itself, with its folder.
+/// Where the places of each kind begin in the list of a relay's places. The first place is the
+/// relay itself, with its folder.
 #[derive(Drop)]
 pub(crate) struct Places {
     /// Its sources, in the order of the text.
@@ -74,7 +75,8 @@ fn put_outputs_of(
     Ok(())
 }
 
-// Puts the names of what carries the chunks of a scope's outputs, and at which place those of each begin.
+// Puts the names of what carries the chunks of a scope's outputs, and at which place those of each
+// begin.
 fn put_carriers(
     alloc: Global,
     scope: &Scope<Global>,

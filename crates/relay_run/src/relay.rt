@@ -1,4 +1,5 @@
-//! A relay is read, opened and run: its ports are printed once they are ready, and its fault in the end.
+//! A relay is read, opened and run: its ports are printed once they are ready, and its fault in the
+//! end.
 
 ghost use Rattle.std.specs.Prelude.{◌≡◌, ◌≢◌, [], None, IfOk, IfSome, IfNone};
 ghost use Rattle.plan_lines.specs.Forms.{relay_number};
@@ -26,7 +27,8 @@ use std::sync::Wait;
 use std::thread::Threads;
 use std::time::Clock;
 
-/// What runs relays: a handle of the runtime, and where the relay has its files. Contracts see the path of that folder.
+/// What runs relays: a handle of the runtime, and where the relay has its files. Contracts see the
+/// path of that folder.
 #[derive(Drop)]
 pub struct Runner<'a, R> {
     rt: &'a R,
@@ -63,8 +65,9 @@ where
         Runner { rt, home }
     }
 
-    /// Runs the relay of this configuration under this number until a fault: prints `ready` and the port of each source once
-    /// clients can connect, and in the end the fault. `None` where the number is none: then nothing is read or printed.
+    /// Runs the relay of this configuration under this number until a fault: prints `ready` and the
+    /// port of each source once clients can connect, and in the end the fault. `None` where the
+    /// number is none: then nothing is read or printed.
     pub fn run_relay<I: CountedRead, W: Write>(
         &self,
         conf: &mut I,
@@ -92,7 +95,8 @@ where
         }
     }
 
-    // Opens the relay and runs it, and prints what there is to print of it. What else is to be said of it is said meanwhile.
+    // Opens the relay and runs it, and prints what there is to print of it. What else is to be said
+    // of it is said meanwhile.
     #[tactic(auto, using(crate::proofs::StartingSteps::not_opened))]
     fn run_read<W: Write>(&self, relay: Relay<Global>, number: u32, out: &mut W) -> Status
         ensures { PrintsRun self.now (setup_of number relay) (W.contents out.old) (W.contents out.new) result }
@@ -138,8 +142,8 @@ where
         }
     }
 
-    // Opens the relay under this number: it listens at its sources, its buffers are open, and so is what delivers their chunks. Nothing is
-    // printed of it before.
+    // Opens the relay under this number: it listens at its sources, its buffers are open, and so is
+    // what delivers their chunks. Nothing is printed of it before.
     fn open(
         &self,
         relay: Relay<Global>,
@@ -218,7 +222,8 @@ fn fault_line(fault: LoopFault) -> &'static str
     }
 }
 
-// Prints that the sources of a relay that is open take connections. Where the writer fails, the relay runs all the same.
+// Prints that the sources of a relay that is open take connections. Where the writer fails, the
+// relay runs all the same.
 #[tactic(auto, using(crate::proofs::StartingSteps::are_ready))]
 fn put_ready<R: Net + Clock + Clone + Drop, W: Write>(running: &Running<R>, out: &mut W)
     ensures { PrintsReady running.now.ports (W.contents out.old) (W.contents out.new) }

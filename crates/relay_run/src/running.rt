@@ -27,7 +27,8 @@ use std::vec::IntoIter;
 // The loop of a relay over the system's sockets.
 type Turning<R> = InLoop<SocketNetwork<R, Global>, Folder, Global>;
 
-/// A relay that is open: its loop, and what delivers the chunks of each of its outputs. Contracts see also the ports of its sources.
+/// A relay that is open: its loop, and what delivers the chunks of each of its outputs. Contracts
+/// see also the ports of its sources.
 pub struct Running<R: Net + Clock + Clone + Drop> {
     turning: Turning<R>,
     ports: ReadyPorts<Global>,
@@ -77,7 +78,8 @@ impl<R: Net + Clock + Clone + Drop> Model for Ran<R> {
 }
 
 impl<R: Net + Clock + Clone + Drop> Ran<R> {
-    /// Why it ended, unless it was told to: a fault of the loop, or else the first of what delivered.
+    /// Why it ended, unless it was told to: a fault of the loop, or else the first of what
+    /// delivered.
     pub fn fault(&self) -> Option<LoopFault>
         ensures { result ≡ first_fault self.now.fault self.now.pools }
     {
@@ -139,10 +141,12 @@ where
         + Sync
         + 'static,
 {
-    /// Opens the buffers of a relay that listens, and what delivers the chunks of each of its outputs, with files there.
+    /// Opens the buffers of a relay that listens, and what delivers the chunks of each of its
+    /// outputs, with files there.
     ///
-    /// `Buffer`: a buffer, a sink, or the folders, can't be opened, or another relay has its files there. `NoNumber`: a buffer has no number of 32 bits. `Poll`: the system gives no
-    /// random bytes. `Memory`.
+    /// `Buffer`: a buffer, a sink, or the folders, can't be opened, or another relay has its files
+    /// there. `NoNumber`: a buffer has no number of 32 bits. `Poll`: the system gives no random
+    /// bytes. `Memory`.
     pub fn open(
         rt: &R,
         home: Home<'_>,
@@ -180,7 +184,8 @@ where
         }
     }
 
-    /// Runs the loop and the pools until one of them has a fault. `Memory`: there is none for a thread.
+    /// Runs the loop and the pools until one of them has a fault. `Memory`: there is none for a
+    /// thread.
     pub fn run(self, rt: &R, voice: &Voice) -> Result<Ran<R>, LoopFault>
         ensures ran { IfOk result (λ ran. relay_of ran ≡ self) }
         ensures full { IfErr result (λ fault. fault ≡ LoopFault.Memory) }
@@ -304,7 +309,8 @@ where
     Ok(())
 }
 
-// Waits for the threads to end. Where there is no memory for what they give, they have ended all the same.
+// Waits for the threads to end. Where there is no memory for what they give, they have ended all
+// the same.
 fn join_all<R: Threads + AllocGlobal>(
     rt: &R,
     threads: Vec<Delivery>,

@@ -19,7 +19,8 @@ const REST: u64 = 100;
 /// How often it is looked whether all was said, with ten milliseconds between: for a second.
 const LOOKS: u32 = 100;
 
-/// A relay's notices: who has something to tell tells it here, and a thread says it. So who tells never waits for standard error.
+/// A relay's notices: who has something to tell tells it here, and a thread says it. So who tells
+/// never waits for standard error.
 #[derive(Drop)]
 pub(crate) struct Voice {
     notices: Arc<Notices<Global>>,
@@ -37,7 +38,8 @@ struct Flags {
 }
 
 impl Voice {
-    /// Begins to say what is told of this relay, with files in this folder. `Memory`: there is none for the places' names, or for a thread.
+    /// Begins to say what is told of this relay, with files in this folder. `Memory`: there is none
+    /// for the places' names, or for a thread.
     pub(crate) fn start<R>(
         rt: &R,
         home: Home<'_>,

@@ -67,8 +67,8 @@ fn take_in<R: Wait, D: Disk + Drop>(
     Ok(taken.is_ok())
 }
 
-// The whole message is there: what the relay makes of it is told. Where a buffer has no room for it,
-// that is nothing. Where a device failed, each append of it may be there or not.
+// The whole message is there: what the relay makes of it is told. Where a buffer has no room for
+// it, that is nothing. Where a device failed, each append of it may be there or not.
 fn note_delivery<R: Wait, D: Disk + Drop>(
     rt: &R,
     alloc: Global,
@@ -153,7 +153,8 @@ fn note_drops<D: Disk + Drop>(
     Ok(())
 }
 
-// The delivery was appended to this buffer: to its next chunk where that is there now, and else to the one that grows.
+// The delivery was appended to this buffer: to its next chunk where that is there now, and else to
+// the one that grows.
 fn note_append<R: Wait, D: Disk + Drop>(
     rt: &R,
     alloc: Global,

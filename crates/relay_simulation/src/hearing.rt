@@ -40,7 +40,8 @@ impl<'n, D: Disk + Drop> Run<'n, D> {
         }
     }
 
-    // The bytes of another connection's answer come to this one's sender, which hears nothing more then.
+    // The bytes of another connection's answer come to this one's sender, which hears nothing more
+    // then.
     fn hear_other<R: Wait>(&mut self, rt: &R, at: usize) -> Result<(), AllocError> {
         let bytes = self.other_answer(at)?;
         let Some(link) = self.links.get_mut(at) else {
@@ -57,7 +58,8 @@ impl<'n, D: Disk + Drop> Run<'n, D> {
         }
     }
 
-    // What of an answer is under way on a connection that isn't this one; nothing where none is found.
+    // What of an answer is under way on a connection that isn't this one; nothing where none is
+    // found.
     fn other_answer(&mut self, at: usize) -> Result<Vec<u8>, AllocError> {
         let count = self.links.len();
         for other in self.dice.below(count)..count {

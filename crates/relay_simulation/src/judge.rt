@@ -5,7 +5,8 @@ use relay_net::Net;
 use std::alloc::{AllocError, Global};
 use step_lines::Step;
 
-/// The steps that the run was told as, in the form that a replay takes, and the network as the machine has it behind them.
+/// The steps that the run was told as, in the form that a replay takes, and the network as the
+/// machine has it behind them.
 #[derive(Drop)]
 pub struct Judge<'n> {
     alloc: Global,

@@ -1,4 +1,5 @@
-//! A run of a network of simulated relays, in which each choice is drawn and each action is told to the proved machine of steps, its judge.
+//! A run of a network of simulated relays, in which each choice is drawn and each action is told to
+//! the proved machine of steps, its judge.
 #![tactic(auto)]
 
 mod arriving;

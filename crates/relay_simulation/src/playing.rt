@@ -15,8 +15,8 @@ use std::time::Clock;
 /// The port of a network's first source; those of the relay behind it are ten higher.
 pub const FIRST_PORT: u16 = 24_000;
 
-/// A network: its relays have these configurations, and the numbers from the first on. The checker's
-/// answer to its plan says whether each event has to be kept.
+/// A network: its relays have these configurations, and the numbers from the first on. The
+/// checker's answer to its plan says whether each event has to be kept.
 #[derive(Drop)]
 pub struct Network<'a> {
     pub first: u32,

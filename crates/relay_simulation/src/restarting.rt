@@ -132,7 +132,8 @@ fn open_again<R: Wait, D: Disk + Drop>(
     compare_held(site, judge)
 }
 
-// What the sinks hold is what the machine's hold. Of a write that failed, the first entries may be there, which is told then.
+// What the sinks hold is what the machine's hold. Of a write that failed, the first entries may be
+// there, which is told then.
 fn compare_sinks<D: Disk + Drop>(
     alloc: Global,
     site: &mut Site<D>,

@@ -1,4 +1,5 @@
-//! A network that runs: its relays, the connections between them, the chunks that are claimed, and the judge.
+//! A network that runs: its relays, the connections between them, the chunks that are claimed, and
+//! the judge.
 
 use crate::dice::Dice;
 use crate::judge::Judge;
@@ -150,7 +151,8 @@ impl<'n, D: Disk + Drop> Run<'n, D> {
         }
     }
 
-    /// Tells that a chunk went, where it did: by these two steps. Where its buffer refused, the chunk may have gone or not.
+    /// Tells that a chunk went, where it did: by these two steps. Where its buffer refused, the
+    /// chunk may have gone or not.
     pub fn tell_gone(
         &mut self,
         name: Name,

@@ -17,7 +17,8 @@ fn entry(number: u32) -> [u8; 7] {
     [0x92, 0xce, a, b, c, d, 0x80]
 }
 
-/// A message that is to be sent: its tag, its entries, the name that it asks an acknowledgement for, and whether it does.
+/// A message that is to be sent: its tag, its entries, the name that it asks an acknowledgement
+/// for, and whether it does.
 #[derive(Clone, Copy)]
 pub struct Letter<'a> {
     pub tag: &'a [u8],

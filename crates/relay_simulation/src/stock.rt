@@ -7,7 +7,8 @@ use std::alloc::{AllocError, Global};
 use std::mem;
 use std::sync::{Arc, Wait};
 
-/// Goes through the chunks of a relay that was opened, and takes steps out that the stop lost: whether there were any.
+/// Goes through the chunks of a relay that was opened, and takes steps out that the stop lost:
+/// whether there were any.
 pub fn take_stock<R: Wait, D: Disk + Drop>(
     rt: &R,
     alloc: Global,

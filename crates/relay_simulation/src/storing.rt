@@ -115,7 +115,8 @@ fn settle<R: Wait, D: Disk + Drop>(
     Ok(())
 }
 
-// Whether the relay has answered is asked: then the answer is told, and no stop may lose what it is of.
+// Whether the relay has answered is asked: then the answer is told, and no stop may lose what it is
+// of.
 fn note_answer(
     link: &mut Link,
     chunks: &mut Chunks,

@@ -49,7 +49,8 @@ impl<'n, D: Disk + Drop> Run<'n, D> {
         Ok(())
     }
 
-    /// A worker goes on with its chunk: it is delivered, given up, or given back, as when no answer came in time or no server is there.
+    /// A worker goes on with its chunk: it is delivered, given up, or given back, as when no answer
+    /// came in time or no server is there.
     pub fn work<R: Wait + Clock>(&mut self, rt: &R, name: Name) -> Result<(), AllocError> {
         if self.dice.once_in(4) {
             if self.give_back(rt, name) {
@@ -199,8 +200,8 @@ impl<'n, D: Disk + Drop> Run<'n, D> {
         Ok(held.body(rt).map(|entries| (tag, entries)))
     }
 
-    /// A buffer's oldest queued chunk goes, where its output drops the oldest. Where devices may fail none does: nobody would
-    /// know whether it went.
+    /// A buffer's oldest queued chunk goes, where its output drops the oldest. Where devices may
+    /// fail none does: nobody would know whether it went.
     pub fn drop_oldest<R: Wait>(
         &mut self,
         rt: &R,

@@ -11,7 +11,8 @@ pub record Endpoint : Type 0 where
 abbrev pub IsPortOf : (port : ℕ) → Endpoint → Type 0
 IsPortOf port endpoint = endpoint.port ≢ 0 → port ≡ endpoint.port
 
--- where a connection comes from: it came in at the listener with this number, or it went to the endpoint that was asked for
+-- where a connection comes from: it came in at the listener with this number, or it went to the
+-- endpoint that was asked for
 pub data Origin : Type 0 where
   CameAt : ℕ → Origin
   WentTo : Endpoint → Origin

@@ -31,7 +31,8 @@ abbrev pub IsReadFrom : Traffic → Traffic → (piece : List ℕ) → Moved →
 IsReadFrom old new piece (moved.Some n) = (n ≤ length piece) × Conveys old new [] (take n piece)
 IsReadFrom old new piece _ = Conveys old new [] []
 
--- a read of a stream that has these bytes yet to give, if they are known: so many of them came, which begin the piece, or none did
+-- a read of a stream that has these bytes yet to give, if they are known: so many of them came,
+-- which begin the piece, or none did
 abbrev pub IsReadOff : (old new : Option (List ℕ)) → (piece : List ℕ) → Moved → Type 0
 IsReadOff old new piece (moved.Some n) = (n ≤ length piece) × Consumes old new (take n piece)
 IsReadOff old new piece _ = Consumes old new []
@@ -47,13 +48,15 @@ IsRefused (moved.Some n) = ⊥
 IsRefused moved.Ended = ⊥
 IsRefused _ = Unit {0}
 
--- what the system's answer to a read comes to: so many bytes; the end where it gave none; or why it refused
+-- what the system's answer to a read comes to: so many bytes; the end where it gave none; or why it
+-- refused
 abbrev pub IsGot : {E : Type 0} → Result ℕ E → Moved → Type 0
 IsGot (Ok zero) got = got ≡ moved.Ended
 IsGot (Ok (suc n)) got = got ≡ moved.Some (suc n)
 IsGot (Err why) got = IsRefused got
 
--- what its answer to a write comes to: so many bytes; that the connection failed where it took none; or why it refused
+-- what its answer to a write comes to: so many bytes; that the connection failed where it took
+-- none; or why it refused
 abbrev pub IsPut : {E : Type 0} → Result ℕ E → Moved → Type 0
 IsPut (Ok zero) put = put ≡ moved.Broken
 IsPut (Ok (suc n)) put = put ≡ moved.Some (suc n)

@@ -4,7 +4,8 @@ ghost use Rattle.std.specs.Prelude.{◌≤◌};
 
 use std::time::Clock;
 
-/// The monotonic clock in milliseconds, or the time before where it can't be read. It never goes back.
+/// The monotonic clock in milliseconds, or the time before where it can't be read. It never goes
+/// back.
 pub fn now_after(rt: &impl Clock, before: u64) -> u64
     ensures { before ≤ result }
 {

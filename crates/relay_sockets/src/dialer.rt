@@ -31,8 +31,9 @@ pub trait Dialer: Time {
     // whether the server at an endpoint takes a connection
     ghost takes: { Self → Endpoint → Bool };
 
-    /// A connection to the server at this host and port, at the first of its addresses that takes one before this time; or why there
-    /// is none, at the last of them. The error is want of memory.
+    /// A connection to the server at this host and port, at the first of its addresses that takes
+    /// one before this time; or why there is none, at the last of them. The error is want of
+    /// memory.
     fn connect(
         &self,
         host: &str,

@@ -1,8 +1,9 @@
 //! What the host gives to a relay: addresses, time, random bytes, and sockets.
 //!
-//! Listeners, connections and time stand behind traits, so that a loop and couriers can be proved over any network: which
-//! endpoint was bound, at which listener a connection came in, which endpoint was asked for, and which bytes went each way are
-//! ghost members of the sockets. One implementation is the system's sockets, and one is in memory.
+//! Listeners, connections and time stand behind traits, so that a loop and couriers can be proved
+//! over any network: which endpoint was bound, at which listener a connection came in, which
+//! endpoint was asked for, and which bytes went each way are ghost members of the sockets. One
+//! implementation is the system's sockets, and one is in memory.
 #![tactic(auto)]
 
 mod address;

@@ -40,7 +40,8 @@ impl<A: Allocator + Copy> MemoryDialer<A> {
         self.time = time;
     }
 
-    /// A server listens at this host and port from now on, and sends these bytes over each connection.
+    /// A server listens at this host and port from now on, and sends these bytes over each
+    /// connection.
     pub fn add(&mut self, host: &str, port: u16, sends: &[u8]) -> Result<(), AllocError> {
         self.servers.push(MemoryServer {
             endpoint: Endpoint::new(self.alloc, host, port)?,

@@ -17,7 +17,8 @@ struct Caller<A: Allocator> {
     sent: Vec<u8, A>,
 }
 
-/// Listeners in memory. What waits at them, what is noted besides, and the time are put in, in one thread.
+/// Listeners in memory. What waits at them, what is noted besides, and the time are put in, in one
+/// thread.
 #[derive(Drop)]
 pub struct MemoryNetwork<A: Allocator> {
     alloc: A,

@@ -9,7 +9,8 @@ use std::alloc::{AllocError, Allocator};
 use std::snapshot::Snapshot;
 use std::time::Duration;
 
-/// Where a connection in memory comes from: the listener with this number, or the server that took it.
+/// Where a connection in memory comes from: the listener with this number, or the server that took
+/// it.
 #[derive(Drop)]
 pub enum MemoryOrigin<A: Allocator> {
     Listener(usize),

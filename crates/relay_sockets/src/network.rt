@@ -72,7 +72,8 @@ pub struct Note {
     pub is_ended: bool,
 }
 
-/// Listeners, and the connections that come in at them, for one thread that waits for all of them at once.
+/// Listeners, and the connections that come in at them, for one thread that waits for all of them
+/// at once.
 pub trait Network: Time {
     ghost use Rattle.std.specs.Prelude.{◌≡◌, ℕ, Bool, List, [], ◌∷◌, ◌++◌, length, Option, None, Err, IfOk, IfSome, OnOk, OnErr, slice_get};
     ghost use Rattle.relay_sockets.specs.Endpoints.{Endpoint, CameAt, IsPortOf};
@@ -101,13 +102,15 @@ pub trait Network: Time {
 
     /// Listens at the first address of this host, and this port.
     ///
-    /// `Bind`: the address can't be had. `Poll`: the system reports nothing of the socket. `Memory`.
+    /// `Bind`: the address can't be had. `Poll`: the system reports nothing of the socket.
+    /// `Memory`.
     fn bind(&mut self, host: &str, port: u16) -> Result<Self::Listener, NetFault>
         ensures ok { OnOk result (bound self.new ≡ bound self.old ++ record { host = host.now; port = port } ∷ []) }
         ensures number { IfOk result (λ listener. number listener ≡ length (bound self.old)) }
         ensures err { OnErr result (bound self.new ≡ bound self.old) };
 
-    /// The port that the listener has: the one that was bound, or the one that the system chose where that is 0.
+    /// The port that the listener has: the one that was bound, or the one that the system chose
+    /// where that is 0.
     fn port(&self, listener: &Self::Listener) -> u16
         ensures known { is_known self.now → IfSome (slice_get (bound self.now) (number listener.now)) (λ endpoint. result ≡ endpoint.port) }
         ensures bound { IfSome (slice_get (bound self.now) (number listener.now)) (IsPortOf result) };
@@ -119,7 +122,8 @@ pub trait Network: Time {
         ensures fresh { IfStream result (λ stream. IsFresh (Self.Stream.traffic stream)) }
         ensures known { is_known self.old → IsAnswered (waits self.old (number listener.now)) result };
 
-    /// Has a connection noted under this key from now on. `Poll`: the system reports nothing of it, or not under such a key.
+    /// Has a connection noted under this key from now on. `Poll`: the system reports nothing of it,
+    /// or not under such a key.
     fn watch(&mut self, stream: &mut Self::Stream, key: usize) -> Result<(), NetFault>
         ensures bound { bound self.new ≡ bound self.old }
         ensures origin { Self.Stream.origin stream.new ≡ Self.Stream.origin stream.old }
@@ -129,7 +133,8 @@ pub trait Network: Time {
     fn close(&mut self, stream: Self::Stream)
         ensures { bound self.new ≡ bound self.old };
 
-    /// Waits for sockets, no longer than this, and notes which are ready. What was noted before goes.
+    /// Waits for sockets, no longer than this, and notes which are ready. What was noted before
+    /// goes.
     ///
     /// `Poll`: the system reports nothing. `Memory`.
     fn wait<B: Allocator>(

@@ -1,5 +1,6 @@
-//! The system's sockets that come in. What the system does can't be stated: `listen_at` and `take_from` are trusted to hand it the
-//! endpoint, and the listener, that are noted beside the socket.
+//! The system's sockets that come in. What the system does can't be stated: `listen_at` and
+//! `take_from` are trusted to hand it the endpoint, and the listener, that are noted beside the
+//! socket.
 
 ghost use Rattle.std.specs.Prelude.{◌≡◌, [], IfOk};
 
@@ -24,7 +25,8 @@ const EVENTS: usize = 1_024;
 /// A listener's token is this and its number, and a connection's is its key.
 const FIRST_LISTENER: usize = 1 << 32;
 
-/// Listening sockets of the system, and what it reports. It notes the endpoint that each was bound at.
+/// Listening sockets of the system, and what it reports. It notes the endpoint that each was bound
+/// at.
 #[derive(Drop)]
 pub struct SocketNetwork<R, A: Allocator> {
     rt: R,
@@ -71,7 +73,8 @@ impl<R: Net + Clock + Drop, A: Allocator + Copy> SocketNetwork<R, A> {
     }
 }
 
-// TRUSTED: a socket that listens at this host and port, and is reported as the listener with this number.
+// TRUSTED: a socket that listens at this host and port, and is reported as the listener with this
+// number.
 fn listen_at(
     net: &impl Net,
     registry: &Registry,
@@ -98,7 +101,8 @@ fn listen_at(
 fn take_from(socket: &TcpListener) -> Accepted<TcpStream> {
     match socket.accept() {
         Ok((stream, _)) => {
-            // Small answers are sent at once; where the system refuses that, they are sent all the same.
+            // Small answers are sent at once; where the system refuses that, they are sent all the
+            // same.
             let _ = stream.set_nodelay(true);
             keep_alive(stream.as_raw_fd());
             Accepted::Stream(stream)
@@ -111,8 +115,9 @@ fn take_from(socket: &TcpListener) -> Accepted<TcpStream> {
     }
 }
 
-// TRUSTED: has the system ask from time to time whether the other end of an idle connection is there still, so that one that is gone without a word
-// is closed. Where the system refuses that, it isn't asked for.
+// TRUSTED: has the system ask from time to time whether the other end of an idle connection is
+// there still, so that one that is gone without a word is closed. Where the system refuses that, it
+// isn't asked for.
 fn keep_alive(fd: RawFd) {
     let mut on = [0u8; 16];
     on[..4].copy_from_slice(&1i32.to_ne_bytes());

@@ -1,5 +1,6 @@
-//! The system's sockets that go out. What the system does can't be stated: `dial` is trusted to hand it the endpoint that is noted
-//! beside the socket, and `disconnect` to break a connection off.
+//! The system's sockets that go out. What the system does can't be stated: `dial` is trusted to
+//! hand it the endpoint that is noted beside the socket, and `disconnect` to break a connection
+//! off.
 
 ghost use Rattle.relay_sockets.specs.Traffics.{IsReadFrom, IsReadOff, IsWrittenTo, taking, unknown_traffic};
 ghost use Rattle.std.specs.Prelude.{ℕ, ◌≡◌, false, true};
@@ -15,7 +16,8 @@ use std::net::{IpAddr, Net, OpenStream, SocketAddr, TcpStream, ToSocketAddrs};
 use std::os::fd::{AsRawFd, RawFd};
 use std::time::{Clock, Duration};
 
-/// How long an address may take to accept a connection, in milliseconds, before the next one is tried.
+/// How long an address may take to accept a connection, in milliseconds, before the next one is
+/// tried.
 const LONGEST_CONNECT: u64 = 10_000;
 
 /// How many bytes of an address of no family the system reads.
@@ -30,7 +32,8 @@ pub struct SystemDialer<R, A: Allocator> {
 
 /// A connection that went out, and the endpoint that was asked for.
 ///
-/// A read says nothing of what the stream took, and a write nothing of what it has to give; so nothing of it is known over both.
+/// A read says nothing of what the stream took, and a write nothing of what it has to give; so
+/// nothing of it is known over both.
 #[derive(Drop)]
 pub struct SystemWire<S, A: Allocator> {
     stream: S,
@@ -46,7 +49,8 @@ impl<R: Net + Clock, A: Allocator + Copy> SystemDialer<R, A> {
     }
 }
 
-// TRUSTED: a connection to this host and port, at the first of its addresses that takes one; or why there is none, at the last of them.
+// TRUSTED: a connection to this host and port, at the first of its addresses that takes one; or why
+// there is none, at the last of them.
 fn dial<R: Net + Clock>(rt: &R, host: &str, port: u16, until: u64) -> Result<R::Stream, Unreached> {
     if let Ok(ip) = host.parse::<IpAddr>() {
         return connect_to(rt, &SocketAddr::new(ip, port), until);
@@ -73,8 +77,9 @@ fn unreached(kind: ErrorKind) -> Unreached {
     }
 }
 
-// TRUSTED: breaks a connection off by a reset. A connection to an address of no family ends one so on Linux, where std offers no SO_LINGER; where the
-// system refuses it, the connection is closed as any other.
+// TRUSTED: breaks a connection off by a reset. A connection to an address of no family ends one so
+// on Linux, where std offers no SO_LINGER; where the system refuses it, the connection is closed as
+// any other.
 fn disconnect(fd: RawFd) {
     let nowhere = [0u8; c::_SS_SIZE];
     let _ = unsafe { c::connect(fd, &nowhere, NOWHERE_LEN) };

@@ -22,7 +22,8 @@ pub enum Moved {
 
 /// A connection that is read and written.
 ///
-/// Where it comes from goes with it, through a list, an option or a thread, and no read or write changes it.
+/// Where it comes from goes with it, through a list, an option or a thread, and no read or write
+/// changes it.
 pub trait Wire {
     ghost use Rattle.std.specs.Prelude.{ℕ, ◌≡◌, ◌⊎◌, ◌↔◌, Bool, false, true};
     ghost use Rattle.relay_sockets.specs.Endpoints.{Origin};
@@ -56,8 +57,9 @@ pub trait Wire {
         ensures took { (n : ℕ) → result ≡ Moved.Some n → refuses self.new ≡ false }
         ensures ended { has_ended self.new ≡ has_ended self.old };
 
-    /// Breaks it off at once, on both ends, so that the system keeps nothing of it once it is closed. What was written and not
-    /// taken by the other end may be lost: so it is for a connection whose other end has answered all.
+    /// Breaks it off at once, on both ends, so that the system keeps nothing of it once it is
+    /// closed. What was written and not taken by the other end may be lost: so it is for a
+    /// connection whose other end has answered all.
     fn break_off(&self) {}
 }
 

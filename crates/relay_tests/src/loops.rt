@@ -16,7 +16,8 @@ use std::sync::Wait;
 use std::test::Fail;
 use std::time::{Clock, Duration};
 
-// A loop with sockets of the system, and buffers in folders of any kind: over ones in memory all that is said of these would be in view at each call.
+// A loop with sockets of the system, and buffers in folders of any kind: over ones in memory all
+// that is said of these would be in view at each call.
 type Turning<R, D> = InLoop<SocketNetwork<R, Global>, D, Global>;
 
 pub const TAG: &[u8] = b"a";
@@ -150,7 +151,8 @@ where
     Ok((heard?, left))
 }
 
-// Two clients ask for their own chunks, each three times in one write: each hears three answers, its own.
+// Two clients ask for their own chunks, each three times in one write: each hears three answers,
+// its own.
 #[test]
 fn each_client_hears_its_own_answers(rt: HostRuntime) -> Result<(), Fail> {
     let folders = MemoryFolders { alloc: rt.alloc() };
@@ -172,7 +174,8 @@ fn talk_in_turn<R: Wait + Net, N: Network + Drop, D: Dir + Drop>(
     Ok((first && hears(&mut one, b"")?, hears(&mut two, b"")?))
 }
 
-// What clients of a small buffer hear, and how many parts are left of the first delivery and of the second.
+// What clients of a small buffer hear, and how many parts are left of the first delivery and of the
+// second.
 fn heard_in_turn<R, D, F>(rt: &R, folders: &F) -> Result<((bool, bool), (usize, usize)), Fail>
 where
     R: Wait + Clock + Net + RandomSource + AllocGlobal + Clone + Drop,
@@ -208,7 +211,8 @@ fn talk_round<R: Wait + Net, N: Network + Drop, D: Dir + Drop>(
     hears(&mut one, OTHER_ANSWER)
 }
 
-// Whether the message is answered that no match takes, and what is left of the loop's deliveries then.
+// Whether the message is answered that no match takes, and what is left of the loop's deliveries
+// then.
 fn heard_round<R, D, F>(rt: &R, folders: &F) -> Result<(bool, (usize, bool)), Fail>
 where
     R: Wait + Clock + Net + RandomSource + AllocGlobal + Clone + Drop,

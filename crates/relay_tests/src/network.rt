@@ -55,7 +55,8 @@ fn has_queued<R: Wait, D: Dir>(rt: &R, shelf: &Shelf<D>) -> Result<bool, Fail> {
     }
 }
 
-// A worker at this buffer, which has its chunk carried once: whether that is purged then, and no chunk is queued.
+// A worker at this buffer, which has its chunk carried once: whether that is purged then, and no
+// chunk is queued.
 fn is_delivered<R, D, C>(rt: &R, job: &Job<D>, courier: &C) -> Result<bool, Fail>
 where
     R: Wait + Clock + AllocGlobal,
@@ -141,7 +142,8 @@ where
     }
 }
 
-// The same with an edge that is opened in front of a hub at this port: whether its book accounts for what is left.
+// The same with an edge that is opened in front of a hub at this port: whether its book accounts
+// for what is left.
 fn is_passed_to<R, D, F, H>(rt: &R, folders: &F, port: u16, hub: &H) -> Result<bool, Fail>
 where
     R: Wait + Clock + Net + RandomSource + AllocGlobal + Clone + Drop,
@@ -193,7 +195,8 @@ where
     Ok(delivered && are_the_messages(&series.content()?))
 }
 
-// A client's message goes by an edge to this hub: whether the edge's book accounts for it, and whether it is stored in this folder then.
+// A client's message goes by an edge to this hub: whether the edge's book accounts for it, and
+// whether it is stored in this folder then.
 fn go_through<R, D, F, H, S>(
     rt: &R,
     folders: &F,
@@ -235,7 +238,8 @@ where
     Ok((passed?, accounted))
 }
 
-// A client's message to an edge is answered, handed on to a hub and stored in its sink, and the books of both account for it.
+// A client's message to an edge is answered, handed on to a hub and stored in its sink, and the
+// books of both account for it.
 #[test]
 fn an_edge_hands_on_to_a_hub(rt: HostRuntime) -> Result<(), Fail> {
     let folders = MemoryFolders { alloc: rt.alloc() };

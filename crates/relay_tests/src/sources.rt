@@ -17,7 +17,8 @@ use std::sync::Wait;
 use std::test::Fail;
 use std::time::Clock;
 
-// What a client at this port makes of its chunk, whose key is that of this text, while the hub goes on.
+// What a client at this port makes of its chunk, whose key is that of this text, while the hub goes
+// on.
 fn sent<R, D, F, H>(
     rt: &R,
     folders: &F,
@@ -41,7 +42,8 @@ where
     Ok(fault)
 }
 
-// What clients with the first key and with the second one make of their chunks at each of two sources.
+// What clients with the first key and with the second one make of their chunks at each of two
+// sources.
 fn sent_to_both<R, D, F, H>(
     rt: &R,
     folders: &F,
@@ -77,7 +79,8 @@ fn are_two<D: Dir + Drop>(jobs: &[DeliveryJob<D, Global>]) -> bool {
     }
 }
 
-// What such clients make of their chunks at the two sources, and whether the two buffers have what was taken, and their books account for it.
+// What such clients make of their chunks at the two sources, and whether the two buffers have what
+// was taken, and their books account for it.
 fn sent_and_stored<R, D, F>(rt: &R, folders: &F) -> Result<([Option<CarryFault>; 4], bool), Fail>
 where
     R: Wait + Clock + Net + RandomSource + AllocGlobal + Clone + Drop,
@@ -99,7 +102,8 @@ where
     Ok((sent?, two && accounted))
 }
 
-// A client is let in at the source whose key it has, and at no other; and what it sends goes to the buffer of each output.
+// A client is let in at the source whose key it has, and at no other; and what it sends goes to the
+// buffer of each output.
 #[test]
 fn each_source_asks_for_its_own_key(rt: HostRuntime) -> Result<(), Fail> {
     let folders = MemoryFolders { alloc: rt.alloc() };

@@ -106,7 +106,8 @@ pub fn ended<R: Wait, N: Network + Drop, D: Dir + Drop>(
     turning.run(rt, &stop)
 }
 
-// Whether the books of all these buffers account for what is left of the loop's deliveries, and it ended without a fault.
+// Whether the books of all these buffers account for what is left of the loop's deliveries, and it
+// ended without a fault.
 pub fn are_accounted<D: Dir + Drop>(
     alloc: Global,
     jobs: Vec<DeliveryJob<D, Global>>,

@@ -22,7 +22,8 @@ AddsAdaptedNote (check.Answered said) (check.Answered noted) = (noted.lines.item
 AddsAdaptedNote (check.Refused said) (check.Refused noted) = noted ≡ said
 AddsAdaptedNote _ _ = ⊥
 
--- what is said of configurations that aren't all adapted: in place of an answer what isn't accepted, and in place of faults that one has a fault
+-- what is said of configurations that aren't all adapted: in place of an answer what isn't
+-- accepted, and in place of faults that one has a fault
 abbrev pub SaysStopped : {A : Type 0} → StoppedConfs A → Check A → Type 0
 SaysStopped stopped (check.Answered said) = (stopped.has_fault ≡ false) × (said.lines ≡ stopped.lines) × (said.status ≡ No)
 SaysStopped stopped (check.Refused said) = (stopped.has_fault ≡ true) × (said.lines ≡ stopped.lines) × (said.status ≡ Usage)

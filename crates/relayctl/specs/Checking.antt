@@ -1,5 +1,5 @@
--- What is printed of a plan with the labels and reaches that it lacks, at whose named matches events may go: a yes, or every broken rule; or why there
--- is no answer.
+-- What is printed of a plan with the labels and reaches that it lacks, at whose named matches
+-- events may go: a yes, or every broken rule; or why there is no answer.
 use Rattle.std.specs.Prelude.{◌≡◌, ◌≢◌, ◌<◌, ◌≤◌, ◌⊎◌, All, Bool, true, false, ℕ, List, [], ◌∷◌, ◌++◌, codes, flat_map, get_or, length, Option}
 use Rattle.std.specs.declared.vec.Vec.{Vec}
 use Rattle.deliberate_drops.specs.declared.name.DropName.{DropName}
@@ -45,15 +45,17 @@ pub record AreExplained {A : Type 0} (plan : Subject A) (count : ℕ) (explained
 abbrev pub AreShortestFirst : {A : Type 0} → List (Vec ℕ A) → Type 0
 AreShortestFirst {A} texts = (i j : ℕ) (other : Vec ℕ A) → i ≤ j → j < length texts → length (get_or texts i other).items ≤ length (get_or texts j other).items
 
--- what is said of broken rules: the line of a no for every place, and behind these what explains each rule, the shortest first
+-- what is said of broken rules: the line of a no for every place, and behind these what explains
+-- each rule, the shortest first
 pub record SayBroken {A : Type 0} (plan : Subject A) (broken : List (BrokenRule A)) (lines : List ℕ) : Type 0 where
   pub explained : List (Vec ℕ A)
   pub are : AreExplained plan (length broken) explained
   pub shortest_first : AreShortestFirst explained
   pub lines_are : lines ≡ all_no_lines broken ++ flat_map bytes_of explained
 
--- what is said of the rules of a plan, of which these are broken: where none are a yes, with what may go at the matches of these names, else
--- these rules; and behind it lines that each begin with `#`
+-- what is said of the rules of a plan, of which these are broken: where none are a yes, with what
+-- may go at the matches of these names, else these rules; and behind it lines that each begin with
+-- `#`
 abbrev pub SaysRules : {A : Type 0} → List DropName → Subject A → List (BrokenRule A) → List ℕ → Status → Type 0
 SaysRules names plan [] lines status = (listed : List ℕ) × AreListed plan names listed × AddsNotes (line (codes "yes") ++ listed) lines × (status ≡ Done)
 SaysRules names plan (first ∷ others) lines status = (said : List ℕ) × SayBroken plan (first ∷ others) said × AddsNotes said lines × (status ≡ No)
@@ -81,8 +83,8 @@ abbrev pub SaysCheck : {A : Type 0} → List DropName → Bool → Subject A →
 SaysCheck names is_labelled plan broken (check.Answered said) = SaysAnswer names is_labelled plan broken said.lines.items said.status
 SaysCheck names is_labelled plan broken (check.Refused said) = SaysEmpty plan said.lines.items said.status
 
--- The texts are a plan and the configurations that it names. Once events are let go at the named matches, it has these broken rules with the
--- labels that it lacks, and this is said of it.
+-- The texts are a plan and the configurations that it names. Once events are let go at the named
+-- matches, it has these broken rules with the labels that it lacks, and this is said of it.
 pub record IsChecked (A : Type 0) (given : List ℕ) (confs : List (List ℕ)) (names : List DropName) (Says : Bool → Subject A → List (BrokenRule A) → Type 0) : Type 0 where
   pub is_labelled : Bool
   pub text : List ℕ
@@ -95,7 +97,8 @@ pub record IsChecked (A : Type 0) (given : List ℕ) (confs : List (List ℕ)) (
 abbrev pub IsCheckAnswer : (A : Type 0) → List ℕ → List (List ℕ) → List DropName → List ℕ → Status → Type 0
 IsCheckAnswer A given confs names lines status = IsChecked A given confs names (λ is_labelled plan broken. SaysAnswer names is_labelled plan broken lines status)
 
--- The texts say no plan, and this is said of its first fault, and of further ones that are left where what has earlier ones is blank.
+-- The texts say no plan, and this is said of its first fault, and of further ones that are left
+-- where what has earlier ones is blank.
 pub record IsFaultExplained (A : Type 0) (given : List ℕ) (confs : List (List ℕ)) (lines : List ℕ) (status : Status) : Type 0 where
   pub fault : PlanError
   pub refused : IsRefusal A given confs fault
@@ -104,7 +107,8 @@ pub record IsFaultExplained (A : Type 0) (given : List ℕ) (confs : List (List 
   pub are_left : All (IsFaultLeft A given confs) further
   pub says : SaysFaults fault further lines status
 
--- no answer: the plan has a fault, or a name means no match of it, or it has no relays, or no clients
+-- no answer: the plan has a fault, or a name means no match of it, or it has no relays, or no
+-- clients
 abbrev pub IsNoAnswer : (A : Type 0) → List ℕ → List (List ℕ) → List DropName → List ℕ → Status → Type 0
 IsNoAnswer A given confs names lines status =
     IsFaultExplained A given confs lines status ⊎ (IsMissing A given confs names lines status ⊎ IsChecked A given confs names (λ is_labelled plan broken. SaysEmpty plan lines status))
@@ -121,7 +125,8 @@ pub record IsCheck (A : Type 0) (net : Option (List ℕ)) (named : List ℕ → 
   pub read : AreRead net named given confs
   pub is : IsTextsCheck A given confs names found
 
--- an answer is printed, and nothing is said of faults; or it is said in place of faults why there is none, and nothing is printed
+-- an answer is printed, and nothing is said of faults; or it is said in place of faults why there
+-- is none, and nothing is printed
 abbrev pub PrintsFound : {A : Type 0} → Check A → Option (List ℕ) → Option (List ℕ) → Option (List ℕ) → Option (List ℕ) → Status → Type 0
 PrintsFound (check.Answered said) old new old_faults new_faults status = IsPrinted old new said.lines.items said.status status × (new_faults ≡ old_faults)
 PrintsFound (check.Refused said) old new old_faults new_faults status = IsPrinted old_faults new_faults said.lines.items said.status status × (new ≡ old)

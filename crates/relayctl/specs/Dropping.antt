@@ -1,4 +1,5 @@
--- What is said of matches at which events may go on purpose: those that are named behind a yes, and names that mean no match.
+-- What is said of matches at which events may go on purpose: those that are named behind a yes, and
+-- names that mean no match.
 use Rattle.std.specs.Prelude.{◌≡◌, ◌≢◌, ◌<◌, ◌⊎◌, ℕ, List, [], ◌∷◌, ◌++◌, Contains, codes, length, map, Option}
 use Rattle.std.specs.Borrow.{Bor}
 use Rattle.std.specs.List.{AllZip}
@@ -54,7 +55,8 @@ pub record PrintsMisspelt (words : List (List ℕ)) (old new : Option (List ℕ)
 
 -- What comes to a match may go.
 
--- The text is the line of the match that the name means: the name, the file, the match's line there, and what stands in it.
+-- The text is the line of the match that the name means: the name, the file, the match's line
+-- there, and what stands in it.
 pub record IsDropLine {A : Type 0} (plan : Subject A) (name : DropName) (text : List ℕ) : Type 0 where
   pub at : MatchPlace
   pub meant : IsMeant plan.net name at
@@ -62,7 +64,8 @@ pub record IsDropLine {A : Type 0} (plan : Subject A) (name : DropName) (text : 
   pub shown : List ℕ
   pub text_is : text ≡ site_line (codes "  " ++ (name_text name ++ codes " in")) file at.line shown
 
--- The text is the line of the match that the name means; or the name means none, and there is no line.
+-- The text is the line of the match that the name means; or the name means none, and there is no
+-- line.
 abbrev pub IsSaidOf : {A : Type 0} → Subject A → DropName → List ℕ → Type 0
 IsSaidOf plan name text = IsDropLine plan name text ⊎ (((why : DropError) × IsRefusedAt plan.net name 0 why) × (text ≡ []))
 
@@ -92,7 +95,8 @@ IsMissingLine plan name text =
     ((why : DropError) × IsRefusedAt plan.net name 0 why × (why ≢ error.Memory) × (text ≡ drop_fault (name_text name) (error_text why)))
     ⊎ (((at : MatchPlace) × IsMeant plan.net name at) × (text ≡ []))
 
--- The texts say a plan, and this is said of each of the names that means no match of it, of which there are some.
+-- The texts say a plan, and this is said of each of the names that means no match of it, of which
+-- there are some.
 pub record IsMissing (A : Type 0) (given : List ℕ) (confs : List (List ℕ)) (names : List DropName) (lines : List ℕ) (status : Status) : Type 0 where
   pub plan : Subject A
   pub plan_is : IsPlanOf given confs plan

@@ -28,7 +28,8 @@ abbrev pub last_line : Bool → List ℕ
 last_line true = loss_line
 last_line false = no_loss_line
 
--- Steps that lose an acknowledged event in the network of the plan, and the line that says so; or notes, and the line that there are no steps.
+-- Steps that lose an acknowledged event in the network of the plan, and the line that says so; or
+-- notes, and the line that there are no steps.
 abbrev pub IsLossOrNotes : {A : Type 0} → Subject A → List ℕ → Type 0
 IsLossOrNotes plan said =
     ((steps : List ℕ) × (said ≡ steps ++ loss_line) × IsLosingText plan.duty plan.net steps)
@@ -46,7 +47,8 @@ pub record SaysAnswer {A : Type 0} (names : List DropName) (plan : Subject A) (f
   pub lines_are : lines ≡ answer_line found ++ said
   pub is_status : status ≡ answer_status found
 
--- The texts that are read say a plan. Once events are let go at its named matches, it has an answer, and this is said of it.
+-- The texts that are read say a plan. Once events are let go at its named matches, it has an
+-- answer, and this is said of it.
 pub record IsExplained (A : Type 0) (net : Option (List ℕ)) (named : List ℕ → Option (List ℕ)) (names : List DropName) (lines : List ℕ) (status : Status) : Type 0 where
   pub text : List ℕ
   pub confs : List (List ℕ)

@@ -38,7 +38,8 @@ pub record IsWithoutLabels {A : Type 0} (net : Option (List ℕ)) (text : Vec �
   pub net_is : IsTextOf net given
   pub text_is : text.items ≡ lines_without_labels given
 
--- all that `label --fresh` does to a writer, and its status: what `label` does of such a text, or it says that there is none
+-- all that `label --fresh` does to a writer, and its status: what `label` does of such a text, or
+-- it says that there is none
 abbrev pub PrintsFreshLabels : (A : Type 0) → Option (List ℕ) → (List ℕ → Option (List ℕ)) → Option (List ℕ) → Option (List ℕ) → Status → Type 0
 PrintsFreshLabels A net named old new status =
     ((text : Vec ℕ A) × IsWithoutLabels net text × PrintsLabels A (Some text.items) named old new status)

@@ -7,14 +7,16 @@ ghost use Rattle.relayctl.specs.Faults.{AreLeft, IsBlanked, IsByteOrBlank};
 use std::alloc::{AllocError, Allocator};
 use text_lines::lines;
 
-/// What is left of the text of a plan, and of those of the configurations that it names, in their order.
+/// What is left of the text of a plan, and of those of the configurations that it names, in their
+/// order.
 #[derive(Drop)]
 pub(crate) struct Rest<A: Allocator> {
     pub net: Vec<u8, A>,
     pub confs: Vec<Vec<u8, A>, A>,
 }
 
-/// Lines that are blank, counted from 1, from the one to the other: of the configuration at this place, or of the plan.
+/// Lines that are blank, counted from 1, from the one to the other: of the configuration at this
+/// place, or of the plan.
 #[derive(Clone, Copy, Debug, PartialEq, Eq)]
 pub(crate) struct Blank {
     pub conf: Option<usize>,
@@ -22,7 +24,8 @@ pub(crate) struct Blank {
     pub to: usize,
 }
 
-/// Whether one of these is of this configuration, or of the plan, and of one of these lines at least.
+/// Whether one of these is of this configuration, or of the plan, and of one of these lines at
+/// least.
 pub(crate) fn is_blank(blanks: &[Blank], conf: Option<usize>, from: usize, to: usize) -> bool {
     for blank in blanks {
         if blank.conf == conf && blank.from <= to && from <= blank.to {
@@ -32,8 +35,8 @@ pub(crate) fn is_blank(blanks: &[Blank], conf: Option<usize>, from: usize, to: u
     false
 }
 
-/// The texts of a plan with these blanks. Configurations that only a blank line names aren't there; the lines that name them are given. The only
-/// error is want of memory.
+/// The texts of a plan with these blanks. Configurations that only a blank line names aren't there;
+/// the lines that name them are given. The only error is want of memory.
 pub(crate) fn left<A: Allocator + Copy>(
     alloc: A,
     net: &[u8],
@@ -146,8 +149,8 @@ fn byte_left(byte: u8, is_blank: bool) -> u8
     }
 }
 
-/// The last line of the section of a configuration that begins in this line; the line itself, where none does. The only error is want of
-/// memory.
+/// The last line of the section of a configuration that begins in this line; the line itself, where
+/// none does. The only error is want of memory.
 pub(crate) fn last_of_section<A: Allocator + Copy>(
     alloc: A,
     conf: &[u8],

@@ -22,11 +22,14 @@ use std::alloc::{AllocError, Allocator};
 use std::io::Write;
 use text_lines::lines;
 
-/// Labels the plan that `net` gives, by this name in what is printed, at whose named matches events may go on purpose: in place of the
-/// outputs of each stands a sink that keeps. It prints `yes` where each rule holds of that plan, with the matches at which events may go,
-/// and warnings of what may keep events from arriving; or every place where a rule is broken, and behind them, the shortest first, what each broken
-/// rule means, what mends it, and steps that lose an acknowledged event, where some were found. Of a plan without relays or clients,
-/// of a fault, and of names that mean no match, it says so in `faults`. Each text is read whole before a fault of the plan is looked for.
+/// Labels the plan that `net` gives, by this name in what is printed, at whose named matches events
+/// may go on purpose: in place of the outputs of each stands a sink that keeps. It prints `yes`
+/// where each rule holds of that plan, with the matches at which events may go, and warnings of
+/// what may keep events from arriving; or every place where a rule is broken, and behind them, the
+/// shortest first, what each broken rule means, what mends it, and steps that lose an acknowledged
+/// event, where some were found. Of a plan without relays or clients, of a fault, and of names that
+/// mean no match, it says so in `faults`. Each text is read whole before a fault of the plan is
+/// looked for.
 pub fn run_check<A: Allocator + Copy, R: CountedRead, O: Open, W: Write, F: Write>(
     alloc: A,
     name: &str,
@@ -42,8 +45,9 @@ pub fn run_check<A: Allocator + Copy, R: CountedRead, O: Open, W: Write, F: Writ
     print_check(alloc, found, out, faults)
 }
 
-/// The same of the plan with its configurations adapted, as `relayctl adapt` prints them. Where something of them isn't accepted, by a
-/// name among these words, it prints what in place of an answer; and says in `faults` that one of them has a fault.
+/// The same of the plan with its configurations adapted, as `relayctl adapt` prints them. Where
+/// something of them isn't accepted, by a name among these words, it prints what in place of an
+/// answer; and says in `faults` that one of them has a fault.
 pub fn run_adapted_check<
     A: Allocator + Copy,
     B: Allocator,
@@ -144,8 +148,8 @@ fn check_adapted<A: Allocator + Copy, B: Allocator, R: CountedRead, O: Open>(
     }
 }
 
-// What is said of a plan's text with these configurations, which are shown under these names by other texts of the same lines, once events are let go
-// at the named matches.
+// What is said of a plan's text with these configurations, which are shown under these names by
+// other texts of the same lines, once events are let go at the named matches.
 fn check_texts<A: Allocator + Copy>(
     alloc: A,
     name: &str,
@@ -193,7 +197,8 @@ fn check_texts<A: Allocator + Copy>(
     }
 }
 
-// How the lines are called that were added to the plan of this name: where no matches are named, `relayctl label` prints them.
+// How the lines are called that were added to the plan of this name: where no matches are named,
+// `relayctl label` prints them.
 fn added_name<A: Allocator>(
     alloc: A,
     name: &str,
@@ -329,8 +334,9 @@ fn labels_note(is_labelled: bool) -> &'static str
     }
 }
 
-// A yes where no rule is broken, and behind it what may go at the named matches and what that doesn't promise; else what is said of each that is, and of lines of the plan by which no
-// event goes.
+// A yes where no rule is broken, and behind it what may go at the named matches and what that
+// doesn't promise; else what is said of each that is, and of lines of the plan by which no event
+// goes.
 fn say_rules<A: Allocator + Copy>(
     alloc: A,
     plan: &Plan<A>,

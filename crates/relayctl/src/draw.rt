@@ -20,8 +20,9 @@ pub enum Drawing {
     Dot,
 }
 
-/// Labels the plan that `net` gives, by this name in what is printed, and prints a picture of it, in which each place where a rule is
-/// broken has a mark. Of a fault it says so in `faults`. Each text is read whole before a fault of the plan is looked for.
+/// Labels the plan that `net` gives, by this name in what is printed, and prints a picture of it,
+/// in which each place where a rule is broken has a mark. Of a fault it says so in `faults`. Each
+/// text is read whole before a fault of the plan is looked for.
 pub fn run_draw<A: Allocator + Copy, R: CountedRead, O: Open, W: Write, F: Write>(
     alloc: A,
     name: &str,

@@ -1,4 +1,5 @@
-//! Matches at which events may go on purpose: their names as words, what is said of them behind a yes, and where names mean no match.
+//! Matches at which events may go on purpose: their names as words, what is said of them behind a
+//! yes, and where names mean no match.
 
 ghost use Rattle.std.specs.Prelude.{◌≡◌, ◌++◌, ℕ, List, length, map, IfOk, OnOk};
 ghost use Rattle.deliberate_drops.specs.Printed.{error_text};
@@ -24,7 +25,8 @@ pub enum DropNames<'t, A: Allocator> {
     Misspelt,
 }
 
-/// Adds the lines of a text that stand for names of matches, without blanks round them: all but empty ones and those that begin with `#`.
+/// Adds the lines of a text that stand for names of matches, without blanks round them: all but
+/// empty ones and those that begin with `#`.
 pub fn add_listed<A: Allocator + Copy>(
     alloc: A,
     text: &str,
@@ -94,7 +96,8 @@ fn misspelt_line<A: Allocator + Copy>(alloc: A, word: &str) -> Result<Vec<u8, A>
     }
 }
 
-/// What is said where names mean no match of the plan that these texts say: a line for each such name. The only error is want of memory.
+/// What is said where names mean no match of the plan that these texts say: a line for each such
+/// name. The only error is want of memory.
 pub(crate) fn say_missing<A: Allocator + Copy>(
     alloc: A,
     text: &[u8],
@@ -158,7 +161,8 @@ fn fault_line<A: Allocator>(
     Ok(format!(in alloc; "fault drop {name}: {why}\n")?.into_bytes())
 }
 
-/// Adds what may go: for each of the names the line of its match, and a line in front of these; nothing where there are no names.
+/// Adds what may go: for each of the names the line of its match, and a line in front of these;
+/// nothing where there are no names.
 pub(crate) fn put_drops<A: Allocator + Copy>(
     alloc: A,
     plan: &Plan<A>,

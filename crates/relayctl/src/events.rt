@@ -34,8 +34,9 @@ enum Awaited {
     Until,
 }
 
-/// Reads what stands behind `events`, in any order: one path or more, `--tag` and a pattern as often as wanted, and once each `--since` and `--until`
-/// and a time. `None` where something is missing or can't stand there. The only error is want of memory.
+/// Reads what stands behind `events`, in any order: one path or more, `--tag` and a pattern as
+/// often as wanted, and once each `--since` and `--until` and a time. `None` where something is
+/// missing or can't stand there. The only error is want of memory.
 pub fn event_words<A: Allocator + Copy>(
     alloc: A,
     words: &[String],
@@ -60,7 +61,8 @@ pub fn event_words<A: Allocator + Copy>(
 }
 
 impl<'a, A: Allocator> EventWords<'a, A> {
-    // Takes the next word, for which an option may wait. It answers what is waited for then; none where the word can't stand here.
+    // Takes the next word, for which an option may wait. It answers what is waited for then; none
+    // where the word can't stand here.
     fn take(&mut self, awaited: Awaited, word: &'a str) -> Result<Option<Awaited>, AllocError> {
         match awaited {
             Awaited::Nothing => return self.begin(word),
@@ -117,7 +119,8 @@ impl<T: Drop> From<AllocFailed<T>> for Fault<'_> {
     }
 }
 
-/// Prints the events that are asked for, of sinks' files or of those in a data folder. What is found beside them stands on standard error.
+/// Prints the events that are asked for, of sinks' files or of those in a data folder. What is
+/// found beside them stands on standard error.
 pub fn print_events<'a, A: Allocator, W: Write>(
     rt: &'a HostRuntime,
     asked: &EventWords<'a, A>,
@@ -185,7 +188,8 @@ fn is_sink(path: &str) -> bool {
     path.ends_with(".sink")
 }
 
-// Prints the events of the sinks' files in a data folder. Where there are none, that is said on standard error.
+// Prints the events of the sinks' files in a data folder. Where there are none, that is said on
+// standard error.
 fn print_folder<'a, W: Write>(
     rt: &'a HostRuntime,
     path: &'a str,

@@ -1,4 +1,5 @@
-//! The word `explain`: the checker's answer to a plan, at whose named matches events may go, or the plan's fault, with what it means and what mends it.
+//! The word `explain`: the checker's answer to a plan, at whose named matches events may go, or the
+//! plan's fault, with what it means and what mends it.
 
 ghost use Rattle.std.specs.Prelude.{◌≡◌, ◌++◌, flat_map, IfOk};
 ghost use Rattle.loss_rules.specs.Breaks.{IsAnswer};
@@ -14,10 +15,12 @@ use rule_advice::{Texts, explain, explain_fault};
 use std::alloc::{AllocError, Allocator};
 use std::io::Write;
 
-/// Prints the checker's answer to the plan that `net` gives, by this name in what is printed, at whose named matches events may go on purpose: in
-/// place of the outputs of each stands a sink that keeps. Behind a yes it prints the matches at which events may go; behind a no what the broken
-/// rule means, what mends it, and steps that lose an acknowledged event, where some were found. Or it prints the plan's first fault, and what that
-/// means and what mends it, or which of the names mean no match. Each text is read whole before a fault of the plan is looked for.
+/// Prints the checker's answer to the plan that `net` gives, by this name in what is printed, at
+/// whose named matches events may go on purpose: in place of the outputs of each stands a sink that
+/// keeps. Behind a yes it prints the matches at which events may go; behind a no what the broken
+/// rule means, what mends it, and steps that lose an acknowledged event, where some were found. Or
+/// it prints the plan's first fault, and what that means and what mends it, or which of the names
+/// mean no match. Each text is read whole before a fault of the plan is looked for.
 pub fn run_explain<A: Allocator + Copy, R: CountedRead, O: Open, W: Write>(
     alloc: A,
     name: &str,
@@ -71,7 +74,8 @@ fn explain_read<A: Allocator + Copy, R: CountedRead, O: Open>(
     }
 }
 
-// What is said of a plan: the line of the checker's answer, behind a yes what may go at the named matches, and behind a no what explains it.
+// What is said of a plan: the line of the checker's answer, behind a yes what may go at the named
+// matches, and behind a no what explains it.
 fn say_plan<A: Allocator + Copy>(
     alloc: A,
     plan: &Plan<A>,
@@ -120,7 +124,8 @@ pub(crate) fn say_fault<A: Allocator + Copy>(
     say_faults(alloc, texts, fault, &[], "")
 }
 
-/// The same of a plan's first fault and of further ones: a line for each, behind these what explains each, and at the end these words.
+/// The same of a plan's first fault and of further ones: a line for each, behind these what
+/// explains each, and at the end these words.
 pub(crate) fn say_faults<A: Allocator + Copy>(
     alloc: A,
     texts: &Texts<'_, A>,

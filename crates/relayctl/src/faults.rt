@@ -1,4 +1,5 @@
-//! Every fault of a plan and of its configurations: behind the first one those that are left where the lines of earlier ones are blank.
+//! Every fault of a plan and of its configurations: behind the first one those that are left where
+//! the lines of earlier ones are blank.
 
 ghost use Rattle.std.specs.Prelude.{◌≡◌, All, IfOk, IfSome};
 ghost use Rattle.plan_lines.specs.Faults.{IsRefusal};
@@ -16,10 +17,11 @@ use text_lines::lines;
 // The most faults that are looked for.
 const MOST_FAULTS: usize = 256;
 
-/// The faults of a plan behind this one, its first, in the order of its lines: each is the first fault of the plan with blanks in place of what
-/// has the faults before it. That is the line of the plan, or that of its configuration, with the section that begins there, or all of a
-/// configuration whose text can't be read. What follows from these blanks alone isn't answered. At most 255 are. The only error is want of
-/// memory.
+/// The faults of a plan behind this one, its first, in the order of its lines: each is the first
+/// fault of the plan with blanks in place of what has the faults before it. That is the line of the
+/// plan, or that of its configuration, with the section that begins there, or all of a
+/// configuration whose text can't be read. What follows from these blanks alone isn't answered. At
+/// most 255 are. The only error is want of memory.
 pub(crate) fn further_faults<A: Allocator + Copy>(
     alloc: A,
     net: &[u8],
@@ -202,7 +204,8 @@ fn begins_a_label<A: Allocator + Copy>(
     }
 }
 
-// Whether this line of the plan names a relay whose own line is blank, or something of its configuration.
+// Whether this line of the plan names a relay whose own line is blank, or something of its
+// configuration.
 fn names_a_changed_relay<A: Allocator + Copy>(
     alloc: A,
     net: &[u8],

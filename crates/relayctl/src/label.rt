@@ -11,8 +11,9 @@ use program_text::{CountedRead, Open, ReadFault, Status, put_last, read_whole};
 use std::alloc::Allocator;
 use std::io::Write;
 
-/// Prints the plan that `net` gives with the labels and reaches that it lacks, each as a line behind its own; or that no such lines were
-/// found, or the plan's first fault. Each text is read whole before a fault of the plan is looked for.
+/// Prints the plan that `net` gives with the labels and reaches that it lacks, each as a line
+/// behind its own; or that no such lines were found, or the plan's first fault. Each text is read
+/// whole before a fault of the plan is looked for.
 pub fn run_label<A: Allocator + Copy, R: CountedRead, O: Open, W: Write>(
     alloc: A,
     net: &mut R,

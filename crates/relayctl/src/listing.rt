@@ -1,4 +1,5 @@
-//! The broken rules of a plan as lines: every place where one is broken, and behind them what explains each rule.
+//! The broken rules of a plan as lines: every place where one is broken, and behind them what
+//! explains each rule.
 
 ghost use Rattle.std.specs.Prelude.{◌≡◌, ◌++◌, ◌∷◌, flat_map, length, IfOk, OnOk};
 ghost use Rattle.plan_answers.specs.Networks.{answer_line};
@@ -10,8 +11,9 @@ use loss_checker::{Answer, BrokenRule, Place, Plan, Rule};
 use rule_advice::{Texts, explain};
 use std::alloc::{AllocError, Allocator};
 
-/// A line as `no K6 relay 2 line 5` for every place where a rule is broken, in the order of the rules, and behind these what explains each
-/// rule, the shortest first. The only error is want of memory.
+/// A line as `no K6 relay 2 line 5` for every place where a rule is broken, in the order of the
+/// rules, and behind these what explains each rule, the shortest first. The only error is want of
+/// memory.
 pub(crate) fn list_broken<A: Allocator + Copy>(
     alloc: A,
     plan: &Plan<A>,

@@ -1,4 +1,5 @@
-//! The operator's program: words of the command line, each of which reads, answers and gives a status.
+//! The operator's program: words of the command line, each of which reads, answers and gives a
+//! status.
 #![tactic(auto)]
 
 mod blanks;
@@ -153,8 +154,8 @@ fn no_answer(rt: &HostRuntime, fault: ReadFault) -> Status {
     print_stop(rt.alloc(), Stop::Unread(fault), &mut rt.stderr())
 }
 
-// The words that name matches: those of the command, and behind them those of the files at these paths. A file that isn't UTF-8 is one that
-// can't be read.
+// The words that name matches: those of the command, and behind them those of the files at these
+// paths. A file that isn't UTF-8 is one that can't be read.
 fn drop_words<'a>(
     rt: &HostRuntime,
     folder: &Folder<'a>,
@@ -224,7 +225,8 @@ fn check_named<'a, A: Allocator, W: Write>(
     }
 }
 
-// Shows the journals and sinks of a data folder. Where there are none, that is said on standard error.
+// Shows the journals and sinks of a data folder. Where there are none, that is said on standard
+// error.
 fn show_folder<W: Write>(rt: &HostRuntime, path: &str, out: &mut W) -> Status {
     let folder = DataFolder::new(rt, path);
     match folder.files(rt.alloc()) {

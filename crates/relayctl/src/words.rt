@@ -26,7 +26,8 @@ pub enum Word<'a, A: Allocator> {
     Ways(&'a str, &'a [String]),
     /// Say where these tags go through the relays of the plan at this path.
     PlanWays(&'a str, &'a [String]),
-    /// Adapt the configuration at this path to the profile; `--accept` and a name, again and again, say what is accepted.
+    /// Adapt the configuration at this path to the profile; `--accept` and a name, again and again,
+    /// say what is accepted.
     Adapt(&'a str, &'a [String]),
     /// Show what the journals in the data folder at this path hold.
     Show(&'a str),
@@ -51,8 +52,8 @@ pub struct CheckWords<'a, A: Allocator> {
     pub lists: Vec<&'a str, A>,
 }
 
-/// Reads the words, of which the first is the program's own name. `None` where they ask for nothing that there is. The only error is want
-/// of memory.
+/// Reads the words, of which the first is the program's own name. `None` where they ask for nothing
+/// that there is. The only error is want of memory.
 pub fn read_word<A: Allocator + Copy>(
     alloc: A,
     words: &[String],
@@ -111,8 +112,9 @@ struct CheckReader<'a, A: Allocator> {
     awaited: Awaited,
 }
 
-// Reads what stands behind `check`, in any order: a path, `--adapt`, `--drop` and a match as often as wanted, so `--drops` and the path of a file
-// of matches, and so `--accept` and a name, where `--adapt` is there.
+// Reads what stands behind `check`, in any order: a path, `--adapt`, `--drop` and a match as often
+// as wanted, so `--drops` and the path of a file of matches, and so `--accept` and a name, where
+// `--adapt` is there.
 fn check_word<A: Allocator + Copy>(
     alloc: A,
     words: &[String],
@@ -242,8 +244,9 @@ fn only_path(words: &[String]) -> Option<&str> {
     }
 }
 
-// The path that stands beside this option, the one or the other first, and the words behind both; with no such words, and the first word, where
-// the option isn't there. None where there is no path.
+// The path that stands beside this option, the one or the other first, and the words behind both;
+// with no such words, and the first word, where the option isn't there. None where there is no
+// path.
 fn flagged<'a>(option: &str, words: &'a [String]) -> Option<(&'a str, Option<&'a [String]>)> {
     match words {
         [one, path, others @ ..] if one.as_str() == option && !is_option(path) => {

@@ -18,7 +18,8 @@ pub enum Word<'a> {
     Version,
 }
 
-/// Reads the words, of which the first is the program's own name. `None` where they ask for nothing that there is.
+/// Reads the words, of which the first is the program's own name. `None` where they ask for nothing
+/// that there is.
 pub fn read_word(words: &[String]) -> Option<Word<'_>>
     ensures { IsRead (map string_bytes words.now) result }
 {

@@ -6,7 +6,8 @@ use Rattle.retry_waits.specs.declared.settings.RetrySettings.{RetrySettings}
 use Rattle.retry_waits.specs.declared.failed.Failed.{Failed}
 use Rattle.retry_waits.specs.Waits.{wait_after}
 
--- the failures of a chunk with one more, now: a chunk that hasn't failed has failed once; the first stays, and the count stays at the greatest u64
+-- the failures of a chunk with one more, now: a chunk that hasn't failed has failed once; the first
+-- stays, and the count stays at the greatest u64
 abbrev pub noted : ℕ → Option Failed → Failed
 noted now None = record { count = 1; first = now; last = now }
 noted now (Some failed) = record { count = min (failed.count + 1) (2 ^ 64 - 1); first = failed.first; last = now }
@@ -15,7 +16,8 @@ noted now (Some failed) = record { count = min (failed.count + 1) (2 ^ 64 - 1); 
 abbrev pub HasPassed : ℕ → ℕ → ℕ → Type 0
 HasPassed seconds since now = since + 1000 * seconds ≤ now
 
--- the chunk may be tried: it hasn't failed, or the wait after its failures has passed since the last of them
+-- the chunk may be tried: it hasn't failed, or the wait after its failures has passed since the
+-- last of them
 abbrev pub IsDue : RetrySettings → Option Failed → ℕ → Type 0
 IsDue settings None now = ⊤
 IsDue settings (Some failed) now = HasPassed (wait_after settings failed.count) failed.last now
@@ -29,7 +31,8 @@ abbrev pub is_past_times : Option ℕ → ℕ → Bool
 is_past_times None count = false
 is_past_times (Some most) count = nat_lt most count
 
--- from when on the retries of the chunk are over, where they don't go on for ever: at any time where it is past `retry_max_times`, else once `retry_timeout` has passed
+-- from when on the retries of the chunk are over, where they don't go on for ever: at any time
+-- where it is past `retry_max_times`, else once `retry_timeout` has passed
 abbrev pub over_moment : RetrySettings → Failed → ℕ
 over_moment settings failed = cond (is_past_times settings.max_times failed.count) 0 (moment_of settings.timeout failed.first)
 
@@ -44,7 +47,8 @@ abbrev pub IsPastTimes : Option ℕ → ℕ → Type 0
 IsPastTimes None count = ⊥
 IsPastTimes (Some most) count = most < count
 
--- the chunk is to be given up: `retry_forever` is false, it has failed, and either `retry_timeout` has passed since its first failure or its failures are past `retry_max_times`
+-- the chunk is to be given up: `retry_forever` is false, it has failed, and either `retry_timeout`
+-- has passed since its first failure or its failures are past `retry_max_times`
 abbrev pub IsOver : RetrySettings → Option Failed → ℕ → Type 0
 IsOver settings None now = ⊥
 IsOver settings (Some failed) now = (settings.forever ≡ false) × (HasPassed settings.timeout failed.first now ⊎ IsPastTimes settings.max_times failed.count)

@@ -46,7 +46,8 @@ impl<A: Allocator + Copy> Failures<A> {
         }
     }
 
-    /// How many chunks have failed and aren't forgotten. Each takes one place, however often it failed.
+    /// How many chunks have failed and aren't forgotten. Each takes one place, however often it
+    /// failed.
     pub fn chunk_count(&self) -> usize
         ensures { result ≡ map.len self.now }
     {
@@ -83,7 +84,8 @@ impl<A: Allocator + Copy> Failures<A> {
         }
     }
 
-    /// From when on the chunk of this serial is to be looked at again: it may be tried, or is to be given up. `None` where it hasn't failed.
+    /// From when on the chunk of this serial is to be looked at again: it may be tried, or is to be
+    /// given up. `None` where it hasn't failed.
     pub fn look(&self, settings: &RetrySettings, serial: u64) -> Option<u64>
         ensures { result ≡ option_map (look_moment settings.now) (map.get self.now serial) }
     {

@@ -9,7 +9,8 @@ pub struct RetrySettings {
     pub exponential_backoff_base: u64,
     /// The longest wait, in seconds, if there is one.
     pub max_interval: Option<u64>,
-    /// How often a chunk is tried again at most, if there is a limit: with more failures it is given up.
+    /// How often a chunk is tried again at most, if there is a limit: with more failures it is
+    /// given up.
     pub max_times: Option<u64>,
     /// How long after its first failure a chunk is given up, in seconds.
     pub timeout: u64,

@@ -1,4 +1,5 @@
--- The steps to come, as a chain of open scopes: each hop above a scope that is to be left is one of its own.
+-- The steps to come, as a chain of open scopes: each hop above a scope that is to be left is one of
+-- its own.
 use Rattle.std.proofs.Common.{◌≡◌, ℕ, List, [], ◌∷◌, ◌++◌, map, sym, subst, ◌⊎◌, inl, inr, Contains}
 use Rattle.relay_conf.specs.declared.relay.ScopeNo.{ScopeNo}
 use Rattle.route_graph.specs.Chains.{Chain, here, onward}
@@ -11,7 +12,8 @@ use Rattle.route_graph.specs.declared.visit.Step.TheVariants.{Take, Leave}
 use Rattle.route_graph.proofs.Members.{cons-head, cons-tail}
 use Rattle.route_graph.proofs.WalkLaws.{leads-on}
 
--- The event is handed to this hop from the scope that is to be left next, or the search begins with it.
+-- The event is handed to this hop from the scope that is to be left next, or the search begins with
+-- it.
 abbrev pub IsHandedIn : Table → List ℕ → ℕ → List Step → Hop → Type 0
 IsHandedIn table tag start [] hop = hop ≡ Scope (record { 0 = start })
 IsHandedIn table tag start (Take other ∷ steps) hop = IsHandedIn table tag start steps hop

@@ -1,4 +1,5 @@
--- What is found so far, with the walk of the hops to come, is the walk from the start, as far as first places go.
+-- What is found so far, with the walk of the hops to come, is the walk from the start, as far as
+-- first places go.
 use Rattle.std.proofs.Common.{◌≡◌, ℕ, List, [], ◌∷◌, ◌++◌, map, refl, sym, ap, subst, ◌∙◌, Contains, append_assoc}
 use Rattle.std.proofs.lemmas.List.{append-nil}
 use Rattle.relay_conf.specs.declared.relay.ScopeNo.{ScopeNo}
@@ -73,14 +74,15 @@ walk-scope table tag scope reached w =
 abbrev pub IsCovered : Table → List ℕ → List ℕ → ℕ → Type 0
 IsCovered table tag found scope = (walk : List ℕ) × IsWalkFrom table tag scope walk × ((number : ℕ) → Contains walk number → Contains found number)
 
--- If the hops above it have a walk, each scope to be left has one, which is found by then; and so has the start, in
--- the same order.
+-- If the hops above it have a walk, each scope to be left has one, which is found by then; and so
+-- has the start, in the same order.
 abbrev pub Covers : Table → List ℕ → ℕ → List ℕ → List Hop → List Step → Type 0
 Covers table tag start found hops [] = (rest : List ℕ) → IsWalk table tag hops rest → (walk : List ℕ) × IsWalkFrom table tag start walk × (firsts walk ≡ firsts (found ++ rest))
 Covers table tag start found hops (Take hop ∷ steps) = Covers table tag start found (hops ++ hop ∷ []) steps
 Covers table tag start found hops (Leave scope ∷ steps) = ((rest : List ℕ) → IsWalk table tag hops rest → IsCovered table tag (found ++ rest) scope.0) × Covers table tag start found hops steps
 
--- a walk of these hops with what is found comes to the same as one of those others with what was found
+-- a walk of these hops with what is found comes to the same as one of those others with what was
+-- found
 abbrev pub Replaces : Table → List ℕ → List ℕ → List Hop → List ℕ → List Hop → Type 0
 Replaces table tag found hops before others = (more : List Hop) (rest : List ℕ) → IsWalk table tag (hops ++ more) rest → (old : List ℕ) × IsWalk table tag (others ++ more) old × (firsts (before ++ old) ≡ firsts (found ++ rest))
 

@@ -1,4 +1,5 @@
--- Where an event goes in a relay (Fluentd, "Config: Match Patterns", order of matches; "out_copy"; "out_relabel").
+-- Where an event goes in a relay (Fluentd, "Config: Match Patterns", order of matches; "out_copy";
+-- "out_relabel").
 use Rattle.std.specs.Prelude.{◌≡◌, ℕ, List, [], ◌∷◌, Any, Contains, ◌⊎◌, slice_get, unwrap_or}
 use Rattle.tag_pattern.specs.Items.{Item}
 use Rattle.tag_pattern.specs.Patterns.{IsTagOf}
@@ -20,7 +21,8 @@ IsTakenBy (rule ∷ rules) tag taker = (HaveTag rule.patterns tag × (taker ≡ 
 abbrev pub rules_at : Table → ℕ → List Rule
 rules_at table scope = unwrap_or (slice_get table scope) []
 
--- An event with this tag that comes into the scope is handed to this hop, among others if it is copied.
+-- An event with this tag that comes into the scope is handed to this hop, among others if it is
+-- copied.
 abbrev pub IsHandedTo : Table → List ℕ → ℕ → Hop → Type 0
 IsHandedTo table tag scope hop = (taker : Rule) × IsTakenBy (rules_at table scope) tag taker × Contains taker.hops hop
 
@@ -28,7 +30,8 @@ IsHandedTo table tag scope hop = (taker : Rule) × IsTakenBy (rules_at table sco
 abbrev pub IsRelabelled : Table → List ℕ → ℕ → ℕ → Type 0
 IsRelabelled table tag scope target = IsHandedTo table tag scope (Scope (record { 0 = target }))
 
--- Such an event reaches this buffer: the match that takes it has it, or a scope that it goes on to leads there.
+-- Such an event reaches this buffer: the match that takes it has it, or a scope that it goes on to
+-- leads there.
 pub data IsLeaf (table : Table) (tag : List ℕ) : ℕ → ℕ → Type 0 where
   own : {scope buffer : ℕ} → IsHandedTo table tag scope (Buffer (record { 0 = buffer })) → IsLeaf table tag scope buffer
   further : {scope target buffer : ℕ} → IsRelabelled table tag scope target → IsLeaf table tag target buffer → IsLeaf table tag scope buffer

@@ -16,8 +16,8 @@ use std::alloc::{AllocError, Allocator};
 use std::marker::Model;
 use tag_pattern::Tag;
 
-/// The scopes, matches and outputs of a relay, as far as the ways of its events depend on them. To contracts it is
-/// that table.
+/// The scopes, matches and outputs of a relay, as far as the ways of its events depend on them. To
+/// contracts it is that table.
 #[derive(Drop)]
 pub struct Routes<A: Allocator> {
     scopes: Vec<RouteScope<A>, A>,
@@ -43,12 +43,12 @@ impl<A: Allocator + Copy> Routes<A> {
         Ok(Routes { scopes })
     }
 
-    /// The way of an event with this tag that comes into this scope. From a scope that isn't there it reaches
-    /// nothing.
+    /// The way of an event with this tag that comes into this scope. From a scope that isn't there
+    /// it reaches nothing.
     ///
-    /// Each scope that is reached is gone through once, and each of its patterns compared with the tag once at most,
-    /// so copies of relabels cost no more than the outputs that they have, each with a look into a set of the
-    /// buffers found before.
+    /// Each scope that is reached is gone through once, and each of its patterns compared with the
+    /// tag once at most, so copies of relabels cost no more than the outputs that they have, each
+    /// with a look into a set of the buffers found before.
     pub fn way<B: Allocator>(&self, scope: ScopeNo, tag: &Tag<B>) -> Result<Way<A>, AllocError>
         ensures way { IfOk result (IsWay self.now tag.now scope.0) }
         ensures leaves { IfOk result (HasLeaves self.now tag.now scope.0) }

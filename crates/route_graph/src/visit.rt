@@ -32,7 +32,8 @@ pub(crate) enum Step {
     Leave(ScopeNo),
 }
 
-/// A search for the leaves of one event. To contracts its steps stand in the order in which they come.
+/// A search for the leaves of one event. To contracts its steps stand in the order in which they
+/// come.
 #[derive(Drop)]
 pub(crate) struct LeafSearch<A: Allocator> {
     marks: Vec<Mark, A>,

@@ -13,7 +13,8 @@ use Rattle.relay_net.specs.Network.{output_of}
 abbrev pub server_text : {A : Type 0} → Server A → List ℕ
 server_text server = codes " " ++ string_bytes server.host ++ codes ":" ++ decimal server.port
 
--- an output that has a buffer: ` file` and the sink's path, or ` forward` and each server in the order of the text
+-- an output that has a buffer: ` file` and the sink's path, or ` forward` and each server in the
+-- order of the text
 abbrev pub output_text : {A : Type 0} → Output A → List ℕ
 output_text (output.Null line) = []
 output_text (output.Relabel target line) = []

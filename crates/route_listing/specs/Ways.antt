@@ -27,14 +27,16 @@ abbrev pub way_text : {A B : Type 0} → Relay A → Way B → List ℕ
 way_text relay (Leaves buffers) = outputs_text relay (numbers_of buffers.items)
 way_text relay Loop = codes " loop"
 
--- a tag of at most 1,024 bytes goes its way from the source's scope, and this is the text of that way
+-- a tag of at most 1,024 bytes goes its way from the source's scope, and this is the text of that
+-- way
 pub record IsWayText {A : Type 0} (relay : Relay A) (scope : ℕ) (tag text : List ℕ) : Type 0 where
   pub short : length tag ≤ most_tag_bytes
   pub way : Way A
   pub is_way : IsWay (table_of relay) tag scope way
   pub text_is : text ≡ way_text relay way
 
--- what stands behind a tag: the way of the tag that it is behind the source, or that this is too long for one
+-- what stands behind a tag: the way of the tag that it is behind the source, or that this is too
+-- long for one
 abbrev pub IsBehindTag : {A : Type 0} → Relay A → Source A → List ℕ → List ℕ → Type 0
 IsBehindTag relay source tag text =
     ((most_tag_bytes < length (entered_tag source.prefix tag)) × (text ≡ codes " is no tag")) ⊎ IsWayText relay source.label.0 (entered_tag source.prefix tag) text
@@ -61,6 +63,7 @@ pub record PrintsListing (A : Type 0) (conf : Option (List ℕ)) (tags : List (L
   pub ways : AreWays relay tags lines
   pub printed : IsPrinted old new lines Done status
 
--- all that `ways` does to a writer, and its status: the ways, or why no relay is read, or that memory ran out
+-- all that `ways` does to a writer, and its status: the ways, or why no relay is read, or that
+-- memory ran out
 abbrev pub PrintsWays : (A : Type 0) → Option (List ℕ) → List (List ℕ) → Option (List ℕ) → Option (List ℕ) → Status → Type 0
 PrintsWays A conf tags old new status = PrintsListing A conf tags old new status ⊎ (PrintsNoRelay conf old new status ⊎ IsPrinted old new memory_line Usage status)

@@ -19,8 +19,9 @@ use std::alloc::{AllocError, Allocator};
 use std::io::Write;
 use tag_pattern::{Prefix, Tag, TagError};
 
-/// Prints where each tag goes that comes to a source of the relay that `conf` describes: a line for each source and each tag, with the
-/// outputs in the order first reached. Or it prints the first fault of the configuration.
+/// Prints where each tag goes that comes to a source of the relay that `conf` describes: a line for
+/// each source and each tag, with the outputs in the order first reached. Or it prints the first
+/// fault of the configuration.
 pub fn run_ways<A: Allocator + Copy, B: Allocator, R: CountedRead, W: Write>(
     alloc: A,
     conf: &mut R,
@@ -115,7 +116,8 @@ fn behind_tag<A: Allocator + Copy>(
     Ok(text)
 }
 
-/// The tag that an event of this tag has behind a source with this prefix; `None` where it is too long. The only error is want of memory.
+/// The tag that an event of this tag has behind a source with this prefix; `None` where it is too
+/// long. The only error is want of memory.
 pub fn entered<A: Allocator + Copy>(
     alloc: A,
     prefix: Option<&Prefix<A>>,

@@ -5,7 +5,8 @@ use Rattle.relay_net.specs.Network.{Network, entrance, tag_at}
 use Rattle.routed_tags.specs.Routed.{ComesTo, SendsTo}
 use Rattle.routed_tags.specs.declared.arrival.Arrival.{Arrival}
 
--- A message with this tag, sent to this address, comes in there, and its events then bear what is left of the tag that is looked for.
+-- A message with this tag, sent to this address, comes in there, and its events then bear what is
+-- left of the tag that is looked for.
 pub record IsArrival {A : Type 0} (net : Network A) (wanted : List ℕ) (address : Address) (tag : List ℕ) (arrival : Arrival) : Type 0 where
   pub enters : entrance net address ≡ Some arrival.at
   pub within : arrival.offset ≤ length wanted

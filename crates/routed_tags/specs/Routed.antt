@@ -1,5 +1,5 @@
--- The tags that an event may bear on its way through a network: from what its client sent, with the prefix of each source that it enters
--- in front, along relabels and forwards.
+-- The tags that an event may bear on its way through a network: from what its client sent, with the
+-- prefix of each source that it enters in front, along relabels and forwards.
 use Rattle.std.specs.Prelude.{◌≡◌, ◌≤◌, ℕ, List, length, Some, Contains}
 use Rattle.relay_conf.specs.declared.output.Output.{Output}
 use Rattle.relay_conf.specs.declared.output.Server.{Server}
@@ -11,7 +11,8 @@ use Rattle.relay_net.specs.declared.address.Entrance.{Entrance}
 use Rattle.route_graph.specs.Ways.{IsLeaf, IsLoop}
 use Rattle.tag_pattern.specs.Parts.{most_tag_bytes}
 
--- An event that bears this tag where it comes in has a way that ends, and the buffer is a leaf of it.
+-- An event that bears this tag where it comes in has a way that ends, and the buffer is a leaf of
+-- it.
 pub record ComesTo {A : Type 0} (net : Network A) (at : Entrance) (tag : List ℕ) (buffer : ℕ) : Type 0 where
   pub ends : ¬ IsLoop (table_at net at.relay) tag at.scope
   pub leaf : IsLeaf (table_at net at.relay) tag at.scope buffer
@@ -24,8 +25,9 @@ pub record SendsTo {A : Type 0} (net : Network A) (place buffer : ℕ) (address 
   pub among : Contains (servers_of output) server
   pub address_is : address ≡ address_of_server server
 
--- The events of a message with this tag, sent to this address, may go on in a message with that tag, sent to that address: a buffer that
--- they come to forwards them, under the tag that they bear there.
+-- The events of a message with this tag, sent to this address, may go on in a message with that
+-- tag, sent to that address: a buffer that they come to forwards them, under the tag that they bear
+-- there.
 pub record LeadsOn {A : Type 0} (net : Network A) (address : Address) (tag : List ℕ) (next : Address) (borne : List ℕ) : Type 0 where
   pub at : Entrance
   pub buffer : ℕ
@@ -39,7 +41,8 @@ pub data Follows {A : Type 0} (net : Network A) (address : Address) (tag : List 
   sent : Follows net address tag address tag
   onward : {last next : Address} {before borne : List ℕ} → Follows net address tag last before → LeadsOn net last before next borne → Follows net address tag next borne
 
--- The tag, of at most 1,024 bytes, is one that the events of a message with this tag, sent to this address, may bear where they come in.
+-- The tag, of at most 1,024 bytes, is one that the events of a message with this tag, sent to this
+-- address, may bear where they come in.
 pub record IsRoutedTag {A : Type 0} (net : Network A) (address : Address) (tag routed : List ℕ) : Type 0 where
   pub last : Address
   pub before : List ℕ

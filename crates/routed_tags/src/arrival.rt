@@ -10,7 +10,8 @@ use relay_net::{Entrance, Net};
 use std::alloc::Allocator;
 use tag_pattern::Prefix;
 
-/// Where an event comes in, and how many bytes of the tag that is looked for stand in front of what it bears there.
+/// Where an event comes in, and how many bytes of the tag that is looked for stand in front of what
+/// it bears there.
 #[derive(Clone, Copy)]
 pub(crate) struct Arrival {
     pub at: Entrance,
@@ -47,7 +48,8 @@ fn is_same(one: Arrival, other: Arrival) -> bool
     one.at.relay == other.at.relay && one.at.scope == other.at.scope && one.offset == other.offset
 }
 
-/// Where a message with this tag, sent to this host and port, comes in, if its events then bear an end of the wanted tag.
+/// Where a message with this tag, sent to this host and port, comes in, if its events then bear an
+/// end of the wanted tag.
 pub(crate) fn comes_in<A: Allocator + Copy>(
     net: &Net<A>,
     host: &[u8],

@@ -10,8 +10,9 @@ use relay_net::Net;
 use std::alloc::{AllocError, Allocator};
 use tag_pattern::MOST_TAG_BYTES;
 
-/// Whether the events of a message with this tag, sent to this host and port, may bear the wanted tag where they come in, there
-/// or after any number of forwards. It goes once through each place and end of the wanted tag that they may come to.
+/// Whether the events of a message with this tag, sent to this host and port, may bear the wanted
+/// tag where they come in, there or after any number of forwards. It goes once through each place
+/// and end of the wanted tag that they may come to.
 pub fn is_routed_tag<A: Allocator + Copy>(
     alloc: A,
     net: &Net<A>,

@@ -1,4 +1,5 @@
-//! What stands where a rule is broken: the address that isn't there, what stands twice, the match that has no reach.
+//! What stands where a rule is broken: the address that isn't there, what stands twice, the match
+//! that has no reach.
 
 use crate::front::Subject;
 use crate::site::match_at;
@@ -44,7 +45,8 @@ impl<A: Allocator + Copy> Subject<'_, A> {
         }
     }
 
-    // Adds which relays before this line of the plan have the number or the folder of the relay there.
+    // Adds which relays before this line of the plan have the number or the folder of the relay
+    // there.
     fn put_relays(&self, out: &mut Vec<u8, A>, line: usize) -> Result<(), AllocError> {
         let Some(here) = relay_in(self.plan, line) else {
             return Ok(());
@@ -97,7 +99,8 @@ impl<A: Allocator + Copy> Subject<'_, A> {
         put_note(out, note.as_bytes())
     }
 
-    // Adds the address of the source in this line of the configuration of the relay with this number.
+    // Adds the address of the source in this line of the configuration of the relay with this
+    // number.
     fn put_address(&self, out: &mut Vec<u8, A>, relay: u32, line: usize) -> Result<(), AllocError> {
         let net = self.plan.net();
         let Some(place) = net.place(u64::from(relay)) else {
@@ -245,7 +248,8 @@ impl<A: Allocator + Copy> Subject<'_, A> {
         None
     }
 
-    // Whether each pattern of the match with this index has nothing in common with the label's, or a reach covers it.
+    // Whether each pattern of the match with this index has nothing in common with the label's, or
+    // a reach covers it.
     fn is_covered(
         &self,
         label: &Label<A>,

@@ -24,10 +24,11 @@ pub struct Explained<A: Allocator> {
     pub has_loss: bool,
 }
 
-/// Says of a rule that is broken at this place, as `check` answers of the plan of these texts, and at these others: what it asks for, the line
-/// where it is broken, what to change, by which lines of the plan tags come there, and each other line where it is broken; each line
-/// begins with `#`. For a rule that sees to it that nothing
-/// is lost, steps follow that lose an acknowledged event in the network of the plan, or a line that says that none were found.
+/// Says of a rule that is broken at this place, as `check` answers of the plan of these texts, and
+/// at these others: what it asks for, the line where it is broken, what to change, by which lines
+/// of the plan tags come there, and each other line where it is broken; each line begins with `#`.
+/// For a rule that sees to it that nothing is lost, steps follow that lose an acknowledged event in
+/// the network of the plan, or a line that says that none were found.
 ///
 /// All lines together are a text of steps, as `replay` takes it. The only error is want of memory.
 pub fn explain<A: Allocator + Copy>(
@@ -62,7 +63,8 @@ pub fn explain<A: Allocator + Copy>(
     }
 }
 
-// What is said with these steps behind it, where the network takes all of that as steps that lose an event.
+// What is said with these steps behind it, where the network takes all of that as steps that lose
+// an event.
 fn with_steps<A: Allocator + Copy>(
     alloc: A,
     plan: &Plan<A>,

@@ -15,8 +15,9 @@ struct Words {
     advice: &'static str,
 }
 
-/// Says of a plan's fault what it means, the line that has it, and what to change; and so of the fault of a configuration, where the plan has
-/// that. Each line begins with `#`. Of want of memory there is nothing to say. The only error is want of memory.
+/// Says of a plan's fault what it means, the line that has it, and what to change; and so of the
+/// fault of a configuration, where the plan has that. Each line begins with `#`. Of want of memory
+/// there is nothing to say. The only error is want of memory.
 pub fn explain_fault<A: Allocator + Copy>(
     alloc: A,
     texts: &Texts<'_, A>,

@@ -23,8 +23,9 @@ pub(crate) struct Subject<'a, A: Allocator> {
 }
 
 impl<A: Allocator + Copy> Subject<'_, A> {
-    /// What is said in front of the steps: the rule, the line where it is broken, what to change, by which lines of the plan tags come
-    /// there, and the other lines where it is broken; each line begins with `#`.
+    /// What is said in front of the steps: the rule, the line where it is broken, what to change,
+    /// by which lines of the plan tags come there, and the other lines where it is broken; each
+    /// line begins with `#`.
     pub fn front(&self) -> Result<Vec<u8, A>, AllocError> {
         let mut lines = Vec::new(self.alloc);
         self.put_rule(&mut lines)?;

@@ -19,7 +19,8 @@ pub(crate) enum Lack {
     Acknowledgements,
 }
 
-/// What it is and what becomes of events without it, as docs/CONFIGURATION.md says, "Losing nothing".
+/// What it is and what becomes of events without it, as docs/CONFIGURATION.md says, "Losing
+/// nothing".
 pub(crate) fn words_of(lack: Lack) -> &'static str {
     match lack {
         Lack::Buffer => "a buffer: `@type null` lets go of each event",

@@ -10,8 +10,8 @@ use tag_pattern::Plain;
 // Patterns that are lent.
 type Lent<'a, A> = Vec<&'a Plain<A>, A>;
 
-/// The patterns of the client or the label in this line of the plan, or those of the match that this line of a configuration is in and of
-/// its reaches.
+/// The patterns of the client or the label in this line of the plan, or those of the match that
+/// this line of a configuration is in and of its reaches.
 pub(crate) fn near_patterns<A: Allocator + Copy>(
     alloc: A,
     plan: &Plan<A>,

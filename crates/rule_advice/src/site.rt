@@ -104,7 +104,8 @@ impl<'t> Site<'t> {
         out.extend_from_slice(b"\n")
     }
 
-    /// The line's text, without what is blank in front of it; empty where the text has no such line. The only error is want of memory.
+    /// The line's text, without what is blank in front of it; empty where the text has no such
+    /// line. The only error is want of memory.
     pub fn line_text<A: Allocator + Copy>(&self, alloc: A) -> Result<&'t [u8], AllocError> {
         let all = lines(alloc, self.text)?;
         match all.get(self.line.saturating_sub(1)) {
@@ -122,7 +123,8 @@ pub(crate) struct MatchSite<'n, A: Allocator> {
     pub rule: &'n MatchRule<A>,
 }
 
-/// The match that this line of a configuration is in: of those that begin there or before it the last one.
+/// The match that this line of a configuration is in: of those that begin there or before it the
+/// last one.
 pub(crate) fn match_at<A: Allocator + Copy>(
     plan: &Plan<A>,
     place: Place,

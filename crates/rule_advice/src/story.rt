@@ -130,7 +130,8 @@ impl<A: Allocator + Copy> Story<'_, A> {
         put_note(out, note.as_bytes())
     }
 
-    // Adds these words around the line of the output with this buffer of the relay with this number, if there is one.
+    // Adds these words around the line of the output with this buffer of the relay with this
+    // number, if there is one.
     fn put_of_output(
         &self,
         out: &mut Vec<u8, A>,

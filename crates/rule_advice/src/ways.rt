@@ -9,8 +9,9 @@ use std::alloc::{AllocError, Allocator};
 // How many lines are looked for at most.
 const MOST_LINES: usize = 24;
 
-/// Lines of a plan by which tags come to some scopes: those of their labels, of clients that send to them, and of reaches that lead there,
-/// and so for the scopes of these reaches in their turn. Nearer lines stand first.
+/// Lines of a plan by which tags come to some scopes: those of their labels, of clients that send
+/// to them, and of reaches that lead there, and so for the scopes of these reaches in their turn.
+/// Nearer lines stand first.
 #[derive(Drop)]
 pub(crate) struct Ways<'a, A: Allocator> {
     plan: &'a Plan<A>,

@@ -56,8 +56,8 @@ pub fn advice(rule: Rule) -> &'static str {
     }
 }
 
-/// Whether an event may be lost where the rule is broken, by some steps. The others see to it that no two relays, buffers or sinks are
-/// taken for one, or that an event's delivery begins.
+/// Whether an event may be lost where the rule is broken, by some steps. The others see to it that
+/// no two relays, buffers or sinks are taken for one, or that an event's delivery begins.
 pub(crate) fn loses_events(rule: Rule) -> bool {
     match rule {
         Rule::AddressesAreDistinct => false,

@@ -3,7 +3,8 @@
 use auth_handshake::{Client, HandshakeFault, HeloError, Ping, Server, digest_hex};
 use std::alloc::{AllocError, Global};
 
-// SHA-512 of "abc" (FIPS 180-4, example B.1), which is here parted into a salt, a host name and a key.
+// SHA-512 of "abc" (FIPS 180-4, example B.1), which is here parted into a salt, a host name and a
+// key.
 const DIGEST: &[u8] =
     b"ddaf35a193617abacc417349ae20413112e6fa4e89a97ea20a9eeee64b55d39a2192992a274fc1a836ba3c23a3feebbd454d4423643ce80e2a9ac94fa54ca49f";
 

@@ -122,7 +122,8 @@ fn send_all(server: &mut ServerSession<Global>) {
     server.sent(all);
 }
 
-// Whether a client that gets these bytes in two pieces, of which the first has at most so many, waits for more behind each.
+// Whether a client that gets these bytes in two pieces, of which the first has at most so many,
+// waits for more behind each.
 fn waits(client: &mut ClientSession<Global>, bytes: &[u8], at: usize) -> bool {
     let (front, back) = bytes.split_at(at.min(bytes.len()));
     feed_client(client, front) == Says::Wait && feed_client(client, back) == Says::Wait
@@ -134,7 +135,8 @@ fn wants_nothing(server: &mut ServerSession<Global>, bytes: &[u8], at: usize) ->
     feed_server(server, front) == Wants::Nothing && feed_server(server, back) == Wants::Nothing
 }
 
-// Whether a client and a server shake hands where each item comes in two pieces, of which the first has at most so many bytes.
+// Whether a client and a server shake hands where each item comes in two pieces, of which the first
+// has at most so many bytes.
 fn shake_hands(alloc: Global, at: usize) -> Result<bool, AllocError> {
     let mut server = open_server(alloc, true)?;
     let mut client = open_client(alloc, b"c")?;
@@ -366,7 +368,8 @@ fn first_wanted(server: &mut ServerSession<Global>, bytes: &[u8]) -> Wants {
     Wants::Nothing
 }
 
-// What a server wants first of the message in pieces of one byte, and whether it does so before the last.
+// What a server wants first of the message in pieces of one byte, and whether it does so before the
+// last.
 fn wanted_by_bytes(alloc: Global, message: &[u8]) -> Result<(Wants, Wants), AllocError> {
     let (front, last) = message.split_at(message.len().saturating_sub(1));
     let mut server = open_server(alloc, false)?;

@@ -173,7 +173,8 @@ fn renewed<R: Wait, D: Dir>(rt: &R, shelf: &Shelf<D>) -> bool {
     shelf.renew(rt).is_ok()
 }
 
-// Whether the only chunk of a buffer that drops stays over a renewal, and what two drops are answered by.
+// Whether the only chunk of a buffer that drops stays over a renewal, and what two drops are
+// answered by.
 fn oldest<R: Wait, D: Dir + Drop>(
     alloc: Global,
     rt: &R,
@@ -194,7 +195,8 @@ fn the_oldest_is_dropped_once(rt: HostRuntime) -> Result<(), Fail> {
     Ok(())
 }
 
-// What renewing a journal answers that is long, since the only chunk was dropped; `None` where this folder failed before.
+// What renewing a journal answers that is long, since the only chunk was dropped; `None` where this
+// folder failed before.
 fn renewed_long<R: Wait, D: Dir + Drop>(
     alloc: Global,
     rt: &R,
@@ -206,7 +208,8 @@ fn renewed_long<R: Wait, D: Dir + Drop>(
     Some(shelf.renew(rt))
 }
 
-// A journal that is long is written anew: where the folder fails every call from then on, that is told.
+// A journal that is long is written anew: where the folder fails every call from then on, that is
+// told.
 #[test]
 fn a_long_journal_is_renewed(rt: HostRuntime) -> Result<(), Fail> {
     let alloc = rt.alloc();

@@ -93,7 +93,8 @@ fn crossed<R: Wait, D: Dir>(
     }
 }
 
-// Why a delivery doesn't take the receipt of another, and what an audit by what is left of that finds.
+// Why a delivery doesn't take the receipt of another, and what an audit by what is left of that
+// finds.
 fn strange<R: Wait, D: Dir + Drop>(
     alloc: Global,
     rt: &R,
@@ -112,7 +113,8 @@ fn a_receipt_of_another_is_strange(rt: HostRuntime) -> Result<(), Fail> {
     Ok(())
 }
 
-// Appends a message to both buffers, and answers it where both have it: whether it was answered, and what is left.
+// Appends a message to both buffers, and answers it where both have it: whether it was answered,
+// and what is left.
 fn copied<R: Wait, D: Dir>(
     alloc: Global,
     rt: &R,
@@ -136,7 +138,8 @@ fn settled<R: Wait, D: Dir>(rt: &R, shelf: &Shelf<D>, stub: &Stub<Global>) -> Op
     shelf.settle(rt, stub).err()
 }
 
-// What settling answers to a stub of a further book, and twice to one of its own; then what audits of both books find.
+// What settling answers to a stub of a further book, and twice to one of its own; then what audits
+// of both books find.
 fn settled_twice<R: Wait, D: Dir + Drop>(
     alloc: Global,
     rt: &R,
@@ -190,8 +193,8 @@ const SMALL: Limits = Limits {
     total: 5,
 };
 
-// What becomes of a message while there is no room for its copy, and once there is again: whether it was answered, and what is left of
-// the delivery that takes the room, and of both.
+// What becomes of a message while there is no room for its copy, and once there is again: whether
+// it was answered, and what is left of the delivery that takes the room, and of both.
 fn copied_twice<R: Wait, D: Dir>(
     alloc: Global,
     rt: &R,

@@ -1,4 +1,5 @@
-//! Tests of shared buffers: what receipts, pendings and claims come to, what a stop leaves of them, and what an audit of a book finds.
+//! Tests of shared buffers: what receipts, pendings and claims come to, what a stop leaves of them,
+//! and what an audit of a book finds.
 #![tactic(auto)]
 
 #[cfg(test)]

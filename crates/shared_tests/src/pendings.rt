@@ -146,7 +146,8 @@ fn answers_in<R: Wait, D: Dir + Drop>(
     Some(redeemed(rt, &shelf, pendings))
 }
 
-// The least number of calls of the folder under which so many appends that wait are redeemed, and both answers with one less.
+// The least number of calls of the folder under which so many appends that wait are redeemed, and
+// both answers with one less.
 fn calls<R: Wait>(
     alloc: Global,
     rt: &R,
@@ -166,8 +167,8 @@ fn calls<R: Wait>(
     Err(BufferFault::Fault)
 }
 
-// A list takes one sync, whatever its length: each append is one call more. Where that sync fails the list comes back, and
-// then the buffer has failed.
+// A list takes one sync, whatever its length: each append is one call more. Where that sync fails
+// the list comes back, and then the buffer has failed.
 #[test]
 fn a_list_takes_one_sync(rt: HostRuntime) -> Result<(), Fail> {
     let (one, answers) = calls(rt.alloc(), &rt, 1)?;

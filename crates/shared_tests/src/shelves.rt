@@ -71,7 +71,8 @@ pub fn shelf_in<D: Dir + Drop>(
     Ok(SharedBuffer::new(alloc, buffer, leaf, takes()))
 }
 
-// Such a buffer in this folder, whose journal is renewed wherever it is twice as long as what it keeps.
+// Such a buffer in this folder, whose journal is renewed wherever it is twice as long as what it
+// keeps.
 pub fn eager_in<D: Dir + Drop>(alloc: Global, dir: D) -> Result<Shelf<D>, BufferFault> {
     let settings = Settings {
         limits: WIDE,

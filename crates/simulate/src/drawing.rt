@@ -13,7 +13,8 @@ pub struct Drawing {
     pub acts: u64,
 }
 
-// Where a text is being drawn: the relay's place, how many relays there are, and how many outputs it has so far.
+// Where a text is being drawn: the relay's place, how many relays there are, and how many outputs
+// it has so far.
 #[derive(Drop)]
 struct Place {
     at: usize,

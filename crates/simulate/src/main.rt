@@ -3,8 +3,9 @@
 //!     simulate SEED COUNT     so many runs, of this seed and those behind it
 //!     simulate SEED shorter   the run of this seed; where it is wrong, with few acts
 //!
-//! It prints how many runs there were, and status 0. At the first that is wrong it prints the seed, the plan, each configuration,
-//! and what is wrong with the steps so far, in the form that `relaynet replay` takes: status 1. Status 2: other words, or no memory.
+//! It prints how many runs there were, and status 0. At the first that is wrong it prints the seed,
+//! the plan, each configuration, and what is wrong with the steps so far, in the form that
+//! `relaynet replay` takes: status 1. Status 2: other words, or no memory.
 #![tactic(auto)]
 
 mod drawing;
@@ -56,7 +57,8 @@ fn run_all<R: Wait + Clock + Print + AllocGlobal>(
     Ok(0)
 }
 
-// The run of this seed; where it is wrong, one with fewer acts, whose numbers are printed behind it.
+// The run of this seed; where it is wrong, one with fewer acts, whose numbers are printed behind
+// it.
 fn run_shorter<R: Wait + Clock + Print + AllocGlobal>(rt: &R, seed: u64) -> io::Result<u8> {
     let drawn = Drawn::new(rt.alloc(), seed)?;
     let all = drawn.acts(rt.alloc())?;

@@ -39,7 +39,8 @@ impl Drawn {
         Ok(all)
     }
 
-    /// What is wrong with the run that has these acts alone, and its steps; nothing where it went well.
+    /// What is wrong with the run that has these acts alone, and its steps; nothing where it went
+    /// well.
     pub fn wrong_with<R: Wait + Clock>(
         &self,
         rt: &R,

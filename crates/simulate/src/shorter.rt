@@ -8,8 +8,8 @@ use std::time::Clock;
 // How often all acts are gone through, one after another.
 const ROUNDS: u32 = 8;
 
-/// Leaves out of the acts of a run that is wrong those without which it is wrong too: first those at
-/// the end, then one after another, until none can be left out.
+/// Leaves out of the acts of a run that is wrong those without which it is wrong too: first those
+/// at the end, then one after another, until none can be left out.
 pub fn shorten<R: Wait + Clock>(
     rt: &R,
     alloc: Global,

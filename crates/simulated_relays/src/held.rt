@@ -30,7 +30,8 @@ pub struct Held<D: Disk + Drop> {
 }
 
 impl<D: Disk + Drop> Held<D> {
-    /// Claims the first chunk that is queued in this buffer of the relay at this place; nothing where there is none, or no memory.
+    /// Claims the first chunk that is queued in this buffer of the relay at this place; nothing
+    /// where there is none, or no memory.
     pub fn claim<R: Wait>(
         rt: &R,
         site: usize,

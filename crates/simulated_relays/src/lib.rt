@@ -1,4 +1,5 @@
-//! A relay as a simulation has it: the product's own parts over folders in memory, which outlive its stops, and a connection to it without its socket.
+//! A relay as a simulation has it: the product's own parts over folders in memory, which outlive
+//! its stops, and a connection to it without its socket.
 #![tactic(auto)]
 
 mod chunks;

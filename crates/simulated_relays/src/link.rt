@@ -18,7 +18,8 @@ pub enum Sender {
     Chunk(Name),
 }
 
-/// A connection: the session that sends, the relay that it goes to with its session, and what became of the message so far.
+/// A connection: the session that sends, the relay that it goes to with its session, and what
+/// became of the message so far.
 pub struct Link {
     pub sender: Sender,
     pub message: u64,

@@ -21,7 +21,8 @@ const LIMITS: FileLimits = FileLimits {
     pause: u64::MAX,
 };
 
-/// The relay with this number and configuration over these folders of buffers and of sinks; `None` where it doesn't open.
+/// The relay with this number and configuration over these folders of buffers and of sinks; `None`
+/// where it doesn't open.
 pub fn open_site<D: Disk + Drop>(
     alloc: Global,
     number: u32,

@@ -1,4 +1,5 @@
-//! A relay of the network: its folders, what was told of its chunks, and its parts while it is open.
+//! A relay of the network: its folders, what was told of its chunks, and its parts while it is
+//! open.
 
 use crate::chunks::{Chunks, Stage};
 use crate::closing::{SinkContent, close_buffers, close_sinks, paths_of};
@@ -23,7 +24,8 @@ pub struct Site<D: Disk + Drop> {
     sinks: Shelf<D>,
     pub chunks: Chunks,
     pub open: Option<OpenSite<D>>,
-    // A call failed behind which it has to be opened again, and what that means where no device did fail.
+    // A call failed behind which it has to be opened again, and what that means where no device did
+    // fail.
     refusal: Option<String>,
     is_failing: bool,
     /// The chunk whose write to a sink failed last: its buffer and its serial.
@@ -89,8 +91,8 @@ impl<D: Disk + Drop> Site<D> {
         Some(self.open.as_ref()?.jobs.get(buffer)?.output())
     }
 
-    /// Whether a buffer takes so many bytes more, by what was told of its chunks. Where it drops the
-    /// oldest, all that are queued may go for them.
+    /// Whether a buffer takes so many bytes more, by what was told of its chunks. Where it drops
+    /// the oldest, all that are queued may go for them.
     pub fn has_room(&self, buffer: usize, len: usize) -> bool {
         let Some(output) = self.output(buffer) else {
             return true;

@@ -27,9 +27,10 @@ pub record Lasts (old new : History) : Type 0 where
   pub past : (t : ℕ) → t ≤ old.moment → SameDisk (new.disk_at t) (old.disk_at t)
   pub older : (name : List ℕ) (events : List Event) → IsSafe (now old) name events → StaysSafe old new name events
 
--- What a sink knows whose folder was honest when it was opened, whatever was called since, also after failures and in all its files since:
--- its folder is honest, each answer's entries are certainly in its file at each moment from the answer on, and what was safe at the opening has been
--- safe since. The open file keeps what a sink keeps.
+-- What a sink knows whose folder was honest when it was opened, whatever was called since, also
+-- after failures and in all its files since: its folder is honest, each answer's entries are
+-- certainly in its file at each moment from the answer on, and what was safe at the opening has
+-- been safe since. The open file keeps what a sink keeps.
 pub record KeepsAll {D : Type 0} (is_honest : D → Type 0) (history : D → History) (sink : RotationView D) : Type 0 where
   pub dir : is_honest sink.dir
   pub answers : AllByRecursion (λ (file : FileView). AnsweredStay (history sink.dir) file.name file.stored) (files_of sink)

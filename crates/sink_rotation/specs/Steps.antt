@@ -21,7 +21,8 @@ GoesOn is_honest history (Shut dir) (Shut left) = left ≡ dir
 GoesOn is_honest history (Open before) (Shut left) = ⊥
 GoesOn is_honest history (Open before) (Open after) = is_honest before.opening → Keeps is_honest history after × Lasts (history before.dir) (history after.dir)
 
--- In this folder a file was begun, or none: nothing that was safe is lost, and the open file keeps what a sink keeps.
+-- In this folder a file was begun, or none: nothing that was safe is lost, and the open file keeps
+-- what a sink keeps.
 pub record BeginsIn {D A : Type 0} (is_honest : D → Type 0) (history : D → History) (dir : D) (files : Files D A) : Type 0 where
   pub honest : is_honest (dir_of files)
   pub lasts : Lasts (history dir) (history (dir_of files))

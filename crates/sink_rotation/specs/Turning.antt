@@ -13,7 +13,8 @@ abbrev pub size_after : ℕ → Result StoredView SeriesFault → ℕ → ℕ
 size_after size (Ok stored) more = added size more
 size_after size (Err why) more = size
 
--- from when on the next file is due where the file can't be written: behind a write that failed from this time on
+-- from when on the next file is due where the file can't be written: behind a write that failed
+-- from this time on
 abbrev pub retry_after : Option ℕ → Result StoredView SeriesFault → ℕ → Option ℕ
 retry_after retry (Ok stored) from = retry
 retry_after retry (Err Memory) from = retry

@@ -13,9 +13,10 @@ pub record FileView : Type 0 where
 abbrev pub file_of : {D : Type 0} → SeriesView D → FileView
 file_of series = record { name = newest series; stored = series.stored }
 
--- a sink that stays open: its folder, that folder when the sink was opened, its path, the files that were closed since then, the last first, the
--- file that is open if there is one, how many bytes of entries this has, since when it is open, and from when on the next may be begun where it can't
--- be written
+-- a sink that stays open: its folder, that folder when the sink was opened, its path, the files
+-- that were closed since then, the last first, the file that is open if there is one, how many
+-- bytes of entries this has, since when it is open, and from when on the next may be begun where it
+-- can't be written
 pub record RotationView (D : Type 0) : Type 0 where
   pub dir : D
   pub opening : D
@@ -49,7 +50,8 @@ kept_in file = map (λ answer. record { name = file.name; answer = answer }) fil
 abbrev pub answers_of : {D : Type 0} → RotationView D → List Kept
 answers_of sink = flat_map kept_in (files_of sink)
 
--- The next file is begun: the newest one has entries, and is large or old enough; or it can't be written, and the time to try again has come.
+-- The next file is begun: the newest one has entries, and is large or old enough; or it can't be
+-- written, and the time to try again has come.
 abbrev pub IsDue : FileLimits → ℕ → ℕ → Option ℕ → ℕ → Type 0
 IsDue limits size since None time = (1 ≤ size) × ((limits.bytes ≤ size) ⊎ (limits.millis ≤ time - since))
 IsDue limits size since (Some from) time = from ≤ time

@@ -9,8 +9,8 @@ use std::alloc::Allocator;
 use std::marker::Model;
 use std::snapshot::Snapshot;
 
-/// The files that were closed, each with what was answered in it, the last first. A snapshot has no bytes, so at run time there
-/// is no list.
+/// The files that were closed, each with what was answered in it, the last first. A snapshot has no
+/// bytes, so at run time there is no list.
 #[derive(Drop)]
 #[cycle(closed)]
 pub struct Closed<D: Dir, A: Allocator> {

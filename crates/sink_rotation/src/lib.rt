@@ -1,4 +1,5 @@
-//! A sink that stays open for long: its next file is begun once the newest is large or old enough, or couldn't be written.
+//! A sink that stays open for long: its next file is begun once the newest is large or old enough,
+//! or couldn't be written.
 #![tactic(auto)]
 
 mod closed;

@@ -7,7 +7,8 @@ pub struct FileLimits {
     pub bytes: u64,
     /// A file that has entries and was begun so many milliseconds ago is followed by the next.
     pub millis: u64,
-    /// A file that couldn't be made or written is followed by the next once it was begun so many milliseconds ago.
+    /// A file that couldn't be made or written is followed by the next once it was begun so many
+    /// milliseconds ago.
     pub pause: u64,
 }
 

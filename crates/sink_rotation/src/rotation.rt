@@ -27,11 +27,12 @@ pub(crate) enum Files<D: Dir, A: Allocator> {
     Shut(D),
 }
 
-/// The files of a sink, `PATH.NNNNNNNNNN.sink`, of which the next is begun once the newest is large or old enough, or couldn't be
-/// written.
+/// The files of a sink, `PATH.NNNNNNNNNN.sink`, of which the next is begun once the newest is large
+/// or old enough, or couldn't be written.
 ///
-/// Opened over an honest folder, it keeps each answer that it gave in any of its files: at each later moment a stop leaves its
-/// entries. This is part of the type, so it stands too where the sink lies behind a lock.
+/// Opened over an honest folder, it keeps each answer that it gave in any of its files: at each
+/// later moment a stop leaves its entries. This is part of the type, so it stands too where the
+/// sink lies behind a lock.
 #[derive(Drop)]
 pub struct Rotation<D: Dir, A: Allocator> {
     alloc: A,
@@ -60,7 +61,8 @@ impl<D: Dir, A: Allocator> Model for Rotation<D, A> {
 impl<D: Dir, A: Allocator + Copy> Rotation<D, A> {
     /// Opens the sink of this path at this time, in milliseconds, and makes its next file.
     ///
-    /// Each error hands the folder back: `Memory` and `LastNumber` as it was, `Fault` with the file made or not.
+    /// Each error hands the folder back: `Memory` and `LastNumber` as it was, `Fault` with the file
+    /// made or not.
     pub fn open(
         alloc: A,
         dir: D,
@@ -112,11 +114,12 @@ impl<D: Dir, A: Allocator + Copy> Rotation<D, A> {
         dir
     }
 
-    /// Writes entries under a tag of at most 1,024 bytes, and syncs them, at this time in milliseconds. The receipt says that each
-    /// later stop leaves them.
+    /// Writes entries under a tag of at most 1,024 bytes, and syncs them, at this time in
+    /// milliseconds. The receipt says that each later stop leaves them.
     ///
-    /// Before that the next file is begun where it is due. `Memory` writes nothing. `Fault`: a beginning of the entries may be there, or the
-    /// next file without any. `Failed`: the file can't be written, and it isn't time yet to begin the next. `LastNumber`: there is no next.
+    /// Before that the next file is begun where it is due. `Memory` writes nothing. `Fault`: a
+    /// beginning of the entries may be there, or the next file without any. `Failed`: the file
+    /// can't be written, and it isn't time yet to begin the next. `LastNumber`: there is no next.
     pub fn write_all_entries<B: Allocator>(
         self,
         time: u64,
@@ -168,8 +171,8 @@ impl<D: Dir, A: Allocator + Copy> Rotation<D, A> {
         }
     }
 
-    // Closes the newest file and begins the next. After an error none is open, and the next is due again: behind want of memory at once, else
-    // after the pause.
+    // Closes the newest file and begins the next. After an error none is open, and the next is due
+    // again: behind want of memory at once, else after the pause.
     fn begin_next(self, time: u64) -> (Rotation<D, A>, Result<(), SeriesFault>)
         ensures sink { IsSameSink self result.0 }
         ensures answers { answers_of result.0 ≡ answers_of self }

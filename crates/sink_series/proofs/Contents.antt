@@ -6,7 +6,8 @@ use Rattle.std.proofs.Math.Seq.{take-append_seam}
 use Rattle.sink_series.specs.Events.{Event, IsEvent, item_of, run_of, BeginsNone, Holds}
 use Rattle.sink_series.proofs.Items.{item_one}
 
--- the content of bytes that begin with these events: they are the first, and what is left is the content of what is behind them
+-- the content of bytes that begin with these events: they are the first, and what is left is the
+-- content of what is behind them
 pub record After (events : List Event) (more : List ℕ) (all : List Event) : Type 0 where
   pub tail : List Event
   pub split : all ≡ events ++ tail

@@ -15,7 +15,8 @@ pub record IsEvent (event : Event) : Type 0 where
   pub short : length event.tag ≤ longest_tag
   pub stored : IsStored event.entry
 
--- the item of an event: an array of three, the tag as a str, the time and the record, these two as they stand behind the entry's first byte
+-- the item of an event: an array of three, the tag as a str, the time and the record, these two as
+-- they stand behind the entry's first byte
 unfoldable pub item_of : Event → List ℕ
 item_of event = 0x93 ∷ (str_of event.tag ++ drop 1 event.entry)
 
@@ -45,7 +46,8 @@ pub record Counts (bytes : List ℕ) (count torn : ℕ) : Type 0 where
   pub count_is : count ≡ length events
   pub torn_is : torn ≡ length holds.rest
 
--- the events of writes, of which the last is the first here, in the order in which they were written
+-- the events of writes, of which the last is the first here, in the order in which they were
+-- written
 abbrev pub written_by : List (List Event) → List Event
 written_by [] = []
 written_by (last ∷ before) = written_by before ++ last

@@ -30,7 +30,8 @@ SafeIsContent =
     (path : List ℕ) (n : ℕ) (events all : List Event) (disk : Disk) (folder : Folder) → 1 ≤ n → n ≤ last_number → IsSafe disk (sink_name path n) events
     → StopLeaves disk folder → SinkHolds path folder all → (before : List Event) × (after : List Event) × (all ≡ before ++ (events ++ after))
 
--- each answer's entries stand in the sink's content, under their tag, after a stop at any moment since the answer
+-- each answer's entries stand in the sink's content, under their tag, after a stop at any moment
+-- since the answer
 abbrev pub AnswersStand : Type 0
 AnswersStand =
     (path : List ℕ) (n : ℕ) (history : History) (later earlier : List Answer) (answer : Answer) → 1 ≤ n → n ≤ last_number → AnsweredStay history (sink_name path n) (later ++ answer ∷ earlier)
@@ -41,7 +42,8 @@ AnswersStand =
 abbrev pub SafeOverStop : Type 0
 SafeOverStop = (name : List ℕ) (events : List Event) (disk : Disk) (folder : Folder) → IsSafe disk name events → StopLeaves disk folder → IsSafe (after_stop folder) name events
 
--- an empty file besides, where none was, changes no content: it is that of what another stop could leave
+-- an empty file besides, where none was, changes no content: it is that of what another stop could
+-- leave
 abbrev pub MadeAddsNothing : Type 0
 MadeAddsNothing =
     (disk : Disk) (path : List ℕ) (folder : Folder) (all : List Event) → HasMade disk path folder → SinkHolds path folder all → (left : Folder) × StopLeaves disk left × SinkHolds path left all

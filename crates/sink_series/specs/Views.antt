@@ -14,8 +14,9 @@ pub record Answer : Type 0 where
   pub stored : StoredView
   pub since : ℕ
 
--- a sink that is open: its folder, that folder when the sink was opened, its path, the number of its newest file, the events that were begun
--- in that file since it was made, the answers since then, the last first, and whether a write has failed
+-- a sink that is open: its folder, that folder when the sink was opened, its path, the number of
+-- its newest file, the events that were begun in that file since it was made, the answers since
+-- then, the last first, and whether a write has failed
 pub record SeriesView (D : Type 0) : Type 0 where
   pub dir : D
   pub opening : D

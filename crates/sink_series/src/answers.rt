@@ -8,8 +8,8 @@ use std::alloc::Allocator;
 use std::marker::Model;
 use std::snapshot::Snapshot;
 
-/// The receipts that a sink gave, each with the folder as it was then, the last first. A snapshot has no bytes, so at run
-/// time there is no list.
+/// The receipts that a sink gave, each with the folder as it was then, the last first. A snapshot
+/// has no bytes, so at run time there is no list.
 #[derive(Drop)]
 #[cycle(answers)]
 pub struct Answers<D: Dir, A: Allocator> {

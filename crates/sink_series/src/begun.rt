@@ -8,7 +8,8 @@ use std::alloc::Allocator;
 use std::marker::Model;
 use std::snapshot::Snapshot;
 
-/// The writes that were begun in a file, the last first. A snapshot has no bytes, so at run time there is no list.
+/// The writes that were begun in a file, the last first. A snapshot has no bytes, so at run time
+/// there is no list.
 #[derive(Drop)]
 #[cycle(begun)]
 pub struct Begun<A: Allocator> {

@@ -82,7 +82,8 @@ fn next_number<A: Allocator + Copy, D: Dir>(
     }
 }
 
-/// Makes a sink's next file. After a `Fault` it may be there all the same, and after another error nothing changed.
+/// Makes a sink's next file. After a `Fault` it may be there all the same, and after another error
+/// nothing changed.
 pub(crate) fn make_next<A: Allocator + Copy, D: Dir>(
     alloc: A,
     dir: &mut D,
@@ -138,13 +139,14 @@ pub(crate) fn prepare<A: Allocator + Copy, B: Allocator, D: Dir>(
     Ok(write)
 }
 
-/// Adds bytes at a file's end and syncs it. After an error, which is a `Fault`, a beginning of them may be there.
+/// Adds bytes at a file's end and syncs it. After an error, which is a `Fault`, a beginning of them
+/// may be there.
 pub(crate) fn put_synced<D: Dir>(dir: &mut D, file: FileNo, bytes: &[u8]) -> Result<(), DirError>
     requires open { IsSome (D.opened dir.old file) }
     requires room { length bytes.now ≤ D.bytes_left dir.old file }
     ensures honest { D.is_honest dir.old → D.is_honest dir.new }
-    // At each moment what was safe before is safe, each other file is as it was, and where the file held events and nothing else,
-    // a stop leaves a beginning of these and those.
+    // At each moment what was safe before is safe, each other file is as it was, and where the file
+    // held events and nothing else, a stop leaves a beginning of these and those.
     ensures safe { D.is_honest dir.old → (own name : List ℕ) (events : List Event) → D.opened dir.old file ≡ Some own
         → IsSafe (now (D.history dir.old)) name events
         → StaysSafe (D.history dir.old) (D.history dir.new) name events }

@@ -1,4 +1,5 @@
-//! What the definitions of a sink's content come to. These functions do nothing: each stands for a theorem.
+//! What the definitions of a sink's content come to. These functions do nothing: each stands for a
+//! theorem.
 
 ghost use Rattle.sink_series.specs.Laws.{HoldsOne, SinkHoldsOne, CutsWhole, SafeBegins, SafeIsContent, AnswersStand, SafeOverStop, MadeAddsNothing, MadeKeepsSafe};
 
@@ -13,13 +14,15 @@ pub fn cuts_whole()
     ensures { CutsWhole }
 {}
 
-/// What is safe in a file of a sink stands at the front of that file's content, and in the sink's, after each stop.
+/// What is safe in a file of a sink stands at the front of that file's content, and in the sink's,
+/// after each stop.
 pub fn safe_is_content()
     ensures file { SafeBegins }
     ensures sink { SafeIsContent }
 {}
 
-/// Each answer's entries stand in the sink's content, under their tag, after a stop at any moment since the answer.
+/// Each answer's entries stand in the sink's content, under their tag, after a stop at any moment
+/// since the answer.
 pub fn answers_stand()
     ensures { AnswersStand }
 {}
@@ -29,7 +32,8 @@ pub fn safe_over_stop()
     ensures { SafeOverStop }
 {}
 
-/// What opening a sink may leave at any moment has the content that a stop before it could leave, and all that was safe.
+/// What opening a sink may leave at any moment has the content that a stop before it could leave,
+/// and all that was safe.
 pub fn made_adds_nothing()
     ensures content { MadeAddsNothing }
     ensures safe { MadeKeepsSafe }

@@ -53,8 +53,8 @@ pub(crate) fn read_events<A: Allocator + Copy>(
     Ok(events)
 }
 
-/// The event whose item the bytes begin with, and what is behind it; none where no event's item is whole there. What is read counts where it
-/// would be written so. The error is want of memory.
+/// The event whose item the bytes begin with, and what is behind it; none where no event's item is
+/// whole there. What is read counts where it would be written so. The error is want of memory.
 pub fn next_event<'a, A: Allocator + Copy>(
     alloc: A,
     bytes: &'a [u8],
@@ -74,7 +74,8 @@ pub fn next_event<'a, A: Allocator + Copy>(
     }
 }
 
-// What is behind the item of this event, where the bytes begin with it. The entry isn't copied for it.
+// What is behind the item of this event, where the bytes begin with it. The entry isn't copied for
+// it.
 fn behind_item<'a, A: Allocator>(
     alloc: A,
     bytes: &'a [u8],

@@ -25,10 +25,12 @@ use std::alloc::Allocator;
 use std::marker::Model;
 use std::snapshot::Snapshot;
 
-/// The files of a sink, `PATH.NNNNNNNNNN.sink`, from 1. Events go to the newest, which each opening makes.
+/// The files of a sink, `PATH.NNNNNNNNNN.sink`, from 1. Events go to the newest, which each opening
+/// makes.
 ///
-/// Opened over an honest folder, it keeps each of its answers: at each later moment a stop leaves them, whatever was called
-/// since, also after a failure. This is part of the type, so it stands too where the sink lies behind a lock.
+/// Opened over an honest folder, it keeps each of its answers: at each later moment a stop leaves
+/// them, whatever was called since, also after a failure. This is part of the type, so it stands
+/// too where the sink lies behind a lock.
 #[derive(Drop)]
 pub struct Series<D: Dir, A: Allocator> {
     alloc: A,
@@ -60,7 +62,8 @@ impl<D: Dir, A: Allocator + Copy> Series<D, A> {
 
     /// Opens the sink of this path, and makes its next file, one above the greatest that is there.
     ///
-    /// Each error hands the folder back: `Memory` and `LastNumber` as it was, `Fault` with the file made or not.
+    /// Each error hands the folder back: `Memory` and `LastNumber` as it was, `Fault` with the file
+    /// made or not.
     pub fn open(alloc: A, dir: D, path: &[u8]) -> Result<Series<D, A>, (SeriesFault, D)>
         // It goes on in the sink's next file, and each answer stays.
         ensures opens { D.is_honest dir → IfOk result (OpensNext D.is_honest D.history dir path.now) }
@@ -68,7 +71,8 @@ impl<D: Dir, A: Allocator + Copy> Series<D, A> {
         ensures refused { D.is_honest dir → IfErr result (λ refused.
             IsRefused path.now (now (D.history dir)) (now (D.history refused.1)) refused.0) }
         ensures never_failed { IfErr result (λ refused. refused.0 ≢ SeriesFault.Failed) }
-        // What a stop leaves at any moment is what a stop before the call could leave, but for an empty file of the sink.
+        // What a stop leaves at any moment is what a stop before the call could leave, but for an
+        // empty file of the sink.
         ensures leaves { D.is_honest dir
             → LeavesSafe D.is_honest D.history path.now dir (folder_left result) }
         ensures cause { HasCause (D.fault_count dir) (D.fault_count (folder_left result)) (answer_of result) }
@@ -91,10 +95,11 @@ impl<D: Dir, A: Allocator + Copy> Series<D, A> {
         }
     }
 
-    /// Writes entries under a tag of at most 1,024 bytes, and syncs them. The receipt says that each later stop leaves them.
+    /// Writes entries under a tag of at most 1,024 bytes, and syncs them. The receipt says that
+    /// each later stop leaves them.
     ///
-    /// `Failed`: a write failed before, and nothing is changed. `Memory` changes nothing. After a `Fault` a beginning of the
-    /// entries may be there, and each later write answers `Failed`.
+    /// `Failed`: a write failed before, and nothing is changed. `Memory` changes nothing. After a
+    /// `Fault` a beginning of the entries may be there, and each later write answers `Failed`.
     pub fn write_all_entries<B: Allocator>(
         &mut self,
         tag: &[u8],
@@ -107,8 +112,8 @@ impl<D: Dir, A: Allocator + Copy> Series<D, A> {
         // After the answer the file holds what was begun in it, all of it synced.
         ensures written { D.is_honest self.old.opening → OnOk result
             (now (D.history self.new.dir) (newest self.new) ≡ Some (kept_file (run_of self.new.begun))) }
-        // At each moment what was safe before is safe, each older file is as it was, and of what was begun in the newest one
-        // a stop leaves a beginning with all that was begun before.
+        // At each moment what was safe before is safe, each older file is as it was, and of what
+        // was begun in the newest one a stop leaves a beginning with all that was begun before.
         ensures safe { D.is_honest self.old.opening → (name : List ℕ) (events : List Event)
             → IsSafe (now (D.history self.old.dir)) name events
             → StaysSafe (D.history self.old.dir) (D.history self.new.dir) name events }
@@ -160,8 +165,8 @@ impl<D: Dir, A: Allocator + Copy> Series<D, A> {
         }
     }
 
-    /// The events in all files of the sink, in order, in each file up to the first place where no item is whole.
-    /// The errors are `Memory` and `Fault`, and change nothing.
+    /// The events in all files of the sink, in order, in each file up to the first place where no
+    /// item is whole. The errors are `Memory` and `Fault`, and change nothing.
     pub fn content(&mut self) -> Result<Vec<SinkEvent<A>, A>, SeriesFault>
         ensures kept { D.is_honest self.old.opening → Keeps D.is_honest D.history self.new }
         ensures time { D.is_honest self.old.opening → Elapses (D.history self.old.dir) (D.history self.new.dir) }

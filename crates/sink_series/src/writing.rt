@@ -10,7 +10,8 @@ use event_modes::Entries;
 use msgpack_bytes::put_str;
 use std::alloc::{AllocError, Allocator};
 
-/// Appends what is before the time in the item of an event under this tag. After an error a part of it may be there.
+/// Appends what is before the time in the item of an event under this tag. After an error a part of
+/// it may be there.
 pub(crate) fn put_front<A: Allocator>(out: &mut Vec<u8, A>, tag: &[u8]) -> Result<(), AllocError>
     requires { length tag.now ≤ longest_tag }
     ensures { OnOk result (out.new.items ≡ out.old.items ++ 0x93 ∷ str_of tag.now) }

@@ -23,7 +23,8 @@ is_blank b = (b == 32) || (b == 9)
 abbrev pub words_of : List ℕ → List (List ℕ)
 words_of line = filter (λ word. not (length word == 0)) (slice_split is_blank line)
 
--- The word spells the number: one or more decimal digits, whose value is below 2 to the 64th. A greater value is no number.
+-- The word spells the number: one or more decimal digits, whose value is below 2 to the 64th. A
+-- greater value is no number.
 abbrev pub IsNumber : List ℕ → ℕ → Type 0
 IsNumber word n = number_of word ≡ Some n
 
@@ -128,8 +129,8 @@ pub record SayAll {A : Type 0} (lines : List (List ℕ)) (steps : List (Step A))
   pub says : AllZip Says lines each
   pub steps_are : filter_map (λ s. s) each ≡ steps
 
--- Of the text's lines the one of this number, counted from 1, says neither a step nor nothing, and each line
--- before it says one: it is the first such line.
+-- Of the text's lines the one of this number, counted from 1, says neither a step nor nothing, and
+-- each line before it says one: it is the first such line.
 pub record IsRefusedLine (A : Type 0) (text : List ℕ) (number : ℕ) : Type 0 where
   pub before : List (List ℕ)
   pub refused : List ℕ

@@ -396,13 +396,13 @@ impl<A: Allocator + Copy> Step<A> {
     ghost use Rattle.text_lines.specs.Lines.{text_lines};
     ghost use Rattle.step_lines.specs.StepLines.{SayAll, IsBadLine};
 
-    /// Reads steps, one a line: the word of the step and its fields, parted by spaces and tabs. Lines end with
-    /// LF, a CR before it is dropped. Empty lines and lines that begin with `#` say nothing. `BadLine` is the
-    /// first line that says neither a step nor nothing: one of another form, or one that isn't UTF-8. The only
-    /// other error is `Memory`.
+    /// Reads steps, one a line: the word of the step and its fields, parted by spaces and tabs.
+    /// Lines end with LF, a CR before it is dropped. Empty lines and lines that begin with `#` say
+    /// nothing. `BadLine` is the first line that says neither a step nor nothing: one of another
+    /// form, or one that isn't UTF-8. The only other error is `Memory`.
     ///
-    /// Entries are hex of at least one byte, in digits of either case. A tag has at most 1,024 bytes, and a
-    /// number is at most 18,446,744,073,709,551,615.
+    /// Entries are hex of at least one byte, in digits of either case. A tag has at most 1,024
+    /// bytes, and a number is at most 18,446,744,073,709,551,615.
     pub fn read_all(alloc: A, text: &[u8]) -> Result<Vec<Step<A>, A>, StepsError>
         ensures steps { IfOk result (λ steps. SayAll (text_lines text.now) steps.items) }
         ensures bad_line { IfErr result (λ e. IsBadLine A text.now e) }

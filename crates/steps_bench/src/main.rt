@@ -1,5 +1,5 @@
-//! Runs the step machine on a list of steps, so that bench/steps can time it: a relay of one file output, as `hub` in
-//! the examples, a client of `app.**`, and steps from standard input.
+//! Runs the step machine on a list of steps, so that bench/steps can time it: a relay of one file
+//! output, as `hub` in the examples, a client of `app.**`, and steps from standard input.
 #![tactic(auto)]
 
 use custody_core::{Step, run};

@@ -44,8 +44,8 @@ fn sit<D: Dir>(alloc: Global, dir: D, table: &mut Table, acts: &[Act]) -> (Went,
     }
 }
 
-// How many acts are done first, on a device that fails nothing; which of its calls fail then, in another opening and
-// the other acts; and which stop comes.
+// How many acts are done first, on a device that fails nothing; which of its calls fail then, in
+// another opening and the other acts; and which stop comes.
 #[derive(Clone, Copy, Debug)]
 struct Run {
     before: usize,
@@ -62,8 +62,8 @@ fn begun<D: Dir>(alloc: Global, dir: D, table: &mut Table, acts: &[Act]) -> D {
     dir
 }
 
-// What a run comes to: whether its calls were answered as they ought to be, the folder that it leaves, and what is
-// known of its chunks.
+// What a run comes to: whether its calls were answered as they ought to be, the folder that it
+// leaves, and what is known of its chunks.
 fn left(alloc: Global, run: &Run) -> (Went, MemoryDir<Global>, Table) {
     let (before, acts) = SCRIPT.split_at(run.before.min(SCRIPT.len()));
     let mut table = Table::new();
@@ -136,8 +136,8 @@ fn device(before: usize, calls: Failing) -> Run {
     }
 }
 
-/// Each stop behind each call of the script that fails, alone or with all behind it, until none does: so from a new
-/// folder on, and from one in which the first acts were done.
+/// Each stop behind each call of the script that fails, alone or with all behind it, until none
+/// does: so from a new folder on, and from one in which the first acts were done.
 pub fn all(rt: &HostRuntime) -> io::Result<Tally> {
     let mut tally = Tally::new();
     for before in [0, 13] {

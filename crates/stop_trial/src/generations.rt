@@ -78,7 +78,8 @@ fn opens<D: Dir + Drop>(alloc: Global, dir: D, is_newer: bool, left: Option<&[u8
     }
 }
 
-// The folder behind an opening in which no call of the device fails, or one does. It answers whether one did.
+// The folder behind an opening in which no call of the device fails, or one does. It answers
+// whether one did.
 fn opened<D: Dir>(alloc: Global, dir: D) -> (Option<BufferFault>, D) {
     match open(alloc, dir) {
         Ok(buffer) => (None, buffer.into_dir()),
@@ -86,7 +87,8 @@ fn opened<D: Dir>(alloc: Global, dir: D) -> (Option<BufferFault>, D) {
     }
 }
 
-// Whether each stop of an opening that fails so leaves a folder that opens to the same; and whether it didn't fail.
+// Whether each stop of an opening that fails so leaves a folder that opens to the same; and whether
+// it didn't fail.
 fn stops(alloc: Global, tally: &mut Tally, cut: usize, calls: Failing) -> Result<bool, DirError> {
     let (newer, _) = NEWER.split_at(cut.min(NEWER.len()));
     let mut is_whole = false;
@@ -123,8 +125,8 @@ fn all_in(alloc: Global) -> Result<Tally, DirError> {
     Ok(tally)
 }
 
-/// The newer generation counts where its Seal is whole, else the older one; generation 3 then stands alone. So it is
-/// at each length of the newer one, and behind each stop of the opening.
+/// The newer generation counts where its Seal is whole, else the older one; generation 3 then
+/// stands alone. So it is at each length of the newer one, and behind each stop of the opening.
 pub fn all(alloc: Global) -> io::Result<Tally> {
     all_in(alloc).map_err(|_| io::ErrorKind::Other.into())
 }

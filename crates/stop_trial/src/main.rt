@@ -1,5 +1,5 @@
-//! Stops a buffer and a sink at each call of a device, looks into each folder that may be left, and says how many
-//! there were and how many were wrong.
+//! Stops a buffer and a sink at each call of a device, looks into each folder that may be left, and
+//! says how many there were and how many were wrong.
 //!
 //!     stop_trial buffers        the calls of a buffer
 //!     stop_trial generations    two generations of a journal, of which the newer is cut

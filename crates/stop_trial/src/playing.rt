@@ -196,8 +196,8 @@ fn is_right(had_failed: bool, act: Act, answer: Result<(), BufferFault>) -> bool
     }
 }
 
-/// Takes the buffer through the acts, and says whether each was answered as it ought to be: behind a fault each call
-/// that writes is refused.
+/// Takes the buffer through the acts, and says whether each was answered as it ought to be: behind
+/// a fault each call that writes is refused.
 pub fn play<D: Dir>(
     alloc: Global,
     buffer: &mut Buffer<D, Global>,

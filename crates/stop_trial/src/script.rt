@@ -14,8 +14,8 @@ pub enum Act {
     Renew,
 }
 
-/// Chunks grow, and are queued, claimed, purged, given back and dropped. The journal is renewed with a claimed chunk
-/// and a staged one, and then with a queued one.
+/// Chunks grow, and are queued, claimed, purged, given back and dropped. The journal is renewed
+/// with a claimed chunk and a staged one, and then with a queued one.
 pub static SCRIPT: [Act; 22] = [
     Act::Stage(b'a', 1),
     Act::Stage(b'a', 2),

@@ -92,8 +92,8 @@ fn put<D: Dir>(
     }
 }
 
-// How many events were answered for, and how many were begun; whether each call was answered as it ought to be, and
-// whether none failed.
+// How many events were answered for, and how many were begun; whether each call was answered as it
+// ought to be, and whether none failed.
 #[derive(Clone, Copy)]
 struct Went {
     stored: usize,
@@ -180,7 +180,8 @@ fn held<D: Dir>(series: &mut Series<D, Global>) -> Option<usize> {
     Some(events.len())
 }
 
-// Whether the folder opens, and holds what was answered for, and of the rest that was begun a beginning.
+// Whether the folder opens, and holds what was answered for, and of the rest that was begun a
+// beginning.
 fn is_right<D: Dir + Drop>(alloc: Global, dir: D, went: &Went) -> bool {
     match opened(alloc, dir) {
         Ok(mut series) => match held(&mut series) {
@@ -216,7 +217,8 @@ fn stops(rt: &HostRuntime, tally: &mut Tally, calls: Failing) -> io::Result<bool
     Ok(is_whole)
 }
 
-/// Each stop behind each call of an opening and of writes that fails, alone or with all behind it, until none does.
+/// Each stop behind each call of an opening and of writes that fails, alone or with all behind it,
+/// until none does.
 pub fn all(rt: &HostRuntime) -> io::Result<Tally> {
     let mut tally = Tally::new();
     for passes in 0..CALLS {

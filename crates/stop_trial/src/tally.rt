@@ -1,4 +1,5 @@
-//! Which calls of a device fail, which stops there are behind them, and how many folders were looked at.
+//! Which calls of a device fail, which stops there are behind them, and how many folders were
+//! looked at.
 
 use disk_files::{Dir, Fuse, Keep, MemoryDir};
 use std::alloc::Global;
@@ -51,9 +52,9 @@ fn length_of<D: Dir>(dir: &mut D, name: &[u8]) -> usize {
     }
 }
 
-/// The lengths of the one file that is shorter in the first folder than in the second: the one that was written to
-/// last, where stops kept no byte more of it than was synced, and all. Where there is none, no length is between
-/// them.
+/// The lengths of the one file that is shorter in the first folder than in the second: the one that
+/// was written to last, where stops kept no byte more of it than was synced, and all. Where there
+/// is none, no length is between them.
 pub fn lengths<D: Dir + Drop>(few: D, all: D, names: &[&[u8]]) -> (usize, usize) {
     let mut few = few;
     let mut all = all;

@@ -32,7 +32,8 @@ lines_of-push [] arrival = append-nil (arrival_lines arrival)
 lines_of-push (a ∷ arrivals) arrival =
     ap (λ l. arrival_lines a ++ l) (lines_of-push arrivals arrival) ∙ sym (append_assoc (arrival_lines a) (lines_of arrivals) (arrival_lines arrival))
 
--- of the bytes that were fed these are held still, and the lines of what was taken off stand behind those at the start
+-- of the bytes that were fed these are held still, and the lines of what was taken off stand behind
+-- those at the start
 pub record Listed (fed held start lines : List ℕ) : Type 0 where
   pub arrivals : List Arrival
   pub splits : Splits fed arrivals held

@@ -191,7 +191,8 @@ piece_output i0 i1 i2 o0 o1 o2 o3 text piece lines hex hex' feed feed' arrivals 
     (reads_piece text piece hex feed.held lists.left lists.held arrivals lists.arrivals reads lists.reads)
     (lines_written o0 o1 o2 lines arrivals lists.arrivals written lists.whole shown) lists.after prints
 
--- the writer failed in the lines of a piece: it has a beginning of what is printed where memory was wanted then
+-- the writer failed in the lines of a piece: it has a beginning of what is printed where memory was
+-- wanted then
 pub cut_output : (i0 i1 i2 o0 o1 o2 : Option (List ℕ)) (text piece lines unseen hex hex' : List ℕ) (feed feed' : Feeding) (arrivals : List Arrival)
     (result : Result (Unit {0}) Stop) → Consumes i0 i1 text → Consumes i1 i2 piece → ReadsOn [] [] (digits_of text) arrivals hex feed.held → Appends o0 o1 (lines_of arrivals)
     → Lists hex feed piece lines result hex' feed' → TakesPart o1 o2 lines unseen → 0 < length unseen → PrintsListing i0 o0 o2 Usage

@@ -1,5 +1,6 @@
--- Where messages end for another reason than that nothing or too little is left, a fault stands: bytes with none of the faults are whole.
--- Nothing but a contradiction is wanted here, so whatever holds or doesn't may be told apart.
+-- Where messages end for another reason than that nothing or too little is left, a fault stands:
+-- bytes with none of the faults are whole. Nothing but a contradiction is wanted here, so whatever
+-- holds or doesn't may be told apart.
 use Rattle.std.proofs.Common.{◌≡◌, ◌≤◌, inl, inr, ◌⊎◌, ℕ, zero, suc, List, [], ◌∷◌, ◌++◌, length, Option, Some, None, refl, sym, ap, ◌∙◌, subst, append_assoc, append-nil, length-append, arith}
 use Rattle.std.specs.List.{AllByRecursion, AllZip, concat}
 use Rattle.msgpack_bytes.specs.Containers.{Pair}

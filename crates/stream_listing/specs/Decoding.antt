@@ -35,7 +35,8 @@ pub record Lists (hex : List ℕ) (feed : Feeding) (piece lines : List ℕ) (res
   pub whole : lines ≡ lines_of arrivals
   pub after : MatchResult result (λ _. IsHeld left held hex' feed') (λ stop. StopsAt stop left held)
 
--- the last line after a stop, and the status that it means; where there is no memory for a fault's line, that is said
+-- the last line after a stop, and the status that it means; where there is no memory for a fault's
+-- line, that is said
 abbrev pub IsLast : Stop → List ℕ → Status → Type 0
 IsLast Hex last meant = (last ≡ ending_lines BadHex) × (meant ≡ Usage)
 IsLast (Stream fault) last meant = ((last ≡ ending_lines (Fault fault)) × (meant ≡ No)) ⊎ ((last ≡ memory_line) × (meant ≡ Usage))

@@ -21,7 +21,8 @@ pub record AreDigitsUpTo (digits bytes left : List ℕ) : Type 0 where
   pub spelled : AreDigitsOf front bytes
   pub whole : digits ≡ front ++ left
 
--- in front of what is left stands no byte, though something does: the second digit is missing, or one of the two is no hex digit
+-- in front of what is left stands no byte, though something does: the second digit is missing, or
+-- one of the two is no hex digit
 abbrev pub IsBroken : List ℕ → Type 0
 IsBroken [] = ⊥
 IsBroken (digit ∷ []) = Unit {0}

@@ -11,8 +11,8 @@ abbrev pub HasOneListing : Type 0
 HasOneListing = (text : List ℕ) (status other : Status) (written lines : List ℕ)
     → IsListing text status written → IsListing text other lines → (status ≡ other) × (written ≡ lines)
 
--- Bytes with this fault are where the messages end, and are neither none nor the beginning of an item; they have no other fault, and the
--- same one whatever follows.
+-- Bytes with this fault are where the messages end, and are neither none nor the beginning of an
+-- item; they have no other fault, and the same one whatever follows.
 pub record IsFaultForGood (bytes : List ℕ) (fault : ModeFault) : Type 0 where
   pub is_rest : IsRest bytes
   pub not_pending : IsPending bytes → ⊥
@@ -23,7 +23,7 @@ pub record IsFaultForGood (bytes : List ℕ) (fault : ModeFault) : Type 0 where
 abbrev pub StandsForGood : Type 0
 StandsForGood = (bytes : List ℕ) (fault : ModeFault) → StreamFault bytes fault → IsFaultForGood bytes fault
 
--- Bytes where the messages of a stream end, which are neither none nor the beginning of an item, have a fault: it can't be that they have
--- none.
+-- Bytes where the messages of a stream end, which are neither none nor the beginning of an item,
+-- have a fault: it can't be that they have none.
 abbrev pub EndsWithFault : Type 0
 EndsWithFault = (bytes : List ℕ) → IsRest bytes → ¬ (IsPending bytes) → ¬ ((fault : ModeFault) → ¬ (StreamFault bytes fault))

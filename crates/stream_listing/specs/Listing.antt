@@ -94,7 +94,8 @@ pub record IsListing (text : List ℕ) (status : Status) (written : List ℕ) : 
   pub lines : written ≡ lines_of arrivals ++ ending_lines ending
   pub is_status : status ≡ status_of ending
 
--- A listing that memory or the reader cut short: the lines of what came first, none left out or written twice, and a last line that says so.
+-- A listing that memory or the reader cut short: the lines of what came first, none left out or
+-- written twice, and a last line that says so.
 pub record IsCutShort (text : List ℕ) (status : Status) (lines : List ℕ) : Type 0 where
   pub arrivals : List Arrival
   pub left : List ℕ

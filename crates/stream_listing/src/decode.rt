@@ -17,8 +17,9 @@ use std::io::{ErrorKind, Write};
 
 /// Lists the messages of a hex text: the lines of each as soon as it is whole.
 ///
-/// The reader is called `MOST_READS` times at most. The status is `Done` at the end of the text, `No` after a fault of the stream, and `Usage` after bad hex, and where memory ran
-/// out or the reader or the writer failed.
+/// The reader is called `MOST_READS` times at most. The status is `Done` at the end of the text,
+/// `No` after a fault of the stream, and `Usage` after bad hex, and where memory ran out or the
+/// reader or the writer failed.
 pub fn run_decode<A: Allocator + Copy, R: CountedRead, W: Write>(
     alloc: A,
     input: &mut R,

@@ -29,7 +29,8 @@ impl From<AllocError> for HexFault {
     }
 }
 
-/// Hex text in pieces, seen as what it holds back: the first digit of a byte whose second is still to come.
+/// Hex text in pieces, seen as what it holds back: the first digit of a byte whose second is still
+/// to come.
 #[derive(Drop)]
 pub struct HexText {
     high: Option<u8>,
@@ -60,8 +61,9 @@ impl HexText {
         self.high.is_none()
     }
 
-    /// Takes the next piece of the text, white space and all, and adds its bytes. Where two digits are
-    /// no byte, those before them are added, and the text can't be read on. Want of memory changes nothing.
+    /// Takes the next piece of the text, white space and all, and adds its bytes. Where two digits
+    /// are no byte, those before them are added, and the text can't be read on. Want of memory
+    /// changes nothing.
     pub fn read<A: Allocator>(
         &mut self,
         piece: &[u8],

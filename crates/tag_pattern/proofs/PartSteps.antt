@@ -12,8 +12,8 @@ use Rattle.tag_pattern.specs.declared.item.PatternItem.TheVariants.{Literal}
 use Rattle.tag_pattern.specs.declared.row.Relation.TheVariants as relation
 use Rattle.tag_pattern.proofs.Sets.{literals_fit_iff}
 
--- From place at on, the text's first part ends at end, and the row is that of the parts behind it and of what stands behind them all,
--- of which start is the row.
+-- From place at on, the text's first part ends at end, and the row is that of the parts behind it
+-- and of what stands behind them all, of which start is the row.
 abbrev pub IsMatchedFrom : List Item → List Bool → List ℕ → ℕ → ℕ → List Bool → Type 0
 IsMatchedFrom items start bytes at end row =
     (tail : List (List ℕ)) × (parts_of (drop at bytes) ≡ take (end - at) (drop at bytes) ∷ tail) × IsRowOfParts tail items start row

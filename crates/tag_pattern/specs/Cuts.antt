@@ -74,7 +74,8 @@ pub record IsBody (text body after : List ℕ) : Type 0 where
   pub whole : text ≡ slot_text slot ++ after
   pub only : (other : Slot) (rest : List ℕ) → HasSlotFirst text other rest → (other ≡ slot) × (rest ≡ after)
 
--- What stands behind an opening brace: alternatives that aren't empty, without braces, a closing brace, and the rest.
+-- What stands behind an opening brace: alternatives that aren't empty, without braces, a closing
+-- brace, and the rest.
 pub record IsGroup (text body after : List ℕ) : Type 0 where
   pub whole : text ≡ body ++ close_brace ∷ after
   pub without_braces : AllByRecursion (λ b. is_among (open_brace ∷ close_brace ∷ []) b ≡ false) body

@@ -1,6 +1,7 @@
 -- The texts of patterns, and the plain patterns that a text stands for.
--- That a group stands for each of its alternatives is Fluentd's ("Config File Syntax", "How Do Match Patterns Work?");
--- where groups may stand, and the order of the plain patterns, are chosen here.
+-- That a group stands for each of its alternatives is Fluentd's ("Config File Syntax", "How Do
+-- Match Patterns Work?"); where groups may stand, and the order of the plain patterns, are chosen
+-- here.
 use Rattle.std.specs.Prelude.{◌≡◌, ◌≢◌, ℕ, ◌<◌, ◌⊎◌, List, [], ◌∷◌, ◌++◌, length, map, if◌then◌else◌}
 use Rattle.std.specs.List.{AllByRecursion, flat_map, join_with_byte}
 use Rattle.std.specs.Str.{bytes_eq}
@@ -28,7 +29,8 @@ close_brace = 125
 abbrev pub IsPartText : List ℕ → Type 0
 IsPartText part = AllByRecursion (λ b. (b ≢ dot) × (b ≢ comma) × (b ≢ open_brace) × (b ≢ close_brace)) part
 
--- What stands between the dots of a pattern: a part, or a group of alternatives, each of one or more parts.
+-- What stands between the dots of a pattern: a part, or a group of alternatives, each of one or
+-- more parts.
 pub data Slot : Type 0 where
   Part : List ℕ → Slot
   Group : List (List (List ℕ)) → Slot
@@ -42,7 +44,8 @@ abbrev pub IsSlot : Slot → Type 0
 IsSlot (Part text) = IsPartText text
 IsSlot (Group alternatives) = (alternatives ≢ []) × AllByRecursion IsAlternative alternatives
 
--- a part stands as it is; dots join an alternative's parts, commas the alternatives, and braces are round them
+-- a part stands as it is; dots join an alternative's parts, commas the alternatives, and braces are
+-- round them
 abbrev pub slot_text : Slot → List ℕ
 slot_text (Part text) = text
 slot_text (Group alternatives) = open_brace ∷ join_with_byte comma (map (join_with_byte dot) alternatives) ++ close_brace ∷ []
@@ -58,8 +61,8 @@ abbrev pub choices : Slot → List (List (List ℕ))
 choices (Part text) = (text ∷ []) ∷ []
 choices (Group alternatives) = alternatives
 
--- The part lists for which the slots stand: each choice of the first slot, in order, before each list for the slots
--- behind it, in order. So the leftmost group varies slowest.
+-- The part lists for which the slots stand: each choice of the first slot, in order, before each
+-- list for the slots behind it, in order. So the leftmost group varies slowest.
 abbrev pub expansions : List Slot → List (List (List ℕ))
 expansions [] = [] ∷ []
 expansions (slot ∷ slots) = flat_map (λ front. map (λ back. front ++ back) (expansions slots)) (choices slot)

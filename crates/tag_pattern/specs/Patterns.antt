@@ -4,8 +4,9 @@ use Rattle.tag_pattern.specs.Items.{Item}
 use Rattle.tag_pattern.specs.Parts.{parts_of}
 use Rattle.tag_pattern.specs.declared.item.PatternItem.TheVariants.{Literal, AnyPart, AnyParts}
 
--- The parts are in the pattern's set: the empty pattern has no parts at all, a literal is that part, `*` is any one
--- part, `**` is any number of parts (Fluentd, "Config File Syntax", "How Do Match Patterns Work?").
+-- The parts are in the pattern's set: the empty pattern has no parts at all, a literal is that
+-- part, `*` is any one part, `**` is any number of parts (Fluentd, "Config File Syntax", "How Do
+-- Match Patterns Work?").
 -- That `**` may stand anywhere, and that a part may be empty, is chosen here.
 abbrev pub InPattern : List Item → List (List ℕ) → Type 0
 InPattern [] parts = parts ≡ []
@@ -17,7 +18,8 @@ InPattern (AnyParts ∷ p) parts = (front : List (List ℕ)) × (rest : List (Li
 abbrev pub IsTagOf : List Item → List ℕ → Type 0
 IsTagOf pattern tag = InPattern pattern (parts_of tag)
 
--- One pattern fits another, by these rules and no others. They speak of items alone, and not of tags.
+-- One pattern fits another, by these rules and no others. They speak of items alone, and not of
+-- tags.
 pub data Fits : List Item → List Item → Type 0 where
   empty_fits : Fits [] []
   literal_fits_itself : {text : List ℕ} {p q : List Item} → Fits p q → Fits (Literal text ∷ p) (Literal text ∷ q)

@@ -1,4 +1,5 @@
--- What a source may put in front of the tags that enter there: a prefix, and a dot. All of this is chosen here.
+-- What a source may put in front of the tags that enter there: a prefix, and a dot. All of this is
+-- chosen here.
 use Rattle.std.specs.Prelude.{ℕ, ◌==◌, Bool, ◌&&◌, ◌||◌, ◌↔◌, List, ◌∷◌, ◌++◌, length, map, Option, Some, None}
 use Rattle.std.specs.Char.{is_ascii_alphanumeric}
 use Rattle.std.specs.Int.{is_in_range}

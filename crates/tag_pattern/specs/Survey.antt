@@ -21,7 +21,8 @@ Grows size body grown =
     let items = size.items + most_parts (choices_in body) in
     MatchOption grown ((64 < plains) ⊎ (32 < items)) (λ s. (s.plains ≡ plains) × (s.items ≡ items))
 
--- The size of the slots is that of the first ones, where those behind them come to it, or is past the limits.
+-- The size of the slots is that of the first ones, where those behind them come to it, or is past
+-- the limits.
 abbrev pub IsSizeBefore : List Slot → List Slot → Option Size → Type 0
 IsSizeBefore slots behind size =
     MatchOption size (AreTooMany slots)

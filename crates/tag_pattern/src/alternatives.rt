@@ -1,4 +1,5 @@
-//! What stands in a slot of a pattern: the alternatives that commas part, each of the parts that dots part.
+//! What stands in a slot of a pattern: the alternatives that commas part, each of the parts that
+//! dots part.
 
 ghost use Rattle.std.specs.Prelude.{◌≡◌, ◌==◌};
 ghost use Rattle.std.specs.List.{list_any};

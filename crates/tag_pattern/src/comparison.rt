@@ -11,9 +11,11 @@ use crate::row::{Relation, compare, last_row, row_of, row_of_parts};
 use crate::tag::Tag;
 use std::alloc::Allocator;
 
-/// Whether the pattern matches the tag (Fluentd, "Config File Syntax", "How Do Match Patterns Work?").
+/// Whether the pattern matches the tag (Fluentd, "Config File Syntax", "How Do Match Patterns
+/// Work?").
 ///
-/// It takes no memory, and goes over the tag once, from its end, with one answer for each rest of the pattern.
+/// It takes no memory, and goes over the tag once, from its end, with one answer for each rest of
+/// the pattern.
 pub fn matches<A: Allocator, B: Allocator>(pattern: &Plain<A>, tag: &Tag<B>) -> bool
     ensures { IsTrue result ↔ IsTagOf pattern.now tag.now }
 {
@@ -21,8 +23,8 @@ pub fn matches<A: Allocator, B: Allocator>(pattern: &Plain<A>, tag: &Tag<B>) -> 
     row_of_parts(tag.as_bytes(), items, last_row(Relation::Fits, items))[0]
 }
 
-/// Whether the first pattern fits the second, by the rules of the relation: then each of its tags is one of
-/// the second's. It takes no memory, and at most 33 times 33 steps.
+/// Whether the first pattern fits the second, by the rules of the relation: then each of its tags
+/// is one of the second's. It takes no memory, and at most 33 times 33 steps.
 pub fn fits<A: Allocator, B: Allocator>(pattern: &Plain<A>, other: &Plain<B>) -> bool
     ensures fits { IsTrue result ↔ Fits pattern.now other.now }
     ensures subset { IsTrue result → (tag : List ℕ) → IsTagOf pattern.now tag → IsTagOf other.now tag }
@@ -30,7 +32,8 @@ pub fn fits<A: Allocator, B: Allocator>(pattern: &Plain<A>, other: &Plain<B>) ->
     compare(Relation::Fits, pattern.items(), other.items())
 }
 
-/// Whether the first pattern, with the prefix in front if there is one, fits the second. It takes no memory.
+/// Whether the first pattern, with the prefix in front if there is one, fits the second. It takes
+/// no memory.
 pub fn fits_entered<A: Allocator, B: Allocator, C: Allocator>(
     prefix: Option<&Prefix<A>>,
     pattern: &Plain<B>,

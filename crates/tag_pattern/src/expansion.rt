@@ -41,7 +41,8 @@ fn push_parts<A: Allocator + Copy>(
     Ok(())
 }
 
-/// The items of the plain pattern of this number, from 0, of the `plains` for which the text stands.
+/// The items of the plain pattern of this number, from 0, of the `plains` for which the text
+/// stands.
 pub(crate) fn expansion<A: Allocator + Copy>(
     alloc: A,
     text: &[u8],

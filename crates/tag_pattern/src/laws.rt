@@ -5,12 +5,14 @@ ghost use Rattle.tag_pattern.specs.Parts.{PartsAreUnique};
 ghost use Rattle.tag_pattern.specs.Patterns.{CommonTagMeets, FitsIsSubset};
 ghost use Rattle.tag_pattern.specs.Prefixes.{PrefixedTagsAreOfPrefixed};
 
-/// Each tag has one list of parts, and each non-empty list of texts without dots is that of one tag.
+/// Each tag has one list of parts, and each non-empty list of texts without dots is that of one
+/// tag.
 pub fn parts_are_unique()
     ensures { PartsAreUnique }
 {}
 
-/// Each text is spelled by one list of slots at most, so that it stands for one list of plain patterns.
+/// Each text is spelled by one list of slots at most, so that it stands for one list of plain
+/// patterns.
 pub fn slots_are_unique()
     ensures { SlotsAreUnique }
 {}

@@ -15,8 +15,8 @@ pub enum PatternError {
     /// A part has a `*` in it and is neither `*` nor `**`.
     #[error("P2")]
     PartialWildcard,
-    /// Braces are nested, empty, unclosed, closed without being open, or touch a part; an alternative is empty; or a
-    /// comma stands outside braces.
+    /// Braces are nested, empty, unclosed, closed without being open, or touch a part; an
+    /// alternative is empty; or a comma stands outside braces.
     #[error("P3")]
     BraceFault,
     /// It stands for more than 64 plain patterns, or one of them has more than 32 items.
@@ -55,8 +55,9 @@ pub struct Pattern;
 impl Pattern {
     /// The plain patterns for which one pattern stands, the leftmost group varying slowest.
     ///
-    /// A fault of braces comes before a partial wildcard, and that before too many. Each is found before memory is
-    /// asked for; the only other error is `Memory`. It never makes more than 64 plain patterns, whatever the text.
+    /// A fault of braces comes before a partial wildcard, and that before too many. Each is found
+    /// before memory is asked for; the only other error is `Memory`. It never makes more than 64
+    /// plain patterns, whatever the text.
     pub fn read<A: Allocator + Copy>(alloc: A, text: &str) -> Result<Vec<Plain<A>, A>, PatternError>
         ensures patterns { IfOk result
             (λ plains. (slots : List Slot) × IsPattern slots text.now × (plains.items ≡ plain_patterns slots)) }

@@ -49,7 +49,8 @@ impl<A: Allocator> Model for Prefix<A> {
 }
 
 impl<A: Allocator> Prefix<A> {
-    /// The prefix of these bytes. Bytes that are none are `BadPrefix`; the only other error is `Memory`.
+    /// The prefix of these bytes. Bytes that are none are `BadPrefix`; the only other error is
+    /// `Memory`.
     pub fn read(alloc: A, bytes: &[u8]) -> Result<Prefix<A>, PrefixError>
         ensures prefix { IfOk result (λ prefix. prefix ≡ bytes.now) }
         ensures bad { (result ≡ Err PrefixError.BadPrefix) ↔ (prefixes.is_prefix bytes.now ≡ false) }

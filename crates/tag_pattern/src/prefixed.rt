@@ -15,7 +15,8 @@ use crate::row::{Relation, compare};
 use std::alloc::{AllocError, Allocator};
 use std::marker::Model;
 
-/// A plain pattern with a prefix in front, of any number of items. To contracts it is the list of its items.
+/// A plain pattern with a prefix in front, of any number of items. To contracts it is the list of
+/// its items.
 #[derive(Drop)]
 pub struct PrefixedPlain<A: Allocator> {
     items: Vec<PatternItem<Vec<u8, A>>, A>,
@@ -38,7 +39,8 @@ impl<A: Allocator> PrefixedPlain<A> {
         &self.items
     }
 
-    /// Whether it fits a plain pattern: then each of its tags is one of that pattern's. It takes no memory.
+    /// Whether it fits a plain pattern: then each of its tags is one of that pattern's. It takes no
+    /// memory.
     pub fn fits<B: Allocator>(&self, other: &Plain<B>) -> bool
         ensures fits { IsTrue result ↔ Fits self.now other.now }
         ensures subset { IsTrue result → (tag : List ℕ) → IsTagOf self.now tag → IsTagOf other.now tag }
@@ -48,8 +50,9 @@ impl<A: Allocator> PrefixedPlain<A> {
 }
 
 impl<A: Allocator> Plain<A> {
-    /// The pattern with the prefix's parts in front, each as a literal, in memory of its own. The limit on the number
-    /// of items doesn't count here. A tag is one of the pattern's exactly where the prefixed tag is one of the result's.
+    /// The pattern with the prefix's parts in front, each as a literal, in memory of its own. The
+    /// limit on the number of items doesn't count here. A tag is one of the pattern's exactly where
+    /// the prefixed tag is one of the result's.
     pub fn prefixed<B: Allocator + Copy, C: Allocator>(
         &self,
         alloc: B,

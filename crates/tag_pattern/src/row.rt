@@ -136,7 +136,8 @@ pub(crate) fn row_of<A: Allocator, B: Allocator>(
     row
 }
 
-/// The row of a text's parts, each as a literal, and of what stands behind them, from the row of what stands behind them.
+/// The row of a text's parts, each as a literal, and of what stands behind them, from the row of
+/// what stands behind them.
 pub(crate) fn row_of_parts<A: Allocator>(
     bytes: &[u8],
     others: &[PatternItem<Vec<u8, A>>],

@@ -7,7 +7,8 @@ ghost use Rattle.tag_pattern.specs.Grammar.{Slot, IsPatternText};
 
 use crate::cut::{cut, has_empty_piece};
 
-// What stands between an opening brace and its closing one, and what stands behind. `None` where it is no group.
+// What stands between an opening brace and its closing one, and what stands behind. `None` where it
+// is no group.
 fn group(text: &[u8]) -> Option<(&[u8], &[u8])>
     ensures { MatchOption result
         ((body after : List ℕ) → IsGroup text.now body after → ⊥)
@@ -45,8 +46,8 @@ fn first_body(text: &[u8]) -> Option<(&[u8], &[u8])>
     }
 }
 
-/// What stands in the first slot, without its braces, and the text of the slots behind it, where there are more.
-/// `None` where no slots spell the text.
+/// What stands in the first slot, without its braces, and the text of the slots behind it, where
+/// there are more. `None` where no slots spell the text.
 pub(crate) fn first_slot(text: &[u8]) -> Option<(&[u8], Option<&[u8]>)>
     ensures { MatchOption result
         ((slots : List Slot) → IsPatternText slots text.now → ⊥)

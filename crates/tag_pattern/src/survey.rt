@@ -20,7 +20,8 @@ pub(crate) struct Size {
 pub(crate) struct Survey {
     /// Whether a part has a `*` in it and is neither `*` nor `**`.
     pub(crate) has_partial: bool,
-    /// How many plain patterns it stands for. `None` where they are more than 64, or one has more than 32 items.
+    /// How many plain patterns it stands for. `None` where they are more than 64, or one has more
+    /// than 32 items.
     pub(crate) plains: Option<usize>,
 }
 
@@ -61,7 +62,8 @@ fn next_size(size: Option<Size>, body: &[u8]) -> Option<Size>
     }
 }
 
-/// What the text amounts to, or `None` where no slots spell it. It takes no memory, and goes over the text once.
+/// What the text amounts to, or `None` where no slots spell it. It takes no memory, and goes over
+/// the text once.
 pub(crate) fn take_survey(text: &[u8]) -> Option<Survey>
     ensures { MatchOption result
         ((slots : List Slot) → IsPatternText slots text.now → ⊥)

@@ -52,8 +52,8 @@ impl<A: Allocator> Model for Tag<A> {
 }
 
 impl<A: Allocator> Tag<A> {
-    /// The tag of these bytes. A text of more than 1,024 bytes is `TagTooLong`; the only other error is
-    /// `Memory`.
+    /// The tag of these bytes. A text of more than 1,024 bytes is `TagTooLong`; the only other
+    /// error is `Memory`.
     pub fn read(alloc: A, bytes: &[u8]) -> Result<Tag<A>, TagError>
         ensures tag { IfOk result (λ tag. tag ≡ bytes.now) }
         ensures too_long { (result ≡ Err TagError.TagTooLong) ↔ (most_tag_bytes < length bytes.now) }
@@ -75,8 +75,8 @@ impl<A: Allocator> Tag<A> {
         })
     }
 
-    /// The tag with the prefix and a dot in front, in memory of its own. Where that has more than 1,024 bytes it is
-    /// `TagTooLong`; the only other error is `Memory`.
+    /// The tag with the prefix and a dot in front, in memory of its own. Where that has more than
+    /// 1,024 bytes it is `TagTooLong`; the only other error is `Memory`.
     pub fn prefixed<B: Allocator, C: Allocator>(
         &self,
         alloc: B,

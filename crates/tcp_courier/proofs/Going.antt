@@ -81,7 +81,8 @@ TalksOn-said a s t message o h = record {
   held = append-nil s.held ∙ sym h;
 }
 
--- A session goes on with its greeting: what it says now, and then before its message, is what it says before its message; and so are the items that answer it.
+-- A session goes on with its greeting: what it says now, and then before its message, is what it
+-- says before its message; and so are the items that answer it.
 pub record Greets (a b : Traffic) (was is : ClientState) : Type 0 where
   pub added : List ℕ
   pub items : List (List ℕ)

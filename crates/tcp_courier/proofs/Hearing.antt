@@ -96,8 +96,9 @@ pong_reads client old says new r p w = elim r [
   ]
 ]
 
--- What came is taken in: what the session says to it is added to what is outgoing, and items are read off what is held; and what is said then, before the
--- message, and the items by which that is answered, follow on these.
+-- What came is taken in: what the session says to it is added to what is outgoing, and items are
+-- read off what is held; and what is said then, before the message, and the items by which that is
+-- answered, follow on these.
 pub record Heeds (was : ClientState) (came : List ℕ) (is : ClientState) : Type 0 where
   pub added : List ℕ
   pub items : List (List ℕ)

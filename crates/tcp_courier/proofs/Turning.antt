@@ -24,7 +24,8 @@ to_one_before (suc n) [] origin h = h
 to_one_before (suc n) (x ∷ xs) origin (zero, within, is) = (zero, omega arith, is)
 to_one_before (suc n) (x ∷ xs) origin (suc k, within, is) = let more = to_one_before n xs origin (k, omega (arith, within), is) in (suc more.0, omega (arith, more.1), more.2)
 
--- the first in turn that takes a connection is the first from the place on, or else the first before it
+-- the first in turn that takes a connection is the first from the place on, or else the first
+-- before it
 found_in_turn : (takes : Endpoint → Bool) (turn : ℕ) (servers : List Endpoint)
     → find takes (in_turn turn servers) ≡ option_or (find takes (drop (min turn (length servers)) servers)) (find takes (take (min turn (length servers)) servers))
 found_in_turn takes turn servers =

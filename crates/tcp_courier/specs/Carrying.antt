@@ -10,7 +10,8 @@ use Rattle.relay_sockets.specs.Endpoints.{Endpoint, Origin, WentTo}
 use Rattle.relay_sockets.specs.Traffics.{Traffic, IsFresh}
 use Rattle.tcp_courier.specs.Talks.{ConveysChunk, begun}
 
--- a courier: what it connects by, its servers in listed order, what it shows in handshakes, whether it asks for acknowledgements, and how long it waits, in milliseconds
+-- a courier: what it connects by, its servers in listed order, what it shows in handshakes, whether
+-- it asks for acknowledgements, and how long it waits, in milliseconds
 pub record Sender (N : Type 0) : Type 0 where
   pub dialer : N
   pub servers : List Endpoint
@@ -40,17 +41,20 @@ sender_of settings dialer = record {
 abbrev pub IsToOne : List Endpoint → Origin → Type 0
 IsToOne servers origin = Contains (map WentTo servers) origin
 
--- the connection went to the first of these servers that takes one, or there is none where none does
+-- the connection went to the first of these servers that takes one, or there is none where none
+-- does
 abbrev pub IsToFirst : (takes : Endpoint → Bool) → List Endpoint → Option Origin → Type 0
 IsToFirst takes servers origin = origin ≡ option_map WentTo (find takes servers)
 
--- The evidence names this chunk: where the output asks for acknowledgements it is that one came, and else that the chunk was written to the connection.
+-- The evidence names this chunk: where the output asks for acknowledgements it is that one came,
+-- and else that the chunk was written to the connection.
 abbrev pub NamesChunk : Bool → Claimed → Shows → Type 0
 NamesChunk true claim shown = shown ≡ Acknowledged (id_of claim)
 NamesChunk false claim shown = shown ≡ Written (id_of claim)
 
--- A connection that was new conveyed a chunk, and nothing else: by a session with the courier's own credentials, under a salt that was drawn, with the courier's
--- own wish for an acknowledgement, and as many entries as the chunk has.
+-- A connection that was new conveyed a chunk, and nothing else: by a session with the courier's own
+-- credentials, under a salt that was drawn, with the courier's own wish for an acknowledgement, and
+-- as many entries as the chunk has.
 pub record Delivers {N : Type 0} (sender : Sender N) (chunk : Claimed) (traffic : Traffic) : Type 0 where
   pub new : Traffic
   pub fresh : IsFresh new
@@ -60,8 +64,8 @@ pub record Delivers {N : Type 0} (sender : Sender N) (chunk : Claimed) (traffic 
   pub count : length entries ≡ chunk.count
   pub conveys : ConveysChunk new traffic (begun sender.shows salt).phase chunk entries sender.asks
 
--- What a courier gave for a chunk: evidence that names the chunk; and there is a connection to one of its own servers that conveyed the chunk, and
--- where an acknowledgement is asked for gave one.
+-- What a courier gave for a chunk: evidence that names the chunk; and there is a connection to one
+-- of its own servers that conveyed the chunk, and where an acknowledgement is asked for gave one.
 pub record IsSent {N S : Type 0} (origin : S → Origin) (traffic : S → Traffic)
     (sender : Sender N) (claim : Claimed) (shown : Shows) : Type 0 where
   pub names : NamesChunk sender.asks claim shown

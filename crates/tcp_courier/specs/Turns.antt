@@ -14,7 +14,8 @@ in_turn turn servers = drop turn servers ++ take turn servers
 abbrev pub place_in_turn : (takes : Endpoint → Bool) → List Endpoint → (turn : ℕ) → Option ℕ
 place_in_turn takes servers turn = option_or (position_from takes turn (drop turn servers)) (position_from takes 0 (take turn servers))
 
--- a carry that fails so behind the connecting fails by its server: the connection was lost, no answer came, or another one than it should be
+-- a carry that fails so behind the connecting fails by its server: the connection was lost, no
+-- answer came, or another one than it should be
 abbrev pub by_server : CarryFault → Bool
 by_server carry.NoServer = true
 by_server carry.Timeout = true
@@ -22,11 +23,13 @@ by_server (carry.Session fault) = true
 by_server carry.Device = false
 by_server carry.Memory = false
 
--- the turn behind a carry that failed so at the server of this place: that of the next one, where it failed by its server
+-- the turn behind a carry that failed so at the server of this place: that of the next one, where
+-- it failed by its server
 abbrev pub turn_behind : (place turn : ℕ) → CarryFault → ℕ
 turn_behind place turn fault = cond (by_server fault) (place + 1) turn
 
--- The turn behind a carry, where the server at this place took the connection, or none did. It passes on only behind a failure by a server.
+-- The turn behind a carry, where the server at this place took the connection, or none did. It
+-- passes on only behind a failure by a server.
 abbrev pub turn_after : {T : Type 0} → (place : Option ℕ) → (turn : ℕ) → Result T CarryFault → ℕ
 turn_after None turn result = turn
 turn_after (Some place) turn (Ok carried) = turn

@@ -30,16 +30,17 @@ use std::sync::{Arc, Mutex, Wait};
 /// How many bytes are read at once: the answers are short.
 const PIECE: usize = 4_096;
 
-/// With which of a courier's servers the next carry begins: with the one at this place of the list. Past
-/// the end of the list it is the first.
+/// With which of a courier's servers the next carry begins: with the one at this place of the list.
+/// Past the end of the list it is the first.
 #[derive(Clone, Copy, Debug, PartialEq, Eq)]
 pub struct Turn {
     pub place: usize,
 }
 
-/// Sends chunks to the first of its servers that takes a connection, from the one whose turn it is on,
-/// round, with one connection for each chunk. All threads that carry share the turn. Contracts see what it connects
-/// by, its servers in listed order, the name and key that it shows in handshakes, whether it asks for acknowledgements, and how long it waits.
+/// Sends chunks to the first of its servers that takes a connection, from the one whose turn it is
+/// on, round, with one connection for each chunk. All threads that carry share the turn. Contracts
+/// see what it connects by, its servers in listed order, the name and key that it shows in
+/// handshakes, whether it asks for acknowledgements, and how long it waits.
 #[derive(Drop)]
 pub struct TcpCourier<N, A: Allocator> {
     alloc: A,
@@ -79,8 +80,9 @@ pub struct Carried<S, A: Allocator> {
 }
 
 impl<N: Dialer + Drop, A: Allocator + Copy> TcpCourier<N, A> {
-    /// Sends as this output's settings say, over connections of this dialer, with salts from these. A carry that waits ends soon
-    /// after `stop` is raised. The error is want of memory, and has again what was given.
+    /// Sends as this output's settings say, over connections of this dialer, with salts from these.
+    /// A carry that waits ends soon after `stop` is raised. The error is want of memory, and has
+    /// again what was given.
     pub fn new<B: Allocator>(
         alloc: A,
         settings: &ForwardSettings<B>,
@@ -111,8 +113,8 @@ impl<N: Dialer + Drop, A: Allocator + Copy> TcpCourier<N, A> {
         })
     }
 
-    /// It tells of its servers from now on, by this teller, of which the first place is the first server: which fails and why, and which works
-    /// again.
+    /// It tells of its servers from now on, by this teller, of which the first place is the first
+    /// server: which fails and why, and which works again.
     pub fn telling(self, teller: Teller<A>) -> TcpCourier<N, A>
         ensures { result ≡ self }
     {
@@ -211,15 +213,18 @@ impl<N: Dialer + Drop, A: Allocator + Copy> TcpCourier<N, A> {
         self.send(rt, stream, until, chunk, &entries)
     }
 
-    /// Connects to the first server that takes a connection, from the one whose turn it is on, round; only then reads the
-    /// chunk. It shakes hands where there is a key, sends the chunk and, where the output requires it, waits for its
-    /// acknowledgement. It gives the connection besides what shows that.
+    /// Connects to the first server that takes a connection, from the one whose turn it is on,
+    /// round; only then reads the chunk. It shakes hands where there is a key, sends the chunk and,
+    /// where the output requires it, waits for its acknowledgement. It gives the connection besides
+    /// what shows that.
     ///
-    /// Behind a server that took the connection and then failed the carry (`NoServer`, `Timeout`, `Session`) it is
-    /// the turn of the next one of the list; else the turn stays.
+    /// Behind a server that took the connection and then failed the carry (`NoServer`, `Timeout`,
+    /// `Session`) it is the turn of the next one of the list; else the turn stays.
     ///
-    /// `NoServer`: no server took a connection, or it was lost. `Timeout`: the time for an answer has passed, or the relay
-    /// stops. `Session`: what came is no part of a handshake, or no acknowledgement. `Device`: the chunk can't be read, or has more bytes than a message can. `Memory`.
+    /// `NoServer`: no server took a connection, or it was lost. `Timeout`: the time for an answer
+    /// has passed, or the relay stops. `Session`: what came is no part of a handshake, or no
+    /// acknowledgement. `Device`: the chunk can't be read, or has more bytes than a message can.
+    /// `Memory`.
     pub fn carry_over<R: Wait, D: Dir>(
         &self,
         rt: &R,
@@ -292,7 +297,8 @@ impl<R: Wait, D: Dir, N: Dialer + Drop, A: Allocator + Copy> Courier<R, D, A> fo
 
     ghost gives = { IsSent N.Stream.origin N.Stream.traffic };
 
-    /// Carries a chunk as `carry_over` does, by the turn that all threads share, and closes the connection.
+    /// Carries a chunk as `carry_over` does, by the turn that all threads share, and closes the
+    /// connection.
     fn carry(&self, rt: &R, chunk: &ClaimView<'_, D, A>) -> Result<Evidence<A>, CarryFault> {
         let began = *self.turn.lock(rt);
         let mut turn = began;
@@ -315,7 +321,8 @@ struct Reached<S> {
     place: usize,
 }
 
-// A connection to the first of these servers that takes one; the first of them has this place in the list. Of those that take none it is told.
+// A connection to the first of these servers that takes one; the first of them has this place in
+// the list. Of those that take none it is told.
 fn first_of<R: Wait, N: Dialer, A: Allocator + Copy>(
     rt: &R,
     teller: &Teller<A>,

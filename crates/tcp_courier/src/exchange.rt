@@ -19,11 +19,13 @@ use forward_core::{ClientSession, Heard};
 use relay_sockets::{Moved, Time, Wire};
 use std::alloc::Allocator;
 
-/// Delivers a chunk with these entries by a session that begins: greets the server where that is wanted, sends the message and, where
-/// it asks for an acknowledgement, waits for that. It gives what shows that the chunk was acknowledged, or else written.
+/// Delivers a chunk with these entries by a session that begins: greets the server where that is
+/// wanted, sends the message and, where it asks for an acknowledgement, waits for that. It gives
+/// what shows that the chunk was acknowledged, or else written.
 ///
-/// `Timeout` where no more is waited for, and `NoServer` where the connection is over. `Session` where what comes is no part of a handshake, or no
-/// acknowledgement. `Memory`. After each of them some of the message may be written.
+/// `Timeout` where no more is waited for, and `NoServer` where the connection is over. `Session`
+/// where what comes is no part of a handshake, or no acknowledgement. `Memory`. After each of them
+/// some of the message may be written.
 pub fn deliver<T: Time, W: Wire, D: Dir, A: Allocator + Copy>(
     line: &mut Line<'_, T, W, A>,
     session: &mut ClientSession<A>,

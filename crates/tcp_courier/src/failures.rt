@@ -15,7 +15,8 @@ pub fn unreached(why: Unreached) -> Failure {
     }
 }
 
-/// How a server fails that took the connection, where the carry failed so; `None` where that isn't by the server.
+/// How a server fails that took the connection, where the carry failed so; `None` where that isn't
+/// by the server.
 pub fn failure_of(fault: CarryFault) -> Option<Failure> {
     match fault {
         CarryFault::NoServer => Some(Failure::Lost),

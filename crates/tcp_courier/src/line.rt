@@ -9,7 +9,8 @@ use std::sync::Arc;
 use std::sync::atomic::{AtomicBool, Ordering};
 use std::time::Duration;
 
-/// How long a read or a write waits before the time, and whether to stop, is looked at, in milliseconds.
+/// How long a read or a write waits before the time, and whether to stop, is looked at, in
+/// milliseconds.
 const SLICE: u64 = 200;
 
 /// A connection that is read and written up to a time.

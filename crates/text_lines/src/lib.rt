@@ -11,8 +11,8 @@ use std::alloc::{AllocError, Allocator};
 /// Texts that lie one after another in one text.
 pub type Pieces<'t, A> = Vec<&'t [u8], A>;
 
-/// The lines of a text, in order: it is cut at each LF, and a CR before an LF is dropped. What stands behind the
-/// last LF is a line too, also where it is empty.
+/// The lines of a text, in order: it is cut at each LF, and a CR before an LF is dropped. What
+/// stands behind the last LF is a line too, also where it is empty.
 pub fn lines<'t, A: Allocator + Copy>(alloc: A, text: &'t [u8]) -> Result<Pieces<'t, A>, AllocError>
     ensures { IfOk result (λ lines. map (λ line. line.now) lines.items ≡ text_lines text.now) }
 {

@@ -15,7 +15,8 @@ struct Row {
 }
 
 const ROWS: [Row; 4] = [
-    // An empty tag, digits of both cases, and white space between two digits of a byte; the last message isn't whole.
+    // An empty tag, digits of both cases, and white space between two digits of a byte; the last
+    // message isn't whole.
     Row {
         text: "93A 0\t01 8\r\n1 a16B A\x0c176 c0 93 a1",
         fails: false,

@@ -20,8 +20,8 @@ use event_modes::Entries;
 use std::alloc::Allocator;
 
 impl<D: Dir, A: Allocator + Copy> LockedBuffer<D, A> {
-    /// Whether an append of the delivery's entries would have room, and why it hasn't. Nothing changes. Where queued chunks may be
-    /// dropped, those count as gone.
+    /// Whether an append of the delivery's entries would have room, and why it hasn't. Nothing
+    /// changes. Where queued chunks may be dropped, those count as gone.
     ///
     /// The first of `Failed`, `TooLarge`, `Full` and `LastSerial` that applies.
     pub(crate) fn ask_room(

@@ -6,9 +6,11 @@ use book_audit::{Leaf, Line, Part};
 use std::alloc::Allocator;
 use std::marker::Model;
 
-/// An append of a delivery to a buffer that needn't be synced yet. It has no receipt before `SharedBuffer::redeem` makes one.
+/// An append of a delivery to a buffer that needn't be synced yet. It has no receipt before
+/// `SharedBuffer::redeem` makes one.
 ///
-/// It can be neither copied nor dropped: a shared buffer redeems it, or gives it up. Contracts see a `Pended`.
+/// It can be neither copied nor dropped: a shared buffer redeems it, or gives it up. Contracts see
+/// a `Pended`.
 pub struct Pending<A: Allocator> {
     pub(super) delivery: u64,
     pub(super) leaf: Leaf,
@@ -38,7 +40,8 @@ impl<A: Allocator> Pending<A> {
         self.serial
     }
 
-    // Ends it, for `SharedBuffer::give_up` alone, which takes its note out of the book: a note that stays takes memory until the buffer is closed.
+    // Ends it, for `SharedBuffer::give_up` alone, which takes its note out of the book: a note that
+    // stays takes memory until the buffer is closed.
     pub(super) fn give_up(self) {
         let Pending {
             delivery: _,

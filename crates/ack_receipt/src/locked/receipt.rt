@@ -7,10 +7,11 @@ use book_audit::{Leaf, Part, Stub};
 use std::alloc::Allocator;
 use std::marker::Model;
 
-/// That a buffer has stored a delivery: the delivery's number, the buffer, the chunk's serial, and the line of the
-/// buffer's book of appends.
+/// That a buffer has stored a delivery: the delivery's number, the buffer, the chunk's serial, and
+/// the line of the buffer's book of appends.
 ///
-/// It can be neither copied nor dropped: a delivery takes it, or `spend` ends it. Contracts see an `Appended`.
+/// It can be neither copied nor dropped: a delivery takes it, or `spend` ends it. Contracts see an
+/// `Appended`.
 pub struct Receipt<A: Allocator> {
     pub(super) delivery: u64,
     pub(super) leaf: Leaf,
@@ -39,8 +40,8 @@ impl<A: Allocator> Receipt<A> {
         self.serial
     }
 
-    /// Ends a receipt that no delivery takes. What is left has the number of the delivery that it is of, and its part
-    /// alone. It takes no memory.
+    /// Ends a receipt that no delivery takes. What is left has the number of the delivery that it
+    /// is of, and its part alone. It takes no memory.
     pub fn spend(self) -> Stub<A>
         ensures number { result.delivery ≡ self.delivery }
         ensures part { result.parts ≡ part_of self ∷ [] }

@@ -20,10 +20,12 @@ use disk_files::Dir;
 use std::alloc::Allocator;
 
 impl<D: Dir, A: Allocator + Copy> LockedBuffer<D, A> {
-    /// Makes the receipts of appends that wait for them, in the list's order, with one sync where one of them isn't synced yet.
+    /// Makes the receipts of appends that wait for them, in the list's order, with one sync where
+    /// one of them isn't synced yet.
     ///
-    /// The refusals hand the list back: `Stranger` exactly where an append is of another buffer, doesn't wait for a receipt in this book, or is named twice;
-    /// then `Failed`, `Memory` and `Fault`.
+    /// The refusals hand the list back: `Stranger` exactly where an append is of another buffer,
+    /// doesn't wait for a receipt in this book, or is named twice; then `Failed`, `Memory` and
+    /// `Fault`.
     pub(crate) fn redeem(
         &mut self,
         terms: &Terms<A>,

@@ -1,4 +1,5 @@
-//! What shows that a step was taken under the lock of a shared buffer. A caller who keeps it can say so in a contract.
+//! What shows that a step was taken under the lock of a shared buffer. A caller who keeps it can
+//! say so in a contract.
 
 ghost use Rattle.std.specs.Prelude.{◌≡◌};
 
@@ -9,8 +10,8 @@ use std::alloc::Allocator;
 use std::marker::Model;
 use std::snapshot::Snapshot;
 
-/// That a buffer has no staged chunk of this serial: it was queued, or none was staged. None is staged under it again.
-/// Contracts see the buffer's name and the serial.
+/// That a buffer has no staged chunk of this serial: it was queued, or none was staged. None is
+/// staged under it again. Contracts see the buffer's name and the serial.
 ///
 /// The call under the lock alone makes one, as it makes each of those below.
 #[derive(Drop)]
@@ -41,7 +42,8 @@ impl<A: Allocator> Model for GivenBack<A> {
     ghost view = { λ s. s.of.value };
 }
 
-/// That an append's wait for a receipt was ended, and its note taken out of the book. Contracts see what they saw of the append.
+/// That an append's wait for a receipt was ended, and its note taken out of the book. Contracts see
+/// what they saw of the append.
 #[derive(Drop)]
 pub struct GivenUp<A: Allocator> {
     pub(super) of: Snapshot<Pending<A>>,

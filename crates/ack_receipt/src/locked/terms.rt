@@ -7,7 +7,8 @@ use buffer_book::Takes;
 use std::alloc::Allocator;
 use std::marker::Model;
 
-/// The name of a shared buffer, and what lets its chunks go. They lie outside its lock, and are lent to each call under it.
+/// The name of a shared buffer, and what lets its chunks go. They lie outside its lock, and are
+/// lent to each call under it.
 ///
 /// A buffer gets its terms once, as it is locked up: nothing else makes or changes any.
 #[derive(Drop)]

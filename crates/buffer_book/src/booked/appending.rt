@@ -37,11 +37,12 @@ pub struct Waits {
 }
 
 impl<D: Dir, A: Allocator + Copy> Booked<D, A> {
-    /// Appends entries for a delivery to the newest staged chunk of their tag, or to a new chunk, syncs the journal, and writes a line of the book.
-    /// Asks for at least one entry.
+    /// Appends entries for a delivery to the newest staged chunk of their tag, or to a new chunk,
+    /// syncs the journal, and writes a line of the book. Asks for at least one entry.
     ///
-    /// The first of `Failed`, `TooLarge`, `Full`, `LastSerial`, `Memory` and `Fault` that applies; `TooLarge` also for a tag of more than 1,024 bytes.
-    /// But for `Fault` none changes the chunks or the book.
+    /// The first of `Failed`, `TooLarge`, `Full`, `LastSerial`, `Memory` and `Fault` that applies;
+    /// `TooLarge` also for a tag of more than 1,024 bytes. But for `Fault` none changes the chunks
+    /// or the book.
     pub fn append(
         &mut self,
         delivery: u64,
@@ -150,7 +151,8 @@ impl<D: Dir, A: Allocator + Copy> Booked<D, A> {
         Ok(())
     }
 
-    /// Writes the line of an append that waited for its receipt, and is synced; gives the line's number. It takes no memory.
+    /// Writes the line of an append that waited for its receipt, and is synced; gives the line's
+    /// number. It takes no memory.
     pub fn redeem(&mut self, place: u64, line: Line) -> u64
         requires waits { IsWaiting self.old.waiting place line }
         requires synced { place < self.old.synced }
@@ -164,7 +166,8 @@ impl<D: Dir, A: Allocator + Copy> Booked<D, A> {
         self.lines.write_reserved(line)
     }
 
-    /// Forgets that this append waits for a receipt, where it does. Its entries stay, and so does its note.
+    /// Forgets that this append waits for a receipt, where it does. Its entries stay, and so does
+    /// its note.
     pub fn forget(&mut self, place: u64, line: &Line)
         ensures forgotten { IsWaiting self.old.waiting place line.now
             → (other : ℕ) → waiting_at self.new.waiting other ≡ cond (is_at (nat_cmp place) other) None (waiting_at self.old.waiting other) }
@@ -178,7 +181,8 @@ impl<D: Dir, A: Allocator + Copy> Booked<D, A> {
 
     /// The serial at which entries of this tag are to be appended.
     ///
-    /// The first of `Failed`, `TooLarge`, `Full` and `LastSerial` that applies; `TooLarge` also for a tag of more than 1,024 bytes.
+    /// The first of `Failed`, `TooLarge`, `Full` and `LastSerial` that applies; `TooLarge` also for
+    /// a tag of more than 1,024 bytes.
     pub fn plan<B: Allocator>(&self, tag: &[u8], entries: &Entries<B>) -> Result<u64, BufferFault>
         ensures place { IfOk result (λ serial. planned self.now.buffer.limits self.now.buffer.chunks tag.now entries.now ≡ Ok serial) }
         ensures can { IfOk result (λ serial. CanAppend self.now.buffer.chunks serial tag.now entries.now) }

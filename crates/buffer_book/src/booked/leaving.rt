@@ -26,8 +26,9 @@ use sink_series::Stored;
 use std::alloc::{AllocError, Allocator};
 
 impl<D: Dir, A: Allocator + Copy> Booked<D, A> {
-    /// Claims the first of the queue, if anything is queued. The claim has the buffer's name and a copy of the chunk's tag.
-    /// It writes nothing, and goes on after a fault. The book stays as it is.
+    /// Claims the first of the queue, if anything is queued. The claim has the buffer's name and a
+    /// copy of the chunk's tag. It writes nothing, and goes on after a fault. The book stays as it
+    /// is.
     ///
     /// The error is want of memory, and changes nothing: the order of the queue stays too.
     pub fn claim(&mut self, leaf: Leaf) -> Result<Option<Claim<A>>, AllocError>
@@ -49,11 +50,13 @@ impl<D: Dir, A: Allocator + Copy> Booked<D, A> {
         Ok(Some(claim))
     }
 
-    /// The entries of a claimed chunk of this buffer, read from the journal: as many as the claim counts.
+    /// The entries of a claimed chunk of this buffer, read from the journal: as many as the claim
+    /// counts.
     ///
-    /// `Gone` where the claim is of another buffer; then the first of `Failed`, `Gone`, `Memory`, `Fault` and `Damaged` that applies: `Gone`
-    /// where no live chunk has the claim's serial, tag and count, `Fault` where a read failed, `Damaged` where the journal hasn't the bytes
-    /// that were told. Each leaves the buffer as it was.
+    /// `Gone` where the claim is of another buffer; then the first of `Failed`, `Gone`, `Memory`,
+    /// `Fault` and `Damaged` that applies: `Gone` where no live chunk has the claim's serial, tag
+    /// and count, `Fault` where a read failed, `Damaged` where the journal hasn't the bytes that
+    /// were told. Each leaves the buffer as it was.
     pub fn body(&mut self, leaf: Leaf, claim: &Claim<A>) -> Result<Entries<A>, BufferFault>
         ensures own { OnOk result ((claim.now.leaf ≡ leaf) × IsCopied claim.now self.old.buffer.chunks) }
         ensures entries { BeganWell D.is_honest D.history self.old.buffer
@@ -81,8 +84,9 @@ impl<D: Dir, A: Allocator + Copy> Booked<D, A> {
         self.buffer.body(claim.serial())
     }
 
-    /// Ends a claim of this buffer whose chunk wasn't delivered: the chunk goes to the end of the queue where it is claimed, and else nothing changes.
-    /// It takes no memory, writes nothing, and goes on after a fault. The book stays as it is.
+    /// Ends a claim of this buffer whose chunk wasn't delivered: the chunk goes to the end of the
+    /// queue where it is claimed, and else nothing changes. It takes no memory, writes nothing, and
+    /// goes on after a fault. The book stays as it is.
     pub fn give_back(&mut self, leaf: Leaf, claim: Claim<A>)
         requires own { claim.leaf ≡ leaf }
         ensures back { IsAt Claimed self.old.buffer.chunks claim.serial
@@ -100,12 +104,15 @@ impl<D: Dir, A: Allocator + Copy> Booked<D, A> {
         }
     }
 
-    /// Lets the chunk of a claim go, on evidence that it may, and notes that it is removed. The journal isn't synced, so that a stop may bring the chunk back, queued.
+    /// Lets the chunk of a claim go, on evidence that it may, and notes that it is removed. The
+    /// journal isn't synced, so that a stop may bring the chunk back, queued.
     ///
-    /// `Stranger` where the claim is of another buffer, or the evidence doesn't serve: it names another chunk, or is of a kind that isn't taken,
-    /// or is of another sink, tag or entries than the live chunk's; in its place `Failed`, `Memory`, `Fault` or `Damaged` where the entries couldn't be read.
-    /// Then the first of `Failed`, `Gone`, `Memory` and `Fault` that applies; `Gone` where the chunk isn't claimed.
-    /// Each refusal hands claim and evidence back, and changes neither the chunks nor the book.
+    /// `Stranger` where the claim is of another buffer, or the evidence doesn't serve: it names
+    /// another chunk, or is of a kind that isn't taken, or is of another sink, tag or entries than
+    /// the live chunk's; in its place `Failed`, `Memory`, `Fault` or `Damaged` where the entries
+    /// couldn't be read. Then the first of `Failed`, `Gone`, `Memory` and `Fault` that applies;
+    /// `Gone` where the chunk isn't claimed. Each refusal hands claim and evidence back, and
+    /// changes neither the chunks nor the book.
     pub fn purge(
         &mut self,
         leaf: Leaf,
@@ -140,10 +147,12 @@ impl<D: Dir, A: Allocator + Copy> Booked<D, A> {
         }
     }
 
-    /// Lets the queued chunk of least serial go where chunks may be dropped, notes that it is removed, and gives its serial. The journal isn't synced.
+    /// Lets the queued chunk of least serial go where chunks may be dropped, notes that it is
+    /// removed, and gives its serial. The journal isn't synced.
     ///
-    /// The first of `Failed`, `Gone`, `Memory` and `Fault` that applies; `Gone` where nothing is queued, or where this buffer's chunks may not be dropped.
-    /// None changes the chunks or the book.
+    /// The first of `Failed`, `Gone`, `Memory` and `Fault` that applies; `Gone` where nothing is
+    /// queued, or where this buffer's chunks may not be dropped. None changes the chunks or the
+    /// book.
     pub fn drop_oldest(&mut self, takes: &Takes<A>) -> Result<u64, BufferFault>
         ensures oldest { IfOk result (λ serial. to_drop takes.now self.old.buffer.chunks ≡ Some serial) }
         ensures removes { IfOk result (λ serial. Removes serial self.old self.new) }

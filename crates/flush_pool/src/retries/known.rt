@@ -1,4 +1,5 @@
-//! What is known of a buffer's failed chunks, behind the lock that its workers share, and what shows that the lock was used.
+//! What is known of a buffer's failed chunks, behind the lock that its workers share, and what
+//! shows that the lock was used.
 
 ghost use Rattle.std.specs.Prelude.{◌≡◌, IfOk, OnErr, None, max, unwrap_or};
 ghost use Rattle.std.specs.FinMap as map;
@@ -15,10 +16,11 @@ use std::collections::{BTreeSet, VecDeque};
 #[derive(Drop)]
 pub(super) struct Known<A: Allocator> {
     failures: Failures<A>,
-    /// Each of those chunks, the one that was looked at longest ago first. Where there was no memory to say so, one is missing.
+    /// Each of those chunks, the one that was looked at longest ago first. Where there was no
+    /// memory to say so, one is missing.
     turns: VecDeque<u64, A>,
-    /// From when on each of those chunks that waits is to be looked at again, and its serial. One that is tried now isn't
-    /// among them, and where there was no memory to say so, one is missing.
+    /// From when on each of those chunks that waits is to be looked at again, and its serial. One
+    /// that is tried now isn't among them, and where there was no memory to say so, one is missing.
     due: BTreeSet<(u64, u64), A>,
     /// The latest time that a worker read, in milliseconds of the monotonic clock.
     latest: u64,
@@ -79,7 +81,8 @@ impl<A: Allocator + Copy> Known<A> {
         self.failures.chunk_count()
     }
 
-    /// What is to become of the chunk of this serial, at the time that was read, where its buffer lets chunks expire or doesn't.
+    /// What is to become of the chunk of this serial, at the time that was read, where its buffer
+    /// lets chunks expire or doesn't.
     pub(super) fn judge(
         &mut self,
         settings: &RetrySettings,
@@ -146,7 +149,8 @@ impl<A: Allocator + Copy> Known<A> {
         }
     }
 
-    /// One failure more of the chunk of this serial, at the time that was read. The error comes only at its first failure.
+    /// One failure more of the chunk of this serial, at the time that was read. The error comes
+    /// only at its first failure.
     pub(super) fn note(
         &mut self,
         settings: &RetrySettings,
@@ -179,7 +183,8 @@ impl<A: Allocator + Copy> Known<A> {
         Forgotten { serial }
     }
 
-    /// The chunk that was looked at longest ago, if there is one. It is looked at no more, unless it is put back.
+    /// The chunk that was looked at longest ago, if there is one. It is looked at no more, unless
+    /// it is put back.
     pub(super) fn next_turn(&mut self) -> Option<u64>
         ensures { self.new.failures ≡ self.old.failures }
     {
@@ -194,8 +199,8 @@ impl<A: Allocator + Copy> Known<A> {
     }
 }
 
-/// The later of the last time known and the one that was read. A clock that can't be read leaves the time where it is, so
-/// that no chunk is tried or given up too early.
+/// The later of the last time known and the one that was read. A clock that can't be read leaves
+/// the time where it is, so that no chunk is tried or given up too early.
 fn later(latest: u64, read: Option<u64>) -> u64
     ensures { result ≡ max latest (unwrap_or read 0) }
 {
