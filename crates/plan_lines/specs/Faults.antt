@@ -80,14 +80,16 @@ abbrev pub OfItsConf : {A : Type 0} → List (List ℕ) → Subject A → LineFo
 OfItsConf confs plan (a_relay number host folder conf) P = (text : List ℕ) × (slice_get confs (length plan.net.relays) ≡ Some text) × P text
 OfItsConf confs plan _ P = ⊥
 
--- a line of this number and form can't stand behind the lines that say this plan
+-- A line of this number and form can't stand behind the lines that say this plan. Where more than
+-- one thing is wrong with it, what counts is its form, then its numbers, its configuration, what
+-- isn't there, and last its patterns.
 abbrev pub Refuses : {A : Type 0} → List (List ℕ) → ℕ → LineForm → Subject A → PlanError → Type 0
 Refuses confs line form plan (error.BadLine n) = (n ≡ line) × (form ≡ no_form)
 Refuses confs line form plan (error.BadNumber n) = (n ≡ line) × HasBadNumber form
-Refuses confs line form plan (error.BadPattern n) = (n ≡ line) × HasBadPattern form
+Refuses confs line form plan (error.BadPattern n) = (n ≡ line) × ¬ HasBadNumber form × ¬ NamesNone plan form × HasBadPattern form
 Refuses confs line form plan (error.NoSuch n) = (n ≡ line) × NamesNone plan form
-Refuses confs line form plan (error.BadText n fault) = (n ≡ line) × OfItsConf confs plan form (λ text. HasTextFault text fault.kind fault.line)
-Refuses confs line form plan (error.BadRelay n fault) = (n ≡ line) × OfItsConf confs plan form (λ text. HasRelayFault text fault)
+Refuses confs line form plan (error.BadText n fault) = (n ≡ line) × ¬ HasBadNumber form × OfItsConf confs plan form (λ text. HasTextFault text fault.kind fault.line)
+Refuses confs line form plan (error.BadRelay n fault) = (n ≡ line) × ¬ HasBadNumber form × OfItsConf confs plan form (λ text. HasRelayFault text fault)
 Refuses confs line form plan error.Memory = Unit {0}
 
 -- Of the text's lines one can't stand where it does, and those before it say a plan: it is the
