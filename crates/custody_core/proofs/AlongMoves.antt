@@ -13,7 +13,7 @@ use Rattle.custody_core.proofs.Safe.{Buffers, Ranking, KeepsAt, IsHeldFrom, IsOt
 use Rattle.custody_core.proofs.Ranked.{Labelling, IsSentOn, IsRanked}
 use Rattle.custody_core.proofs.Going.{IsLike}
 use Rattle.custody_core.proofs.ChunkMoves.{put, put_at, marked, mark_held}
-use Rattle.custody_core.proofs.QueueMoves.{ranked_at, rank_unless, enqueued, now_at, rank_apart, queue_held}
+use Rattle.custody_core.proofs.QueueMoves.{IsDue, enqueued, now_at, queue_held}
 use Rattle.custody_core.proofs.AppendMoves.{append_held, append_evident}
 use Rattle.custody_core.proofs.SinkMoves.{fuller, in_file, IsAgain, again_sink, again_from, again_to}
 use Rattle.custody_core.proofs.Along.{KeepsFrom, in_sink, in_chunk, went_on, AnsweredStay, Moves, each_moved}
@@ -176,25 +176,17 @@ module _ {A : Type 0} (net : Network A) (labelled : Labelling) (ranks : Ranking)
           ])
 
     -- It was staged, and is queued.
-    module _ (staged : chunk.stage ≡ Staged) where
-      abbrev ranked : Ranking
-      ranked = ranked_at ranks clock place buffer serial
-
+    module _ (staged : chunk.stage ≡ Staged) (due : IsDue net ranks clock place buffer serial) where
       abbrev queued : BufferState → BufferState
-      queued = enqueued net labelled ranks clock w is place buffer serial chunk at staged
+      queued = enqueued net labelled ranks clock w is place buffer serial chunk at staged due
 
-      elsewhere_same : (p b : ℕ) → IsOther place buffer p b → (s : ℕ) → ranked p b s ≡ ranks p b s
-      elsewhere_same p b other s = rank_unless ranks clock place buffer serial p b s (λ same_place same_buffer same_serial. other same_place same_buffer)
-
-      pub queue_each : IsEach net ranked (with_buffer w place buffer queued)
-      queue_each = at_each each ranked place buffer queued
-          (at_moves ranked 0 place buffer queued elsewhere_same (λ event inside. inside)
-          (λ entry rank low high tag keeps held. held_here ranked 0 place buffer queued elsewhere_same entry rank tag keeps (queue_held net labelled ranks clock w is place buffer serial chunk at staged rank (event_of tag entry) high held))
-          (λ number message s there from keeps. rank_apart net labelled ranks clock w is place buffer serial chunk at staged s
-          (λ same. (let id = rw from at (is.messages number message there).id in ((id keeps).same chunk (ap before.chunks same ∙ at)).0 staged))))
-          (λ p b s c there moved. rank_unless ranks clock place buffer serial p b s
-          (λ same_place same_buffer same_serial. (let c_is : c ≡ chunk = same_Some c chunk (sym (rw (same_place, same_buffer, same_serial) at there) ∙ at) in moved (ap (λ (x : Chunk). x.stage) c_is ∙ staged))))
-          (λ s now there keeps sure entry inside. elim (now_at net labelled ranks clock w is place buffer serial chunk at staged s) [
+      pub queue_each : IsEach net ranks (with_buffer w place buffer queued)
+      queue_each = at_each each ranks place buffer queued
+          (at_moves ranks 0 place buffer queued (λ p b other s. refl) (λ event inside. inside)
+          (λ entry rank low high tag keeps held. held_here ranks 0 place buffer queued (λ p b other s. refl) entry rank tag keeps (queue_held net labelled ranks clock w is place buffer serial chunk at staged due rank (event_of tag entry) keeps high held))
+          (λ number message s there from keeps. refl))
+          (λ p b s c there moved. refl)
+          (λ s now there keeps sure entry inside. elim (now_at net labelled ranks clock w is place buffer serial chunk at staged due s) [
             | inl here ↦ absurd (let is_now : record chunk { stage = Queued } ≡ now = same_Some (record chunk { stage = Queued }) now (sym here.1 ∙ there) in
                 let yes_then : chunk.evidence ≡ true = ap (λ (c : Chunk). c.evidence) is_now ∙ sure in
                 ((is.chunks place buffer serial chunk at).evident keeps yes_then).0 staged)

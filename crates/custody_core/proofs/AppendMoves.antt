@@ -71,6 +71,7 @@ module _ {A : Type 0} (net : Network A) (labelled : Labelling) (ranks : Ranking)
     sink = λ event inside. rw is_put inside;
     held = λ rank origin tag le borne keeps held. safe_here net ranks w.buffers place buffer change rank origin tag borne keeps (take_held rank (event_of tag origin.entry) held);
     ids = λ keeps other t e id. (take_ids other t e id, refl);
+    back = λ p b keeps serial less. inl less;
   }
 
   taken : Appended net labelled ranks clock w place buffer tag entries change

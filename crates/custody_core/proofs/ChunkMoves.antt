@@ -81,6 +81,7 @@ module _ {A : Type 0} (net : Network A) (labelled : Labelling) (ranks : Ranking)
       sink = λ event inside. inside;
       held = λ rank origin tag le borne keeps held. safe_here net ranks w.buffers place buffer marked rank origin tag borne keeps (mark_held rank (event_of tag origin.entry) held);
       ids = λ keeps other tag entries id. (mark_ids other tag entries id, refl);
+      back = λ p b keeps serial less. inl less;
     }
 
     abbrev after : Buffers
@@ -161,6 +162,7 @@ module _ {A : Type 0} (net : Network A) (labelled : Labelling) (ranks : Ranking)
         },
         refl,
       );
+      back = λ p b keeps serial less. inl less;
     }
 
     pub gone_ranked : IsRanked net labelled ranks clock (with_buffer w place buffer gone)

@@ -29,7 +29,7 @@ use Rattle.custody_core.proofs.Ranked.{Labelling, IsRanked}
 use Rattle.custody_core.proofs.Going.{IsLike}
 use Rattle.custody_core.proofs.NamedMoves.{IsNamed, named, both, keeps_asks, keeps_for_ever, keeps_oldest, stored, evident_still, output_is}
 use Rattle.custody_core.proofs.ChunkMoves.{mark_ranked}
-use Rattle.custody_core.proofs.QueueMoves.{ranked_at}
+use Rattle.custody_core.proofs.QueueMoves.{IsDue}
 use Rattle.custody_core.proofs.SinkMoves.{again_ranked}
 use Rattle.custody_core.proofs.Sendings.{Follow}
 use Rattle.custody_core.proofs.Deliverings.{chosen_again, state_here}
@@ -183,10 +183,10 @@ module _ {A : Type 0} (net : Network A) (labelled : Labelling) (ranks : Ranking)
         let n = named net w name Claimed P h in
         goes_each P n (λ keeps. absurd (both (output_at net n.place name.buffer) Keeps GivesUp keeps_for_ever keeps (output_is net labelled ranks clock w is name P n GivesUp n.holds)))
 
-    pub enqueued_each : (h : Allowed net w (step.Enqueue name)) → IsEach net (ranked_at ranks clock (named net w name Staged (λ _. Unit {0}) h).place name.buffer name.serial) (effect net w (step.Enqueue name))
-    enqueued_each h =
+    pub enqueued_each : Allowed net w (step.Enqueue name) → ((place : ℕ) → place_of net name.relay ≡ Some place → IsDue net ranks clock place name.buffer name.serial) → IsEach net ranks (effect net w (step.Enqueue name))
+    enqueued_each h due =
         let n = named net w name Staged (λ _. Unit {0}) h in
-        rw n.is_place (queue_each net labelled ranks clock w is each n.place name.buffer name.serial n.chunk n.is_chunk n.stage_is)
+        rw n.is_place (queue_each net labelled ranks clock w is each n.place name.buffer name.serial n.chunk n.is_chunk n.stage_is (due n.place n.is_place))
 
     -- An acknowledgement of the chunk was given: its entries went on to where each buffer keeps
     -- them.

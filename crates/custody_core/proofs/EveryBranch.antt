@@ -1,6 +1,6 @@
 -- After every list of steps each branch keeps what was acknowledged to a client, in a network in
 -- which each leaf of each labelled tag's way keeps.
-use Rattle.std.proofs.Common.{◌≡◌, ◌≢◌, ℕ, ◌≤◌, Bool, true, false, List, [], ◌∷◌, ◌++◌, length, Some, get_or, slice_get, slice_set, refl, sym, ap, subst, ◌∙◌, inl, inr, arith, Contains}
+use Rattle.std.proofs.Common.{◌≡◌, ◌≢◌, ℕ, suc, ◌+◌, ◌≤◌, Bool, true, false, List, [], ◌∷◌, ◌++◌, length, Some, get_or, slice_get, slice_set, refl, sym, ap, subst, ◌∙◌, inl, inr, arith, Contains}
 use Rattle.std.proofs.lemmas.Option.{same_Some}
 use Rattle.std.proofs.lemmas.List.Elements.{Contains-append_cases, All-contains_itself}
 use Rattle.custody_store.specs.Buffers.{appended_to}
@@ -27,8 +27,8 @@ use Rattle.custody_core.proofs.Safe.{Buffers, Ranking}
 use Rattle.custody_core.proofs.Ranked.{Labelling, LeadOn, IsSentFrom, Counts, rank_of, IsRanked}
 use Rattle.custody_core.proofs.AppendMoves.{append_here, append_ranked}
 use Rattle.custody_core.proofs.Sendings.{told_entry, answered_ranked, told_ranked, newly_safe, whole_safe, never_foreign}
-use Rattle.custody_core.proofs.NamedMoves.{enqueued}
-use Rattle.custody_core.proofs.EveryNetwork.{IsKept, step_keeps, opening_kept}
+use Rattle.custody_core.proofs.EveryNetwork.{IsTimed, AreTimed, are_timed, is_due, step_keeps, opening_kept}
+use Rattle.custody_core.proofs.Timing.{rank_in}
 use Rattle.custody_core.proofs.Along.{KeepsFrom, EachFrom, AnsweredStay, moved, each_along}
 use Rattle.custody_core.proofs.AlongRanked.{ArePassedAlong, IsToldAlong, IsEach, ids_stay}
 use Rattle.custody_core.proofs.AlongMoves.{same_moves, held_here, append_each}
@@ -126,51 +126,48 @@ module _ {A : Type 0} (net : Network A) (labelled : Labelling) (leads : LeadOn n
         (passed marked.messages (stays_answered net labelled ranks clock w is each o.delivery.message o.message o.message_is))) in
         rw o.delivery_is (rw o.message_is (ended_each net labelled ranks clock after after_ranked after_each number o.delivery o.delivery_is))
 
-  step_each : (w : World) (next : Step A) (kept : IsKept net labelled w) → IsEach net kept.ranks w → (h : Allowed net w next) → IsEach net (step_keeps net labelled leads w next kept h).ranks (effect net w next)
-  unfolding step_keeps enqueued
-  step_each w (step.Send client tag entries) kept each h = sent_each net labelled kept.ranks kept.clock w kept.ranked each client tag entries h
-  step_each w (step.Begin message) kept each h = begun_each net labelled kept.ranks kept.clock w kept.ranked each message h
-  step_each w (step.Append delivery buffer serial) kept each h = appended_each kept.ranks kept.clock w kept.ranked each delivery buffer serial h
-  step_each w (step.Ack delivery) kept each h = acknowledged_each kept.ranks kept.clock w kept.ranked each delivery h
-  step_each w (step.Abandon delivery) kept each h = abandoned_each net labelled kept.ranks kept.clock w kept.ranked each delivery h
-  step_each w (step.Foreign message) kept each h = absurd (never_foreign net labelled leads kept.ranks kept.clock w kept.ranked message h)
-  step_each w (step.Enqueue name) kept each h = enqueued_each net labelled kept.ranks kept.clock w kept.ranked each name h
-  step_each w (step.Claim name) kept each h = claimed_each net labelled kept.ranks kept.clock w kept.ranked each name h
-  step_each w (step.Back name) kept each h = given_back_each net labelled kept.ranks kept.clock w kept.ranked each name h
-  step_each w (step.Forward name server) kept each h = forwarded_each net labelled kept.ranks kept.clock w kept.ranked each name server h
-  step_each w (step.Seen name) kept each h = seen_each net labelled kept.ranks kept.clock w kept.ranked each name h
-  step_each w (step.Write name) kept each h = written_each net labelled kept.ranks kept.clock w kept.ranked each name h
-  step_each w (step.Part name count) kept each h = parted_each net labelled kept.ranks kept.clock w kept.ranked each name count h
-  step_each w (step.Purge name) kept each h = purged_each net labelled kept.ranks kept.clock w kept.ranked each name h
-  step_each w (step.Done name) kept each h = done_each net labelled kept.ranks kept.clock w kept.ranked each name h
-  step_each w (step.Discard name) kept each h = discarded_each net labelled kept.ranks kept.clock w kept.ranked each name h
-  step_each w (step.Oldest relay buffer) kept each h = oldest_each net labelled kept.ranks kept.clock w kept.ranked each relay buffer h
-  step_each w (step.Restart relay) kept each h = restarted_each net labelled kept.ranks kept.clock w kept.ranked each relay
+  module _ (ranks : Ranking) where
+    step_each : (clock : ℕ) (w : World) (next : Step A) → IsTimed net ranks clock next → IsRanked net labelled ranks clock w → IsEach net ranks w → Allowed net w next → IsEach net ranks (effect net w next)
+    step_each clock w (step.Send client tag entries) timed is each h = sent_each net labelled ranks clock w is each client tag entries h
+    step_each clock w (step.Begin message) timed is each h = begun_each net labelled ranks clock w is each message h
+    step_each clock w (step.Append delivery buffer serial) timed is each h = appended_each ranks clock w is each delivery buffer serial h
+    step_each clock w (step.Ack delivery) timed is each h = acknowledged_each ranks clock w is each delivery h
+    step_each clock w (step.Abandon delivery) timed is each h = abandoned_each net labelled ranks clock w is each delivery h
+    step_each clock w (step.Foreign message) timed is each h = absurd (never_foreign net labelled leads ranks clock w is message h)
+    step_each clock w (step.Enqueue name) timed is each h = enqueued_each net labelled ranks clock w is each name h (is_due net ranks clock name timed)
+    step_each clock w (step.Claim name) timed is each h = claimed_each net labelled ranks clock w is each name h
+    step_each clock w (step.Back name) timed is each h = given_back_each net labelled ranks clock w is each name h
+    step_each clock w (step.Forward name server) timed is each h = forwarded_each net labelled ranks clock w is each name server h
+    step_each clock w (step.Seen name) timed is each h = seen_each net labelled ranks clock w is each name h
+    step_each clock w (step.Write name) timed is each h = written_each net labelled ranks clock w is each name h
+    step_each clock w (step.Part name count) timed is each h = parted_each net labelled ranks clock w is each name count h
+    step_each clock w (step.Purge name) timed is each h = purged_each net labelled ranks clock w is each name h
+    step_each clock w (step.Done name) timed is each h = done_each net labelled ranks clock w is each name h
+    step_each clock w (step.Discard name) timed is each h = discarded_each net labelled ranks clock w is each name h
+    step_each clock w (step.Oldest relay buffer) timed is each h = oldest_each net labelled ranks clock w is each relay buffer h
+    step_each clock w (step.Restart relay) timed is each h = restarted_each net labelled ranks clock w is each relay
 
-  -- what every run keeps, and what it keeps besides
-  abbrev KeptEach : World → Type 0
-  KeptEach w = (kept : IsKept net labelled w) × IsEach net kept.ranks w
+    run_each : (steps : List (Step A)) (clock : ℕ) (before after : World) → AreTimed net ranks clock steps → IsRanked net labelled ranks clock before → IsEach net ranks before → Steps net before steps after → IsEach net ranks after
+    run_each [] clock before after timed kept each is = rw is each
+    run_each (next ∷ steps) clock before after timed kept each run =
+        let now : IsTimed net ranks clock next = timed 0 clock next refl (omega arith) in
+        run_each steps (clock + 1) (effect net before next) after (λ k at other there e. timed (suc k) at other there (omega (arith, e)))
+        (step_keeps net labelled leads ranks clock before next now kept run.1) (step_each clock before next now kept each run.1) run.2
 
-  run_each : (steps : List (Step A)) (before after : World) → KeptEach before → Steps net before steps after → KeptEach after
-  run_each [] before after both is = rw is both
-  run_each (next ∷ steps) before after both run = run_each steps (effect net before next) after (step_keeps net labelled leads before next both.0 run.1, step_each before next both.0 both.1 run.1) run.2
-
-  opening_each : KeptEach initial_world
-  opening_each = (
-    opening_kept net labelled leads,
-    record {
+    opening_each : IsEach net ranks initial_world
+    opening_each = record {
       chunks = λ place buffer serial chunk at. absurd (cc);
       messages = λ number message at. absurd (cc);
       deliveries = λ number d at. absurd (cc);
       acknowledged = λ told inside. absurd (let less = inside.1 in omega arith);
-    },
-  )
+    }
 
   -- Each branch keeps every event that was acknowledged to a client, after every list of steps.
   pub each_branch : (steps : List (Step A)) (w : World) → Steps net initial_world steps w → EachBranchKeeps net w
   each_branch steps w run k d less =
-      let both = run_each steps initial_world w opening_each run in
+      let ranks = rank_in net steps in
+      let each = run_each ranks steps 0 initial_world w (are_timed net steps) (opening_kept net labelled leads ranks) (opening_each ranks) run in
       let told = get_or w.acknowledged k d in
-      let c = some_and (slice_get net.clients told.client) _ (both.1.acknowledged told (All-contains_itself w.acknowledged k d less)) in
+      let c = some_and (slice_get net.clients told.client) _ (each.acknowledged told (All-contains_itself w.acknowledged k d less)) in
       and_some (slice_get net.clients told.client) (λ client. EachKeeps net w.buffers w.messages (address_of_client net client) told.event.tag told.event.entry) c.0 c.1
-      (each_along net both.0.ranks w.buffers w.messages told.event.entry 0 (address_of_client net c.0) told.event.tag c.2)
+      (each_along net ranks w.buffers w.messages told.event.entry 0 (address_of_client net c.0) told.event.tag c.2)

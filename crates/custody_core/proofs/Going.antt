@@ -1,5 +1,6 @@
 -- What is known of a network stays known where what was safe is safe and ids keep their meaning.
-use Rattle.std.proofs.Common.{◌≡◌, ℕ, ◌+◌, ◌≤◌, true, List, Some, None, slice_get, refl, inl, inr, arith, Contains}
+use Rattle.std.proofs.Common.{◌≡◌, ℕ, ◌+◌, ◌<◌, ◌≤◌, true, List, Some, None, slice_get, refl, ◌⊎◌, inl, inr, arith, Contains}
+use Rattle.std.proofs.lemmas.Bool.{cases_lt}
 use Rattle.custody_store.specs.declared.chunk.Stage.TheVariants.{Staged}
 use Rattle.custody_store.specs.Buffers.{Event, Chunk, BufferState}
 use Rattle.message_book.specs.Book.{Message, Delivery, Told}
@@ -12,7 +13,7 @@ use Rattle.kept_branches.proofs.Lists.{some_and}
 use Rattle.custody_core.proofs.Borne.{Origin, Bears}
 use Rattle.custody_core.proofs.Serials.{event_of, and_some}
 use Rattle.custody_core.proofs.Safe.{Buffers, Ranking, KeepsAt, IsHeldFrom, IsSafe, IsOther, changed, at_buffer, safe_changed}
-use Rattle.custody_core.proofs.Ranked.{Labelling, IsIdOf, ArePassedOn, IsToldSafe, HasId, IsKnown, IsKnownChunk, IsKnownDelivery, IsRanked}
+use Rattle.custody_core.proofs.Ranked.{Labelling, IsIdOf, WasQueued, ArePassedOn, IsToldSafe, HasId, IsKnown, IsKnownChunk, IsKnownDelivery, IsRanked}
 
 -- Buffers and ranks changed: what was safe is safe, and each id keeps its meaning and its rank.
 pub record GoesOn {A : Type 0} (net : Network A) (ranks : Ranking) (clock : ℕ) (old : Buffers) (later : Ranking) (next : ℕ) (new : Buffers) : Type 0 where
@@ -20,6 +21,7 @@ pub record GoesOn {A : Type 0} (net : Network A) (ranks : Ranking) (clock : ℕ)
   pub safe : (rank : ℕ) (origin : Origin) → rank ≤ clock → IsSafe net ranks old rank origin → IsSafe net later new rank origin
   pub ids : (place buffer : ℕ) → KeepsAt net place buffer → (serial : ℕ) (tag : List ℕ) (entries : List (List ℕ)) → IsIdOf (ranks place buffer) clock (old place buffer) serial tag entries
       → IsIdOf (later place buffer) next (new place buffer) serial tag entries × (later place buffer serial ≡ ranks place buffer serial)
+  pub back : (place buffer : ℕ) → KeepsAt net place buffer → (serial : ℕ) → later place buffer serial < next → (ranks place buffer serial < clock) ⊎ WasQueued (later place buffer) next (new place buffer) serial
 
 -- The one chunk has what the other has; it is staged where the other is.
 pub record IsLike (old new : Chunk) : Type 0 where
@@ -83,6 +85,14 @@ told_goes net ranks clock old later next new goes told h =
     let c = some_and (slice_get net.clients told.client) _ h in
     and_some (slice_get net.clients told.client) (λ client. IsSafe net later new 0 (record { address = address_of_client net client; tag = told.event.tag; entry = told.event.entry })) c.0 c.1 (goes.safe 0 _ (omega arith) c.2)
 
+-- what was queued was queued before, or is now
+queued_goes : {A : Type 0} (net : Network A) (labelled : Labelling) (ranks : Ranking) (clock : ℕ) (w : World) (later : Ranking) (next : ℕ) (new : Buffers) → GoesOn net ranks clock w.buffers later next new → IsRanked net labelled ranks clock w
+    → (place buffer serial : ℕ) → KeepsAt net place buffer → later place buffer serial < next → WasQueued (later place buffer) next (new place buffer) serial
+queued_goes net labelled ranks clock w later next new goes is place buffer serial keeps less = elim (goes.back place buffer keeps serial less) [
+  | inl old ↦ (let q = is.queued place buffer serial keeps old in record { tag = q.tag; entries = q.entries; id = (goes.ids place buffer keeps serial q.tag q.entries q.id).0 })
+  | inr now ↦ now
+]
+
 -- All is known of the world with these buffers.
 pub world_goes : {A : Type 0} (net : Network A) (labelled : Labelling) (ranks : Ranking) (clock : ℕ) (w : World) (later : Ranking) (next : ℕ) (new : Buffers) → GoesOn net ranks clock w.buffers later next new
     → ((place buffer serial : ℕ) → (new place buffer).next ≤ serial → (new place buffer).chunks serial ≡ None)
@@ -91,10 +101,28 @@ pub world_goes : {A : Type 0} (net : Network A) (labelled : Labelling) (ranks : 
 world_goes net labelled ranks clock w later next new goes below chunks is = record {
   below = below;
   chunks = chunks;
+  queued = queued_goes net labelled ranks clock w later next new goes is;
   messages = λ number message at. known_goes net labelled ranks clock w.buffers later next new goes message (is.messages number message at);
   deliveries = λ number delivery at. delivery_goes net labelled ranks clock w.buffers later next new goes w.messages delivery is.messages (is.deliveries number delivery at);
   acknowledged = λ told inside. told_goes net ranks clock w.buffers later next new goes told (is.acknowledged told inside);
 }
+
+-- All is known a step later, if no chunk of a buffer that keeps has the time as its rank.
+pub time_goes : {A : Type 0} (net : Network A) (labelled : Labelling) (ranks : Ranking) (clock : ℕ) (w : World) → IsRanked net labelled ranks clock w
+    → ((place buffer serial : ℕ) → KeepsAt net place buffer → ranks place buffer serial ≡ clock → ⊥) → IsRanked net labelled ranks (clock + 1) w
+time_goes net labelled ranks clock w is none =
+    let goes : GoesOn net ranks clock w.buffers ranks (clock + 1) w.buffers = record {
+      time = omega arith;
+      safe = λ rank origin le safe. safe;
+      ids = λ place buffer keeps serial tag entries id. (record { ranked = (let less = id.ranked in omega (arith, less)); given = id.given; same = id.same }, refl);
+      back = λ place buffer keeps serial less. elim (cases_lt (ranks place buffer serial) clock) [
+        | inl old ↦ inl old
+        | inr le ↦ absurd (none place buffer serial keeps (omega (arith, le, less)))
+      ];
+    } in
+    world_goes net labelled ranks clock w ranks (clock + 1) w.buffers goes is.below
+    (λ place buffer serial chunk at. chunk_goes net labelled ranks clock w.buffers ranks (clock + 1) w.buffers goes place buffer serial chunk chunk refl (like_itself chunk) (λ e. e) (is.chunks place buffer serial chunk at))
+    is
 
 -- One buffer changed.
 module _ {A : Type 0} (net : Network A) (labelled : Labelling) (ranks : Ranking) (clock : ℕ) (w : World) (later : Ranking) (next : ℕ) (place buffer : ℕ) (change : BufferState → BufferState) where
@@ -107,6 +135,7 @@ module _ {A : Type 0} (net : Network A) (labelled : Labelling) (ranks : Ranking)
         → IsSafe net later (changed w.buffers place buffer change) rank origin
     pub ids : KeepsAt net place buffer → (serial : ℕ) (tag : List ℕ) (entries : List (List ℕ)) → IsIdOf (ranks place buffer) clock (w.buffers place buffer) serial tag entries
         → IsIdOf (later place buffer) next (change (w.buffers place buffer)) serial tag entries × (later place buffer serial ≡ ranks place buffer serial)
+    pub back : (p b : ℕ) → KeepsAt net p b → (serial : ℕ) → later p b serial < next → (ranks p b serial < clock) ⊎ WasQueued (later p b) next (changed w.buffers place buffer change p b) serial
 
   pub change_goes : Changes → GoesOn net ranks clock w.buffers later next (changed w.buffers place buffer change)
   change_goes c = record {
@@ -116,6 +145,7 @@ module _ {A : Type 0} (net : Network A) (labelled : Labelling) (ranks : Ranking)
       | inl here ↦ rw here.2 (rw (here.0, here.1) (c.ids (rw (here.0, here.1) at keeps) serial tag entries (rw (here.0, here.1) at id)))
       | inr there ↦ (let same = c.elsewhere p b there.0 serial in let less = id.ranked in let time = c.time in (record { ranked = omega (arith, same); given = rw there.1 id.given; same = λ chunk at. id.same chunk (rw there.1 at at) }, same))
     ];
+    back = c.back;
   }
 
   -- All is known of the world after the change, if it is of the buffer that changed.

@@ -22,3 +22,4 @@ pub mod Serials
 pub mod SinkMoves
 pub mod Sourced
 pub mod StepsMore
+pub mod Timing

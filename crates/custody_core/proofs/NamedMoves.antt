@@ -22,7 +22,7 @@ use Rattle.custody_core.proofs.Safe.{Ranking, KeepsAt}
 use Rattle.custody_core.proofs.Ranked.{Labelling, AreSafeOnward, IsRanked}
 use Rattle.custody_core.proofs.Going.{IsLike}
 use Rattle.custody_core.proofs.ChunkMoves.{mark_ranked, gone_ranked}
-use Rattle.custody_core.proofs.QueueMoves.{ranked_at, queue_ranked}
+use Rattle.custody_core.proofs.QueueMoves.{IsDue, queue_ranked}
 use Rattle.custody_core.proofs.SinkMoves.{fuller_ranked}
 
 -- a live chunk of this name, at this stage, of which P holds
@@ -95,11 +95,11 @@ module _ {A : Type 0} (net : Network A) (labelled : Labelling) (ranks : Ranking)
   pub given_back : Allowed net w (step.Back name) → IsRanked net labelled ranks clock (effect net w (step.Back name))
   given_back h = restaged Claimed Queued (λ e. cc) (λ e. cc) h
 
-  -- the time becomes the rank of a staged chunk
-  unfoldable pub enqueued : Allowed net w (step.Enqueue name) → (later : Ranking) × IsRanked net labelled later (clock + 1) (effect net w (step.Enqueue name))
-  enqueued h =
+  -- the time is the rank of a staged chunk that is queued
+  pub enqueued : Allowed net w (step.Enqueue name) → ((place : ℕ) → place_of net name.relay ≡ Some place → IsDue net ranks clock place name.buffer name.serial) → IsRanked net labelled ranks (clock + 1) (effect net w (step.Enqueue name))
+  enqueued h due =
       let n = named net w name Staged (λ _. Unit {0}) h in
-      (ranked_at ranks clock n.place name.buffer name.serial, rw n.is_place (queue_ranked net labelled ranks clock w is n.place name.buffer name.serial n.chunk n.is_chunk n.stage_is))
+      rw n.is_place (queue_ranked net labelled ranks clock w is n.place name.buffer name.serial n.chunk n.is_chunk n.stage_is (due n.place n.is_place))
 
   -- a claimed chunk goes that is of no buffer that keeps, or has evidence
   goes : (P : Chunk → Type 0) (n : IsNamed net w name Claimed P) → (KeepsAt net n.place name.buffer → n.chunk.evidence ≡ true) → IsRanked net labelled ranks clock (with_named net w name (λ c. None))

@@ -62,6 +62,12 @@ pub record IsIdOf (ranks : ℕ → ℕ) (clock : ℕ) (state : BufferState) (ser
   pub given : serial < state.next
   pub same : (chunk : Chunk) → state.chunks serial ≡ Some chunk → (chunk.stage ≢ Staged) × (chunk.tag ≡ tag) × (chunk.entries ≡ entries)
 
+-- A chunk of this serial was queued, and its id is of no other.
+pub record WasQueued (ranks : ℕ → ℕ) (clock : ℕ) (state : BufferState) (serial : ℕ) : Type 0 where
+  pub tag : List ℕ
+  pub entries : List (List ℕ)
+  pub id : IsIdOf ranks clock state serial tag entries
+
 module _ {A : Type 0} (net : Network A) (ranks : Ranking) (clock : ℕ) (buffers : Buffers) where
   -- each of these events, which were sent to the address under the tag, is safe above the rank
   abbrev pub AreSafe : ℕ → Address → List ℕ → List (List ℕ) → Type 0
@@ -115,6 +121,7 @@ module _ {A : Type 0} (net : Network A) (ranks : Ranking) (clock : ℕ) (buffers
 pub record IsRanked {A : Type 0} (net : Network A) (labelled : Labelling) (ranks : Ranking) (clock : ℕ) (w : World) : Type 0 where
   pub below : (place buffer serial : ℕ) → (w.buffers place buffer).next ≤ serial → (w.buffers place buffer).chunks serial ≡ None
   pub chunks : (place buffer serial : ℕ) (chunk : Chunk) → (w.buffers place buffer).chunks serial ≡ Some chunk → IsKnownChunk net ranks clock w.buffers labelled place buffer serial chunk
+  pub queued : (place buffer serial : ℕ) → KeepsAt net place buffer → ranks place buffer serial < clock → WasQueued (ranks place buffer) clock (w.buffers place buffer) serial
   pub messages : (number : ℕ) (message : Message) → slice_get w.messages number ≡ Some message → IsKnown net ranks clock w.buffers labelled message
   pub deliveries : (number : ℕ) (delivery : Delivery) → slice_get w.deliveries number ≡ Some delivery → IsKnownDelivery net ranks clock w.buffers labelled w.messages delivery
   pub acknowledged : (told : Told) → Contains w.acknowledged told → IsToldSafe net ranks clock w.buffers told

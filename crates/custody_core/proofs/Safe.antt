@@ -16,7 +16,7 @@ use Rattle.custody_core.proofs.Serials.{event_of, and_some}
 abbrev pub Buffers : Type 0
 Buffers = ℕ → ℕ → BufferState
 
--- when each chunk was queued first, by place, buffer and serial
+-- when each chunk is queued first, by place, buffer and serial
 abbrev pub Ranking : Type 0
 Ranking = ℕ → ℕ → ℕ → ℕ
 

@@ -47,7 +47,7 @@ module _ {A : Type 0} (net : Network A) (labelled : Labelling) (ranks : Ranking)
   -- the list of deliveries changed
   pub deliveries_ranked : (w : World) → IsRanked net labelled ranks clock w → (deliveries : List Delivery)
       → ((number : ℕ) (delivery : Delivery) → slice_get deliveries number ≡ Some delivery → IsKnownDelivery net ranks clock w.buffers labelled w.messages delivery) → IsRanked net labelled ranks clock (record w { deliveries = deliveries })
-  deliveries_ranked w is deliveries each = record { below = is.below; chunks = is.chunks; messages = is.messages; deliveries = each; acknowledged = is.acknowledged }
+  deliveries_ranked w is deliveries each = record { below = is.below; chunks = is.chunks; queued = is.queued; messages = is.messages; deliveries = each; acknowledged = is.acknowledged }
 
   -- the list of messages changed
   messages_ranked : (w : World) → IsRanked net labelled ranks clock w → (messages : List Message) → Follow w.messages messages
@@ -55,6 +55,7 @@ module _ {A : Type 0} (net : Network A) (labelled : Labelling) (ranks : Ranking)
   messages_ranked w is messages follow each = record {
     below = is.below;
     chunks = is.chunks;
+    queued = is.queued;
     messages = each;
     deliveries = λ number delivery at. (let d = is.deliveries number delivery at in let m = follow delivery.message d.message d.there in record {
       message = m.message;
@@ -96,6 +97,7 @@ module _ {A : Type 0} (net : Network A) (labelled : Labelling) (ranks : Ranking)
   told_ranked w is more each = record {
     below = is.below;
     chunks = is.chunks;
+    queued = is.queued;
     messages = is.messages;
     deliveries = is.deliveries;
     acknowledged = λ told inside. elim (Contains-append_cases w.acknowledged more told inside) [

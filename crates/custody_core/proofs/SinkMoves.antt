@@ -32,6 +32,7 @@ module _ {A : Type 0} (net : Network A) (labelled : Labelling) (ranks : Ranking)
       sink = λ event inside. Contains-append_left (w.buffers place buffer).sink (more (w.buffers place buffer)) event inside;
       held = λ rank origin tag le borne keeps held. safe_here net ranks w.buffers place buffer fuller rank origin tag borne keeps (record { serial = held.serial; chunk = held.chunk; there = held.there; inside = held.inside; ranked = held.ranked });
       ids = λ keeps serial tag entries id. (record { ranked = id.ranked; given = id.given; same = id.same }, refl);
+      back = λ p b keeps serial less. inl less;
     }
 
     pub fuller_ranked : IsRanked net labelled ranks clock (with_buffer w place buffer fuller)
@@ -50,6 +51,7 @@ module _ {A : Type 0} (net : Network A) (labelled : Labelling) (ranks : Ranking)
       sink = λ event inside. rw sink inside;
       held = λ rank origin tag le borne keeps held. absurd (lets_go keeps);
       ids = λ keeps serial tag entries id. absurd (lets_go keeps);
+      back = λ p b keeps serial less. inl less;
     }
 
     pub loose_ranked : IsRanked net labelled ranks clock (with_buffer w place buffer change)
@@ -186,6 +188,7 @@ module _ {A : Type 0} (net : Network A) (labelled : Labelling) (ranks : Ranking)
       },
       refl,
     );
+    back = λ place buffer keeps serial less. inl less;
   }
 
   pub again_ranked : IsRanked net labelled ranks clock (record w { buffers = new })

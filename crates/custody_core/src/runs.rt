@@ -25,7 +25,8 @@ use step_lines::Step;
 /// event that was acknowledged to a client is then in a live chunk of a buffer or in a sink, under
 /// such a tag and with its bytes unchanged.
 /// What was acknowledged, to chunks too, is held by sinks and by chunks of buffers that keep, which
-/// are staged or were queued later than the chunk that sent it.
+/// are staged or rank above the chunk that sent it: a chunk's rank is the place of the first step
+/// that queues it.
 /// Where besides each output of each reached match keeps or is a relabel, each buffer that the
 /// event comes to keeps it, or what it was forwarded to does.
 pub fn run<'n, A: Allocator + Copy>(
@@ -37,7 +38,7 @@ pub fn run<'n, A: Allocator + Copy>(
     ensures taken { IfOk result (λ w. Steps net.now initial_world steps.now (world_of w)) }
     ensures refused { IfErr result (λ e. IsRefusedAt net.now steps.now e.0 e.1) }
     ensures labelled_nothing_is_lost { (labels : List (Label A)) (reaches : List (Reach A)) → BuffersAreDistinct net.now → AreKeepingRulesKept net.now labels reaches → IfOk result (λ w. NothingIsLost net.now (world_of w)) }
-    ensures held_onward { (labels : List (Label A)) (reaches : List (Reach A)) → BuffersAreDistinct net.now → AreKeepingRulesKept net.now labels reaches → IfOk result (λ w. AreHeldOnward net.now (world_of w)) }
+    ensures held_onward { (labels : List (Label A)) (reaches : List (Reach A)) → BuffersAreDistinct net.now → AreKeepingRulesKept net.now labels reaches → IfOk result (λ w. AreHeldOnward net.now steps.now (world_of w)) }
     ensures each_branch_keeps { (labels : List (Label A)) (reaches : List (Reach A)) → BuffersAreDistinct net.now → AreKeepingRulesKept net.now labels reaches → EachOutputKeeps net.now reaches → IfOk result (λ w. EachBranchKeeps net.now (world_of w)) }
     ensures nothing_is_made_up { IfOk result (λ w. NothingIsMadeUp net.now (world_of w)) }
 {
