@@ -10,8 +10,8 @@ use Rattle.mio_relay.specs.Loops.{LoopState, OnlyLaterWait, Rests, Stays}
 
 -- its lanes are as they were, and so is all else that stays
 pub stays_on : {A : Type 0} (inside now new : LoopState A) → inside ≡ now → new.bound ≡ inside.bound → new.sources ≡ inside.sources → new.buffers ≡ inside.buffers
-    → new.lanes ≡ inside.lanes → new.numbers ≡ inside.numbers → Stays now new
-stays_on {A} inside now new is bound sources buffers lanes numbers =
+    → new.lanes ≡ inside.lanes → new.numbers ≡ inside.numbers → new.clock ≡ inside.clock → Stays now new
+stays_on {A} inside now new is bound sources buffers lanes numbers clock =
     subst (λ (l : LoopState A). Stays l new) is
     (record {
       bound = bound;
@@ -23,6 +23,7 @@ stays_on {A} inside now new is bound sources buffers lanes numbers =
         fault = λ fault was. ap (λ (l : LanesState A). l.fault) lanes ∙ was;
       };
       numbers = omega (arith, numbers);
+      clock = clock;
     })
 
 -- no delivery waits that didn't, and nothing is outgoing that a stream would take
@@ -68,6 +69,7 @@ stays_more old between new first next = record {
     fault = λ fault was. next.lanes.fault fault (first.lanes.fault fault was);
   };
   numbers = omega (arith, first.numbers, next.numbers);
+  clock = next.clock ∙ first.clock;
 }
 
 -- and what rests
@@ -84,7 +86,7 @@ rests_more old between new first next = record {
 
 -- where nothing is done, all stays
 pub stays_same : {A : Type 0} (l : LoopState A) → Stays l l
-stays_same l = record { bound = refl; sources = refl; buffers = refl; lanes = record { terms = refl; timings = refl; fault = λ fault was. was }; numbers = omega arith }
+stays_same l = record { bound = refl; sources = refl; buffers = refl; lanes = record { terms = refl; timings = refl; fault = λ fault was. was }; numbers = omega arith; clock = refl }
 
 -- and rests
 pub rests_same : {A : Type 0} (l : LoopState A) → Rests l l

@@ -1,5 +1,5 @@
 -- What a relay's loop keeps.
-use Rattle.std.specs.Prelude.{ℕ, ◌≡◌, ◌≤◌, [], false, List, Option}
+use Rattle.std.specs.Prelude.{ℕ, ◌≡◌, ◌≤◌, [], false, max, List, Option, IfSome}
 use Rattle.ack_receipt.specs.Terms.{Terms}
 use Rattle.buffer_lanes.specs.Lanes.{KeepsLanes, LanesState, later_at, listed_at}
 use Rattle.loop_core.specs.declared.fault.LoopFault.{LoopFault}
@@ -12,8 +12,9 @@ use Rattle.mio_relay.specs.Turning.{ComesOn, EachKey}
 
 -- a loop: the addresses that were bound, its sources in the order of the configuration, its
 -- connections by their keys, its buffers by their places, the same as it uses them, how many
--- numbers deliveries have had, its time in milliseconds, the fault of a turn that ended it, if one
--- did, and why its network refuses to wait for sockets, where it is known to
+-- numbers deliveries have had, its time in milliseconds, what time its network says that it is,
+-- where that is known, the fault of a turn that ended it, if one did, and why its network refuses to
+-- wait for sockets, where it is known to
 pub record LoopState (A : Type 0) : Type 0 where
   pub bound : List Endpoint
   pub sources : List Served
@@ -22,6 +23,7 @@ pub record LoopState (A : Type 0) : Type 0 where
   pub lanes : LanesState A
   pub numbers : ℕ
   pub time : ℕ
+  pub clock : Option ℕ
   pub fault : Option LoopFault
   pub refusal : Option NetFault
 
@@ -40,6 +42,12 @@ pub record Stays {A : Type 0} (old new : LoopState A) : Type 0 where
   pub buffers : new.buffers ≡ old.buffers
   pub lanes : KeepsLanes old.lanes new.lanes
   pub numbers : old.numbers ≤ new.numbers
+  pub clock : new.clock ≡ old.clock
+
+-- The time is what the clock says, where that is known; but it doesn't go back.
+pub record IsTimeAfter (clock : Option ℕ) (before now : ℕ) : Type 0 where
+  pub order : before ≤ now
+  pub known : IfSome clock (λ time. now ≡ max time before)
 
 -- What a call does before connections are closed: it is the same time, for the buffers too, and
 -- each connection goes on; others came in at this time.

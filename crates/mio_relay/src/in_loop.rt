@@ -8,7 +8,7 @@ ghost use Rattle.relay_ports.specs.Setups.{CanRun};
 ghost use Rattle.buffer_lanes.specs.Lanes.{AppendsWait, AreQueued, NoneLater};
 ghost use Rattle.mio_relay.specs.Connections.{AreFlushed, AreInTime, AreServed, AreSettled, sources_of};
 ghost use Rattle.mio_relay.specs.Holding.{held_in, most_held};
-ghost use Rattle.mio_relay.specs.Loops.{OnlyLaterWait, Rests, Stays, TakesIn};
+ghost use Rattle.mio_relay.specs.Loops.{IsTimeAfter, OnlyLaterWait, Rests, Stays, TakesIn};
 ghost use Rattle.mio_relay.specs.Turning.{AreTurned};
 ghost use Rattle.mio_relay.specs.Faults.{IsReason, IsTold, fault_in, of_network, told_of};
 
@@ -83,6 +83,7 @@ impl<N: Network + Drop, D: Dir + Drop, A: Allocator> Model for InLoop<N, D, A> {
       lanes = l.lanes;
       numbers = l.numbers;
       time = l.time;
+      clock = N.time l.network;
       fault = l.fault;
       refusal = N.refusal l.network;
     } };
@@ -288,10 +289,11 @@ impl<N: Network + Drop, D: Dir + Drop, A: Allocator + Copy> InLoop<N, D, A> {
         ensures faultless { OnOk result (self.new.lanes.fault ≡ None) }
         ensures came { IfErr result (IsReason self.new.lanes.fault) }
         ensures ended { self.new.fault ≡ fault_in result }
-        // What is to be queued at this time is, unless there was no memory for it or a device
-        // refused it.
+        // The loop's time is the network's, and the buffers know it. What is to be queued at this
+        // time is, unless there was no memory for it or a device refused it.
         ensures queued { OnOk result (AreQueued self.new.lanes) }
         ensures timed { OnOk result (self.new.lanes.time ≡ self.new.time) }
+        ensures clocked { OnOk result (IsTimeAfter self.old.clock self.old.time self.new.time) }
         // Each append has its receipt, but for those of buffers whose receipts come later.
         ensures redeemed { OnOk result (OnlyLaterWait self.new.lanes) }
         // What is outgoing was written, as far as the clients take it.
@@ -320,6 +322,7 @@ impl<N: Network + Drop, D: Dir + Drop, A: Allocator + Copy> InLoop<N, D, A> {
         ensures came { IfErr result (IsReason self.new.lanes.fault) }
         ensures queued { OnOk result (AreQueued self.new.lanes) }
         ensures timed { OnOk result (self.new.lanes.time ≡ self.new.time) }
+        ensures clocked { OnOk result (IsTimeAfter self.old.clock self.old.time self.new.time) }
         ensures redeemed { OnOk result (OnlyLaterWait self.new.lanes) }
         ensures flushed { OnOk result (AreFlushed self.new.connections) }
         ensures in_time { OnOk result (AreInTime self.new.time self.new.connections) }
@@ -348,6 +351,7 @@ impl<N: Network + Drop, D: Dir + Drop, A: Allocator + Copy> InLoop<N, D, A> {
         ensures stays { Stays self.old self.new }
         ensures same { self.new.connections ≡ self.old.connections }
         ensures timed { self.new.lanes.time ≡ self.new.time }
+        ensures clocked { IsTimeAfter self.old.clock self.old.time self.new.time }
     {
         self.time = self.network.now_after(self.time);
         self.lanes.set_time(self.time);

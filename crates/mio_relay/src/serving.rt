@@ -31,6 +31,7 @@ impl<N: Network + Drop, D: Dir + Drop, A: Allocator + Copy> InLoop<N, D, A> {
         ensures came { IfErr result (IsReason self.new.lanes.fault) }
         ensures refused { IfSome self.old.refusal (λ fault. result ≡ Err (of_network fault)) }
         ensures stands { StandOn self.old.connections self.new.connections }
+        ensures time { self.new.time ≡ self.old.time }
     {
         let most = if self.is_busy() { 0 } else { LONGEST_WAIT };
         match self
@@ -62,6 +63,7 @@ impl<N: Network + Drop, D: Dir + Drop, A: Allocator + Copy> InLoop<N, D, A> {
     fn note_all(&mut self)
         ensures stays { Stays self.old self.new }
         ensures stands { StandOn self.old.connections self.new.connections }
+        ensures time { self.new.time ≡ self.old.time }
     {
         note_all(&self.notes, &mut self.ready, &mut self.connections);
     }

@@ -107,7 +107,8 @@ pub trait Network: Time {
     fn bind(&mut self, host: &str, port: u16) -> Result<Self::Listener, NetFault>
         ensures ok { OnOk result (bound self.new ≡ bound self.old ++ record { host = host.now; port = port } ∷ []) }
         ensures number { IfOk result (λ listener. number listener ≡ length (bound self.old)) }
-        ensures err { OnErr result (bound self.new ≡ bound self.old) };
+        ensures err { OnErr result (bound self.new ≡ bound self.old) }
+        ensures time { Self.time self.new ≡ Self.time self.old };
 
     /// The port that the listener has: the one that was bound, or the one that the system chose
     /// where that is 0.
@@ -118,6 +119,7 @@ pub trait Network: Time {
     /// Takes the next connection that waits at this listener. No call on it waits.
     fn accept(&mut self, listener: &Self::Listener) -> Accepted<Self::Stream>
         ensures bound { bound self.new ≡ bound self.old }
+        ensures time { Self.time self.new ≡ Self.time self.old }
         ensures came { IfStream result (λ stream. Self.Stream.origin stream ≡ CameAt (number listener.now)) }
         ensures fresh { IfStream result (λ stream. IsFresh (Self.Stream.traffic stream)) }
         ensures known { is_known self.old → IsAnswered (waits self.old (number listener.now)) result };
@@ -126,12 +128,14 @@ pub trait Network: Time {
     /// or not under such a key.
     fn watch(&mut self, stream: &mut Self::Stream, key: usize) -> Result<(), NetFault>
         ensures bound { bound self.new ≡ bound self.old }
+        ensures time { Self.time self.new ≡ Self.time self.old }
         ensures origin { Self.Stream.origin stream.new ≡ Self.Stream.origin stream.old }
         ensures bytes { Self.Stream.traffic stream.new ≡ Self.Stream.traffic stream.old };
 
     /// Closes a connection, and ends its notes.
     fn close(&mut self, stream: Self::Stream)
-        ensures { bound self.new ≡ bound self.old };
+        ensures bound { bound self.new ≡ bound self.old }
+        ensures time { Self.time self.new ≡ Self.time self.old };
 
     /// Waits for sockets, no longer than this, and notes which are ready. What was noted before
     /// goes.
@@ -143,5 +147,6 @@ pub trait Network: Time {
         notes: &mut Vec<Note, B>,
     ) -> Result<(), NetFault>
         ensures bound { bound self.new ≡ bound self.old }
+        ensures time { Self.time self.new ≡ Self.time self.old }
         ensures refused { IfSome (refusal self.old) (λ fault. result ≡ Err fault) };
 }

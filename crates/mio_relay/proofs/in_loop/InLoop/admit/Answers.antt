@@ -30,6 +30,7 @@ returns-clause-stays g c = record {
   buffers = c.put.ensures.stays.buffers ∙ ap (λ (l : LoopState _). l.buffers) c.self.view_is;
   lanes = subst (λ (l : LoopState _). KeepsLanes l.lanes c.put.new.self.lanes) c.self.view_is c.put.ensures.stays.lanes;
   numbers = subst (λ (l : LoopState _). l.numbers ≤ c.put.new.self.numbers) c.self.view_is c.put.ensures.stays.numbers;
+  clock = c.put.ensures.stays.clock ∙ c.watch.ensures.time ∙ ap (λ (l : LoopState _). l.clock) c.self.view_is;
 }
 
 pub returns-clause-takes : goal.returns-clause-takes

@@ -9,7 +9,7 @@ use Rattle.mio_relay.proofs.in_loop.InLoop.close.Goals as goal
 
 pub invariant_of-self : goal.invariant_of-self
 invariant_of-self g c = (
-  subst (λ (b : List Endpoint). AreListening b c.self.inside.listeners.items) (sym c.close.ensures) c.self.invariant.0,
+  subst (λ (b : List Endpoint). AreListening b c.self.inside.listeners.items) (sym c.close.ensures.bound) c.self.invariant.0,
   c.take.ensures.goes _ c.self.invariant.1,
   ap (λ (l : LanesState _). l.terms) c.end.ensures ∙ c.self.invariant.2,
 )
@@ -18,7 +18,7 @@ pub invariant_of-self-in_default : goal.invariant_of-self-in_default
 invariant_of-self-in_default g c = (c.self.invariant.0, c.take.ensures.goes _ c.self.invariant.1, c.self.invariant.2)
 
 pub returns-in-Some-clause-stays : goal.returns-in-Some-clause-stays
-returns-in-Some-clause-stays g c = stays_on _ _ _ c.self.view_is c.close.ensures refl refl c.end.ensures refl
+returns-in-Some-clause-stays g c = stays_on _ _ _ c.self.view_is c.close.ensures.bound refl refl c.end.ensures refl c.close.ensures.time
 
 pub returns-in-Some-clause-rests : goal.returns-in-Some-clause-rests
 returns-in-Some-clause-rests g c =

@@ -18,10 +18,10 @@ invariant_of-self-in_default g c =
     (c.self.invariant.0, c.put.ensures.served _ c.self.invariant.1 (subst (λ (l : LoopState _). IsServed l.sources c.args.connection) (sym c.self.view_is) c.requires.served), c.self.invariant.2)
 
 pub returns-in-Some-clause-stays : goal.returns-in-Some-clause-stays
-returns-in-Some-clause-stays g c = stays_on _ _ _ c.self.view_is refl refl refl c.end.ensures refl
+returns-in-Some-clause-stays g c = stays_on _ _ _ c.self.view_is refl refl refl c.end.ensures refl refl
 
 pub returns-in_default-clause-stays : goal.returns-in_default-clause-stays
-returns-in_default-clause-stays g c = stays_on _ _ _ c.self.view_is refl refl refl refl refl
+returns-in_default-clause-stays g c = stays_on _ _ _ c.self.view_is refl refl refl refl refl refl
 
 pub returns-in-Some-clause-takes : goal.returns-in-Some-clause-takes
 returns-in-Some-clause-takes g c =

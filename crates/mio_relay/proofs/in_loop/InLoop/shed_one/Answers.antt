@@ -10,7 +10,7 @@ pub invariant_of-self : goal.invariant_of-self
 invariant_of-self g c = (c.self.invariant.0, c.shed.ensures.goes _ c.self.invariant.1, c.self.invariant.2)
 
 pub returns-clause-stays : goal.returns-clause-stays
-returns-clause-stays g c = stays_on _ _ _ c.self.view_is refl refl refl refl refl
+returns-clause-stays g c = stays_on _ _ _ c.self.view_is refl refl refl refl refl refl
 
 pub returns-clause-rests : goal.returns-clause-rests
 returns-clause-rests g c = rests_with _ _ _ c.self.view_is refl c.shed.ensures.settled c.shed.ensures.flushed

@@ -3,7 +3,7 @@ use Rattle.std.specs.Prelude.{OnOk}
 use Rattle.buffer_lanes.specs.Lanes.{AreQueued, NoneLater}
 use Rattle.mio_relay.specs.Connections.{AreFlushed, AreInTime, AreSettled}
 use Rattle.mio_relay.specs.Holding.{held_in, most_held}
-use Rattle.mio_relay.specs.Loops.{LoopState, OnlyLaterWait}
+use Rattle.mio_relay.specs.Loops.{IsTimeAfter, LoopState, OnlyLaterWait}
 use Rattle.mio_relay.specs.Turning.{AreTurned}
 use Rattle.mio_relay.proofs.in_loop.InLoop.turn.Goals as goal
 
@@ -22,6 +22,10 @@ returns-clause-queued g c =
 pub returns-clause-timed : goal.returns-clause-timed
 returns-clause-timed g c =
     subst (λ (l : LoopState _). OnOk c.turn_once-turned.result (l.lanes.time ≡ l.time)) (sym c.self.view_is) c.turn_once-turned.ensures.timed
+
+pub returns-clause-clocked : goal.returns-clause-clocked
+returns-clause-clocked g c =
+    subst (λ (l : LoopState _). OnOk c.turn_once-turned.result (IsTimeAfter c.args.self.now.clock c.args.self.now.time l.time)) (sym c.self.view_is) c.turn_once-turned.ensures.clocked
 
 pub returns-clause-flushed : goal.returns-clause-flushed
 returns-clause-flushed g c =

@@ -65,6 +65,16 @@ returns-clause-timed g c =
     on_ok c.match-fault.result _
     (rests.time ∙ written.lanes_time ∙ c.set_time.ensures.timed ∙ sym written.time ∙ sym c.close_all.ensures.time ∙ sym c.shed.ensures.time)
 
+pub returns-clause-clocked : goal.returns-clause-clocked
+returns-clause-clocked g c =
+    let taken = takes_more c.set_time.new.self c.accept_all.new.self c.take_in-read.new.self c.accept_all.ensures.takes c.take_in-read.ensures.takes in
+    let stored = takes_more c.set_time.new.self c.take_in-read.new.self c.store.new.self taken c.store.ensures.takes in
+    let ended = takes_more c.set_time.new.self c.store.new.self c.settle_all.new.self stored c.settle_all.ensures.takes in
+    let renewed = takes_more c.set_time.new.self c.settle_all.new.self c.renew.new.self ended c.renew.ensures.takes in
+    let written = takes_more c.set_time.new.self c.renew.new.self c.write_all.new.self renewed c.write_all.ensures.takes in
+    let same = c.shed.ensures.time ∙ c.close_all.ensures.time ∙ written.time in
+    on_ok c.match-fault.result _ (rw (same, ← c.wait.ensures.stays.clock, ← c.wait.ensures.time) c.set_time.ensures.clocked)
+
 pub returns-clause-flushed : goal.returns-clause-flushed
 returns-clause-flushed g c = on_ok c.match-fault.result _ (c.shed.ensures.rests.flushed (c.close_all.ensures.rests.flushed c.write_all.ensures.flushed))
 
