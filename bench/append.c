@@ -1,8 +1,13 @@
-// Beside bench/buffers: a bare loop of write and fdatasync of the same bytes, a bare read of a file in pieces, and bare copies:
-// the file read whole into memory, written to another and synced, and the same in pieces. `spent` runs a command, and prints how many
-// seconds it takes, how many of a processor it takes itself, and how many MB it has resident at most.
-// append write FILE COUNT BYTES [EACH: one fdatasync for so many writes] | append read FILE | append copy FILE OTHER
-// append pieces FILE OTHER | append spent COMMAND..
+// Beside bench/buffers: a bare loop of write and fdatasync of the same bytes, a bare read of a file
+// in pieces, and bare copies: the file read whole into memory, written to another and synced, and
+// the same in pieces. `spent` runs a command, and prints how many seconds it takes, how many of a
+// processor it takes itself, and how many MB it has resident at most.
+//
+//   append write FILE COUNT BYTES [EACH]    with one fdatasync for so many writes
+//   append read FILE
+//   append copy FILE OTHER
+//   append pieces FILE OTHER
+//   append spent COMMAND..
 #include <fcntl.h>
 #include <stdio.h>
 #include <stdlib.h>

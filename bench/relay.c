@@ -128,7 +128,8 @@ static void forget(Connection *c, size_t n) {
   c->length -= n;
 }
 
-// Takes in what a connection holds; with a sync for each message, or with the answers left for later.
+// Takes in what a connection holds; with a sync for each message, or with the answers left for
+// later.
 static size_t take(Connection *c, int file, int each) {
   const uint8_t *at = c->held, *end = c->held + c->length, *next;
   while ((next = skip(at, end)) != 0) {
@@ -244,7 +245,8 @@ static void connect_to(int port) {
   add(made);
 }
 
-// Takes the answers that a connection holds, each of which has to name a message that was sent and wasn't answered yet.
+// Takes the answers that a connection holds, each of which has to name a message that was sent and
+// wasn't answered yet.
 static unsigned long take_answers(Connection *c, uint8_t *awaited, unsigned long sent) {
   unsigned long n = c->length / (6 + ID);
   for (unsigned long i = 0; i < n; i++) {

@@ -75,7 +75,8 @@ def spelled(mode, tag, events, chunk):
     return array([tag, binary(packed) if mode == "packed_bin" else text(packed), *option])
 
 
-# Behind the first byte of an item: how many bytes it has, or how many bytes its length has, and how many more than that.
+# Behind the first byte of an item: how many bytes it has, or how many bytes its length has, and how
+# many more than that.
 PLAIN = {0xCA: 4, 0xCB: 8, 0xCC: 1, 0xCD: 2, 0xCE: 4, 0xCF: 8, 0xD0: 1, 0xD1: 2, 0xD2: 4, 0xD3: 8}
 PLAIN.update({0xD4: 2, 0xD5: 3, 0xD6: 5, 0xD7: 9, 0xD8: 17})
 SIZED = {0xC4: (1, 0), 0xC5: (2, 0), 0xC6: (4, 0), 0xD9: (1, 0), 0xDA: (2, 0), 0xDB: (4, 0), 0xC7: (1, 1), 0xC8: (2, 1), 0xC9: (4, 1)}

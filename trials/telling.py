@@ -10,8 +10,8 @@ from noted import ACCEPTED, CAME, CLOSES, CONNECTED, GOES, NAME, OPENED, STARTED
 from noted import Message, ends_of, events_in, is_array, records_in, values_in
 
 
-# So many messages were read at most before the records of the first of them are written: those of one
-# turn of a relay's loop.
+# So many messages were read at most before the records of the first of them are written: those of
+# one turn of a relay's loop.
 MOST_UNWRITTEN = 2000
 
 
