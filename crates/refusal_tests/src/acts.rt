@@ -1,7 +1,6 @@
 //! Calls of a buffer, and what it shows.
 
 use crate::told::Told;
-use crate::trial::Heap;
 use buffer_state::{ChunkFacts, Limits, Stage};
 use buffer_store::{Appended, Buffer, BufferFault, Settings};
 use disk_files::Dir;
@@ -9,7 +8,7 @@ use event_modes::Entries;
 use std::alloc::{AllocError, Allocator};
 
 /// A call of a buffer. A tag has one byte, and an entry is told from others by its number.
-#[derive(Clone, Copy, Debug, PartialEq, Eq)]
+#[derive(Clone, Copy)]
 pub enum Act {
     Stage(u8, u8),
     Append(u8, u8),
@@ -42,10 +41,10 @@ pub fn open<D: Dir, A: Allocator + Copy>(
 }
 
 /// The entry of this number.
-pub fn entry(heap: Heap<'_>, number: u8) -> Result<Entries<Heap<'_>>, AllocError> {
-    match Entries::read(heap, &[0x92, number, 0x80], 1)? {
-        Some(some) => Ok(some),
-        None => Err(AllocError),
+pub fn entry<A: Allocator + Copy>(heap: A, number: u8) -> Result<Entries<A>, AllocError> {
+    match Entries::read(heap, &[0x92, number, 0x80], 1) {
+        Ok(Some(some)) => Ok(some),
+        Ok(None) | Err(AllocError) => Err(AllocError),
     }
 }
 
@@ -56,10 +55,10 @@ fn serial_of(put: Result<Appended, BufferFault>) -> Result<u64, BufferFault> {
     }
 }
 
-fn append<'a, D: Dir>(
-    buffer: &mut Buffer<D, Heap<'a>>,
+fn append<A: Allocator + Copy, D: Dir>(
+    buffer: &mut Buffer<D, A>,
     tag: u8,
-    some: &Entries<Heap<'a>>,
+    some: &Entries<A>,
 ) -> Result<u64, BufferFault> {
     if some.count() == 0 {
         return Err(BufferFault::Gone);
@@ -67,10 +66,10 @@ fn append<'a, D: Dir>(
     serial_of(buffer.append(&[tag], some))
 }
 
-fn stage<'a, D: Dir>(
-    buffer: &mut Buffer<D, Heap<'a>>,
+fn stage<A: Allocator + Copy, D: Dir>(
+    buffer: &mut Buffer<D, A>,
     tag: u8,
-    some: &Entries<Heap<'a>>,
+    some: &Entries<A>,
 ) -> Result<u64, BufferFault> {
     if some.count() == 0 {
         return Err(BufferFault::Gone);
@@ -78,14 +77,14 @@ fn stage<'a, D: Dir>(
     serial_of(buffer.stage(&[tag], some))
 }
 
-fn give_back<D: Dir>(buffer: &mut Buffer<D, Heap<'_>>, serial: u64) {
+fn give_back<A: Allocator + Copy, D: Dir>(buffer: &mut Buffer<D, A>, serial: u64) {
     if buffer.chunks().stage(serial) == Some(Stage::Claimed) {
         buffer.give_back(serial);
     }
 }
 
-fn body<D: Dir>(
-    buffer: &mut Buffer<D, Heap<'_>>,
+fn body<A: Allocator + Copy, D: Dir>(
+    buffer: &mut Buffer<D, A>,
     serial: u64,
     told: &mut Told,
 ) -> Result<u64, BufferFault> {
@@ -102,9 +101,9 @@ fn done(answer: Result<(), BufferFault>) -> Result<u64, BufferFault> {
 }
 
 /// Makes the call, with the entry that it appends.
-pub fn take<'a, D: Dir>(
-    buffer: &mut Buffer<D, Heap<'a>>,
-    some: &Entries<Heap<'a>>,
+pub fn take<A: Allocator + Copy, D: Dir>(
+    buffer: &mut Buffer<D, A>,
+    some: &Entries<A>,
     act: Act,
     told: &mut Told,
 ) -> Result<u64, BufferFault> {
@@ -133,18 +132,22 @@ pub fn number_of(act: Act) -> u8 {
     }
 }
 
-/// Makes the calls, until one is refused.
-pub fn take_all<'a, D: Dir>(
-    heap: Heap<'a>,
-    buffer: &mut Buffer<D, Heap<'a>>,
+/// Makes the calls, until one is refused. It says whether all were answered.
+pub fn take_all<A: Allocator + Copy, D: Dir>(
+    heap: A,
+    buffer: &mut Buffer<D, A>,
     acts: &[Act],
     told: &mut Told,
-) -> Result<(), BufferFault> {
+) -> bool {
     for act in acts {
-        let some = entry(heap, number_of(*act))?;
-        take(buffer, &some, *act, told)?;
+        let Ok(some) = entry(heap, number_of(*act)) else {
+            return false;
+        };
+        if take(buffer, &some, *act, told).is_err() {
+            return false;
+        }
     }
-    Ok(())
+    true
 }
 
 fn tell_facts(facts: &ChunkFacts<'_>, told: &mut Told) {
@@ -162,7 +165,7 @@ fn tell_facts(facts: &ChunkFacts<'_>, told: &mut Told) {
 // Fewer serials than this are given.
 const SERIALS: u64 = 10;
 
-fn tell_bodies<D: Dir>(buffer: &mut Buffer<D, Heap<'_>>, told: &mut Told) {
+fn tell_bodies<A: Allocator + Copy, D: Dir>(buffer: &mut Buffer<D, A>, told: &mut Told) {
     for serial in 0..SERIALS {
         if let Ok(count) = body(buffer, serial, told) {
             told.number(count);
@@ -172,7 +175,7 @@ fn tell_bodies<D: Dir>(buffer: &mut Buffer<D, Heap<'_>>, told: &mut Told) {
 
 /// Tells what a buffer shows: its chunks and their entries, the first of its queue, and whether
 /// something isn't synced or failed.
-pub fn tell_buffer<D: Dir>(buffer: &mut Buffer<D, Heap<'_>>, told: &mut Told) {
+pub fn tell_buffer<A: Allocator + Copy, D: Dir>(buffer: &mut Buffer<D, A>, told: &mut Told) {
     let chunks = buffer.chunks();
     told.number(chunks.next_serial());
     told.number(chunks.total().min(99_999) as u64);

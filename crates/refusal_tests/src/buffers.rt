@@ -1,14 +1,14 @@
 //! Each call of a script of a buffer, and an opening behind each.
 
 use crate::acts::{Act, entry, number_of, open, take, take_all, tell_buffer};
-use crate::files::tell_left;
+use crate::files::{NewDir, tell_left};
 use crate::told::Told;
-use crate::trial::{Heap, Trial, refused_in_turn};
+use crate::trial::{Heap, Trial, requests_of};
 use buffer_store::{Buffer, BufferFault, RENEWED_PAST_IN_MEMORY};
 use disk_files::{Dir, MemoryDir};
 use event_modes::Entries;
 use refusing_alloc::Refusing;
-use std::alloc::{AllocError, Global};
+use std::alloc::{AllocError, Allocator};
 use std::mem::replace;
 
 // Chunks of which one grows are queued, claimed, given back, purged and dropped. The journal is
@@ -52,24 +52,28 @@ static SCRIPT: [Act; 36] = [
     Act::Body(7),
 ];
 
-type Held<'a> = Buffer<MemoryDir<Heap<'a>>, Heap<'a>>;
-
-// The buffer behind these calls, in a new folder.
-fn played<'a, D: Dir + Drop>(
-    heap: Heap<'a>,
-    dir: D,
-    acts: &[Act],
-    told: &mut Told,
-) -> Option<Buffer<D, Heap<'a>>> {
-    let mut buffer = open(heap, dir, RENEWED_PAST_IN_MEMORY)
-        .map_err(|(fault, _dir)| fault)
-        .ok()?;
-    take_all(heap, &mut buffer, acts, told).ok()?;
-    Some(buffer)
+// A buffer in a new folder.
+fn new_buffer<A: Allocator + Copy, D: NewDir<A>>(heap: A) -> Option<Buffer<D, A>> {
+    match open(heap, D::new_dir(heap), RENEWED_PAST_IN_MEMORY) {
+        Ok(buffer) => Some(buffer),
+        Err((_fault, _dir)) => None,
+    }
 }
 
-fn acts_before(place: usize) -> &'static [Act] {
-    SCRIPT.split_at(place.min(SCRIPT.len())).0
+// The buffer behind the calls before this place of the script, in a new folder.
+fn played<A: Allocator + Copy, D: NewDir<A>>(
+    heap: A,
+    place: usize,
+    told: &mut Told,
+) -> Option<Buffer<D, A>> {
+    let Some(mut buffer) = new_buffer(heap) else {
+        return None;
+    };
+    let acts = SCRIPT.split_at(place.min(SCRIPT.len())).0;
+    if take_all(heap, &mut buffer, acts, told) {
+        return Some(buffer);
+    }
+    None
 }
 
 // The call at this place of the script, behind those before it.
@@ -87,10 +91,10 @@ impl Place {
 
 // A buffer, and the entry that it is to take.
 #[derive(Drop)]
-struct Taking<'a> {
-    heap: Heap<'a>,
-    buffer: Held<'a>,
-    some: Entries<Heap<'a>>,
+struct Taking<A: Allocator + Copy, D: Dir> {
+    heap: A,
+    buffer: Buffer<D, A>,
+    some: Entries<A>,
 }
 
 // What is answered; another fault than want of memory is told.
@@ -103,27 +107,28 @@ fn answered(answer: Result<u64, BufferFault>, told: &mut Told) -> Result<(), All
     Ok(())
 }
 
-impl<'a> Trial<'a> for Place {
-    type State = Taking<'a>;
-
-    fn made(&self, alloc: Global, heap: Heap<'a>) -> Option<Taking<'a>> {
-        let mut told = Told::new(alloc);
-        let buffer = played(heap, MemoryDir::new(heap), acts_before(self.0), &mut told)?;
-        let some = entry(heap, number_of(self.act())).ok()?;
-        Some(Taking { heap, buffer, some })
+impl<A: Allocator + Copy, D: NewDir<A>> Trial<A, Place> for Taking<A, D> {
+    fn made(heap: A, call: &Place, told: &mut Told) -> Option<Self> {
+        match (
+            played(heap, call.0, told),
+            entry(heap, number_of(call.act())),
+        ) {
+            (Some(buffer), Ok(some)) => Some(Taking { heap, buffer, some }),
+            _ => None,
+        }
     }
 
-    fn call(&self, state: &mut Taking<'a>, told: &mut Told) -> Result<(), AllocError> {
-        let answer = take(&mut state.buffer, &state.some, self.act(), told);
+    fn call(&mut self, call: &Place, told: &mut Told) -> Result<(), AllocError> {
+        let answer = take(&mut self.buffer, &self.some, call.act(), told);
         answered(answer, told)
     }
 
-    fn show(&self, state: &mut Taking<'a>, told: &mut Told) {
-        tell_buffer(&mut state.buffer, told);
+    fn show(&mut self, told: &mut Told) {
+        tell_buffer(&mut self.buffer, told);
     }
 
-    fn close(&self, state: Taking<'a>, told: &mut Told) {
-        tell_left(state.heap, state.buffer.into_dir(), told);
+    fn close(self, told: &mut Told) {
+        tell_left(self.heap, self.buffer.into_dir(), told);
     }
 }
 
@@ -133,58 +138,55 @@ struct Opening(usize);
 
 // A folder, or the buffer that was opened in it.
 #[derive(Drop)]
-enum Found<'a> {
-    Folder(MemoryDir<Heap<'a>>),
-    Buffer(Held<'a>),
+enum Found<A: Allocator + Copy, D: Dir> {
+    Folder(D),
+    Buffer(Buffer<D, A>),
     Nothing,
 }
 
 // A folder to open, by the allocator that the buffer is to have.
 #[derive(Drop)]
-struct Folder<'a> {
-    heap: Heap<'a>,
-    opened: Found<'a>,
+struct Folder<A: Allocator + Copy, D: Dir> {
+    heap: A,
+    opened: Found<A, D>,
 }
 
-// Opens the folder. What comes of it, and its fault.
-fn opened<'a>(heap: Heap<'a>, folder: Found<'a>) -> (Found<'a>, Option<BufferFault>) {
-    match folder {
-        Found::Folder(dir) => match open(heap, dir, RENEWED_PAST_IN_MEMORY) {
-            Ok(buffer) => (Found::Buffer(buffer), None),
-            Err((fault, dir)) => (Found::Folder(dir), Some(fault)),
-        },
-        other => (other, None),
+// Opens the folder. What comes of it, and its answer.
+fn opened<A: Allocator + Copy, D: Dir>(heap: A, dir: D) -> (Found<A, D>, Result<u64, BufferFault>) {
+    match open(heap, dir, RENEWED_PAST_IN_MEMORY) {
+        Ok(buffer) => (Found::Buffer(buffer), Ok(0)),
+        Err((fault, dir)) => (Found::Folder(dir), Err(fault)),
     }
 }
 
-impl<'a> Trial<'a> for Opening {
-    type State = Folder<'a>;
-
-    fn made(&self, alloc: Global, heap: Heap<'a>) -> Option<Folder<'a>> {
-        let mut told = Told::new(alloc);
-        let dir = MemoryDir::new(heap);
-        let buffer = played(heap, dir, acts_before(self.0), &mut told)?;
-        Some(Folder {
-            heap,
-            opened: Found::Folder(buffer.into_dir()),
-        })
+impl<A: Allocator + Copy, D: NewDir<A>> Trial<A, Opening> for Folder<A, D> {
+    fn made(heap: A, call: &Opening, told: &mut Told) -> Option<Self> {
+        match played::<A, D>(heap, call.0, told) {
+            Some(buffer) => Some(Folder {
+                heap,
+                opened: Found::Folder(buffer.into_dir()),
+            }),
+            None => None,
+        }
     }
 
-    fn call(&self, state: &mut Folder<'a>, told: &mut Told) -> Result<(), AllocError> {
-        let folder = replace(&mut state.opened, Found::Nothing);
-        let (folder, fault) = opened(state.heap, folder);
-        state.opened = folder;
-        answered(fault.map_or(Ok(0), Err), told)
+    fn call(&mut self, _call: &Opening, told: &mut Told) -> Result<(), AllocError> {
+        let (found, answer) = match replace(&mut self.opened, Found::Nothing) {
+            Found::Folder(dir) => opened(self.heap, dir),
+            other => (other, Ok(0)),
+        };
+        self.opened = found;
+        answered(answer, told)
     }
 
-    fn show(&self, state: &mut Folder<'a>, told: &mut Told) {
-        if let Found::Buffer(buffer) = &mut state.opened {
+    fn show(&mut self, told: &mut Told) {
+        if let Found::Buffer(buffer) = &mut self.opened {
             tell_buffer(buffer, told);
         }
     }
 
-    fn close(&self, state: Folder<'a>, told: &mut Told) {
-        let Folder { heap, opened } = state;
+    fn close(self, told: &mut Told) {
+        let Folder { heap, opened } = self;
         match opened {
             Found::Folder(dir) => tell_left(heap, dir, told),
             Found::Buffer(buffer) => tell_left(heap, buffer.into_dir(), told),
@@ -192,6 +194,10 @@ impl<'a> Trial<'a> for Opening {
         }
     }
 }
+
+type Held<'a> = Taking<Heap<'a>, MemoryDir<Heap<'a>>>;
+
+type Reopened<'a> = Folder<Heap<'a>, MemoryDir<Heap<'a>>>;
 
 // The places of the script before which the folder is opened.
 static PLACES: [usize; 4] = [0, 1, 7, 25];
@@ -226,11 +232,12 @@ fn calls(rt: HostRuntime) {
     let heap = Refusing::new(rt.alloc());
     let mut counts = [0; 7];
     for place in 0..SCRIPT.len() {
-        let act = Place(place).act();
-        match refused_in_turn(rt.alloc(), &heap, &Place(place)) {
-            Ok(requests) => assert!(rt; count(&mut counts, act, requests), "{act:?} takes memory"),
-            Err(refusal) => panic!(rt; "{act:?} at {place} goes wrong with {refusal:?}"),
-        }
+        let call = Place(place);
+        let requests = requests_of::<_, _, Held<'_>>(&rt, rt.alloc(), &heap, place, &call);
+        assert!(rt;
+            count(&mut counts, call.act(), requests),
+            "{place} takes memory"
+        );
     }
     for requests in counts {
         assert!(rt; requests > 0, "of {counts:?}");
@@ -241,9 +248,8 @@ fn calls(rt: HostRuntime) {
 fn openings(rt: HostRuntime) {
     let heap = Refusing::new(rt.alloc());
     for place in &PLACES {
-        match refused_in_turn(rt.alloc(), &heap, &Opening(*place)) {
-            Ok(requests) => assert!(rt; requests > 0),
-            Err(refusal) => panic!(rt; "an opening at {place} goes wrong with {refusal:?}"),
-        }
+        let call = Opening(*place);
+        let requests = requests_of::<_, _, Reopened<'_>>(&rt, rt.alloc(), &heap, *place, &call);
+        assert!(rt; requests > 0);
     }
 }

@@ -2,33 +2,33 @@
 
 use crate::shop::{LEAF, message};
 use crate::told::Told;
-use crate::trial::{Heap, Trial, refused_in_turn};
+use crate::trial::{Heap, Trial, requests_of};
 use ack_receipt::{Delivery, Numbers, Reserved, Unbegun};
 use event_modes::Message;
 use refusing_alloc::Refusing;
-use std::alloc::{AllocError, AllocFailed, Global};
+use std::alloc::{AllocError, AllocFailed, Allocator};
 use std::mem::replace;
 
 // Under which tag a delivery is begun.
-#[derive(Clone, Copy, Debug)]
+#[derive(Clone, Copy)]
 enum Under {
     Own,
     Other,
 }
 
 // What a delivery is begun of, or the delivery.
-enum Beginning<'a> {
-    Parts(Unbegun<Heap<'a>>),
-    Begun(Delivery<Heap<'a>>),
+enum Beginning<A: Allocator> {
+    Parts(Unbegun<A>),
+    Begun(Delivery<A>),
     Nothing,
 }
 
-struct Desk<'a> {
-    heap: Heap<'a>,
-    beginning: Beginning<'a>,
+struct Desk<A: Allocator> {
+    heap: A,
+    beginning: Beginning<A>,
 }
 
-fn tell_message(message: &Message<Heap<'_>>, told: &mut Told) {
+fn tell_message<A: Allocator>(message: &Message<A>, told: &mut Told) {
     told.bytes(&message.tag);
     told.bytes(message.entries.as_bytes());
     if let Some(item) = &message.ack {
@@ -36,19 +36,19 @@ fn tell_message(message: &Message<Heap<'_>>, told: &mut Told) {
     }
 }
 
-fn tell_parts(parts: &Unbegun<Heap<'_>>, told: &mut Told) {
+fn tell_parts<A: Allocator>(parts: &Unbegun<A>, told: &mut Told) {
     told.number(parts.number.get());
     tell_message(&parts.message, told);
     told.number(parts.leaves.len() as u64);
 }
 
-fn tell_delivery(delivery: &Delivery<Heap<'_>>, told: &mut Told) {
+fn tell_delivery<A: Allocator>(delivery: &Delivery<A>, told: &mut Told) {
     told.number(delivery.number());
     told.bytes(delivery.tag());
     told.bytes(delivery.entries().as_bytes());
 }
 
-fn parts(heap: Heap<'_>) -> Option<Unbegun<Heap<'_>>> {
+fn parts<A: Allocator + Copy>(heap: A) -> Option<Unbegun<A>> {
     Some(Unbegun {
         number: Numbers::new().draw()?,
         message: message(heap, b'a', 1)?,
@@ -56,11 +56,11 @@ fn parts(heap: Heap<'_>) -> Option<Unbegun<Heap<'_>>> {
     })
 }
 
-fn begin<'a>(
-    heap: Heap<'a>,
-    parts: Unbegun<Heap<'a>>,
+fn begin<A: Allocator + Copy>(
+    heap: A,
+    parts: Unbegun<A>,
     under: Under,
-) -> Result<Delivery<Heap<'a>>, AllocFailed<Unbegun<Heap<'a>>>> {
+) -> Result<Delivery<A>, AllocFailed<Unbegun<A>>> {
     let Unbegun {
         number,
         message,
@@ -72,41 +72,53 @@ fn begin<'a>(
     }
 }
 
-impl<'a> Trial<'a> for Under {
-    type State = Desk<'a>;
+// Begins the delivery. What comes of it, and its answer.
+fn try_to_begin<A: Allocator + Copy>(
+    heap: A,
+    parts: Unbegun<A>,
+    under: Under,
+) -> (Beginning<A>, Result<(), AllocError>) {
+    match begin(heap, parts, under) {
+        Ok(delivery) => (Beginning::Begun(delivery), Ok(())),
+        Err(failed) => (Beginning::Parts(failed.value), Err(AllocError)),
+    }
+}
 
-    fn made(&self, _: Global, heap: Heap<'a>) -> Option<Desk<'a>> {
-        let beginning = Beginning::Parts(parts(heap)?);
-        Some(Desk { heap, beginning })
+impl<A: Allocator + Copy> Trial<A, Under> for Desk<A> {
+    fn made(heap: A, _call: &Under, _told: &mut Told) -> Option<Self> {
+        match parts(heap) {
+            Some(parts) => Some(Desk {
+                heap,
+                beginning: Beginning::Parts(parts),
+            }),
+            None => None,
+        }
     }
 
-    fn call(&self, state: &mut Desk<'a>, _told: &mut Told) -> Result<(), AllocError> {
-        let (beginning, answer) = match replace(&mut state.beginning, Beginning::Nothing) {
-            Beginning::Parts(parts) => match begin(state.heap, parts, *self) {
-                Ok(delivery) => (Beginning::Begun(delivery), Ok(())),
-                Err(failed) => (Beginning::Parts(failed.value), Err(AllocError)),
-            },
+    fn call(&mut self, call: &Under, _told: &mut Told) -> Result<(), AllocError> {
+        let (beginning, answer) = match replace(&mut self.beginning, Beginning::Nothing) {
+            Beginning::Parts(parts) => try_to_begin(self.heap, parts, *call),
             other => (other, Ok(())),
         };
-        end(replace(&mut state.beginning, beginning));
+        end(replace(&mut self.beginning, beginning));
         answer
     }
 
-    fn show(&self, state: &mut Desk<'a>, told: &mut Told) {
-        match &state.beginning {
+    fn show(&mut self, told: &mut Told) {
+        match &self.beginning {
             Beginning::Parts(parts) => tell_parts(parts, told),
             Beginning::Begun(delivery) => tell_delivery(delivery, told),
             Beginning::Nothing => told.number(66_666),
         }
     }
 
-    fn close(&self, state: Desk<'a>, _told: &mut Told) {
-        let Desk { heap: _, beginning } = state;
+    fn close(self, _told: &mut Told) {
+        let Desk { heap: _, beginning } = self;
         end(beginning);
     }
 }
 
-fn end(beginning: Beginning<'_>) {
+fn end<A: Allocator>(beginning: Beginning<A>) {
     match beginning {
         Beginning::Begun(delivery) => {
             let _ = delivery.abandon();
@@ -116,52 +128,50 @@ fn end(beginning: Beginning<'_>) {
 }
 
 // Room for the answer to a message.
-#[derive(Clone, Copy)]
 struct Room;
 
 #[derive(Drop)]
-struct Asked<'a> {
-    heap: Heap<'a>,
-    message: Message<Heap<'a>>,
+struct Asked<A: Allocator> {
+    heap: A,
+    message: Message<A>,
 }
 
-impl<'a> Trial<'a> for Room {
-    type State = Asked<'a>;
-
-    fn made(&self, _: Global, heap: Heap<'a>) -> Option<Asked<'a>> {
-        let message = message(heap, b'a', 1)?;
-        Some(Asked { heap, message })
+impl<A: Allocator + Copy> Trial<A, Room> for Asked<A> {
+    fn made(heap: A, _call: &Room, _told: &mut Told) -> Option<Self> {
+        match message(heap, b'a', 1) {
+            Some(message) => Some(Asked { heap, message }),
+            None => None,
+        }
     }
 
-    fn call(&self, state: &mut Asked<'a>, told: &mut Told) -> Result<(), AllocError> {
-        let reserved = Reserved::for_message(state.heap, &state.message)?;
+    fn call(&mut self, _call: &Room, told: &mut Told) -> Result<(), AllocError> {
+        let reserved = Reserved::for_message(self.heap, &self.message)?;
         told.number(u64::from(reserved.answer().is_none()));
         Ok(())
     }
 
-    fn show(&self, state: &mut Asked<'a>, told: &mut Told) {
-        tell_message(&state.message, told);
+    fn show(&mut self, told: &mut Told) {
+        tell_message(&self.message, told);
     }
 
-    fn close(&self, _state: Asked<'a>, _told: &mut Told) {}
+    fn close(self, _told: &mut Told) {}
 }
+
+static UNDER: [Under; 2] = [Under::Own, Under::Other];
+
+static ROOM: Room = Room;
 
 #[test]
 fn deliveries(rt: HostRuntime) {
     let heap = Refusing::new(rt.alloc());
-    for under in [Under::Own, Under::Other] {
-        match refused_in_turn(rt.alloc(), &heap, &under) {
-            Ok(requests) => assert!(rt; requests > 1, "{under:?}"),
-            Err(refusal) => panic!(rt; "{under:?} goes wrong with {refusal:?}"),
-        }
+    for (number, under) in UNDER.iter().enumerate() {
+        let requests = requests_of::<_, _, Desk<Heap<'_>>>(&rt, rt.alloc(), &heap, number, under);
+        assert!(rt; requests > 1, "{number}");
     }
 }
 
 #[test]
 fn rooms(rt: HostRuntime) {
     let heap = Refusing::new(rt.alloc());
-    match refused_in_turn(rt.alloc(), &heap, &Room) {
-        Ok(requests) => assert!(rt; requests > 2),
-        Err(refusal) => panic!(rt; "it goes wrong with {refusal:?}"),
-    }
+    assert!(rt; requests_of::<_, _, Asked<Heap<'_>>>(&rt, rt.alloc(), &heap, 0, &ROOM) > 2);
 }

@@ -1,12 +1,24 @@
-//! What a folder has.
+//! Folders, and what they have.
 
 use crate::told::Told;
-use crate::trial::Heap;
-use disk_files::{Dir, DirError, FileName};
+use disk_files::{Dir, DirError, FileName, MemoryDir};
 use numbered_files::read_file;
+use std::alloc::Allocator;
 
-fn tell_file<D: Dir>(
-    heap: Heap<'_>,
+/// A folder that can be made anew.
+pub trait NewDir<A: Allocator + Copy>: Dir + Drop {
+    /// A folder with no files.
+    fn new_dir(heap: A) -> Self;
+}
+
+impl<A: Allocator + Copy> NewDir<A> for MemoryDir<A> {
+    fn new_dir(heap: A) -> Self {
+        MemoryDir::new(heap)
+    }
+}
+
+fn tell_file<A: Allocator + Copy, D: Dir>(
+    heap: A,
     dir: &mut D,
     name: &[u8],
     told: &mut Told,
@@ -18,10 +30,10 @@ fn tell_file<D: Dir>(
     Ok(())
 }
 
-fn tell_named<'a, D: Dir>(
-    heap: Heap<'a>,
+fn tell_named<A: Allocator + Copy, D: Dir>(
+    heap: A,
     dir: &mut D,
-    names: &[FileName<Heap<'a>>],
+    names: &[FileName<A>],
     told: &mut Told,
 ) -> Result<(), DirError> {
     for name in names {
@@ -31,13 +43,17 @@ fn tell_named<'a, D: Dir>(
 }
 
 // Tells the files of a folder: their names and their bytes.
-fn tell_files<D: Dir>(heap: Heap<'_>, dir: &mut D, told: &mut Told) -> Result<(), DirError> {
+fn tell_files<A: Allocator + Copy, D: Dir>(
+    heap: A,
+    dir: &mut D,
+    told: &mut Told,
+) -> Result<(), DirError> {
     let names = dir.list(heap)?;
     tell_named(heap, dir, &names, told)
 }
 
 /// Tells what is left in a folder: its files, their names and their bytes.
-pub fn tell_left<D: Dir + Drop>(heap: Heap<'_>, dir: D, told: &mut Told) {
+pub fn tell_left<A: Allocator + Copy, D: Dir + Drop>(heap: A, dir: D, told: &mut Told) {
     let mut dir = dir;
     if tell_files(heap, &mut dir, told).is_err() {
         told.number(88_888);

@@ -1,15 +1,16 @@
 //! Files are made, opened, given room and listed in a folder in memory, and read whole.
 
-use crate::files::tell_left;
+use crate::files::{NewDir, tell_left};
 use crate::told::Told;
-use crate::trial::{Heap, Trial, refused_in_turn};
+use crate::trial::{Heap, Trial, requests_of};
 use disk_files::{Dir, DirError, FileName, MemoryDir, Writing};
 use numbered_files::{Family, numbers, read_file};
 use refusing_alloc::Refusing;
-use std::alloc::{AllocError, Global};
+use std::alloc::{AllocError, Allocator, Global};
+use std::process::Abort;
 
 // A call of a folder, or one that looks into it.
-#[derive(Clone, Copy, Debug)]
+#[derive(Clone, Copy)]
 enum Act {
     Create,
     Open,
@@ -39,14 +40,22 @@ fn family() -> Family<'static> {
     }
 }
 
-fn listed<D: Dir>(heap: Heap<'_>, dir: &mut D, told: &mut Told) -> Result<(), DirError> {
+fn listed<A: Allocator + Copy, D: Dir>(
+    heap: A,
+    dir: &mut D,
+    told: &mut Told,
+) -> Result<(), DirError> {
     for name in &dir.list(heap)? {
         told.bytes(name.as_bytes());
     }
     Ok(())
 }
 
-fn numbered<D: Dir>(heap: Heap<'_>, dir: &mut D, told: &mut Told) -> Result<(), DirError> {
+fn numbered<A: Allocator + Copy, D: Dir>(
+    heap: A,
+    dir: &mut D,
+    told: &mut Told,
+) -> Result<(), DirError> {
     for number in &numbers(heap, dir, family())? {
         told.number(u64::from(*number));
     }
@@ -58,7 +67,11 @@ fn reserved<D: Dir>(dir: &mut D) -> Result<(), DirError> {
     Ok(dir.reserve(file, 40)?)
 }
 
-fn read<D: Dir>(heap: Heap<'_>, dir: &mut D, told: &mut Told) -> Result<(), DirError> {
+fn read<A: Allocator + Copy, D: Dir>(
+    heap: A,
+    dir: &mut D,
+    told: &mut Told,
+) -> Result<(), DirError> {
     let file = dir.open(b"buf.0000000001.sink")?;
     told.bytes(&read_file(heap, dir, file)?);
     Ok(())
@@ -74,18 +87,32 @@ fn opened<D: Dir>(dir: &mut D) -> Result<(), DirError> {
     Ok(())
 }
 
-fn take<D: Dir>(heap: Heap<'_>, dir: &mut D, act: Act, told: &mut Told) -> Result<(), DirError> {
-    match act {
-        Act::Create => created(dir, b"new", 9)?,
-        Act::Open => opened(dir)?,
-        Act::Reserve => reserved(dir)?,
-        Act::List => listed(heap, dir, told)?,
-        Act::Numbers => numbered(heap, dir, told)?,
-        Act::Read => read(heap, dir, told)?,
-        Act::Name => told.bytes(FileName::from_slice(heap, b"new")?.as_bytes()),
-        Act::NameOf => told.bytes(&family().name(heap, 7)?),
-    }
+fn tell_name<A: Allocator>(heap: A, told: &mut Told) -> Result<(), DirError> {
+    told.bytes(FileName::from_slice(heap, b"new")?.as_bytes());
     Ok(())
+}
+
+fn tell_name_of<A: Allocator + Copy>(heap: A, told: &mut Told) -> Result<(), DirError> {
+    told.bytes(&family().name(heap, 7)?);
+    Ok(())
+}
+
+fn take<A: Allocator + Copy, D: Dir>(
+    heap: A,
+    dir: &mut D,
+    act: Act,
+    told: &mut Told,
+) -> Result<(), DirError> {
+    match act {
+        Act::Create => created(dir, b"new", 9),
+        Act::Open => opened(dir),
+        Act::Reserve => reserved(dir),
+        Act::List => listed(heap, dir, told),
+        Act::Numbers => numbered(heap, dir, told),
+        Act::Read => read(heap, dir, told),
+        Act::Name => tell_name(heap, told),
+        Act::NameOf => tell_name_of(heap, told),
+    }
 }
 
 // A call in a folder with so many files, the first of which has so many bytes.
@@ -96,71 +123,85 @@ struct Calling {
 }
 
 #[derive(Drop)]
-struct Folder<'a> {
-    heap: Heap<'a>,
-    dir: MemoryDir<Heap<'a>>,
+struct Folder<A: Drop, D> {
+    heap: A,
+    dir: D,
 }
 
-fn fill<D: Dir>(heap: Heap<'_>, dir: &mut D, files: u32) -> Result<(), DirError> {
+// The first file.
+fn begin<D: Dir>(dir: &mut D) -> Result<(), DirError> {
     let first = dir.create(b"buf.0000000001.sink", 9)?;
     dir.append(first, b"nine byte", Writing::Through)?;
-    for number in 0..files {
-        let name = family().name(heap, number)?;
-        if number > 1 {
-            created(dir, &name, 0)?;
-        }
+    Ok(())
+}
+
+// The file of this number, which isn't there yet.
+fn create<A: Allocator + Copy, D: Dir>(heap: A, dir: &mut D, number: u32) -> Result<(), DirError> {
+    let name = family().name(heap, number)?;
+    created(dir, &name, 0)
+}
+
+fn fill<A: Allocator + Copy, D: Dir>(heap: A, dir: &mut D, files: u32) -> Result<(), DirError> {
+    begin(dir)?;
+    for number in 2..files {
+        create(heap, dir, number)?;
     }
     Ok(())
 }
 
-impl<'a> Trial<'a> for Calling {
-    type State = Folder<'a>;
-
-    fn made(&self, _: Global, heap: Heap<'a>) -> Option<Folder<'a>> {
-        let mut dir = MemoryDir::new(heap);
-        fill(heap, &mut dir, self.files).ok()?;
-        Some(Folder { heap, dir })
-    }
-
-    fn call(&self, state: &mut Folder<'a>, told: &mut Told) -> Result<(), AllocError> {
-        match take(state.heap, &mut state.dir, self.act, told) {
-            Ok(()) => Ok(()),
-            Err(DirError::Memory) => Err(AllocError),
-            Err(_) => {
-                told.number(77_777);
-                Ok(())
-            }
+impl<A: Allocator + Copy, D: NewDir<A>> Trial<A, Calling> for Folder<A, D> {
+    fn made(heap: A, call: &Calling, _told: &mut Told) -> Option<Self> {
+        let mut dir = D::new_dir(heap);
+        match fill(heap, &mut dir, call.files) {
+            Ok(()) => Some(Folder { heap, dir }),
+            Err(_) => None,
         }
     }
 
-    fn show(&self, state: &mut Folder<'a>, told: &mut Told) {
-        told.number(state.dir.faults());
+    fn call(&mut self, call: &Calling, told: &mut Told) -> Result<(), AllocError> {
+        match take(self.heap, &mut self.dir, call.act, told) {
+            Ok(()) => {}
+            Err(DirError::Memory) => return Err(AllocError),
+            Err(_) => told.number(77_777),
+        }
+        Ok(())
     }
 
-    fn close(&self, state: Folder<'a>, told: &mut Told) {
-        tell_left(state.heap, state.dir, told);
+    fn show(&mut self, told: &mut Told) {
+        told.number(self.dir.faults());
+    }
+
+    fn close(self, told: &mut Told) {
+        let Folder { heap, dir } = self;
+        tell_left(heap, dir, told);
     }
 }
 
 // A folder with some of these numbers of files has room for one more, and with others not.
 static FILES: [u32; 6] = [0, 1, 4, 5, 8, 9];
 
+type InMemory<'a> = Folder<Heap<'a>, MemoryDir<Heap<'a>>>;
+
+// How many requests it makes, with each of these numbers of files.
+fn with_each<R: Abort>(rt: &R, alloc: Global, heap: Heap<'_>, number: usize, act: Act) -> u64 {
+    let mut requests = 0u64;
+    for files in &FILES {
+        let call = Calling { act, files: *files };
+        let more = requests_of::<_, _, InMemory<'_>>(rt, alloc, heap, number, &call);
+        requests = requests.saturating_add(more);
+    }
+    requests
+}
+
 #[test]
 fn calls(rt: HostRuntime) {
     let heap = Refusing::new(rt.alloc());
-    for act in &ACTS {
-        let mut requests = 0u64;
-        for files in &FILES {
-            let calling = Calling {
-                act: *act,
-                files: *files,
-            };
-            match refused_in_turn(rt.alloc(), &heap, &calling) {
-                Ok(more) => requests = requests.saturating_add(more),
-                Err(refusal) => panic!(rt; "{act:?} with {files} files: {refusal:?}"),
-            }
-        }
+    for (number, act) in ACTS.iter().enumerate() {
+        let requests = with_each(&rt, rt.alloc(), &heap, number, *act);
         // A folder in memory opens its files without memory.
-        assert!(rt; requests > 1 || matches!(act, Act::Open), "{act:?}");
+        assert!(rt;
+            requests > 1 || matches!(act, Act::Open),
+            "{number} asks for no memory"
+        );
     }
 }

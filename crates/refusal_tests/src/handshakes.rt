@@ -1,13 +1,15 @@
 //! HELO, PING and PONG are taken and written.
 
+use crate::putting::xs;
 use crate::told::Told;
-use crate::trial::{Heap, Trial, refused_in_turn};
+use crate::trial::{Heap, Trial, requests_of};
 use auth_handshake::{Client, HeloError, Ping, Server};
 use refusing_alloc::Refusing;
-use std::alloc::{AllocError, Global};
+use std::alloc::{AllocError, Allocator, Global};
+use std::process::Abort;
 
 // A call of one of two ends that share a key.
-#[derive(Clone, Copy, Debug)]
+#[derive(Clone, Copy)]
 enum Call {
     Server,
     Client,
@@ -39,27 +41,27 @@ struct Calling {
 
 // Both ends, what the one wrote before, and what the call writes.
 #[derive(Drop)]
-struct Ends<'a> {
-    heap: Heap<'a>,
-    server: Server<Heap<'a>>,
-    client: Client<Heap<'a>>,
-    helo: Vec<u8, Heap<'a>>,
-    ping: Vec<u8, Heap<'a>>,
-    out: Vec<u8, Heap<'a>>,
+struct Ends<A: Allocator> {
+    heap: A,
+    server: Server<A>,
+    client: Client<A>,
+    helo: Vec<u8, A>,
+    ping: Vec<u8, A>,
+    out: Vec<u8, A>,
 }
 
-fn new_server(heap: Heap<'_>) -> Result<Server<Heap<'_>>, AllocError> {
+fn new_server<A: Allocator + Copy>(heap: A) -> Result<Server<A>, AllocError> {
     Server::new(heap, b"server", b"key", [1; 16])
 }
 
-fn new_client(heap: Heap<'_>) -> Result<Client<Heap<'_>>, AllocError> {
+fn new_client<A: Allocator + Copy>(heap: A) -> Result<Client<A>, AllocError> {
     Client::new(heap, b"client", b"key", [2; 16])
 }
 
-fn take_helo<'a>(
-    client: &mut Client<Heap<'a>>,
+fn take_helo<A: Allocator + Copy>(
+    client: &mut Client<A>,
     helo: &[u8],
-    out: &mut Vec<u8, Heap<'a>>,
+    out: &mut Vec<u8, A>,
     told: &mut Told,
 ) -> Result<(), AllocError> {
     match client.helo(helo, out) {
@@ -72,75 +74,93 @@ fn take_helo<'a>(
     }
 }
 
-fn take_ping<'a>(
-    server: &Server<Heap<'a>>,
+fn take_ping<A: Allocator + Copy>(
+    server: &Server<A>,
     item: &[u8],
-    out: &mut Vec<u8, Heap<'a>>,
+    out: &mut Vec<u8, A>,
     told: &mut Told,
 ) -> Result<(), AllocError> {
-    match server.ping(item, out)? {
-        Ping::Passed => told.number(0),
-        Ping::Refused(_) => told.number(1),
+    match server.ping(item, out) {
+        Ok(Ping::Passed) => told.number(0),
+        Ok(Ping::Refused(_)) => told.number(1),
+        Err(AllocError) => return Err(AllocError),
     }
     Ok(())
 }
 
-// Both ends, with the HELO that the server says and the PING that a client answers by.
-fn new_ends(heap: Heap<'_>) -> Result<Ends<'_>, AllocError> {
-    let server = new_server(heap)?;
-    let mut helo = Vec::new(heap);
-    server.hello(&mut helo)?;
-    let mut other = new_client(heap)?;
-    let mut ping = Vec::new(heap);
-    let _ = other.helo(&helo, &mut ping);
-    Ok(Ends {
-        heap,
-        server,
-        client: new_client(heap)?,
-        helo,
-        ping,
-        out: Vec::new(heap),
-    })
+// Both ends, which wrote nothing before; what the call writes is to stand behind these bytes.
+fn new_ends<A: Allocator + Copy>(heap: A, out: Vec<u8, A>) -> Option<Ends<A>> {
+    match (new_server(heap), new_client(heap)) {
+        (Ok(server), Ok(client)) => Some(Ends {
+            heap,
+            server,
+            client,
+            helo: Vec::new(heap),
+            ping: Vec::new(heap),
+            out,
+        }),
+        _ => None,
+    }
 }
 
-fn take(ends: &mut Ends<'_>, call: Call, told: &mut Told) -> Result<(), AllocError> {
+// The server says its HELO, and another client the PING that answers it.
+fn begin<A: Allocator + Copy>(ends: &mut Ends<A>) -> Result<(), AllocError> {
+    ends.server.hello(&mut ends.helo)?;
+    let mut other = new_client(ends.heap)?;
+    let _ = other.helo(&ends.helo, &mut ends.ping);
+    Ok(())
+}
+
+fn renew_server<A: Allocator + Copy>(ends: &mut Ends<A>) -> Result<(), AllocError> {
+    ends.server = new_server(ends.heap)?;
+    Ok(())
+}
+
+fn renew_client<A: Allocator + Copy>(ends: &mut Ends<A>) -> Result<(), AllocError> {
+    ends.client = new_client(ends.heap)?;
+    Ok(())
+}
+
+fn take<A: Allocator + Copy>(
+    ends: &mut Ends<A>,
+    call: Call,
+    told: &mut Told,
+) -> Result<(), AllocError> {
     match call {
-        Call::Server => {
-            ends.server = new_server(ends.heap)?;
-        }
-        Call::Client => {
-            ends.client = new_client(ends.heap)?;
-        }
-        Call::Hello => ends.server.hello(&mut ends.out)?,
-        Call::Helo => take_helo(&mut ends.client, &ends.helo, &mut ends.out, told)?,
-        Call::Ping => take_ping(&ends.server, &ends.ping, &mut ends.out, told)?,
-        Call::NoPing(item) => take_ping(&ends.server, item, &mut ends.out, told)?,
+        Call::Server => renew_server(ends),
+        Call::Client => renew_client(ends),
+        Call::Hello => ends.server.hello(&mut ends.out),
+        Call::Helo => take_helo(&mut ends.client, &ends.helo, &mut ends.out, told),
+        Call::Ping => take_ping(&ends.server, &ends.ping, &mut ends.out, told),
+        Call::NoPing(item) => take_ping(&ends.server, item, &mut ends.out, told),
     }
-    Ok(())
 }
 
-impl<'a> Trial<'a> for Calling {
-    type State = Ends<'a>;
-
-    fn made(&self, _: Global, heap: Heap<'a>) -> Option<Ends<'a>> {
-        let mut ends = new_ends(heap).ok()?;
-        for _ in 0..self.behind {
-            ends.out.push(b'x').ok()?;
+impl<A: Allocator + Copy> Trial<A, Calling> for Ends<A> {
+    fn made(heap: A, call: &Calling, _told: &mut Told) -> Option<Self> {
+        let Some(out) = xs(heap, call.behind) else {
+            return None;
+        };
+        let Some(mut ends) = new_ends(heap, out) else {
+            return None;
+        };
+        match begin(&mut ends) {
+            Ok(()) => Some(ends),
+            Err(AllocError) => None,
         }
-        Some(ends)
     }
 
-    fn call(&self, state: &mut Ends<'a>, told: &mut Told) -> Result<(), AllocError> {
-        take(state, self.call, told)
+    fn call(&mut self, call: &Calling, told: &mut Told) -> Result<(), AllocError> {
+        take(self, call.call, told)
     }
 
-    fn show(&self, state: &mut Ends<'a>, told: &mut Told) {
-        told.bytes(&state.out);
+    fn show(&mut self, told: &mut Told) {
+        told.bytes(&self.out);
     }
 
     // Both ends go on.
-    fn close(&self, state: Ends<'a>, told: &mut Told) {
-        let mut ends = state;
+    fn close(self, told: &mut Told) {
+        let mut ends = self;
         for call in [Call::Hello, Call::Helo, Call::Ping] {
             let _ = take(&mut ends, call, told);
         }
@@ -151,21 +171,25 @@ impl<'a> Trial<'a> for Calling {
 // A list of some of these lengths has room, and of others not.
 static LENGTHS: [usize; 8] = [0, 5, 8, 16, 30, 32, 60, 64];
 
+// How many requests it makes, behind each of these numbers of bytes.
+fn behind_each<R: Abort>(rt: &R, alloc: Global, heap: Heap<'_>, number: usize, call: Call) -> u64 {
+    let mut requests = 0u64;
+    for behind in &LENGTHS {
+        let calling = Calling {
+            call,
+            behind: *behind,
+        };
+        let more = requests_of::<_, _, Ends<Heap<'_>>>(rt, alloc, heap, number, &calling);
+        requests = requests.saturating_add(more);
+    }
+    requests
+}
+
 #[test]
 fn handshakes(rt: HostRuntime) {
     let heap = Refusing::new(rt.alloc());
-    for call in &CALLS {
-        let mut requests = 0u64;
-        for behind in &LENGTHS {
-            let calling = Calling {
-                call: *call,
-                behind: *behind,
-            };
-            match refused_in_turn(rt.alloc(), &heap, &calling) {
-                Ok(more) => requests = requests.saturating_add(more),
-                Err(refusal) => panic!(rt; "{call:?} behind {behind} goes wrong with {refusal:?}"),
-            }
-        }
-        assert!(rt; requests > 1, "{call:?} asks for no memory");
+    for (number, call) in CALLS.iter().enumerate() {
+        let requests = behind_each(&rt, rt.alloc(), &heap, number, *call);
+        assert!(rt; requests > 1, "{number} asks for no memory");
     }
 }

@@ -1,15 +1,17 @@
 //! Journals are written and replayed, whole and by pieces, and the items of a sink's file are
 //! counted.
 
+use crate::putting::{entry, xs};
 use crate::told::Told;
-use crate::trial::{Heap, Trial, refused_in_turn};
+use crate::trial::{Heap, Trial, requests_of};
 use buffer_state::{Chunks, Stage};
 use chunk_journal::{Outline, Outlined, Record, ReplayError, put_record, replay};
 use event_modes::Entries;
 use refusing_alloc::Refusing;
 use sink_series::count_events;
-use std::alloc::{AllocError, Global};
+use std::alloc::{AllocError, Allocator, Global};
 use std::mem::replace;
+use std::process::Abort;
 
 // Three chunks, of which one is queued, a Seal of 9, two chunks more, an entry more, a queueing and
 // a removal.
@@ -19,13 +21,13 @@ static JOURNAL: &[u8] =
 static ITEMS: &[u8] = b"\x93\xa1a\x01\x80\x93\xa1b\x02\x80\x93\xa1c\x03\x80\x93";
 
 // A call that makes what it gives anew.
-#[derive(Clone, Copy, Debug)]
+#[derive(Clone, Copy)]
 enum Reading {
     Replay,
     Count,
 }
 
-fn tell_chunks(chunks: &Chunks<Heap<'_>>, told: &mut Told) {
+fn tell_chunks<A: Allocator + Copy>(chunks: &Chunks<A>, told: &mut Told) {
     told.number(chunks.next());
     for (serial, chunk) in chunks.live() {
         told.number(*serial);
@@ -44,7 +46,7 @@ fn fault_of(fault: ReplayError, told: &mut Told) -> Result<(), AllocError> {
     Ok(())
 }
 
-fn replayed(heap: Heap<'_>, told: &mut Told) -> Result<(), AllocError> {
+fn replayed<A: Allocator + Copy>(heap: A, told: &mut Told) -> Result<(), AllocError> {
     match replay(heap, JOURNAL) {
         Ok(replayed) => {
             tell_chunks(&replayed.chunks, told);
@@ -55,31 +57,36 @@ fn replayed(heap: Heap<'_>, told: &mut Told) -> Result<(), AllocError> {
     }
 }
 
-impl<'a> Trial<'a> for Reading {
-    type State = Heap<'a>;
+fn count_items<A: Allocator + Copy>(heap: A, told: &mut Told) -> Result<(), AllocError> {
+    let counted = count_events(heap, ITEMS)?;
+    told.number(counted.events as u64);
+    Ok(())
+}
 
-    fn made(&self, _: Global, heap: Heap<'a>) -> Option<Heap<'a>> {
-        Some(heap)
+// An allocator, by which bytes are read.
+#[derive(Drop)]
+struct Reader<A>(A);
+
+impl<A: Allocator + Copy> Trial<A, Reading> for Reader<A> {
+    fn made(heap: A, _call: &Reading, _told: &mut Told) -> Option<Self> {
+        Some(Reader(heap))
     }
 
-    fn call(&self, state: &mut Heap<'a>, told: &mut Told) -> Result<(), AllocError> {
-        match self {
-            Reading::Replay => replayed(state, told),
-            Reading::Count => {
-                told.number(count_events(*state, ITEMS)?.events as u64);
-                Ok(())
-            }
+    fn call(&mut self, call: &Reading, told: &mut Told) -> Result<(), AllocError> {
+        match call {
+            Reading::Replay => replayed(self.0, told),
+            Reading::Count => count_items(self.0, told),
         }
     }
 
-    fn show(&self, _state: &mut Heap<'a>, _told: &mut Told) {}
+    fn show(&mut self, _told: &mut Told) {}
 
-    fn close(&self, _state: Heap<'a>, _told: &mut Told) {}
+    fn close(self, _told: &mut Told) {}
 }
 
 // A journal comes by pieces, up to this place, and all that is behind it is fed then; or it is
 // finished behind few pieces.
-#[derive(Clone, Copy, Debug)]
+#[derive(Clone, Copy)]
 enum Outlining {
     Feed(usize),
     Finish,
@@ -87,13 +94,17 @@ enum Outlining {
 
 // An outline, or what it gave.
 #[derive(Drop)]
-enum Drawn<'a> {
-    Open(Outline<Heap<'a>>),
-    Whole(Outlined<Heap<'a>>),
+enum Drawn<A: Allocator> {
+    Open(Outline<A>),
+    Whole(Outlined<A>),
     Nothing,
 }
 
-fn feed(outline: &mut Outline<Heap<'_>>, piece: &[u8], told: &mut Told) -> Result<(), AllocError> {
+fn feed<A: Allocator + Copy>(
+    outline: &mut Outline<A>,
+    piece: &[u8],
+    told: &mut Told,
+) -> Result<(), AllocError> {
     if outline.fed() > 10_000 || piece.len() > 10_000 {
         return Ok(());
     }
@@ -104,27 +115,33 @@ fn feed(outline: &mut Outline<Heap<'_>>, piece: &[u8], told: &mut Told) -> Resul
 }
 
 // What was fed up to this place, by pieces of at most so many bytes.
-fn fed<'a>(alloc: Global, heap: Heap<'a>, place: usize, size: u8) -> Option<Outline<Heap<'a>>> {
-    let mut told = Told::new(alloc);
+fn fed<A: Allocator + Copy>(
+    heap: A,
+    place: usize,
+    size: u8,
+    told: &mut Told,
+) -> Option<Outline<A>> {
     let mut outline = Outline::new(heap);
     let (front, _) = JOURNAL.split_at(place.min(JOURNAL.len()));
     for piece in front.chunks(usize::from(size.max(1))) {
-        feed(&mut outline, piece, &mut told).ok()?;
+        if feed(&mut outline, piece, told).is_err() {
+            return None;
+        }
     }
     Some(outline)
 }
 
-fn finished<'a>(
-    outline: Outline<Heap<'a>>,
+fn finished<A: Allocator + Copy>(
+    outline: Outline<A>,
     told: &mut Told,
-) -> (Drawn<'a>, Result<(), AllocError>) {
+) -> (Drawn<A>, Result<(), AllocError>) {
     match outline.finish() {
         Ok(outlined) => (Drawn::Whole(outlined), Ok(())),
         Err((fault, outline)) => (Drawn::Open(outline), fault_of(fault, told)),
     }
 }
 
-fn tell_outlined(outlined: &Outlined<Heap<'_>>, told: &mut Told) {
+fn tell_outlined<A: Allocator + Copy>(outlined: &Outlined<A>, told: &mut Told) {
     tell_chunks(&outlined.chunks, told);
     told.number(outlined.used);
     for serial in 0..12 {
@@ -136,17 +153,20 @@ fn tell_outlined(outlined: &Outlined<Heap<'_>>, told: &mut Told) {
 }
 
 // What is behind those that were fed.
-fn feed_rest(outline: &mut Outline<Heap<'_>>, told: &mut Told) -> Result<(), AllocError> {
+fn feed_rest<A: Allocator + Copy>(
+    outline: &mut Outline<A>,
+    told: &mut Told,
+) -> Result<(), AllocError> {
     let at = outline.fed().min(JOURNAL.len() as u64) as usize;
     feed(outline, JOURNAL.split_at(at).1, told)
 }
 
 // Feeds the rest, or finishes. What comes of it.
-fn go_on<'a>(
-    outline: Outline<Heap<'a>>,
+fn go_on<A: Allocator + Copy>(
+    outline: Outline<A>,
     outlining: Outlining,
     told: &mut Told,
-) -> (Drawn<'a>, Result<(), AllocError>) {
+) -> (Drawn<A>, Result<(), AllocError>) {
     match outlining {
         Outlining::Feed(_) => {
             let mut outline = outline;
@@ -157,33 +177,29 @@ fn go_on<'a>(
     }
 }
 
-impl<'a> Trial<'a> for Outlining {
-    type State = Drawn<'a>;
-
-    fn made(&self, alloc: Global, heap: Heap<'a>) -> Option<Drawn<'a>> {
-        let outline = match *self {
-            Outlining::Feed(place) => fed(alloc, heap, place, 7)?,
-            Outlining::Finish => fed(alloc, heap, JOURNAL.len(), u8::MAX)?,
+impl<A: Allocator + Copy> Trial<A, Outlining> for Drawn<A> {
+    fn made(heap: A, call: &Outlining, told: &mut Told) -> Option<Self> {
+        let outline = match *call {
+            Outlining::Feed(place) => fed(heap, place, 7, told),
+            Outlining::Finish => fed(heap, JOURNAL.len(), u8::MAX, told),
         };
-        Some(Drawn::Open(outline))
-    }
-
-    fn call(&self, state: &mut Drawn<'a>, told: &mut Told) -> Result<(), AllocError> {
-        match replace(state, Drawn::Nothing) {
-            Drawn::Open(outline) => {
-                let (left, answer) = go_on(outline, *self, told);
-                *state = left;
-                answer
-            }
-            other => {
-                *state = other;
-                Ok(())
-            }
+        match outline {
+            Some(outline) => Some(Drawn::Open(outline)),
+            None => None,
         }
     }
 
-    fn show(&self, state: &mut Drawn<'a>, told: &mut Told) {
-        match state {
+    fn call(&mut self, call: &Outlining, told: &mut Told) -> Result<(), AllocError> {
+        let (left, answer) = match replace(self, Drawn::Nothing) {
+            Drawn::Open(outline) => go_on(outline, *call, told),
+            other => (other, Ok(())),
+        };
+        *self = left;
+        answer
+    }
+
+    fn show(&mut self, told: &mut Told) {
+        match self {
             Drawn::Open(outline) => told.number(outline.fed()),
             Drawn::Whole(outlined) => tell_outlined(outlined, told),
             Drawn::Nothing => told.number(66_666),
@@ -191,14 +207,19 @@ impl<'a> Trial<'a> for Outlining {
     }
 
     // The rest is fed, and what all of it means is told.
-    fn close(&self, state: Drawn<'a>, told: &mut Told) {
-        let Drawn::Open(mut outline) = state else {
-            return;
-        };
-        let _ = feed_rest(&mut outline, told);
-        if let Ok(outlined) = outline.finish() {
-            tell_outlined(&outlined, told);
+    fn close(self, told: &mut Told) {
+        if let Drawn::Open(outline) = self {
+            tell_whole(outline, told);
         }
+    }
+}
+
+// Feeds the rest, and tells what all of it means.
+fn tell_whole<A: Allocator + Copy>(outline: Outline<A>, told: &mut Told) {
+    let mut outline = outline;
+    let _ = feed_rest(&mut outline, told);
+    if let Ok(outlined) = outline.finish() {
+        tell_outlined(&outlined, told);
     }
 }
 
@@ -210,17 +231,17 @@ struct Recording {
 }
 
 #[derive(Drop)]
-struct Written<'a> {
-    out: Vec<u8, Heap<'a>>,
-    entries: Entries<Heap<'a>>,
+struct Written<A: Allocator> {
+    out: Vec<u8, A>,
+    entries: Entries<A>,
 }
 
-fn put<'a>(
-    out: &mut Vec<u8, Heap<'a>>,
-    entries: &Entries<Heap<'a>>,
+fn put<A: Allocator + Copy>(
+    out: &mut Vec<u8, A>,
+    entries: &Entries<A>,
     kind: u8,
 ) -> Result<(), AllocError> {
-    let record: Record<'_, Heap<'a>> = match kind {
+    let record: Record<'_, A> = match kind {
         1 => Record::Seal { next: 9 },
         3 => Record::Queue { serial: 3 },
         4 => Record::Purge { serial: 3 },
@@ -234,40 +255,37 @@ fn put<'a>(
     put_record(out, &record)
 }
 
-impl<'a> Trial<'a> for Recording {
-    type State = Written<'a>;
-
-    fn made(&self, _: Global, heap: Heap<'a>) -> Option<Written<'a>> {
-        let entries = Entries::read(heap, b"\x92\x01\x80", 1).ok()??;
-        let mut out = Vec::new(heap);
-        for _ in 0..self.behind {
-            out.push(b'x').ok()?;
+impl<A: Allocator + Copy> Trial<A, Recording> for Written<A> {
+    fn made(heap: A, call: &Recording, _told: &mut Told) -> Option<Self> {
+        match (xs(heap, call.behind), entry(heap)) {
+            (Some(out), Some(entries)) => Some(Written { out, entries }),
+            _ => None,
         }
-        Some(Written { out, entries })
     }
 
-    fn call(&self, state: &mut Written<'a>, _told: &mut Told) -> Result<(), AllocError> {
-        put(&mut state.out, &state.entries, self.kind)
+    fn call(&mut self, call: &Recording, _told: &mut Told) -> Result<(), AllocError> {
+        put(&mut self.out, &self.entries, call.kind)
     }
 
-    fn show(&self, state: &mut Written<'a>, told: &mut Told) {
-        told.bytes(&state.out);
+    fn show(&mut self, told: &mut Told) {
+        told.bytes(&self.out);
     }
 
-    fn close(&self, _state: Written<'a>, _told: &mut Told) {}
+    fn close(self, _told: &mut Told) {}
 }
 
 // How much of the journal was fed before, by pieces.
 static PLACES: [usize; 9] = [0, 7, 21, 42, 63, 84, 105, 140, 175];
 
+// A list of some of these lengths has room, and of others not.
+static LENGTHS: [usize; 7] = [0, 8, 16, 30, 32, 60, 64];
+
 #[test]
 fn bytes_that_are_read(rt: HostRuntime) {
     let heap = Refusing::new(rt.alloc());
-    for reading in [Reading::Replay, Reading::Count] {
-        match refused_in_turn(rt.alloc(), &heap, &reading) {
-            Ok(requests) => assert!(rt; requests > 1),
-            Err(refusal) => panic!(rt; "{reading:?} goes wrong with {refusal:?}"),
-        }
+    for call in [Reading::Replay, Reading::Count] {
+        let requests = requests_of::<_, _, Reader<Heap<'_>>>(&rt, rt.alloc(), &heap, 0, &call);
+        assert!(rt; requests > 1);
     }
 }
 
@@ -275,29 +293,33 @@ fn bytes_that_are_read(rt: HostRuntime) {
 fn outlines(rt: HostRuntime) {
     let heap = Refusing::new(rt.alloc());
     for place in &PLACES {
-        let feed = Outlining::Feed(*place);
-        match refused_in_turn(rt.alloc(), &heap, &feed) {
-            Ok(_) => {}
-            Err(refusal) => panic!(rt; "{feed:?} goes wrong with {refusal:?}"),
-        }
+        let call = Outlining::Feed(*place);
+        let _ = requests_of::<_, _, Drawn<Heap<'_>>>(&rt, rt.alloc(), &heap, *place, &call);
     }
-    match refused_in_turn(rt.alloc(), &heap, &Outlining::Finish) {
-        Ok(requests) => assert!(rt; requests > 0),
-        Err(refusal) => panic!(rt; "it goes wrong with {refusal:?}"),
+    let call = Outlining::Finish;
+    let requests = requests_of::<_, _, Drawn<Heap<'_>>>(&rt, rt.alloc(), &heap, 999, &call);
+    assert!(rt; requests > 0);
+}
+
+// How many requests a record of this kind makes, behind each of these numbers of bytes.
+fn behind_each<R: Abort>(rt: &R, alloc: Global, heap: Heap<'_>, kind: u8) -> u64 {
+    let mut requests = 0u64;
+    for behind in &LENGTHS {
+        let call = Recording {
+            kind,
+            behind: *behind,
+        };
+        let more = requests_of::<_, _, Written<Heap<'_>>>(rt, alloc, heap, *behind, &call);
+        requests = requests.saturating_add(more);
     }
+    requests
 }
 
 #[test]
 fn records(rt: HostRuntime) {
     let heap = Refusing::new(rt.alloc());
     for kind in 1..5u8 {
-        let mut requests = 0u64;
-        for behind in [0, 8, 16, 30, 32, 60, 64] {
-            match refused_in_turn(rt.alloc(), &heap, &Recording { kind, behind }) {
-                Ok(more) => requests = requests.saturating_add(more),
-                Err(refusal) => panic!(rt; "kind {kind} behind {behind}: {refusal:?}"),
-            }
-        }
+        let requests = behind_each(&rt, rt.alloc(), &heap, kind);
         assert!(rt; requests > 1, "kind {kind}");
     }
 }

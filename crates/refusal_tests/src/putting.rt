@@ -1,14 +1,15 @@
 //! Bytes are written behind others, of which there are so many that each growth comes once.
 
 use crate::told::Told;
-use crate::trial::{Heap, Trial, refused_in_turn};
+use crate::trial::{Heap, Trial, requests_of};
 use event_modes::{ChunkId, Entries, put_ack, put_packed};
 use msgpack_bytes::{put_array, put_bin, put_bool, put_map, put_str, put_uint};
 use refusing_alloc::Refusing;
-use std::alloc::{AllocError, Global};
+use std::alloc::{AllocError, Allocator, Global};
+use std::process::Abort;
 
 // What is written.
-#[derive(Clone, Copy, Debug)]
+#[derive(Clone, Copy)]
 enum Put {
     Uint(u64),
     Str(&'static [u8]),
@@ -48,16 +49,35 @@ struct Putting {
     behind: usize,
 }
 
-// The bytes, and the entries of messages.
-#[derive(Drop)]
-struct Written<'a> {
-    out: Vec<u8, Heap<'a>>,
-    entries: Entries<Heap<'a>>,
+// So many bytes.
+pub fn xs<A: Allocator>(heap: A, count: usize) -> Option<Vec<u8, A>> {
+    let mut out = Vec::new(heap);
+    for _ in 0..count {
+        if out.push(b'x').is_err() {
+            return None;
+        }
+    }
+    Some(out)
 }
 
-fn put_message<'a>(
-    out: &mut Vec<u8, Heap<'a>>,
-    entries: &Entries<Heap<'a>>,
+// One entry.
+pub fn entry<A: Allocator + Copy>(heap: A) -> Option<Entries<A>> {
+    match Entries::read(heap, ENTRY, 1) {
+        Ok(entries) => entries,
+        Err(AllocError) => None,
+    }
+}
+
+// The bytes, and the entries of messages.
+#[derive(Drop)]
+struct Written<A: Allocator> {
+    out: Vec<u8, A>,
+    entries: Entries<A>,
+}
+
+fn put_message<A: Allocator + Copy>(
+    out: &mut Vec<u8, A>,
+    entries: &Entries<A>,
     chunk: Option<&ChunkId>,
 ) -> Result<(), AllocError> {
     if entries.as_bytes().len() > 9 {
@@ -66,9 +86,9 @@ fn put_message<'a>(
     put_packed(out, b"a", entries, chunk)
 }
 
-fn put_so<'a>(
-    out: &mut Vec<u8, Heap<'a>>,
-    entries: &Entries<Heap<'a>>,
+fn put_so<A: Allocator + Copy>(
+    out: &mut Vec<u8, A>,
+    entries: &Entries<A>,
     put: Put,
 ) -> Result<(), AllocError> {
     match put {
@@ -84,27 +104,23 @@ fn put_so<'a>(
     }
 }
 
-impl<'a> Trial<'a> for Putting {
-    type State = Written<'a>;
-
-    fn made(&self, _: Global, heap: Heap<'a>) -> Option<Written<'a>> {
-        let entries = Entries::read(heap, ENTRY, 1).ok()??;
-        let mut out = Vec::new(heap);
-        for _ in 0..self.behind {
-            out.push(b'x').ok()?;
+impl<A: Allocator + Copy> Trial<A, Putting> for Written<A> {
+    fn made(heap: A, call: &Putting, _told: &mut Told) -> Option<Self> {
+        match (xs(heap, call.behind), entry(heap)) {
+            (Some(out), Some(entries)) => Some(Written { out, entries }),
+            _ => None,
         }
-        Some(Written { out, entries })
     }
 
-    fn call(&self, state: &mut Written<'a>, _told: &mut Told) -> Result<(), AllocError> {
-        put_so(&mut state.out, &state.entries, self.put)
+    fn call(&mut self, call: &Putting, _told: &mut Told) -> Result<(), AllocError> {
+        put_so(&mut self.out, &self.entries, call.put)
     }
 
-    fn show(&self, state: &mut Written<'a>, told: &mut Told) {
-        told.bytes(&state.out);
+    fn show(&mut self, told: &mut Told) {
+        told.bytes(&self.out);
     }
 
-    fn close(&self, _state: Written<'a>, _told: &mut Told) {}
+    fn close(self, _told: &mut Told) {}
 }
 
 // So many entries, behind which one is appended.
@@ -112,54 +128,70 @@ impl<'a> Trial<'a> for Putting {
 struct Appending(usize);
 
 #[derive(Drop)]
-struct Entered<'a> {
-    all: Entries<Heap<'a>>,
-    one: Entries<Heap<'a>>,
+struct Entered<A: Allocator> {
+    all: Entries<A>,
+    one: Entries<A>,
 }
 
-impl<'a> Trial<'a> for Appending {
-    type State = Entered<'a>;
+// The entry so many times.
+fn times<A: Allocator + Copy>(
+    heap: A,
+    one: &Entries<A>,
+    count: usize,
+) -> Result<Entries<A>, AllocError> {
+    let mut all = Entries::new(heap);
+    for _ in 0..count {
+        all.append(one)?;
+    }
+    Ok(all)
+}
 
-    fn made(&self, _: Global, heap: Heap<'a>) -> Option<Entered<'a>> {
-        let one = Entries::read(heap, ENTRY, 1).ok()??;
-        let mut all = Entries::new(heap);
-        for _ in 0..self.0 {
-            all.append(&one).ok()?;
+impl<A: Allocator + Copy> Trial<A, Appending> for Entered<A> {
+    fn made(heap: A, call: &Appending, _told: &mut Told) -> Option<Self> {
+        let Some(one) = entry(heap) else {
+            return None;
+        };
+        match times(heap, &one, call.0) {
+            Ok(all) => Some(Entered { all, one }),
+            Err(AllocError) => None,
         }
-        Some(Entered { all, one })
     }
 
-    fn call(&self, state: &mut Entered<'a>, _told: &mut Told) -> Result<(), AllocError> {
-        state.all.append(&state.one)
+    fn call(&mut self, _call: &Appending, _told: &mut Told) -> Result<(), AllocError> {
+        self.all.append(&self.one)
     }
 
-    fn show(&self, state: &mut Entered<'a>, told: &mut Told) {
-        told.bytes(state.all.as_bytes());
-        told.number(state.all.count() as u64);
+    fn show(&mut self, told: &mut Told) {
+        told.bytes(self.all.as_bytes());
+        told.number(self.all.count() as u64);
     }
 
-    fn close(&self, _state: Entered<'a>, _told: &mut Told) {}
+    fn close(self, _told: &mut Told) {}
 }
 
 // A list of some of these lengths has room, and of others not.
 static LENGTHS: [usize; 8] = [0, 5, 8, 16, 30, 32, 60, 64];
 
+// How many requests it makes, behind each of these numbers of bytes.
+fn behind_each<R: Abort>(rt: &R, alloc: Global, heap: Heap<'_>, number: usize, put: Put) -> u64 {
+    let mut requests = 0u64;
+    for behind in &LENGTHS {
+        let putting = Putting {
+            put,
+            behind: *behind,
+        };
+        let more = requests_of::<_, _, Written<Heap<'_>>>(rt, alloc, heap, number, &putting);
+        requests = requests.saturating_add(more);
+    }
+    requests
+}
+
 #[test]
 fn spellings(rt: HostRuntime) {
     let heap = Refusing::new(rt.alloc());
-    for put in &PUTS {
-        let mut requests = 0u64;
-        for behind in &LENGTHS {
-            let putting = Putting {
-                put: *put,
-                behind: *behind,
-            };
-            match refused_in_turn(rt.alloc(), &heap, &putting) {
-                Ok(more) => requests = requests.saturating_add(more),
-                Err(refusal) => panic!(rt; "{put:?} behind {behind} goes wrong with {refusal:?}"),
-            }
-        }
-        assert!(rt; requests > 1, "{put:?} asks for no memory");
+    for (number, put) in PUTS.iter().enumerate() {
+        let requests = behind_each(&rt, rt.alloc(), &heap, number, *put);
+        assert!(rt; requests > 1, "{number} asks for no memory");
     }
 }
 
@@ -168,10 +200,9 @@ fn entries(rt: HostRuntime) {
     let heap = Refusing::new(rt.alloc());
     let mut requests = 0u64;
     for behind in &LENGTHS {
-        match refused_in_turn(rt.alloc(), &heap, &Appending(*behind)) {
-            Ok(more) => requests = requests.saturating_add(more),
-            Err(refusal) => panic!(rt; "behind {behind} goes wrong with {refusal:?}"),
-        }
+        let call = Appending(*behind);
+        let more = requests_of::<_, _, Entered<Heap<'_>>>(&rt, rt.alloc(), &heap, *behind, &call);
+        requests = requests.saturating_add(more);
     }
     assert!(rt; requests > 1);
 }

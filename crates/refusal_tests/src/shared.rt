@@ -1,17 +1,18 @@
 //! Each call of a script of a shared buffer; and what makes deliveries and room for answers.
 
+use crate::files::NewDir;
 use crate::shop::{Books, Shop};
 use crate::told::Told;
-use crate::trial::{Heap, Refusal, Trial, refused_in_turn};
+use crate::trial::{Heap, Trial, requests_of};
 use buffer_store::BufferFault;
 use disk_files::{Dir, MemoryDir};
 use refusing_alloc::Refusing;
-use std::alloc::{AllocError, Global};
+use std::alloc::{AllocError, Allocator, Global};
 use std::process::Abort;
 use std::sync::Wait;
 
 // A call of a shared buffer. A tag has one byte.
-#[derive(Clone, Copy, Debug)]
+#[derive(Clone, Copy)]
 enum Act {
     Append(u8),
     Pend(u8),
@@ -65,9 +66,9 @@ static SCRIPT: [Act; 37] = [
     Act::DropOldest,
 ];
 
-fn take<R: Wait + Abort, D: Dir>(
+fn take<R: Wait + Abort, A: Allocator + Copy, D: Dir>(
     rt: &R,
-    shop: &mut Shop<'_, D>,
+    shop: &mut Shop<A, D>,
     act: Act,
     told: &mut Told,
 ) -> Result<u64, BufferFault> {
@@ -92,19 +93,26 @@ fn tag_of(act: Act) -> u8 {
     }
 }
 
-// Whether all these calls are answered, and the next is prepared.
-fn goes_on<R: Wait + Abort, D: Dir>(
-    rt: &R,
-    shop: &mut Shop<'_, D>,
-    acts: &[Act],
-    next: Act,
-    told: &mut Told,
-) -> Option<()> {
-    for act in acts {
-        shop.prepare(tag_of(*act), 1)?;
-        take(rt, shop, *act, told).ok()?;
+fn act_at(place: usize) -> Act {
+    match SCRIPT.get(place) {
+        Some(act) => *act,
+        None => Act::Redeem,
     }
-    shop.prepare(tag_of(next), 2)
+}
+
+// Whether the calls before this place are answered, and the one there is prepared.
+fn goes_to<R: Wait + Abort, A: Allocator + Copy, D: Dir>(
+    rt: &R,
+    shop: &mut Shop<A, D>,
+    place: usize,
+    told: &mut Told,
+) -> bool {
+    for act in SCRIPT.split_at(place.min(SCRIPT.len())).0 {
+        if !shop.prepare(tag_of(*act), 1) || take(rt, shop, *act, told).is_err() {
+            return false;
+        }
+    }
+    shop.prepare(tag_of(act_at(place)), 2)
 }
 
 // The call at this place of the script, behind those before it.
@@ -113,46 +121,40 @@ struct Place<'r, R> {
     place: usize,
 }
 
-impl<R> Place<'_, R> {
-    fn act(&self) -> Act {
-        match SCRIPT.get(self.place) {
-            Some(act) => *act,
-            None => Act::Redeem,
-        }
-    }
-
-    fn acts_before(&self) -> &'static [Act] {
-        SCRIPT.split_at(self.place.min(SCRIPT.len())).0
-    }
+struct Trying<'r, R, A: Allocator, D: Dir> {
+    rt: &'r R,
+    shop: Shop<A, D>,
 }
 
-impl<'a, R: Wait + Abort> Trial<'a> for Place<'_, R> {
-    type State = Shop<'a, MemoryDir<Heap<'a>>>;
+// A shop behind the calls before this place.
+fn played<R: Wait + Abort, A: Allocator + Copy, D: NewDir<A>>(
+    rt: &R,
+    heap: A,
+    place: usize,
+    told: &mut Told,
+) -> Option<Shop<A, D>> {
+    let Some(mut shop) = Shop::open(heap) else {
+        return None;
+    };
+    if goes_to(rt, &mut shop, place, told) {
+        return Some(shop);
+    }
+    shop.close(rt).tell(told);
+    None
+}
 
-    fn made(&self, alloc: Global, heap: Heap<'a>) -> Option<Shop<'a, MemoryDir<Heap<'a>>>> {
-        let mut told = Told::new(alloc);
-        let mut shop = Shop::open(heap, MemoryDir::new(heap))?;
-        if goes_on(
-            self.rt,
-            &mut shop,
-            self.acts_before(),
-            self.act(),
-            &mut told,
-        )
-        .is_none()
-        {
-            shop.close(self.rt).tell(&mut told);
-            return None;
+impl<'r, R: Wait + Abort, A: Allocator + Copy, D: NewDir<A>> Trial<A, Place<'r, R>>
+    for Trying<'r, R, A, D> {
+    fn made(heap: A, call: &Place<'r, R>, told: &mut Told) -> Option<Self> {
+        let rt = call.rt;
+        match played(rt, heap, call.place, told) {
+            Some(shop) => Some(Trying { rt, shop }),
+            None => None,
         }
-        Some(shop)
     }
 
-    fn call(
-        &self,
-        state: &mut Shop<'a, MemoryDir<Heap<'a>>>,
-        told: &mut Told,
-    ) -> Result<(), AllocError> {
-        match take(self.rt, state, self.act(), told) {
+    fn call(&mut self, call: &Place<'r, R>, told: &mut Told) -> Result<(), AllocError> {
+        match take(self.rt, &mut self.shop, act_at(call.place), told) {
             Ok(number) => told.number(number),
             Err(BufferFault::Memory) => return Err(AllocError),
             Err(_) => told.number(77_777),
@@ -160,12 +162,13 @@ impl<'a, R: Wait + Abort> Trial<'a> for Place<'_, R> {
         Ok(())
     }
 
-    fn show(&self, state: &mut Shop<'a, MemoryDir<Heap<'a>>>, told: &mut Told) {
-        state.tell(self.rt, told);
+    fn show(&mut self, told: &mut Told) {
+        self.shop.tell(self.rt, told);
     }
 
-    fn close(&self, state: Shop<'a, MemoryDir<Heap<'a>>>, told: &mut Told) {
-        state.close(self.rt).tell(told);
+    fn close(self, told: &mut Told) {
+        let Trying { rt, shop } = self;
+        shop.close(rt).tell(told);
     }
 }
 
@@ -175,45 +178,44 @@ struct Audit<'r, R> {
     place: usize,
 }
 
-impl<'a, R: Wait + Abort> Trial<'a> for Audit<'_, R> {
-    type State = Books<'a, MemoryDir<Heap<'a>>>;
-
-    fn made(&self, alloc: Global, heap: Heap<'a>) -> Option<Books<'a, MemoryDir<Heap<'a>>>> {
-        let place = Place {
-            rt: self.rt,
-            place: self.place,
-        };
-        let shop = place.made(alloc, heap);
-        let Place { rt: _, place: _ } = place;
-        Some(shop?.close(self.rt))
+impl<'r, R: Wait + Abort, A: Allocator + Copy, D: NewDir<A>> Trial<A, Audit<'r, R>>
+    for Books<A, D> {
+    fn made(heap: A, call: &Audit<'r, R>, told: &mut Told) -> Option<Self> {
+        match played::<R, A, D>(call.rt, heap, call.place, told) {
+            Some(shop) => Some(shop.close(call.rt)),
+            None => None,
+        }
     }
 
-    fn call(
-        &self,
-        state: &mut Books<'a, MemoryDir<Heap<'a>>>,
-        told: &mut Told,
-    ) -> Result<(), AllocError> {
-        told.number(u64::from(state.audit()?));
+    fn call(&mut self, _call: &Audit<'r, R>, told: &mut Told) -> Result<(), AllocError> {
+        told.number(u64::from(self.audit()?));
         Ok(())
     }
 
-    fn show(&self, _state: &mut Books<'a, MemoryDir<Heap<'a>>>, _told: &mut Told) {}
+    fn show(&mut self, _told: &mut Told) {}
 
-    fn close(&self, state: Books<'a, MemoryDir<Heap<'a>>>, told: &mut Told) {
-        state.tell(told);
+    fn close(self, told: &mut Told) {
+        self.tell(told);
     }
 }
 
-// How many requests an audit behind the calls before this place makes, each of which is refused.
-fn audited<R: Wait + Abort>(
-    rt: &R,
-    alloc: Global,
-    heap: Heap<'_>,
-    place: usize,
-) -> Result<u64, Refusal> {
-    let trial = Audit { rt, place };
-    let requests = refused_in_turn(alloc, heap, &trial);
-    let Audit { rt: _, place: _ } = trial;
+type Shared<'r, 'a, R> = Trying<'r, R, Heap<'a>, MemoryDir<Heap<'a>>>;
+
+type Closed<'a> = Books<Heap<'a>, MemoryDir<Heap<'a>>>;
+
+// How many requests the call at this place makes.
+fn requests_at<R: Wait + Abort>(rt: &R, alloc: Global, heap: Heap<'_>, place: usize) -> u64 {
+    let call = Place { rt, place };
+    let requests = requests_of::<_, _, Shared<'_, '_, R>>(rt, alloc, heap, place, &call);
+    let Place { rt: _, place: _ } = call;
+    requests
+}
+
+// How many requests an audit behind the calls before this place makes.
+fn audit_requests_at<R: Wait + Abort>(rt: &R, alloc: Global, heap: Heap<'_>, place: usize) -> u64 {
+    let call = Audit { rt, place };
+    let requests = requests_of::<_, _, Closed<'_>>(rt, alloc, heap, place, &call);
+    let Audit { rt: _, place: _ } = call;
     requests
 }
 
@@ -221,10 +223,7 @@ fn audited<R: Wait + Abort>(
 fn audits(rt: HostRuntime) {
     let heap = Refusing::new(rt.alloc());
     for place in 12..14 {
-        match audited(&rt, rt.alloc(), &heap, place) {
-            Ok(requests) => assert!(rt; requests > 0),
-            Err(refusal) => panic!(rt; "at {place} it goes wrong with {refusal:?}"),
-        }
+        assert!(rt; audit_requests_at(&rt, rt.alloc(), &heap, place) > 0);
     }
 }
 
@@ -233,14 +232,7 @@ fn calls(rt: HostRuntime) {
     let heap = Refusing::new(rt.alloc());
     let mut requests = 0u64;
     for place in 0..SCRIPT.len() {
-        let trial = Place { rt: &rt, place };
-        match refused_in_turn(rt.alloc(), &heap, &trial) {
-            Ok(more) => requests = requests.saturating_add(more),
-            Err(refusal) => {
-                panic!(rt; "{:?} at {place} goes wrong with {refusal:?}", trial.act())
-            }
-        }
-        let Place { rt: _, place: _ } = trial;
+        requests = requests.saturating_add(requests_at(&rt, rt.alloc(), &heap, place));
     }
     assert!(rt; requests > 30, "{requests}");
 }

@@ -1,18 +1,17 @@
 //! A shared buffer, what was appended to it, and what was claimed from it.
 
-use crate::acts::open;
-use crate::files::tell_left;
+use crate::acts::{entry, open};
+use crate::files::{NewDir, tell_left};
 use crate::told::Told;
-use crate::trial::Heap;
 use ack_receipt::{
     AuditError, Basis, Claim, Closed, Delivery, Evidence, Leaf, Numbers, Pending, PurgeFault,
     Receipt, RedeemFault, SharedBuffer, Stub, Takes,
 };
 use buffer_state::Stage;
-use buffer_store::BufferFault;
+use buffer_store::{Buffer, BufferFault};
 use disk_files::Dir;
-use event_modes::{Entries, Message};
-use std::alloc::AllocError;
+use event_modes::Message;
+use std::alloc::{AllocError, Allocator};
 use std::mem::replace;
 use std::process::Abort;
 use std::sync::Wait;
@@ -23,38 +22,44 @@ pub const LEAF: Leaf = Leaf {
     buffer: 0,
 };
 
-type Shelf<'a, D> = SharedBuffer<D, Heap<'a>>;
-
-type Waiting<'a> = Vec<Pending<Heap<'a>>, Heap<'a>>;
-
 /// A shared buffer with a delivery that isn't appended yet, appends that wait for receipts, what
 /// was claimed last, and what is left of deliveries.
-pub struct Shop<'a, D: Dir> {
-    heap: Heap<'a>,
-    shelf: Shelf<'a, D>,
+pub struct Shop<A: Allocator, D: Dir> {
+    heap: A,
+    shelf: SharedBuffer<D, A>,
     numbers: Numbers,
-    next: Option<Delivery<Heap<'a>>>,
-    waiting: Waiting<'a>,
-    claim: Option<Claim<Heap<'a>>>,
-    stubs: Vec<Stub<Heap<'a>>, Heap<'a>>,
+    next: Option<Delivery<A>>,
+    waiting: Vec<Pending<A>, A>,
+    claim: Option<Claim<A>>,
+    stubs: Vec<Stub<A>, A>,
 }
 
 /// A message of this tag with one entry, of this number.
-pub fn message(heap: Heap<'_>, tag: u8, number: u8) -> Option<Message<Heap<'_>>> {
-    Some(Message {
-        tag: Vec::from_slice(heap, &[tag]).ok()?,
-        entries: Entries::read(heap, &[0x92, number, 0x80], 1).ok()??,
-        ack: Some(Vec::from_slice(heap, b"\xa2c1").ok()?),
-    })
+pub fn message<A: Allocator + Copy>(heap: A, tag: u8, number: u8) -> Option<Message<A>> {
+    let (Ok(tag), Ok(ack)) = (
+        Vec::from_slice(heap, &[tag]),
+        Vec::from_slice(heap, b"\xa2c1"),
+    ) else {
+        return None;
+    };
+    match entry(heap, number) {
+        Ok(entries) => Some(Message {
+            tag,
+            entries,
+            ack: Some(ack),
+        }),
+        Err(AllocError) => None,
+    }
 }
 
-fn begun<'a>(
-    heap: Heap<'a>,
+fn begun<A: Allocator + Copy>(
+    heap: A,
     numbers: &mut Numbers,
-    message: Message<Heap<'a>>,
-) -> Option<Delivery<Heap<'a>>> {
-    let number = numbers.draw()?;
-    let leaves = Vec::from_slice(heap, &[LEAF]).ok()?;
+    message: Message<A>,
+) -> Option<Delivery<A>> {
+    let (Some(number), Ok(leaves)) = (numbers.draw(), Vec::from_slice(heap, &[LEAF])) else {
+        return None;
+    };
     match Delivery::begin(heap, number, message, leaves) {
         Ok(delivery) => Some(delivery),
         Err(_) => None,
@@ -62,13 +67,17 @@ fn begun<'a>(
 }
 
 // A delivery that is to come next takes this place.
-fn put_next<'a>(place: &mut Option<Delivery<Heap<'a>>>, delivery: Delivery<Heap<'a>>) {
+fn put_next<A: Allocator>(place: &mut Option<Delivery<A>>, delivery: Delivery<A>) {
     if let Some(other) = replace(place, Some(delivery)) {
         let _ = other.abandon();
     }
 }
 
-fn give_up_all<'a, R: Wait, D: Dir>(rt: &R, shelf: &Shelf<'a, D>, waiting: Waiting<'a>) {
+fn give_up_all<R: Wait, A: Allocator + Copy, D: Dir>(
+    rt: &R,
+    shelf: &SharedBuffer<D, A>,
+    waiting: Vec<Pending<A>, A>,
+) {
     let mut rest = waiting.into_iter();
     while let Some(pending) = rest.next() {
         let _ = shelf.give_up(rt, pending);
@@ -76,9 +85,9 @@ fn give_up_all<'a, R: Wait, D: Dir>(rt: &R, shelf: &Shelf<'a, D>, waiting: Waiti
     rest.destroy_empty();
 }
 
-fn spend_all<'a>(
-    receipts: Vec<Receipt<Heap<'a>>, Heap<'a>>,
-    stubs: &mut Vec<Stub<Heap<'a>>, Heap<'a>>,
+fn spend_all<A: Allocator + Copy>(
+    receipts: Vec<Receipt<A>, A>,
+    stubs: &mut Vec<Stub<A>, A>,
 ) -> u64 {
     let mut rest = receipts.into_iter();
     let mut sum = 0u64;
@@ -90,23 +99,124 @@ fn spend_all<'a>(
     sum
 }
 
-fn give_back<'a, R: Wait + Abort, D: Dir>(rt: &R, shelf: &Shelf<'a, D>, claim: Claim<Heap<'a>>) {
+fn give_back<R: Wait + Abort, A: Allocator + Copy, D: Dir>(
+    rt: &R,
+    shelf: &SharedBuffer<D, A>,
+    claim: Claim<A>,
+) {
     if claim.leaf() != shelf.leaf() {
         panic!(rt; "a claim of another buffer");
     }
     shelf.give_back(rt, claim);
 }
 
-impl<'a, D: Dir + Drop> Shop<'a, D> {
-    /// A shop over this folder, whose chunks go once they are written or given up.
-    pub fn open(heap: Heap<'a>, dir: D) -> Option<Shop<'a, D>> {
-        let buffer = open(heap, dir, 0).map_err(|(fault, _dir)| fault).ok()?;
+// The receipt of a delivery that is appended; one of no entries isn't.
+fn receipt_of<R: Wait, A: Allocator + Copy, D: Dir>(
+    rt: &R,
+    shelf: &SharedBuffer<D, A>,
+    delivery: &Delivery<A>,
+) -> Result<Receipt<A>, BufferFault> {
+    if delivery.entries().count() == 0 {
+        return Err(BufferFault::Gone);
+    }
+    shelf.append(rt, delivery)
+}
+
+fn pending_of<R: Wait, A: Allocator + Copy, D: Dir>(
+    rt: &R,
+    shelf: &SharedBuffer<D, A>,
+    delivery: &Delivery<A>,
+) -> Result<Pending<A>, BufferFault> {
+    if delivery.entries().count() == 0 {
+        return Err(BufferFault::Gone);
+    }
+    shelf.append_pending(rt, delivery)
+}
+
+fn end_next<A: Allocator>(next: &mut Option<Delivery<A>>) {
+    if let Some(delivery) = next.take() {
+        let _ = delivery.abandon();
+    }
+}
+
+// An append waits for its receipt.
+fn keep<R: Wait, A: Allocator + Copy, D: Dir>(
+    rt: &R,
+    shelf: &SharedBuffer<D, A>,
+    waiting: &mut Vec<Pending<A>, A>,
+    pending: Pending<A>,
+) {
+    if let Err(failed) = waiting.push(pending) {
+        let _ = shelf.give_up(rt, failed.value);
+    }
+}
+
+fn fault_of_redeem(fault: RedeemFault) -> BufferFault {
+    match fault {
+        RedeemFault::Buffer(fault) => fault,
+        RedeemFault::Stranger => BufferFault::Gone,
+    }
+}
+
+fn fault_of_purge(fault: PurgeFault) -> BufferFault {
+    match fault {
+        PurgeFault::Buffer(fault) => fault,
+        PurgeFault::Stranger => BufferFault::Gone,
+    }
+}
+
+fn serial_of<A: Allocator>(claim: &Option<Claim<A>>) -> u64 {
+    match claim {
+        Some(claim) => claim.serial(),
+        None => u64::MAX,
+    }
+}
+
+// Ends what is in a shop's hands.
+fn end_all<R: Wait + Abort, A: Allocator + Copy, D: Dir>(
+    rt: &R,
+    shelf: &SharedBuffer<D, A>,
+    next: Option<Delivery<A>>,
+    claim: Option<Claim<A>>,
+    waiting: Vec<Pending<A>, A>,
+) {
+    if let Some(delivery) = next {
+        let _ = delivery.abandon();
+    }
+    if let Some(claim) = claim {
+        give_back(rt, shelf, claim);
+    }
+    give_up_all(rt, shelf, waiting);
+}
+
+fn tell_chunks<A: Allocator + Copy, D: Dir>(closed: &Closed<D, A>, told: &mut Told) {
+    for facts in closed.chunks().iter() {
+        told.number(facts.serial);
+        told.bytes(facts.tag);
+        told.number(facts.count as u64);
+        told.number(u64::from(facts.stage == Stage::Staged));
+    }
+}
+
+impl<A: Allocator + Copy, D: NewDir<A>> Shop<A, D> {
+    /// A shop over a new folder, whose chunks go once they are written or given up.
+    pub fn open(heap: A) -> Option<Shop<A, D>> {
+        match open(heap, D::new_dir(heap), 0) {
+            Ok(buffer) => Some(Shop::over(heap, buffer)),
+            Err((_fault, _dir)) => None,
+        }
+    }
+}
+
+impl<A: Allocator + Copy, D: Dir> Shop<A, D> {
+    // A shop over this buffer.
+    fn over(heap: A, buffer: Buffer<D, A>) -> Shop<A, D> {
         let takes = Takes {
             basis: Basis::Written,
             expires: false,
             drops: true,
         };
-        Some(Shop {
+        Shop {
             heap,
             shelf: SharedBuffer::new(heap, buffer, LEAF, takes),
             numbers: Numbers::new(),
@@ -114,68 +224,49 @@ impl<'a, D: Dir + Drop> Shop<'a, D> {
             waiting: Vec::new(heap),
             claim: None,
             stubs: Vec::new(heap),
-        })
+        }
     }
-}
 
-impl<'a, D: Dir> Shop<'a, D> {
     /// Begins the delivery that comes next, and makes the room that the shop itself needs for a
     /// call.
-    pub fn prepare(&mut self, tag: u8, number: u8) -> Option<()> {
-        self.waiting.reserve(1).ok()?;
-        self.stubs.reserve(8).ok()?;
-        let message = message(self.heap, tag, number)?;
-        let delivery = begun(self.heap, &mut self.numbers, message)?;
+    ///
+    /// It says whether there was memory for it.
+    pub fn prepare(&mut self, tag: u8, number: u8) -> bool {
+        if self.waiting.reserve(1).is_err() || self.stubs.reserve(8).is_err() {
+            return false;
+        }
+        let Some(message) = message(self.heap, tag, number) else {
+            return false;
+        };
+        let Some(delivery) = begun(self.heap, &mut self.numbers, message) else {
+            return false;
+        };
         put_next(&mut self.next, delivery);
-        Some(())
+        true
     }
 
-    /// Appends the delivery that comes next.
+    /// Appends the delivery that comes next. It stays where that is refused.
     pub fn append<R: Wait>(&mut self, rt: &R) -> Result<u64, BufferFault> {
-        let Some(delivery) = self.next.take() else {
+        let Some(delivery) = &self.next else {
             return Err(BufferFault::Gone);
         };
-        if delivery.entries().count() == 0 {
-            put_next(&mut self.next, delivery);
-            return Err(BufferFault::Gone);
-        }
-        match self.shelf.append(rt, &delivery) {
-            Ok(receipt) => {
-                let serial = receipt.serial();
-                let _ = self.stubs.push(receipt.spend());
-                let _ = delivery.abandon();
-                Ok(serial)
-            }
-            Err(fault) => {
-                put_next(&mut self.next, delivery);
-                Err(fault)
-            }
-        }
+        let receipt = receipt_of(rt, &self.shelf, delivery)?;
+        let serial = receipt.serial();
+        let _ = self.stubs.push(receipt.spend());
+        end_next(&mut self.next);
+        Ok(serial)
     }
 
     /// The same without a sync: the append waits for its receipt.
     pub fn append_pending<R: Wait>(&mut self, rt: &R) -> Result<u64, BufferFault> {
-        let Some(delivery) = self.next.take() else {
+        let Some(delivery) = &self.next else {
             return Err(BufferFault::Gone);
         };
-        if delivery.entries().count() == 0 {
-            put_next(&mut self.next, delivery);
-            return Err(BufferFault::Gone);
-        }
-        match self.shelf.append_pending(rt, &delivery) {
-            Ok(pending) => {
-                let serial = pending.serial();
-                let _ = delivery.abandon();
-                if let Err(failed) = self.waiting.push(pending) {
-                    let _ = self.shelf.give_up(rt, failed.value);
-                }
-                Ok(serial)
-            }
-            Err(fault) => {
-                put_next(&mut self.next, delivery);
-                Err(fault)
-            }
-        }
+        let pending = pending_of(rt, &self.shelf, delivery)?;
+        let serial = pending.serial();
+        end_next(&mut self.next);
+        keep(rt, &self.shelf, &mut self.waiting, pending);
+        Ok(serial)
     }
 
     /// Redeems all that wait.
@@ -186,10 +277,7 @@ impl<'a, D: Dir> Shop<'a, D> {
             Err((fault, waiting)) => {
                 let none = replace(&mut self.waiting, waiting);
                 give_up_all(rt, &self.shelf, none);
-                match fault {
-                    RedeemFault::Buffer(fault) => Err(fault),
-                    RedeemFault::Stranger => Err(BufferFault::Gone),
-                }
+                Err(fault_of_redeem(fault))
             }
         }
     }
@@ -203,14 +291,16 @@ impl<'a, D: Dir> Shop<'a, D> {
     /// Claims the next chunk; one that was claimed before is given back.
     pub fn claim<R: Wait + Abort>(&mut self, rt: &R) -> Result<u64, BufferFault> {
         let found = self.shelf.claim(rt)?;
-        let serial = match &found {
-            Some(claim) => claim.serial(),
-            None => u64::MAX,
-        };
+        let serial = serial_of(&found);
+        self.hold(rt, found);
+        Ok(serial)
+    }
+
+    // Holds this claim; one that was held before is given back.
+    fn hold<R: Wait + Abort>(&mut self, rt: &R, found: Option<Claim<A>>) {
         if let Some(other) = replace(&mut self.claim, found) {
             give_back(rt, &self.shelf, other);
         }
-        Ok(serial)
     }
 
     /// Reads the entries of what is claimed.
@@ -233,13 +323,8 @@ impl<'a, D: Dir> Shop<'a, D> {
             Ok(()) => Ok(0),
             Err((fault, claim, evidence)) => {
                 evidence.waste();
-                if let Some(other) = replace(&mut self.claim, Some(claim)) {
-                    give_back(rt, &self.shelf, other);
-                }
-                match fault {
-                    PurgeFault::Buffer(fault) => Err(fault),
-                    PurgeFault::Stranger => Err(BufferFault::Gone),
-                }
+                self.hold(rt, Some(claim));
+                Err(fault_of_purge(fault))
             }
         }
     }
@@ -267,7 +352,7 @@ impl<'a, D: Dir> Shop<'a, D> {
     }
 
     /// Ends the sharing, with what is in the shop's hands.
-    pub fn close<R: Wait + Abort>(self, rt: &R) -> Books<'a, D> {
+    pub fn close<R: Wait + Abort>(self, rt: &R) -> Books<A, D> {
         let Shop {
             heap,
             shelf,
@@ -277,13 +362,7 @@ impl<'a, D: Dir> Shop<'a, D> {
             claim,
             stubs,
         } = self;
-        if let Some(delivery) = next {
-            let _ = delivery.abandon();
-        }
-        if let Some(claim) = claim {
-            give_back(rt, &shelf, claim);
-        }
-        give_up_all(rt, &shelf, waiting);
+        end_all(rt, &shelf, next, claim, waiting);
         Books {
             heap,
             closed: shelf.close(),
@@ -293,13 +372,13 @@ impl<'a, D: Dir> Shop<'a, D> {
 }
 
 /// A buffer that was shared, with its book, and what is left of its deliveries.
-pub struct Books<'a, D: Dir> {
-    heap: Heap<'a>,
-    closed: Closed<D, Heap<'a>>,
-    stubs: Vec<Stub<Heap<'a>>, Heap<'a>>,
+pub struct Books<A: Allocator, D: Dir> {
+    heap: A,
+    closed: Closed<D, A>,
+    stubs: Vec<Stub<A>, A>,
 }
 
-impl<'a, D: Dir + Drop> Books<'a, D> {
+impl<A: Allocator + Copy, D: Dir + Drop> Books<A, D> {
     /// Whether what is left accounts for the book.
     pub fn audit(&self) -> Result<bool, AllocError> {
         match self.closed.audit(self.heap, &self.stubs) {
@@ -317,12 +396,7 @@ impl<'a, D: Dir + Drop> Books<'a, D> {
             closed,
             stubs: _,
         } = self;
-        for facts in closed.chunks().iter() {
-            told.number(facts.serial);
-            told.bytes(facts.tag);
-            told.number(facts.count as u64);
-            told.number(u64::from(facts.stage == Stage::Staged));
-        }
+        tell_chunks(&closed, told);
         tell_left(heap, closed.into_dir(), told);
     }
 }

@@ -1,34 +1,35 @@
 //! A sink is opened, written to and read.
 
-use crate::files::tell_left;
+use crate::files::{NewDir, tell_left};
 use crate::told::Told;
-use crate::trial::{Heap, Trial, refused_in_turn};
+use crate::trial::{Heap, Trial, requests_of};
 use disk_files::{Dir, MemoryDir};
 use event_modes::Entries;
 use refusing_alloc::Refusing;
 use sink_series::{Series, SeriesFault, Stored};
-use std::alloc::{AllocError, Global};
+use std::alloc::{AllocError, Allocator};
 use std::mem::replace;
 
 // How often a sink was written to before.
 static WRITES: [u8; 5] = [0, 1, 4, 6, 9];
 
-type Sink<'a, D> = Series<D, Heap<'a>>;
-
 // The entries of a write.
-fn entries(heap: Heap<'_>, number: u8) -> Option<Entries<Heap<'_>>> {
-    Entries::read(heap, &[0x92, number, 0x81, 0xa1, 0x6b, 0xa1, 0x76], 1).ok()?
+fn entries<A: Allocator + Copy>(heap: A, number: u8) -> Option<Entries<A>> {
+    match Entries::read(heap, &[0x92, number, 0x81, 0xa1, 0x6b, 0xa1, 0x76], 1) {
+        Ok(entries) => entries,
+        Err(AllocError) => None,
+    }
 }
 
-fn tell_stored(stored: &Stored<Heap<'_>>, told: &mut Told) {
+fn tell_stored<A: Allocator>(stored: &Stored<A>, told: &mut Told) {
     told.bytes(stored.path());
     told.bytes(stored.tag());
     told.bytes(stored.entries().as_bytes());
 }
 
-fn write<'a, D: Dir>(
-    series: &mut Sink<'a, D>,
-    entries: &Entries<Heap<'a>>,
+fn write<A: Allocator + Copy, D: Dir>(
+    series: &mut Series<D, A>,
+    entries: &Entries<A>,
     told: &mut Told,
 ) -> Result<(), SeriesFault> {
     let stored = series.write_all_entries(b"tag", entries)?;
@@ -36,7 +37,10 @@ fn write<'a, D: Dir>(
     Ok(())
 }
 
-fn read<D: Dir>(series: &mut Sink<'_, D>, told: &mut Told) -> Result<(), SeriesFault> {
+fn read<A: Allocator + Copy, D: Dir>(
+    series: &mut Series<D, A>,
+    told: &mut Told,
+) -> Result<(), SeriesFault> {
     let events = series.content()?;
     for event in &events {
         told.bytes(event.tag());
@@ -45,21 +49,51 @@ fn read<D: Dir>(series: &mut Sink<'_, D>, told: &mut Told) -> Result<(), SeriesF
     Ok(())
 }
 
-fn open<D: Dir>(heap: Heap<'_>, dir: D) -> Result<Sink<'_, D>, (SeriesFault, D)> {
-    Series::open(heap, dir, b"out")
+// Whether these entries were written.
+fn is_written<A: Allocator + Copy, D: Dir>(
+    series: &mut Series<D, A>,
+    entries: &Entries<A>,
+) -> bool {
+    match series.write_all_entries(b"tag", entries) {
+        Ok(stored) => stored.entries().count() == 1,
+        Err(_) => false,
+    }
 }
 
-// A sink in this folder with so many writes.
-fn written<'a, D: Dir + Drop>(heap: Heap<'a>, dir: D, writes: u8) -> Option<Sink<'a, D>> {
-    let mut series = open(heap, dir).map_err(|(fault, _dir)| fault).ok()?;
+// Whether so many writes succeed.
+fn are_written<A: Allocator + Copy, D: Dir>(
+    heap: A,
+    series: &mut Series<D, A>,
+    writes: u8,
+) -> bool {
     for number in 0..writes {
-        let entries = entries(heap, number)?;
-        let stored = series.write_all_entries(b"tag", &entries).ok()?;
-        if stored.entries().count() != 1 {
-            return None;
+        let Some(entries) = entries(heap, number) else {
+            return false;
+        };
+        if !is_written(series, &entries) {
+            return false;
         }
     }
-    Some(series)
+    true
+}
+
+// A sink in a new folder.
+fn new_sink<A: Allocator + Copy, D: NewDir<A>>(heap: A) -> Option<Series<D, A>> {
+    match Series::open(heap, D::new_dir(heap), b"out") {
+        Ok(series) => Some(series),
+        Err((_fault, _dir)) => None,
+    }
+}
+
+// A sink in a new folder with so many writes.
+fn written<A: Allocator + Copy, D: NewDir<A>>(heap: A, writes: u8) -> Option<Series<D, A>> {
+    let Some(mut series) = new_sink(heap) else {
+        return None;
+    };
+    if are_written(heap, &mut series, writes) {
+        return Some(series);
+    }
+    None
 }
 
 // What is answered; another fault than want of memory is told.
@@ -74,47 +108,46 @@ fn answered(answer: Result<(), SeriesFault>, told: &mut Told) -> Result<(), Allo
 
 // A sink, and entries that it is to take.
 #[derive(Drop)]
-struct Ready<'a> {
-    heap: Heap<'a>,
-    series: Sink<'a, MemoryDir<Heap<'a>>>,
-    entries: Entries<Heap<'a>>,
+struct Ready<A: Allocator + Copy, D: Dir> {
+    heap: A,
+    series: Series<D, A>,
+    entries: Entries<A>,
 }
 
 // A call behind so many writes.
-#[derive(Clone, Copy, Debug)]
+#[derive(Clone, Copy)]
 enum Call {
     Write(u8),
     Content(u8),
 }
 
-impl<'a> Trial<'a> for Call {
-    type State = Ready<'a>;
-
-    fn made(&self, _: Global, heap: Heap<'a>) -> Option<Ready<'a>> {
-        let (Call::Write(writes) | Call::Content(writes)) = *self;
-        let series = written(heap, MemoryDir::new(heap), writes)?;
-        let entries = entries(heap, 99)?;
-        Some(Ready {
-            heap,
-            series,
-            entries,
-        })
+impl<A: Allocator + Copy, D: NewDir<A>> Trial<A, Call> for Ready<A, D> {
+    fn made(heap: A, call: &Call, _told: &mut Told) -> Option<Self> {
+        let (Call::Write(writes) | Call::Content(writes)) = *call;
+        match (written(heap, writes), entries(heap, 99)) {
+            (Some(series), Some(entries)) => Some(Ready {
+                heap,
+                series,
+                entries,
+            }),
+            _ => None,
+        }
     }
 
-    fn call(&self, state: &mut Ready<'a>, told: &mut Told) -> Result<(), AllocError> {
-        let answer = match self {
-            Call::Write(_) => write(&mut state.series, &state.entries, told),
-            Call::Content(_) => read(&mut state.series, told),
+    fn call(&mut self, call: &Call, told: &mut Told) -> Result<(), AllocError> {
+        let answer = match call {
+            Call::Write(_) => write(&mut self.series, &self.entries, told),
+            Call::Content(_) => read(&mut self.series, told),
         };
         answered(answer, told)
     }
 
-    fn show(&self, state: &mut Ready<'a>, told: &mut Told) {
-        let _ = read(&mut state.series, told);
+    fn show(&mut self, told: &mut Told) {
+        let _ = read(&mut self.series, told);
     }
 
-    fn close(&self, state: Ready<'a>, told: &mut Told) {
-        tell_left(state.heap, state.series.into_dir(), told);
+    fn close(self, told: &mut Told) {
+        tell_left(self.heap, self.series.into_dir(), told);
     }
 }
 
@@ -124,53 +157,54 @@ struct Opening(u8);
 
 // A folder, or the sink that was opened in it.
 #[derive(Drop)]
-enum Found<'a> {
-    Folder(MemoryDir<Heap<'a>>),
-    Sink(Sink<'a, MemoryDir<Heap<'a>>>),
+enum Found<A: Allocator + Copy, D: Dir> {
+    Folder(D),
+    Sink(Series<D, A>),
     Nothing,
 }
 
 #[derive(Drop)]
-struct Folder<'a> {
-    heap: Heap<'a>,
-    found: Found<'a>,
+struct Folder<A: Allocator + Copy, D: Dir> {
+    heap: A,
+    found: Found<A, D>,
 }
 
 // Opens the folder. What comes of it, and its answer.
-fn opened<'a>(heap: Heap<'a>, found: Found<'a>) -> (Found<'a>, Result<(), SeriesFault>) {
-    match found {
-        Found::Folder(dir) => match open(heap, dir) {
-            Ok(series) => (Found::Sink(series), Ok(())),
-            Err((fault, dir)) => (Found::Folder(dir), Err(fault)),
-        },
-        other => (other, Ok(())),
+fn opened<A: Allocator + Copy, D: Dir>(heap: A, dir: D) -> (Found<A, D>, Result<(), SeriesFault>) {
+    match Series::open(heap, dir, b"out") {
+        Ok(series) => (Found::Sink(series), Ok(())),
+        Err((fault, dir)) => (Found::Folder(dir), Err(fault)),
     }
 }
 
-impl<'a> Trial<'a> for Opening {
-    type State = Folder<'a>;
-
-    fn made(&self, _: Global, heap: Heap<'a>) -> Option<Folder<'a>> {
-        let series = written(heap, MemoryDir::new(heap), self.0)?;
-        let found = Found::Folder(series.into_dir());
-        Some(Folder { heap, found })
+impl<A: Allocator + Copy, D: NewDir<A>> Trial<A, Opening> for Folder<A, D> {
+    fn made(heap: A, call: &Opening, _told: &mut Told) -> Option<Self> {
+        match written::<A, D>(heap, call.0) {
+            Some(series) => Some(Folder {
+                heap,
+                found: Found::Folder(series.into_dir()),
+            }),
+            None => None,
+        }
     }
 
-    fn call(&self, state: &mut Folder<'a>, told: &mut Told) -> Result<(), AllocError> {
-        let found = replace(&mut state.found, Found::Nothing);
-        let (found, answer) = opened(state.heap, found);
-        state.found = found;
+    fn call(&mut self, _call: &Opening, told: &mut Told) -> Result<(), AllocError> {
+        let (found, answer) = match replace(&mut self.found, Found::Nothing) {
+            Found::Folder(dir) => opened(self.heap, dir),
+            other => (other, Ok(())),
+        };
+        self.found = found;
         answered(answer, told)
     }
 
-    fn show(&self, state: &mut Folder<'a>, told: &mut Told) {
-        if let Found::Sink(series) = &mut state.found {
+    fn show(&mut self, told: &mut Told) {
+        if let Found::Sink(series) = &mut self.found {
             let _ = read(series, told);
         }
     }
 
-    fn close(&self, state: Folder<'a>, told: &mut Told) {
-        let Folder { heap, found } = state;
+    fn close(self, told: &mut Told) {
+        let Folder { heap, found } = self;
         match found {
             Found::Folder(dir) => tell_left(heap, dir, told),
             Found::Sink(series) => tell_left(heap, series.into_dir(), told),
@@ -179,15 +213,21 @@ impl<'a> Trial<'a> for Opening {
     }
 }
 
+type Sink<'a> = Ready<Heap<'a>, MemoryDir<Heap<'a>>>;
+
+type Opened<'a> = Folder<Heap<'a>, MemoryDir<Heap<'a>>>;
+
 #[test]
 fn calls(rt: HostRuntime) {
     let heap = Refusing::new(rt.alloc());
     for writes in &WRITES {
         for call in [Call::Write(*writes), Call::Content(*writes)] {
-            match refused_in_turn(rt.alloc(), &heap, &call) {
-                Ok(requests) => assert!(rt; requests > 0, "{call:?} asks for no memory"),
-                Err(refusal) => panic!(rt; "{call:?} goes wrong with {refusal:?}"),
-            }
+            let number = usize::from(*writes);
+            let requests = requests_of::<_, _, Sink<'_>>(&rt, rt.alloc(), &heap, number, &call);
+            assert!(rt;
+                requests > 0,
+                "behind {number} writes it asks for no memory"
+            );
         }
     }
 }
@@ -195,10 +235,10 @@ fn calls(rt: HostRuntime) {
 #[test]
 fn openings(rt: HostRuntime) {
     let heap = Refusing::new(rt.alloc());
-    for writes in [0, 1, 9] {
-        match refused_in_turn(rt.alloc(), &heap, &Opening(writes)) {
-            Ok(requests) => assert!(rt; requests > 0),
-            Err(refusal) => panic!(rt; "behind {writes} writes it goes wrong with {refusal:?}"),
-        }
+    for writes in [0u8, 1, 9] {
+        let number = usize::from(writes);
+        let call = Opening(writes);
+        let requests = requests_of::<_, _, Opened<'_>>(&rt, rt.alloc(), &heap, number, &call);
+        assert!(rt; requests > 0);
     }
 }

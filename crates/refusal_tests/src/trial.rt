@@ -2,14 +2,15 @@
 
 use crate::told::Told;
 use refusing_alloc::Refusing;
-use std::alloc::{AllocError, Global};
+use std::alloc::{AllocError, Allocator, Global};
+use std::process::Abort;
 
 /// An allocator that refuses what it is told to.
 pub type Heap<'a> = &'a Refusing<Global>;
 
-/// The request that is refused.
-#[derive(Clone, Copy, Debug)]
-pub struct Refusal {
+// The request that is refused.
+#[derive(Clone, Copy)]
+struct Refusal {
     // how many are served before it
     served: u64,
     // whether those behind it are served again
@@ -18,7 +19,7 @@ pub struct Refusal {
 
 impl Refusal {
     // From now on this request is refused.
-    fn begin(&self, heap: Heap<'_>) {
+    fn begin(self, heap: Heap<'_>) {
         if self.is_alone {
             heap.refuse_once(self.served);
         } else {
@@ -34,75 +35,70 @@ fn end(heap: Heap<'_>) -> bool {
     refused > 0
 }
 
-/// A call that can be tried, on a state that can be made again and again.
-pub trait Trial<'a> {
-    /// What the call is made on, and what it moves in.
-    type State;
-
-    /// The state before the call. It is made with ample memory; none where it can't be made.
-    fn made(&self, alloc: Global, heap: Heap<'a>) -> Option<Self::State>;
+/// A state on which a call can be tried, with what the call moves in. It can be made again and
+/// again.
+pub trait Trial<A: Allocator + Copy, C>: Sized {
+    /// The state before this call. It is made with ample memory; none where it can't be made. What
+    /// its making tells is passed over.
+    fn made(heap: A, call: &C, told: &mut Told) -> Option<Self>;
 
     /// Makes the call, and tells what it answers. The error is want of memory.
-    fn call(&self, state: &mut Self::State, told: &mut Told) -> Result<(), AllocError>;
+    fn call(&mut self, call: &C, told: &mut Told) -> Result<(), AllocError>;
 
     /// Tells what the state shows.
-    fn show(&self, state: &mut Self::State, told: &mut Told);
+    fn show(&mut self, told: &mut Told);
 
     /// Ends the state, and tells what is left of it.
-    fn close(&self, state: Self::State, told: &mut Told);
+    fn close(self, told: &mut Told);
 }
 
-// What is told of a state, of a call, and of what is left.
+// A call that is tried, with the allocator that it has and the one by which it is told.
+struct Bench<'b, 'a, C> {
+    alloc: Global,
+    heap: Heap<'a>,
+    call: &'b C,
+}
+
+// What is told of a state, and of what is left of it.
 #[derive(Drop)]
-struct Ample {
-    before: Told,
-    left_before: Told,
-    answer: Told,
-    after: Told,
-    left_after: Told,
+struct Seen {
+    shown: Told,
+    left: Told,
 }
 
-fn shown<'a, T: Trial<'a>>(alloc: Global, trial: &T, state: &mut T::State) -> Told {
-    let mut told = Told::new(alloc);
-    trial.show(state, &mut told);
-    told
-}
-
-fn closed<'a, T: Trial<'a>>(alloc: Global, trial: &T, state: T::State) -> Told {
-    let mut told = Told::new(alloc);
-    trial.close(state, &mut told);
-    told
-}
-
-// The answer of the call; none for want of memory.
-fn answered<'a, T: Trial<'a>>(alloc: Global, trial: &T, state: &mut T::State) -> Option<Told> {
-    let mut told = Told::new(alloc);
-    match trial.call(state, &mut told) {
-        Ok(()) => Some(told),
-        Err(AllocError) => None,
+impl Seen {
+    fn is(&self, other: &Seen) -> bool {
+        self.shown.is(&other.shown) && self.left.is(&other.left)
     }
 }
 
-// What is told where nothing is refused.
-fn with_ample_memory<'a, T: Trial<'a>>(alloc: Global, heap: Heap<'a>, trial: &T) -> Option<Ample> {
-    let mut state = trial.made(alloc, heap)?;
-    let before = shown(alloc, trial, &mut state);
-    let left_before = closed(alloc, trial, state);
-    let mut state = trial.made(alloc, heap)?;
-    let answer = answered(alloc, trial, &mut state);
-    let after = shown(alloc, trial, &mut state);
-    let left_after = closed(alloc, trial, state);
-    Some(Ample {
-        before,
-        left_before,
-        answer: answer?,
-        after,
-        left_after,
-    })
+// What is told with ample memory: the answer, which is none for want of memory, and the state
+// behind it.
+#[derive(Drop)]
+struct Behind {
+    answer: Option<Told>,
+    seen: Seen,
+}
+
+impl Behind {
+    // Whether this answer is the same.
+    fn has_answer(&self, answer: Option<Told>) -> bool {
+        match (&self.answer, &answer) {
+            (Some(told), Some(other)) => told.is(other),
+            _ => false,
+        }
+    }
+}
+
+// What is told where nothing is refused, of the state before the call and of all behind it.
+#[derive(Drop)]
+struct Ample {
+    before: Seen,
+    behind: Behind,
 }
 
 // How a call went.
-#[derive(Clone, Copy, Debug, PartialEq, Eq)]
+#[derive(Clone, Copy)]
 enum Went {
     // No request was refused, and all is as it is with ample memory.
     Through,
@@ -116,101 +112,179 @@ fn went_if(holds: bool, went: Went) -> Went {
     if holds { went } else { Went::Wrong }
 }
 
-// Whether this answer is the one with ample memory.
-fn is_right(answer: Option<Told>, ample: &Ample) -> bool {
-    match answer {
-        Some(answer) => answer.is(&ample.answer),
-        None => false,
-    }
-}
-
-// Whether state and what is left are as they are behind the call with ample memory.
-fn is_after<'a, T: Trial<'a>>(alloc: Global, trial: &T, state: T::State, ample: &Ample) -> bool {
-    let mut state = state;
-    let is_shown = shown(alloc, trial, &mut state).is(&ample.after);
-    closed(alloc, trial, state).is(&ample.left_after) && is_shown
-}
-
-// How the call goes with this request refused, and where it is, once more.
-fn goes<'a, T: Trial<'a>>(
-    alloc: Global,
-    heap: Heap<'a>,
-    trial: &T,
-    refusal: Refusal,
-    ample: &Ample,
-) -> Went {
-    let Some(mut state) = trial.made(alloc, heap) else {
-        return Went::Wrong;
-    };
-    refusal.begin(heap);
-    let first = answered(alloc, trial, &mut state);
-    if !end(heap) {
-        let holds = is_right(first, ample);
-        return went_if(is_after(alloc, trial, state, ample) && holds, Went::Through);
-    }
-    let stayed = first.is_none() && shown(alloc, trial, &mut state).is(&ample.before);
-    let again = is_right(answered(alloc, trial, &mut state), ample);
-    let holds = is_after(alloc, trial, state, ample) && stayed && again;
-    went_if(holds, Went::Refused)
-}
-
-// Whether what is left behind the call with this request refused is what was left before it, where
-// the call doesn't go through.
-fn leaves<'a, T: Trial<'a>>(
-    alloc: Global,
-    heap: Heap<'a>,
-    trial: &T,
-    refusal: Refusal,
-    ample: &Ample,
-) -> bool {
-    let Some(mut state) = trial.made(alloc, heap) else {
-        return false;
-    };
-    refusal.begin(heap);
-    let first = answered(alloc, trial, &mut state);
-    let is_refused = end(heap);
-    let left = closed(alloc, trial, state);
-    first.is_none() && is_refused && left.is(&ample.left_before)
-}
-
 // A call makes fewer requests than this.
 const REQUESTS: u64 = 10_000;
 
-// How many requests a call makes, each of which is refused; or the one at which it goes wrong.
-fn refused<'a, T: Trial<'a>>(
-    alloc: Global,
-    heap: Heap<'a>,
-    trial: &T,
-    is_alone: bool,
-    ample: &Ample,
-) -> Result<u64, Refusal> {
-    for served in 0..REQUESTS {
-        let refusal = Refusal { served, is_alone };
-        match goes(alloc, heap, trial, refusal, ample) {
-            Went::Through => return Ok(served),
-            Went::Refused if leaves(alloc, heap, trial, refusal, ample) => {}
-            _ => return Err(refusal),
+impl<'a, C> Bench<'_, 'a, C> {
+    fn made<T: Trial<Heap<'a>, C>>(&self) -> Option<T> {
+        let mut told = Told::new(self.alloc);
+        T::made(self.heap, self.call, &mut told)
+    }
+
+    fn shown<T: Trial<Heap<'a>, C>>(&self, state: &mut T) -> Told {
+        let mut told = Told::new(self.alloc);
+        state.show(&mut told);
+        told
+    }
+
+    fn closed<T: Trial<Heap<'a>, C>>(&self, state: T) -> Told {
+        let mut told = Told::new(self.alloc);
+        state.close(&mut told);
+        told
+    }
+
+    fn see<T: Trial<Heap<'a>, C>>(&self, state: T) -> Seen {
+        let mut state = state;
+        Seen {
+            shown: self.shown(&mut state),
+            left: self.closed(state),
         }
     }
-    Err(Refusal {
-        served: REQUESTS,
-        is_alone,
-    })
+
+    // The answer of the call; none for want of memory.
+    fn answered<T: Trial<Heap<'a>, C>>(&self, state: &mut T) -> Option<Told> {
+        let mut told = Told::new(self.alloc);
+        match state.call(self.call, &mut told) {
+            Ok(()) => Some(told),
+            Err(AllocError) => None,
+        }
+    }
+
+    fn before<T: Trial<Heap<'a>, C>>(&self) -> Option<Seen> {
+        match self.made::<T>() {
+            Some(state) => Some(self.see(state)),
+            None => None,
+        }
+    }
+
+    fn behind<T: Trial<Heap<'a>, C>>(&self) -> Option<Behind> {
+        let Some(mut state) = self.made::<T>() else {
+            return None;
+        };
+        let answer = self.answered(&mut state);
+        Some(Behind {
+            answer,
+            seen: self.see(state),
+        })
+    }
+
+    // What is told where nothing is refused.
+    fn with_ample_memory<T: Trial<Heap<'a>, C>>(&self) -> Option<Ample> {
+        match (self.before::<T>(), self.behind::<T>()) {
+            (Some(before), Some(behind)) => Some(Ample { before, behind }),
+            _ => None,
+        }
+    }
+
+    // How the first try goes, with this request refused. Where none is, its answer is compared.
+    fn first_try<T: Trial<Heap<'a>, C>>(
+        &self,
+        refusal: Refusal,
+        state: &mut T,
+        ample: &Ample,
+    ) -> Went {
+        refusal.begin(self.heap);
+        let answer = self.answered(state);
+        if end(self.heap) {
+            return went_if(answer.is_none(), Went::Refused);
+        }
+        went_if(ample.behind.has_answer(answer), Went::Through)
+    }
+
+    // Whether a call that was refused left all as it was, and is answered the next time.
+    fn goes_again<T: Trial<Heap<'a>, C>>(&self, state: &mut T, ample: &Ample) -> bool {
+        let stayed = self.shown(state).is(&ample.before.shown);
+        ample.behind.has_answer(self.answered(state)) && stayed
+    }
+
+    // How the call goes with this request refused, and where it is, once more.
+    fn goes<T: Trial<Heap<'a>, C>>(&self, refusal: Refusal, ample: &Ample) -> Went {
+        let Some(mut state) = self.made::<T>() else {
+            return Went::Wrong;
+        };
+        let went = self.first_try(refusal, &mut state, ample);
+        let holds = !matches!(went, Went::Refused) || self.goes_again(&mut state, ample);
+        let is_after = self.see(state).is(&ample.behind.seen);
+        went_if(is_after && holds, went)
+    }
+
+    // Whether what is left behind the call with this request refused is what was left before it,
+    // where the call doesn't go through.
+    fn leaves<T: Trial<Heap<'a>, C>>(&self, refusal: Refusal, ample: &Ample) -> bool {
+        let Some(mut state) = self.made::<T>() else {
+            return false;
+        };
+        let went = self.first_try(refusal, &mut state, ample);
+        self.closed(state).is(&ample.before.left) && matches!(went, Went::Refused)
+    }
+
+    // How many requests the call makes, each of which is refused; or the one at which it goes
+    // wrong.
+    fn refused<T: Trial<Heap<'a>, C>>(
+        &self,
+        is_alone: bool,
+        ample: &Ample,
+    ) -> Result<u64, Refusal> {
+        for served in 0..REQUESTS {
+            let refusal = Refusal { served, is_alone };
+            match self.goes::<T>(refusal, ample) {
+                Went::Through => return Ok(served),
+                Went::Refused if self.leaves::<T>(refusal, ample) => {}
+                _ => return Err(refusal),
+            }
+        }
+        Err(Refusal {
+            served: REQUESTS,
+            is_alone,
+        })
+    }
+
+    // The same, with all behind it refused and alone.
+    fn refused_both_ways<T: Trial<Heap<'a>, C>>(&self, ample: &Ample) -> Result<u64, Refusal> {
+        match self.refused::<T>(false, ample) {
+            Ok(_) => self.refused::<T>(true, ample),
+            Err(refusal) => Err(refusal),
+        }
+    }
+
+    // The same; the first request is the wrong one where it goes wrong with ample memory.
+    fn refused_in_turn<T: Trial<Heap<'a>, C>>(&self) -> Result<u64, Refusal> {
+        match self.with_ample_memory::<T>() {
+            Some(ample) => self.refused_both_ways::<T>(&ample),
+            None => Err(Refusal {
+                served: 0,
+                is_alone: false,
+            }),
+        }
+    }
 }
 
-/// How many requests a call makes, each of which is refused, with all behind it and alone; or the
-/// one at which it goes wrong, which is the first where it goes wrong with ample memory.
-pub fn refused_in_turn<'a, T: Trial<'a>>(
+/// How many requests this call makes, each of which is refused, with all behind it and alone. Where
+/// it goes wrong, the process ends: with the call's number and that of the request, which is 0 where
+/// it goes wrong with ample memory.
+pub fn requests_of<'a, R: Abort, C, T: Trial<Heap<'a>, C>>(
+    rt: &R,
     alloc: Global,
     heap: Heap<'a>,
-    trial: &T,
-) -> Result<u64, Refusal> {
-    let Some(ample) = with_ample_memory(alloc, heap, trial) else {
-        return Err(Refusal {
-            served: 0,
-            is_alone: false,
-        });
-    };
-    refused(alloc, heap, trial, false, &ample)?;
-    refused(alloc, heap, trial, true, &ample)
+    number: usize,
+    call: &C,
+) -> u64 {
+    let bench = Bench { alloc, heap, call };
+    let requests = bench.refused_in_turn::<T>();
+    let Bench {
+        alloc: _,
+        heap: _,
+        call: _,
+    } = bench;
+    match requests {
+        Ok(requests) => requests,
+        Err(refusal) => wrong(rt, number, refusal),
+    }
+}
+
+fn wrong<R: Abort>(rt: &R, number: usize, refusal: Refusal) -> u64 {
+    panic!(rt;
+        "call {number} goes wrong at {}, alone: {}",
+        refusal.served, refusal.is_alone
+    )
 }
