@@ -3,7 +3,7 @@
 use crate::run::Run;
 use ack_receipt::Evidence;
 use forward_core::Heard;
-use simulated_relays::{Disk, Name};
+use simulated_relays::{Disk, Link, Name};
 use std::alloc::{AllocError, Global};
 use std::sync::Wait;
 
@@ -22,12 +22,10 @@ impl<'n, D: Disk + Drop> Run<'n, D> {
         }
         let name = link.chunk();
         match link.hear(self.alloc, most)? {
-            Heard::Wait => {
-                if link.is_unheard() {
-                    return self.judge.fail_message(link.message, "isn't acknowledged");
-                }
-                Ok(())
+            Heard::Wait if link.is_unheard() => {
+                self.judge.fail_message(link.message, "isn't acknowledged")
             }
+            Heard::Wait => Ok(()),
             Heard::Fault(fault) => {
                 self.judge
                     .fail(format!(in self.alloc; "an answer is refused: {fault}")?);
@@ -43,7 +41,9 @@ impl<'n, D: Disk + Drop> Run<'n, D> {
     // The bytes of another connection's answer come to this one's sender, which hears nothing more
     // then.
     fn hear_other<R: Wait>(&mut self, rt: &R, at: usize) -> Result<(), AllocError> {
-        let bytes = self.other_answer(at)?;
+        let count = self.links.len();
+        let first = self.dice.below(count);
+        let bytes = other_answer(self.alloc, &self.links, first, at)?;
         let Some(link) = self.links.get_mut(at) else {
             return Ok(());
         };
@@ -58,21 +58,6 @@ impl<'n, D: Disk + Drop> Run<'n, D> {
         }
     }
 
-    // What of an answer is under way on a connection that isn't this one; nothing where none is
-    // found.
-    fn other_answer(&mut self, at: usize) -> Result<Vec<u8>, AllocError> {
-        let count = self.links.len();
-        for other in self.dice.below(count)..count {
-            if other != at
-                && let Some(link) = self.links.get(other)
-                && link.is_answering()
-            {
-                return link.under_way(self.alloc);
-            }
-        }
-        Ok(Vec::new(self.alloc))
-    }
-
     // The sender saw an acknowledgement of this chunk, or of a client's message.
     fn see<R: Wait>(
         &mut self,
@@ -84,7 +69,25 @@ impl<'n, D: Disk + Drop> Run<'n, D> {
             evidence.waste();
             return Ok(());
         };
-        let gone = self.let_go(rt, name, evidence)?;
-        self.tell_gone(name, gone, "seen", "purge")
+        self.let_go_as(rt, name, evidence, "seen", "purge")
     }
+}
+
+// What of an answer is under way on a connection that isn't this one, from the first on; nothing
+// where none is found.
+fn other_answer(
+    alloc: Global,
+    links: &[Link],
+    first: usize,
+    at: usize,
+) -> Result<Vec<u8>, AllocError> {
+    for other in first..links.len() {
+        if other != at
+            && let Some(link) = links.get(other)
+            && link.is_answering()
+        {
+            return link.under_way(alloc);
+        }
+    }
+    Ok(Vec::new(alloc))
 }

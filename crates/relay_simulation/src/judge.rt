@@ -48,7 +48,10 @@ impl<'n> Judge<'n> {
 
     /// What was found to be wrong first, if anything.
     pub fn wrong(&self) -> Option<&str> {
-        self.wrong.as_ref().map(|text| text.as_str())
+        match &self.wrong {
+            Some(what) => Some(what.as_str()),
+            None => None,
+        }
     }
 
     /// This is wrong.

@@ -2,7 +2,7 @@
 
 use crate::dice::Dice;
 use crate::judge::Judge;
-use crate::run::Run;
+use crate::run::{Run, name_at};
 use crate::stock::give_all_back;
 use buffer_lanes::Lanes;
 use custody_core::is_kept_as;
@@ -89,23 +89,18 @@ impl<'n, D: Disk + Drop> Run<'n, D> {
     // A relay that opens.
     fn add_site<R: Wait>(&mut self, rt: &R, number: u32, conf: &[u8]) -> Result<(), AllocError> {
         let at = self.sites.len();
-        self.sites.reserve(1)?;
-        self.sites
-            .push_reserved(Site::new(self.alloc, number, conf)?);
-        let Some(site) = self.sites.get_mut(at) else {
+        put_site(self.alloc, &mut self.sites, number, conf)?;
+        if open_site(rt, self.alloc, &mut self.sites, at)? {
             return Ok(());
-        };
-        if !site.open(rt, self.alloc, Devices::SOUND)? {
-            return self.judge.fail_relay(number, "doesn't open");
         }
-        Ok(())
+        self.judge.fail_relay(number, "doesn't open")
     }
 
     // One part moves.
     fn act<R: Wait + Clock>(&mut self, rt: &R) -> Result<(), AllocError> {
         let (sites, links) = (self.sites.len(), self.links.len());
         let site = self.dice.below(sites);
-        let buffers = self.buffers_of(site);
+        let buffers = count_buffers(&self.sites, site);
         let buffer = self.dice.below(buffers);
         let link = self.dice.below(links);
         match self.dice.below(24) {
@@ -123,8 +118,7 @@ impl<'n, D: Disk + Drop> Run<'n, D> {
     // Each relay that refuses, or each, stops and opens again.
     fn restart_where<R: Wait>(&mut self, rt: &R, refuses: bool) -> Result<(), AllocError> {
         for at in 0..self.sites.len() {
-            let is_refusing = self.sites.get(at).is_some_and(|site| site.is_refusing());
-            if is_refusing || !refuses {
+            if !refuses || is_refusing(&self.sites, at) {
                 let stop = self.dice.stop();
                 self.restart(rt, at, stop, Devices::SOUND)?;
             }
@@ -132,20 +126,11 @@ impl<'n, D: Disk + Drop> Run<'n, D> {
         Ok(())
     }
 
-    // How many buffers a relay has.
-    fn buffers_of(&self, site: usize) -> usize {
-        match self.sites.get(site) {
-            Some(site) => site.count_buffers(),
-            None => 0,
-        }
-    }
-
     // A worker goes on, if there is one.
     fn work_on<R: Wait + Clock>(&mut self, rt: &R) -> Result<(), AllocError> {
         let count = self.held.len();
         let at = self.dice.below(count);
-        let name = self.held.get(at).map(|held| held.name());
-        match name {
+        match name_at(&self.held, at) {
             Some(name) => self.work(rt, name),
             None => Ok(()),
         }
@@ -161,11 +146,8 @@ impl<'n, D: Disk + Drop> Run<'n, D> {
         if self.dice.once_in(2) {
             return self.drop_oldest(rt, site, buffer);
         }
-        if let Some(link) = self.links.get_mut(link)
-            && let Some(site) = self.sites.get_mut(link.to)
-            && let Some(open) = &mut site.open
-        {
-            link.hang_up(rt, &mut open.lanes);
+        if let Some(link) = self.links.get_mut(link) {
+            hang_up(rt, &mut self.sites, link);
         }
         Ok(())
     }
@@ -208,6 +190,56 @@ impl<'n, D: Disk + Drop> Run<'n, D> {
         let _ = spare.end(rt);
         end_sites(rt, sites);
         said(alloc, &judge)
+    }
+}
+
+// Whether the relay at this place has to be opened again.
+fn is_refusing<D: Disk + Drop>(sites: &[Site<D>], at: usize) -> bool {
+    match sites.get(at) {
+        Some(site) => site.is_refusing(),
+        None => false,
+    }
+}
+
+// How many buffers the relay at this place has.
+fn count_buffers<D: Disk + Drop>(sites: &[Site<D>], at: usize) -> usize {
+    match sites.get(at) {
+        Some(site) => site.count_buffers(),
+        None => 0,
+    }
+}
+
+// The relay's end of a connection goes, if the relay is open.
+fn hang_up<R: Wait, D: Disk + Drop>(rt: &R, sites: &mut [Site<D>], link: &mut Link) {
+    if let Some(site) = sites.get_mut(link.to)
+        && let Some(open) = &mut site.open
+    {
+        link.hang_up(rt, &mut open.lanes);
+    }
+}
+
+// Puts a relay that was never open behind the others.
+fn put_site<D: Disk + Drop>(
+    alloc: Global,
+    sites: &mut Vec<Site<D>>,
+    number: u32,
+    conf: &[u8],
+) -> Result<(), AllocError> {
+    sites.reserve(1)?;
+    sites.push_reserved(Site::new(alloc, number, conf)?);
+    Ok(())
+}
+
+// Opens the relay at this place over sound devices, if there is one: whether it opens.
+fn open_site<R: Wait, D: Disk + Drop>(
+    rt: &R,
+    alloc: Global,
+    sites: &mut [Site<D>],
+    at: usize,
+) -> Result<bool, AllocError> {
+    match sites.get_mut(at) {
+        Some(site) => site.open(rt, alloc, Devices::SOUND),
+        None => Ok(true),
     }
 }
 

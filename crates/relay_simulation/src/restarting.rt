@@ -1,11 +1,14 @@
 //! A relay stops and opens again, and what is there then is held against what was told.
 
+use crate::dice::Dice;
 use crate::judge::Judge;
-use crate::run::Run;
+use crate::run::{Run, give_back};
 use crate::sending::ENTRY_LEN;
 use crate::stock::take_stock;
 use crate::storing::tell_queued;
-use simulated_relays::{Chunk, Devices, Disk, Name, SinkContent, Site, Stage, Stop};
+use buffer_lanes::Lanes;
+use disk_files::Dir;
+use simulated_relays::{Chunk, Devices, Disk, Held, Link, Name, SinkContent, Site, Stage, Stop};
 use std::alloc::{AllocError, Global};
 use std::sync::Wait;
 
@@ -19,64 +22,90 @@ impl<'n, D: Disk + Drop> Run<'n, D> {
         stop: Stop,
         devices: Devices,
     ) -> Result<(), AllocError> {
-        self.cut_off(rt, at);
+        cut_off(rt, &mut self.sites, &mut self.links, &mut self.held, at);
         if let Some(site) = self.sites.get_mut(at) {
             close(rt, self.alloc, site, stop, &mut self.judge)?;
         }
         for _ in 0..self.dice.below(3) {
-            self.try_to_open(rt, at)?;
+            try_to_open(rt, self.alloc, &mut self.dice, &mut self.sites, at)?;
         }
         let later = self.dice.stop();
-        if let Some(site) = self.sites.get_mut(at) {
-            open_again(rt, self.alloc, site, &mut self.judge)?;
-            if devices.may_fail() {
-                open_over(rt, self.alloc, site, devices, later, &mut self.judge)?;
-            }
-        }
-        Ok(())
-    }
-
-    // A relay that doesn't run opens over devices that fail early, and stops at once.
-    fn try_to_open<R: Wait>(&mut self, rt: &R, at: usize) -> Result<(), AllocError> {
-        let devices = self.dice.early_devices();
-        let stop = self.dice.stop();
         let Some(site) = self.sites.get_mut(at) else {
             return Ok(());
         };
-        if site.open(rt, self.alloc, devices)? {
-            let _ = site.stop(rt, self.alloc, stop)?;
-        } else {
-            site.stop_folders(stop);
+        open_again(rt, self.alloc, site, &mut self.judge)?;
+        if devices.may_fail() {
+            return open_over(rt, self.alloc, site, devices, later, &mut self.judge);
         }
         Ok(())
     }
+}
 
-    // Nothing that the relay's connections and workers had goes on.
-    fn cut_off<R: Wait>(&mut self, rt: &R, at: usize) {
-        if let Some(site) = self.sites.get_mut(at)
-            && let Some(open) = &mut site.open
-        {
-            for link in self.links.iter_mut() {
-                if link.to == at {
-                    link.hang_up(rt, &mut open.lanes);
-                }
-                if link.is_of(at) {
-                    link.is_deaf = true;
-                }
-            }
-        }
-        for _ in 0..self.held.len() {
-            let first = self.first_of(at);
-            if let Some(name) = first {
-                self.give_back(rt, name);
-            }
+// A relay that doesn't run opens over devices that fail early, and stops at once.
+fn try_to_open<R: Wait, D: Disk + Drop>(
+    rt: &R,
+    alloc: Global,
+    dice: &mut Dice,
+    sites: &mut [Site<D>],
+    at: usize,
+) -> Result<(), AllocError> {
+    let devices = dice.early_devices();
+    let stop = dice.stop();
+    let Some(site) = sites.get_mut(at) else {
+        return Ok(());
+    };
+    if site.open(rt, alloc, devices)? {
+        let _ = site.stop(rt, alloc, stop)?;
+    } else {
+        site.stop_folders(stop);
+    }
+    Ok(())
+}
+
+// Nothing that the relay's connections and workers had goes on.
+fn cut_off<R: Wait, D: Disk + Drop>(
+    rt: &R,
+    sites: &mut [Site<D>],
+    links: &mut [Link],
+    all: &mut Vec<Held<D>>,
+    at: usize,
+) {
+    if let Some(site) = sites.get_mut(at)
+        && let Some(open) = &mut site.open
+    {
+        cut_links(rt, links, at, &mut open.lanes);
+    }
+    for _ in 0..all.len() {
+        if let Some(name) = first_of(all, at) {
+            give_back(rt, all, name);
         }
     }
+}
 
-    // A chunk that the relay's workers have claimed.
-    fn first_of(&self, at: usize) -> Option<Name> {
-        let held = self.held.iter().find(|held| held.site() == at)?;
-        Some(held.name())
+// A chunk that the relay's workers have claimed.
+fn first_of<D: Disk + Drop>(all: &[Held<D>], at: usize) -> Option<Name> {
+    for held in all {
+        if held.site() == at {
+            return Some(held.name());
+        }
+    }
+    None
+}
+
+// The connections to the relay at this place break, and who sends from there hears no answer.
+fn cut_links<R: Wait, D: Dir + Drop>(
+    rt: &R,
+    links: &mut [Link],
+    at: usize,
+    lanes: &mut Lanes<D, Global>,
+) {
+    for link in links.iter_mut() {
+        if link.to == at {
+            link.hang_up(rt, lanes);
+        }
+        if link.is_of(at) {
+            link.is_deaf = true;
+        }
     }
 }
 
@@ -145,21 +174,31 @@ fn compare_sinks<D: Disk + Drop>(
         return judge.fail_relay(site.number, "has a sink that can't be read");
     };
     for sink in &sinks {
-        if let Some((buffer, serial)) = torn
-            && buffer == sink.buffer
-        {
-            tell_torn(alloc, site.number, sink, serial, judge)?;
-        }
-        let (relay, buffer) = (u64::from(site.number), sink.buffer as u64);
-        if !is_same(sink, judge.world.sink(relay, buffer)) {
-            judge.fail_buffer(
-                site.number,
-                sink.buffer,
-                "has a sink that holds something else",
-            )?;
-        }
+        compare_sink(alloc, site.number, sink, torn, judge)?;
     }
     Ok(())
+}
+
+// The same of one sink; a write of this chunk of this buffer failed.
+fn compare_sink(
+    alloc: Global,
+    number: u32,
+    sink: &SinkContent,
+    torn: Option<(usize, u64)>,
+    judge: &mut Judge<'_>,
+) -> Result<(), AllocError> {
+    if let Some((buffer, serial)) = torn
+        && buffer == sink.buffer
+    {
+        tell_torn(alloc, number, sink, serial, judge)?;
+    }
+    if is_same(
+        sink,
+        judge.world.sink(u64::from(number), sink.buffer as u64),
+    ) {
+        return Ok(());
+    }
+    judge.fail_buffer(number, sink.buffer, "has a sink that holds something else")
 }
 
 // Tells how many entries of this chunk the sink got of a write that failed.
@@ -183,9 +222,12 @@ fn is_same(sink: &SinkContent, told: &[custody_steps::Event<Global>]) -> bool {
     if sink.events.len() != told.len() {
         return false;
     }
-    sink.events.iter().zip(told).all(|(found, told)| {
-        found.tag() == told.tag.as_slice() && found.entry() == told.entry.as_slice()
-    })
+    for (found, told) in sink.events.iter().zip(told) {
+        if found.tag() != told.tag.as_slice() || found.entry() != told.entry.as_slice() {
+            return false;
+        }
+    }
+    true
 }
 
 // The machine holds what the relay's chunks hold, under the same tags.
@@ -199,11 +241,20 @@ fn compare_held<D: Disk + Drop>(site: &Site<D>, judge: &mut Judge<'_>) -> Result
 }
 
 fn is_held(chunk: &Chunk, judge: &Judge<'_>) -> bool {
-    let tag = chunk.tag.as_slice();
-    chunk.appends.iter().all(|append| {
-        append
-            .bytes
-            .chunks(ENTRY_LEN)
-            .all(|entry| judge.world.held(tag, entry))
-    })
+    for append in &chunk.appends {
+        if !are_held(chunk.tag.as_slice(), &append.bytes, judge) {
+            return false;
+        }
+    }
+    true
+}
+
+// Whether the machine holds each of these entries under this tag.
+fn are_held(tag: &[u8], bytes: &[u8], judge: &Judge<'_>) -> bool {
+    for entry in bytes.chunks(ENTRY_LEN) {
+        if !judge.world.held(tag, entry) {
+            return false;
+        }
+    }
+    true
 }

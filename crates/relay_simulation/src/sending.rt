@@ -17,6 +17,48 @@ fn entry(number: u32) -> [u8; 7] {
     [0x92, 0xce, a, b, c, d, 0x80]
 }
 
+// The tag at this place.
+fn tag_of(at: usize) -> &'static str {
+    match TAGS.get(at) {
+        Some(tag) => tag,
+        None => "b",
+    }
+}
+
+// So many entries, from this number on.
+fn entries(alloc: Global, first: u32, count: usize) -> Result<Option<Entries<Global>>, AllocError> {
+    let mut bytes = Vec::new(alloc);
+    let mut number = first;
+    for _ in 0..count {
+        bytes.extend_from_slice(&entry(number))?;
+        number = number.saturating_add(1);
+    }
+    Entries::read(alloc, &bytes, count)
+}
+
+// The step by which this client sends so many events, from this number on.
+fn send_line(
+    alloc: Global,
+    client: usize,
+    tag: &str,
+    first: u32,
+    count: usize,
+) -> Result<String, AllocError> {
+    let mut line = format!(in alloc; "send {client} {tag}")?;
+    let mut number = first;
+    for _ in 0..count {
+        push_event(alloc, &mut line, number)?;
+        number = number.saturating_add(1);
+    }
+    Ok(line)
+}
+
+// Behind a step, the event of this number.
+fn push_event(alloc: Global, line: &mut String, number: u32) -> Result<(), AllocError> {
+    let event = format!(in alloc; " 92ce{number:08x}80")?;
+    line.push_str(event.as_str())
+}
+
 /// A message that is to be sent: its tag, its entries, the name that it asks an acknowledgement
 /// for, and whether it does.
 #[derive(Clone, Copy)]
@@ -44,65 +86,83 @@ impl<'n, D: Disk + Drop> Run<'n, D> {
     /// A client sends a message of up to three events.
     pub fn send(&mut self) -> Result<(), AllocError> {
         let client = self.dice.below(2);
-        let tag = TAGS.get(self.dice.below(3)).copied().unwrap_or("b");
+        let tag = tag_of(self.dice.below(3));
         let count = self.dice.below(4);
-        let mut bytes = Vec::new(self.alloc);
-        let mut line = format!(in self.alloc; "send {client} {tag}")?;
-        for _ in 0..count {
-            let number = self.events.saturating_add(1);
-            self.events = number;
-            bytes.extend_from_slice(&entry(number))?;
-            line.push_str(format!(in self.alloc; " 92ce{number:08x}80")?.as_str())?;
-        }
+        let first = self.events.saturating_add(1);
+        let line = send_line(self.alloc, client, tag, first, count)?;
         self.judge.tell(line)?;
         let message = self.judge.next_message();
-        let Some(entries) = Entries::read(self.alloc, &bytes, count)? else {
-            return Ok(());
-        };
-        let id = ChunkId {
-            relay: 4_000_000_000,
-            buffer: 0,
-            serial: message,
-        };
-        let letter = Letter {
-            tag: tag.as_bytes(),
-            entries: &entries,
-            id,
-            asks: true,
-        };
-        self.connect(Sender::Client, message, 0, client, &letter)
+        self.events = self.events.saturating_add(count as u32);
+        match entries(self.alloc, first, count)? {
+            Some(entries) => {
+                let letter = client_letter(message, tag, &entries);
+                let (links, sender) = (&mut self.links, Sender::Client);
+                put_link(self.alloc, links, sender, message, 0, client, &letter)
+            }
+            None => Ok(()),
+        }
     }
+}
 
-    /// A connection to this source opens, on which the message is sent.
-    pub fn connect(
-        &mut self,
-        sender: Sender,
-        message: u64,
-        to: usize,
-        source: usize,
-        letter: &Letter<'_>,
-    ) -> Result<(), AllocError> {
-        self.links.reserve(1)?;
-        let Some(client) = session(self.alloc, letter)? else {
-            return Ok(());
-        };
-        let bytes = Vec::from_slice(self.alloc, client.outgoing())?;
-        let entries = Vec::from_slice(self.alloc, letter.entries.as_bytes())?;
-        self.links.push_reserved(Link {
-            sender,
-            message,
-            to,
-            source,
-            bytes,
-            entries,
-            asks: letter.asks,
-            client,
-            peer: None,
-            delivery: None,
-            is_answered: false,
-            is_over: false,
-            is_deaf: false,
-        });
-        Ok(())
+// What a client sends as this message.
+fn client_letter<'a>(message: u64, tag: &'a str, entries: &'a Entries<Global>) -> Letter<'a> {
+    let id = ChunkId {
+        relay: 4_000_000_000,
+        buffer: 0,
+        serial: message,
+    };
+    Letter {
+        tag: tag.as_bytes(),
+        entries,
+        id,
+        asks: true,
     }
+}
+
+/// A connection to this source of a relay opens, on which the message is sent, if it can be sent.
+pub fn put_link(
+    alloc: Global,
+    links: &mut Vec<Link>,
+    sender: Sender,
+    message: u64,
+    to: usize,
+    source: usize,
+    letter: &Letter<'_>,
+) -> Result<(), AllocError> {
+    links.reserve(1)?;
+    if let Some(link) = new_link(alloc, sender, message, to, source, letter)? {
+        links.push_reserved(link);
+    }
+    Ok(())
+}
+
+// A connection on which the message is sent; `None` where it can't be.
+fn new_link(
+    alloc: Global,
+    sender: Sender,
+    message: u64,
+    to: usize,
+    source: usize,
+    letter: &Letter<'_>,
+) -> Result<Option<Link>, AllocError> {
+    let Some(client) = session(alloc, letter)? else {
+        return Ok(None);
+    };
+    let bytes = Vec::from_slice(alloc, client.outgoing())?;
+    let entries = Vec::from_slice(alloc, letter.entries.as_bytes())?;
+    Ok(Some(Link {
+        sender,
+        message,
+        to,
+        source,
+        bytes,
+        entries,
+        asks: letter.asks,
+        client,
+        peer: None,
+        delivery: None,
+        is_answered: false,
+        is_over: false,
+        is_deaf: false,
+    }))
 }

@@ -18,23 +18,36 @@ pub fn take_stock<R: Wait, D: Disk + Drop>(
     let mut undone = false;
     let all = mem::replace(&mut site.chunks.all, Vec::new(alloc));
     for chunk in all {
-        if let Some(chunk) = kept(rt, site, judge, chunk, &mut undone)? {
-            site.chunks.all.push(chunk)?;
-        }
+        keep(rt, site, judge, chunk, &mut undone)?;
     }
-    let buffers = match &mut site.open {
-        Some(open) => {
-            open.lanes.queue_due(rt);
-            open.buffers.len()
-        }
-        None => 0,
-    };
-    for buffer in 0..buffers {
+    queue_all(rt, site);
+    for buffer in 0..site.count_buffers() {
         if look_into(rt, alloc, site, judge, buffer)? {
             undone = true;
         }
     }
     Ok(undone)
+}
+
+// All that is staged is queued.
+fn queue_all<R: Wait, D: Disk + Drop>(rt: &R, site: &mut Site<D>) {
+    if let Some(open) = &mut site.open {
+        open.lanes.queue_due(rt);
+    }
+}
+
+// What is known of a chunk behind the stop is kept, if it isn't lost.
+fn keep<R: Wait, D: Disk + Drop>(
+    rt: &R,
+    site: &mut Site<D>,
+    judge: &mut Judge<'_>,
+    chunk: Chunk,
+    undone: &mut bool,
+) -> Result<(), AllocError> {
+    match kept(rt, site, judge, chunk, undone)? {
+        Some(chunk) => Ok(site.chunks.all.push(chunk)?),
+        None => Ok(()),
+    }
 }
 
 // What is known of a chunk behind the stop; nothing where it is lost as it may be.
@@ -53,27 +66,39 @@ fn kept<R: Wait, D: Disk + Drop>(
     }
     match (chunk.stage, site.is_live(rt, buffer, serial)) {
         (Stage::Gone, true) => {
-            if chunk.is_synced {
-                judge.fail_chunk(site.number, buffer, serial, "comes back")?;
-            }
-            judge.take_out(chunk.went);
-            chunk.stage = Stage::Queued;
+            come_back(judge, site.number, &mut chunk)?;
             *undone = true;
         }
         (Stage::Gone, false) => {}
         (Stage::Claimed, true) => chunk.stage = Stage::Queued,
         (_, true) => {}
         (_, false) => {
-            if !chunk.may_be_lost() {
-                judge.fail_chunk(site.number, buffer, serial, "is lost")?;
-            }
-            take_out_from(judge, &chunk, 0);
+            lose(judge, site.number, &chunk)?;
             *undone = true;
             site.chunks.restart_at(buffer, serial);
             return Ok(None);
         }
     }
     Ok(Some(chunk))
+}
+
+// A chunk that went is there again, which is wrong where a sync was told behind that.
+fn come_back(judge: &mut Judge<'_>, number: u32, chunk: &mut Chunk) -> Result<(), AllocError> {
+    if chunk.is_synced {
+        judge.fail_chunk(number, chunk.buffer, chunk.serial, "comes back")?;
+    }
+    judge.take_out(chunk.went);
+    chunk.stage = Stage::Queued;
+    Ok(())
+}
+
+// A chunk isn't there, which is wrong where one of its appends was synced.
+fn lose(judge: &mut Judge<'_>, number: u32, chunk: &Chunk) -> Result<(), AllocError> {
+    if !chunk.may_be_lost() {
+        judge.fail_chunk(number, chunk.buffer, chunk.serial, "is lost")?;
+    }
+    take_out_from(judge, chunk, 0);
+    Ok(())
 }
 
 // Takes out the appends of the chunk from this one on; with the first of them that it was queued.
@@ -150,17 +175,32 @@ fn look_at_all<R: Wait, D: Disk + Drop>(
         judge.fail_buffer(site.number, buffer, "hasn't all its chunks in its queue")?;
     }
     for held in all {
-        let claim = held.as_claim();
-        let bytes = body(rt, alloc, held)?;
-        let number = site.number;
-        match site.chunks.find(buffer, claim.serial()) {
-            Some(chunk) if chunk.tag.as_slice() == claim.tag() => {
-                undone = look_at(number, judge, chunk, &bytes)? || undone;
-            }
-            _ => judge.fail_chunk(number, buffer, claim.serial(), "was never told")?,
-        }
+        undone = look_at_claim(rt, alloc, site, judge, buffer, held)? || undone;
     }
     Ok(undone)
+}
+
+// Looks at the chunk of a claim: whether a stop lost some of it.
+fn look_at_claim<R: Wait, D: Disk + Drop>(
+    rt: &R,
+    alloc: Global,
+    site: &mut Site<D>,
+    judge: &mut Judge<'_>,
+    buffer: usize,
+    held: &Held<D>,
+) -> Result<bool, AllocError> {
+    let claim = held.as_claim();
+    let bytes = body(rt, alloc, held)?;
+    let number = site.number;
+    match site.chunks.find(buffer, claim.serial()) {
+        Some(chunk) if chunk.tag.as_slice() == claim.tag() => {
+            look_at(number, judge, chunk, &bytes)
+        }
+        _ => {
+            judge.fail_chunk(number, buffer, claim.serial(), "was never told")?;
+            Ok(false)
+        }
+    }
 }
 
 // The bytes of a claimed chunk's entries; none where they can't be read.

@@ -2,6 +2,8 @@
 
 use crate::judge::Judge;
 use crate::run::Run;
+use buffer_lanes::Lanes;
+use disk_files::Dir;
 use simulated_relays::{Chunks, Devices, Disk, Link, Site, Stage};
 use std::alloc::{AllocError, Global};
 use std::sync::Wait;
@@ -18,49 +20,53 @@ impl<'n, D: Disk + Drop> Run<'n, D> {
         if is_due {
             queue(rt, site, &mut self.judge)?;
         }
+        if part != 0 && part != 3 {
+            redeem(rt, site);
+        }
         match part {
-            0 => {}
+            0 => Ok(()),
             1 => {
-                redeem(rt, site);
                 let stop = self.dice.stop();
-                return self.restart(rt, at, stop, Devices::SOUND);
+                self.restart(rt, at, stop, Devices::SOUND)
             }
             _ => {
-                if part != 3 {
-                    redeem(rt, site);
+                let (links, begun, judge) = (&mut self.links, &self.begun, &mut self.judge);
+                answer(rt, self.alloc, site, links, begun, at, part != 3, judge)?;
+                if part == 2 {
+                    renew(rt, site);
                 }
-                self.answer(rt, at, part != 3)?;
+                Ok(())
             }
         }
-        if part == 2 {
-            self.renew(rt, at);
-        }
-        Ok(())
     }
+}
 
-    // Deliveries that have their receipts are answered, in their order: all that ask for it, where
-    // receipts were made for all.
-    fn answer<R: Wait>(&mut self, rt: &R, at: usize, are_made: bool) -> Result<(), AllocError> {
-        let Some(site) = self.sites.get_mut(at) else {
-            return Ok(());
-        };
-        for begun in &self.begun {
-            if let Some(link) = self.links.get_mut(*begun)
-                && link.to == at
-            {
-                settle(rt, self.alloc, site, link, are_made, &mut self.judge)?;
-            }
-        }
-        Ok(())
-    }
-
-    // Journals are written anew.
-    fn renew<R: Wait>(&mut self, rt: &R, at: usize) {
-        if let Some(site) = self.sites.get_mut(at)
-            && let Some(open) = &mut site.open
+// Deliveries that have their receipts are answered, in their order: all that ask for it, where
+// receipts were made for all.
+fn answer<R: Wait, D: Disk + Drop>(
+    rt: &R,
+    alloc: Global,
+    site: &mut Site<D>,
+    links: &mut [Link],
+    begun: &[usize],
+    at: usize,
+    are_made: bool,
+    judge: &mut Judge<'_>,
+) -> Result<(), AllocError> {
+    for begun in begun {
+        if let Some(link) = links.get_mut(*begun)
+            && link.to == at
         {
-            open.lanes.renew(rt);
+            settle(rt, alloc, site, link, are_made, judge)?;
         }
+    }
+    Ok(())
+}
+
+// Journals are written anew.
+fn renew<R: Wait, D: Disk + Drop>(rt: &R, site: &mut Site<D>) {
+    if let Some(open) = &mut site.open {
+        open.lanes.renew(rt);
     }
 }
 
@@ -73,11 +79,16 @@ fn queue<R: Wait, D: Disk + Drop>(
     let Some(open) = &mut site.open else {
         return Ok(());
     };
-    open.lanes.queue_due(rt);
-    if open.lanes.fault().is_none() {
+    if queue_due(rt, &mut open.lanes) {
         site.chunks.sync_staged();
     }
     tell_queued(site.number, &mut site.chunks, judge)
+}
+
+// What is due is queued. It says whether no journal has failed.
+fn queue_due<R: Wait, D: Dir + Drop>(rt: &R, lanes: &mut Lanes<D, Global>) -> bool {
+    lanes.queue_due(rt);
+    lanes.fault().is_none()
 }
 
 // Receipts are made, for which each journal with an append that isn't synced is synced.
@@ -85,10 +96,15 @@ fn redeem<R: Wait, D: Disk + Drop>(rt: &R, site: &mut Site<D>) {
     let Some(open) = &mut site.open else {
         return;
     };
-    open.lanes.redeem(rt);
-    if open.lanes.fault().is_none() {
+    if make_receipts(rt, &mut open.lanes) {
         site.chunks.sync_appended();
     }
+}
+
+// Receipts are made. It says whether no journal has failed.
+fn make_receipts<R: Wait, D: Dir + Drop>(rt: &R, lanes: &mut Lanes<D, Global>) -> bool {
+    lanes.redeem(rt);
+    lanes.fault().is_none()
 }
 
 // The delivery of a connection is answered if its receipts are there.
@@ -104,15 +120,25 @@ fn settle<R: Wait, D: Disk + Drop>(
     let Some(open) = &mut site.open else {
         return Ok(());
     };
-    if let Some(peer) = &mut link.peer {
-        peer.settle(rt, alloc, &mut open.lanes);
-    }
-    let has_failed = open.lanes.fault().is_some();
+    let is_sound = settle_peer(rt, alloc, link, &mut open.lanes);
     note_answer(link, &mut site.chunks, judge)?;
-    if is_owed && !link.is_answered && !has_failed {
+    if is_owed && !link.is_answered && is_sound {
         return judge.fail_message(link.message, "isn't answered");
     }
     Ok(())
+}
+
+// The relay's end of a connection settles what it has. It says whether no journal has failed.
+fn settle_peer<R: Wait, D: Dir + Drop>(
+    rt: &R,
+    alloc: Global,
+    link: &mut Link,
+    lanes: &mut Lanes<D, Global>,
+) -> bool {
+    if let Some(peer) = &mut link.peer {
+        peer.settle(rt, alloc, lanes);
+    }
+    lanes.fault().is_none()
 }
 
 // Whether the relay has answered is asked: then the answer is told, and no stop may lose what it is
