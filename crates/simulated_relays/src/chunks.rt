@@ -84,12 +84,22 @@ impl Chunk {
 
     // Whether a stop loses none of its appends.
     fn is_stored(&self) -> bool {
-        self.appends.iter().all(|append| append.is_synced)
+        for append in &self.appends {
+            if !append.is_synced {
+                return false;
+            }
+        }
+        true
     }
 
     /// Whether a stop may lose the whole chunk.
     pub fn may_be_lost(&self) -> bool {
-        self.appends.iter().all(|append| !append.is_synced)
+        for append in &self.appends {
+            if append.is_synced {
+                return false;
+            }
+        }
+        true
     }
 }
 
@@ -214,9 +224,12 @@ impl Chunks {
 
     /// Whether a buffer has a chunk in this stage.
     pub fn has_in(&self, buffer: usize, stage: Stage) -> bool {
-        self.all
-            .iter()
-            .any(|chunk| chunk.buffer == buffer && chunk.stage == stage)
+        for chunk in &self.all {
+            if chunk.buffer == buffer && chunk.stage == stage {
+                return true;
+            }
+        }
+        false
     }
 
     /// How many bytes of entries the chunks of a buffer have in this stage.
@@ -250,16 +263,22 @@ impl Chunks {
 
     /// How many chunks a buffer has that didn't go.
     pub fn count_live(&self, buffer: usize) -> usize {
-        self.all
-            .iter()
-            .filter(|chunk| chunk.buffer == buffer && chunk.stage != Stage::Gone)
-            .count()
+        let mut count = 0usize;
+        for chunk in &self.all {
+            if chunk.buffer == buffer && chunk.stage != Stage::Gone {
+                count = count.saturating_add(1);
+            }
+        }
+        count
     }
 
     fn has_unsynced(&self, buffer: usize) -> bool {
-        self.all
-            .iter()
-            .any(|chunk| chunk.buffer == buffer && !chunk.is_stored())
+        for chunk in &self.all {
+            if chunk.buffer == buffer && !chunk.is_stored() {
+                return true;
+            }
+        }
+        false
     }
 
     fn sync_buffer(&mut self, buffer: usize) {

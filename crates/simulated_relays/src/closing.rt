@@ -43,13 +43,20 @@ pub fn close_buffers<D: Disk + Drop>(
 ) -> bool {
     let mut have_failed = false;
     for buffer in buffers {
-        if let Some(buffer) = Arc::into_inner(buffer) {
-            let dir = buffer.close().into_dir();
-            have_failed = have_failed || dir.faults() > 0;
-            drop(dir.stopped(stop));
-        }
+        have_failed = close_buffer(buffer, stop) || have_failed;
     }
     have_failed
+}
+
+// Lets the folder of a buffer go, if nobody else shares it.
+fn close_buffer<D: Disk + Drop>(buffer: Arc<SharedBuffer<Lent<D>, Global>>, stop: Stop) -> bool {
+    let Some(buffer) = Arc::into_inner(buffer) else {
+        return false;
+    };
+    let dir = buffer.close().into_dir();
+    let has_failed = dir.faults() > 0;
+    drop(dir.stopped(stop));
+    has_failed
 }
 
 /// The same of these sinks; besides, what they hold, or `None` where one can't be read.
@@ -61,21 +68,45 @@ pub fn close_sinks<D: Disk + Drop>(
 ) -> Result<(Option<Vec<SinkContent>>, bool), AllocError> {
     let mut all = Vec::new(alloc);
     let mut have_failed = false;
-    for (buffer, (sink, path)) in sinks.into_iter().zip(paths).enumerate() {
-        if let Some(sink) = sink
+    let mut rest = sinks.into_iter();
+    for (buffer, path) in paths.iter().enumerate() {
+        if let Some(Some(sink)) = rest.next()
             && let Some(path) = path
         {
-            let Some(dir) = sink.into_dir() else {
-                return Ok((None, have_failed));
-            };
-            have_failed = have_failed || dir.faults() > 0;
-            let Some(events) = content_of(alloc, dir.stopped(stop), &path) else {
+            let closed = close_sink(alloc, sink, path, stop);
+            have_failed = have_failed || closed.has_failed;
+            let Some(events) = closed.events else {
                 return Ok((None, have_failed));
             };
             all.push(SinkContent { buffer, events })?;
         }
     }
     Ok((Some(all), have_failed))
+}
+
+// Whether a device of a sink failed, and what the sink holds, if that can be read.
+#[derive(Drop)]
+struct ClosedSink {
+    has_failed: bool,
+    events: Option<Vec<SinkEvent<Global>>>,
+}
+
+fn close_sink<D: Disk + Drop>(
+    alloc: Global,
+    sink: SinkCourier<Lent<D>, Global>,
+    path: &[u8],
+    stop: Stop,
+) -> ClosedSink {
+    match sink.into_dir() {
+        Some(dir) => ClosedSink {
+            has_failed: dir.faults() > 0,
+            events: content_of(alloc, dir.stopped(stop), path),
+        },
+        None => ClosedSink {
+            has_failed: false,
+            events: None,
+        },
+    }
 }
 
 // What a sink holds in its folder; `None` where it can't be read.

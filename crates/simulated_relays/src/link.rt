@@ -90,7 +90,10 @@ impl Link {
 
     /// Whether a delivery of its message waits.
     pub fn is_waiting(&self) -> bool {
-        self.peer.as_ref().is_some_and(|peer| peer.is_waiting())
+        match &self.peer {
+            Some(peer) => peer.is_waiting(),
+            None => false,
+        }
     }
 
     /// Whether the relay has answered since this was asked last.
@@ -121,9 +124,10 @@ impl Link {
 
     /// Whether some of an answer is under way.
     pub fn is_answering(&self) -> bool {
-        self.peer
-            .as_ref()
-            .is_some_and(|peer| !peer.outgoing().is_empty())
+        match &self.peer {
+            Some(peer) => !peer.outgoing().is_empty(),
+            None => false,
+        }
     }
 
     /// Whether all of an answer came to the sender: what it hears then isn't in it.
