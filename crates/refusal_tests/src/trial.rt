@@ -259,9 +259,10 @@ impl<'a, C> Bench<'_, 'a, C> {
     }
 }
 
-/// How many requests this call makes, each of which is refused, with all behind it and alone. Where
-/// it goes wrong, the process ends: with the call's number and that of the request, which is 0 where
-/// it goes wrong with ample memory.
+/// How many requests this call makes, each of which is refused, with all behind it and alone.
+///
+/// Where it goes wrong, the process ends, and says the call's number and that of the request, which
+/// is 0 where it goes wrong with ample memory.
 pub fn requests_of<'a, R: Abort, C, T: Trial<Heap<'a>, C>>(
     rt: &R,
     alloc: Global,
