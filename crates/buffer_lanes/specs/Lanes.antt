@@ -129,6 +129,13 @@ AreRedeemed before false waiting = waiting ≡ []
 abbrev pub AreRedeemedAt : {A : Type 0} → BufferNo → LanesState A → LanesState A → Type 0
 AreRedeemedAt buffer old new = AreRedeemed (listed_at old.waiting buffer) (later_at new.later buffer) (listed_at new.waiting buffer)
 
+-- Each of these buffers got an append of the delivery, in their order, behind those that it had; no
+-- other buffer got one.
+abbrev pub AreAppended : (number : ℕ) → List BufferNo → List (List Pended) → List (List Pended) → Type 0
+AreAppended number [] before behind = behind ≡ before
+AreAppended number (buffer ∷ more) before behind = (serial : ℕ) × (between : List (List Pended))
+    × IsAppendedAt buffer number serial before between × AreAppended number more between behind
+
 -- nothing changed of the appends of this buffer that wait for receipts
 pub record IsUntouched {A : Type 0} (buffer : BufferNo) (old new : LanesState A) : Type 0 where
   pub waiting : listed_at new.waiting buffer ≡ listed_at old.waiting buffer

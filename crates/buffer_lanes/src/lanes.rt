@@ -2,7 +2,7 @@
 
 ghost use Rattle.std.specs.Prelude.{◌≡◌, ◌≢◌, ◌<◌, ◌≤◌, ◌+◌, ◌++◌, ◌∷◌, ◌↔◌, [], None, false, length, slice_set, Any, Contains, IfOk, IfSome, IsFalse, IsSome, IsTrue, OnErr, OnOk};
 ghost use Rattle.relay_conf.specs.declared.output.BufferNo.{BufferNo};
-ghost use Rattle.buffer_lanes.specs.Lanes.{AppendsWait, AreQueued, AreRedeemedAt, EndsWith, IsAppendedAt, IsNoneDueAt, IsNotedAt, IsOneElse, IsUntouched, KeepsLanes, fault_after, is_lost as is_lost_fault, later_at, listed_at, undone};
+ghost use Rattle.buffer_lanes.specs.Lanes.{AppendsWait, AreAppended, AreQueued, AreRedeemedAt, EndsWith, IsAppendedAt, IsNoneDueAt, IsNotedAt, IsOneElse, IsUntouched, KeepsLanes, fault_after, is_lost as is_lost_fault, later_at, listed_at, undone};
 ghost use Rattle.buffer_lanes.specs.Waits.{HasEntries};
 
 use crate::lane::Lane;
@@ -155,6 +155,7 @@ impl<D: Dir + Drop, A: Allocator + Copy> Lanes<D, A> {
         ensures later { self.new.later ≡ self.old.later }
         ensures appended { IsTrue result → (buffer : BufferNo) → Contains buffers.now buffer
             → EndsWith delivery.now.number (listed_at self.new.waiting buffer) }
+        ensures each { IsTrue result → AreAppended delivery.now.number buffers.now self.old.waiting self.new.waiting }
         ensures undone { IsFalse result → self.new.waiting ≡ self.old.waiting }
     {
         // With one buffer the append itself asks.
@@ -191,6 +192,7 @@ impl<D: Dir + Drop, A: Allocator + Copy> Lanes<D, A> {
         ensures later { self.new.later ≡ self.old.later }
         ensures appended { IsTrue result → (buffer : BufferNo) → Contains buffers.now buffer
             → EndsWith delivery.now.number (listed_at self.new.waiting buffer) }
+        ensures each { IsTrue result → AreAppended delivery.now.number buffers.now self.old.waiting self.new.waiting }
         ensures undone { IsFalse result → self.new.waiting ≡ self.old.waiting }
         // Behind an append of the delivery come others of it alone.
         ensures last { (buffer : BufferNo)

@@ -1,9 +1,9 @@
 //! A delivery that waits for its receipts.
 
-ghost use Rattle.std.specs.Prelude.{◌≡◌, ◌++◌, ◌∷◌, [], None, false, Contains, IfOk, IfErr};
+ghost use Rattle.std.specs.Prelude.{◌≡◌, ◌++◌, ◌∷◌, [], None, false, map, Contains, IfOk, IfErr};
 ghost use Rattle.ack_receipt.specs.Reservations.{asked_of};
 ghost use Rattle.buffer_lanes.specs.Collecting.{IsCollected, IsLeftOf, WaitsOnFor, those_later};
-ghost use Rattle.buffer_lanes.specs.Lanes.{EndsWith, KeepsLanes, listed_at};
+ghost use Rattle.buffer_lanes.specs.Lanes.{AreAppended, EndsWith, KeepsLanes, listed_at};
 ghost use Rattle.buffer_lanes.specs.Waits.{HasEntries, awaited_by, left_of};
 ghost use Rattle.relay_conf.specs.declared.output.BufferNo.{BufferNo};
 
@@ -42,9 +42,10 @@ pub enum Collected<A: Allocator> {
 }
 
 impl<A: Allocator + Copy> Waiting<A> {
-    /// Appends the delivery's entries to each of these buffers, and waits for their receipts, with
-    /// this room for its answer. No receipt came yet. Where a buffer refuses, the delivery is
-    /// abandoned: none of the buffers has an append of it that waits for a receipt.
+    /// Appends the delivery's entries to each of these buffers, which are its leaves in order, and
+    /// waits for their receipts, with this room for its answer. No receipt came yet. Where a buffer
+    /// refuses, the delivery is abandoned: none of the buffers has an append of it that waits for a
+    /// receipt.
     pub fn begin<R: Wait, D: Dir + Drop>(
         rt: &R,
         lanes: &mut Lanes<D, A>,
@@ -55,11 +56,14 @@ impl<A: Allocator + Copy> Waiting<A> {
         requires empty { reserved.filled ≡ None }
         requires made { reserved.asked ≡ asked_of delivery.message }
         requires entries { HasEntries delivery buffers.items }
+        requires same { map (λ leaf. leaf.buffer) delivery.leaves ≡ map (λ buffer. buffer.0) buffers.items }
         ensures kept { KeepsLanes lanes.old lanes.new }
         ensures time { lanes.new.time ≡ lanes.old.time }
         ensures waits { IfOk result (λ waiting. waiting ≡ record { awaited = awaited_by delivery; receipts = delivery.receipts; buffers = buffers.items }) }
         ensures appended { IfOk result (λ waiting. (buffer : BufferNo) → Contains buffers.items buffer
             → EndsWith delivery.number (listed_at lanes.new.waiting buffer)) }
+        // One append of it waits in each of these buffers, and none in another.
+        ensures each { IfOk result (λ _. AreAppended delivery.number buffers.items lanes.old.waiting lanes.new.waiting) }
         ensures undone { IfErr result (λ _. lanes.new.waiting ≡ lanes.old.waiting) }
         ensures left { IfErr result (λ left. left ≡ left_of delivery.number delivery.receipts) }
         ensures later { lanes.new.later ≡ lanes.old.later }

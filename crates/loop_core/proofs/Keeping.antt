@@ -21,7 +21,7 @@ use Rattle.forward_core.specs.declared.fault.SessionFault.{SessionFault}
 use Rattle.forward_core.specs.declared.fault.SessionFault.TheVariants.{Closed}
 use Rattle.forward_core.specs.Demands.{Wanted, Delivers, asked_in, wanted}
 use Rattle.forward_core.specs.Server.{ServerPhase, Awaiting, Opened, Over, ServerReads, ReadsOn, ServerState, Outcome, after, close_by, phase_by, initial_server}
-use Rattle.relay_ports.specs.Leaves.{Entry, IsRoutedTo}
+use Rattle.relay_ports.specs.Leaves.{Entry, IsRoutedTo, leaf_of}
 use Rattle.buffer_lanes.specs.Waits.{Awaited, HasEntries, Waits}
 use Rattle.book_audit.specs.Stubs.{Left}
 use Rattle.buffer_lanes.specs.Collecting.{IsAbandoned, IsAnswerTo, those_later}
@@ -53,6 +53,15 @@ waits_too entry asked taken waits w f o = record {
   owed = All-push (IsOwed entry asked) waits w f.owed o;
   earned = f.earned;
 }
+
+-- a delivery's leaves are the buffers that its entries go to
+pub places_of : (relay : ℕ) (leaves made : List Leaf) (buffers : List BufferNo) → leaves ≡ made → made ≡ map (leaf_of relay) buffers
+    → map (λ leaf. leaf.buffer) leaves ≡ map (λ buffer. buffer.0) buffers
+places_of relay leaves made buffers same is = ap (map (λ (leaf : Leaf). leaf.buffer)) (same ∙ is) ∙ numbers buffers
+  where
+    numbers : (all : List BufferNo) → map (λ leaf. leaf.buffer) (map (leaf_of relay) all) ≡ map (λ buffer. buffer.0) all
+    numbers [] = refl
+    numbers (buffer ∷ more) = ap (λ (rest : List ℕ). buffer.0 ∷ rest) (numbers more)
 
 -- an answer names the tag and the buffers that its delivery had
 filled_earned : (entry : Entry) (asked : Asked) (tag : List ℕ) (leaves : List Leaf) (bytes : List ℕ) (o : Option Answer)

@@ -80,6 +80,8 @@ impl<A: Allocator + Copy> Inlet<A> {
     ) -> Result<Option<Branches<A>>, AllocError>
         ensures leaves { IfOk result (λ found. IfSome found (λ branches. IsRoutedTo self.now (asked_of (meaning message.now)) branches.tag branches.leaves.items)) }
         ensures buffers { IfOk result (λ found. IfSome found (λ branches. (0 < length message.now.entries) ⊎ (branches.buffers.items ≡ []))) }
+        // Its leaves are its buffers, in their order.
+        ensures same { IfOk result (λ found. IfSome found (λ branches. branches.leaves.items ≡ map (leaf_of self.now.number) branches.buffers.items)) }
     {
         let Some(tag) = self.entered(alloc, &message.tag)? else {
             return Ok(None);
@@ -123,7 +125,7 @@ impl<A: Allocator + Copy> Inlet<A> {
         tag: Tag<A>,
         buffers: Vec<BufferNo, A>,
     ) -> Result<Option<Branches<A>>, AllocError>
-        ensures { IfOk result (λ found. IfSome found (λ branches. (branches.tag ≡ tag) × (branches.leaves.items ≡ map (leaf_of self.now.number) buffers.items))) }
+        ensures { IfOk result (λ found. IfSome found (λ branches. (branches.tag ≡ tag) × (branches.leaves.items ≡ map (leaf_of self.now.number) buffers.items) × (branches.buffers ≡ buffers))) }
     {
         let mut leaves = Vec::with_capacity(alloc, buffers.len())?;
         for buffer in &buffers {

@@ -1,6 +1,7 @@
 use Rattle.std.proofs.Common.{◌≡◌, ◌∙◌, ◌∷◌, List, ap, refl, subst, sym}
+use Rattle.relay_conf.specs.declared.output.BufferNo.{BufferNo}
 use Rattle.ack_receipt.specs.Deliveries.{Pended}
-use Rattle.buffer_lanes.specs.Lanes.{EndsWith, LanesState, listed_at}
+use Rattle.buffer_lanes.specs.Lanes.{AreAppended, EndsWith, LanesState, listed_at}
 use Rattle.buffer_lanes.proofs.Appending.{each_ends, ends_here, still_ends, undone_at}
 use Rattle.buffer_lanes.proofs.lanes.Lanes.+append_each.Goals as goal
 
@@ -11,6 +12,14 @@ returns-then-append_each-clause-appended g t c =
     let whole : c.args.buffers.now ≡ first ∷ c.in-Some.others.now = c.in-Some.ensures.cases.0 in
     each_ends c.args.delivery.now.number c.args.buffers.now c.in-Some.others.now first buffer c.append_each.new.self.waiting whole
     (c.append_each.ensures.last first (ends_here first first c.args.delivery.now.number _ _ _ c.in-Ok.ensures.appended refl)) (c.append_each.ensures.appended c.if-append_each.true) within
+
+pub returns-then-append_each-clause-each : goal.returns-then-append_each-clause-each
+returns-then-append_each-clause-each g t c =
+    λ yes.
+    let first = c.in-Some.first.now in
+    let whole : c.args.buffers.now ≡ first ∷ c.in-Some.others.now = c.in-Some.ensures.cases.0 in
+    subst (λ (l : List BufferNo). AreAppended c.args.delivery.now.number l c.args.self.now.waiting c.append_each.new.self.waiting) (sym whole)
+    (_, _, c.in-Ok.ensures.appended, c.append_each.ensures.each c.if-append_each.true)
 
 pub returns-then-append_each-clause-last : goal.returns-then-append_each-clause-last
 returns-then-append_each-clause-last g t c =

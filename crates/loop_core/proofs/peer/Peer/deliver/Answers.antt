@@ -1,14 +1,14 @@
-use Rattle.std.proofs.Common.{ℕ, ◌≡◌, ◌∙◌, List, [], ◌∷◌, ◌++◌, ◌<◌, length, Option, ap, refl, sym, subst}
+use Rattle.std.proofs.Common.{ℕ, ◌≡◌, ◌∙◌, List, [], ◌∷◌, ◌++◌, ◌<◌, length, map, Option, ap, refl, sym, subst}
 use Rattle.std.specs.Prelude.{Contains, IfSome, ◌⊎◌}
 use Rattle.std.specs.Arc.{arc_value}
 use Rattle.ack_receipt.specs.Deliveries.{OpenDelivery}
 use Rattle.ack_receipt.specs.Reservations.{asked_of}
 use Rattle.event_modes.specs.Reading.{meaning}
 use Rattle.relay_ports.specs.declared.inlet.Branches.{Branches}
-use Rattle.relay_ports.specs.Leaves.{Entry, IsRoutedTo}
+use Rattle.relay_ports.specs.Leaves.{Entry, IsRoutedTo, leaf_of}
 use Rattle.buffer_lanes.specs.Waits.{Waits, awaited_by}
 use Rattle.loop_core.specs.Peers.{PeerState, IsOwed, IsFaithful}
-use Rattle.loop_core.proofs.Keeping.{has_entries, waits_too}
+use Rattle.loop_core.proofs.Keeping.{has_entries, places_of, waits_too}
 use Rattle.loop_core.proofs.peer.Peer.deliver.Goals as goal
 
 pub begin-requires-clause-entries : goal.begin-requires-clause-entries
@@ -16,6 +16,12 @@ begin-requires-clause-entries g c =
     has_entries c.in-Ok.delivery (length c.args.message.entries) c.in-Some-2.branches.buffers.items c.in-Some-2.branches.buffers.items
     (ap (λ (d : OpenDelivery). length d.message.entries) c.in-Ok.ensures.opens) refl
     (subst (λ (o : Option (Branches _)). IfSome o (λ branches. (0 < length c.args.message.entries) ⊎ (branches.buffers.items ≡ []))) c.in-Some-2.is c.in_ok-branches.ensures.buffers)
+
+pub begin-requires-clause-same : goal.begin-requires-clause-same
+begin-requires-clause-same g c =
+    places_of c.deref.result.now.number c.in-Ok.delivery.leaves c.in-Some-2.branches.leaves.items c.in-Some-2.branches.buffers.items
+    (ap (λ (d : OpenDelivery). d.leaves) c.in-Ok.ensures.opens)
+    (subst (λ (o : Option (Branches _)). IfSome o (λ branches. branches.leaves.items ≡ map (leaf_of c.deref.result.now.number) branches.buffers.items)) c.in-Some-2.is c.in_ok-branches.ensures.same)
 
 pub invariant_of-self-2 : goal.invariant_of-self-2
 invariant_of-self-2 g c =
