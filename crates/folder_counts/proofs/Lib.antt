@@ -1,4 +1,3 @@
-mod Fed
 mod Files
 mod Held
 mod Owners

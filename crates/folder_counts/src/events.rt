@@ -6,9 +6,9 @@ ghost use Rattle.folder_counts.specs.Findings.{IsInSink};
 ghost use Rattle.folder_counts.specs.Held.{IsHeldAfter};
 
 use crate::counts::{NO_FILES, SinkCounts, plus};
-use crate::feeding::{Feed, Stop};
 use event_listing::LONGEST_ITEM;
 use event_modes::drop_front;
+use journal_reading::{Feed, FeedStop};
 use sink_series::count_events;
 use std::alloc::{AllocError, Allocator};
 
@@ -77,7 +77,7 @@ impl<A: Allocator + Copy> Feed for Held<A> {
 
     ghost is_in = { IsInSink };
 
-    fn feed(&mut self, piece: &[u8]) -> Result<(), Stop> {
+    fn feed(&mut self, piece: &[u8]) -> Result<(), FeedStop> {
         self.bytes.extend_from_slice(piece)?;
         let counted = count_events(self.alloc, &self.bytes)?;
         let used = self.bytes.len().saturating_sub(counted.torn);
@@ -85,7 +85,7 @@ impl<A: Allocator + Copy> Feed for Held<A> {
         self.taken = plus(self.taken, used as u64)?;
         drop_front(&mut self.bytes, used);
         if self.bytes.len() > LONGEST_ITEM {
-            return Err(Stop::Damaged);
+            return Err(FeedStop::Damaged);
         }
         Ok(())
     }

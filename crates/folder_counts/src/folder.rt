@@ -7,12 +7,12 @@ ghost use Rattle.folder_counts.specs.Order.{IsInOrder};
 
 use crate::buffers::Buffer;
 use crate::events::Held;
-use crate::feeding::found_in;
+use crate::journal::count_journal;
 use crate::names::owner_of;
 use crate::parts::{put_part, sort_parts};
 use crate::sinks::Sink;
-use chunk_journal::Outline;
 use folder_listing::{DataFile, Kind};
+use journal_reading::found_in;
 use program_text::Open;
 use std::alloc::{AllocError, Allocator};
 use std::marker::Model;
@@ -132,7 +132,7 @@ fn count_buffer<'a, A: Allocator + Copy, O: Open>(
     ensures is { IfOk result (λ buffer. IsCounted (O.text_of files.now) (OfBuffer buffer)) }
     ensures name { IfOk result (λ buffer. buffer.file ≡ name.now) }
 {
-    let found = found_in(alloc, Outline::new(alloc), name, files)?;
+    let found = count_journal(alloc, name, files)?;
     let (path, number) = owner_of(Kind::Journal, name);
     Ok(Buffer::new(path, name, number, found))
 }

@@ -1,70 +1,45 @@
 //! A journal, counted: of its bytes are held a piece, a record that isn't whole, and what the live
 //! chunks are without their entries.
 
-ghost use Rattle.std.specs.Prelude.{◌≡◌, ℕ, List, IfOk};
+ghost use Rattle.std.specs.Prelude.{◌≡◌, ℕ, List, IfOk, IfSome};
 ghost use Rattle.buffer_state.specs.Shown.{seen};
-ghost use Rattle.chunk_journal.specs.Feeding.{IsAfter};
 ghost use Rattle.folder_counts.specs.Counts.{one_chunk, state_counts};
 ghost use Rattle.folder_counts.specs.Findings.{IsInJournal};
+ghost use Rattle.journal_reading.specs.Findings.{IsInJournal as IsOutlineIn};
 
 use crate::buffers::Found;
 use crate::counts::{ChunkCounts, NO_CHUNKS};
-use crate::feeding::{Feed, Stop};
 use buffer_state::{ChunkFacts, Chunks, LiveChunks, Stage};
-use chunk_journal::{Outline, ReplayError};
+use chunk_journal::Outline;
+use journal_reading::{FoundJournal, found_in};
+use program_text::Open;
 use std::alloc::{AllocError, Allocator};
 
-impl<A: Allocator + Copy> Feed for Outline<A> {
-    ghost use Rattle.chunk_journal.specs.Feeding.{IsAfter};
-    ghost use Rattle.chunk_journal.specs.Meaning.{IsDamaged};
-    ghost use Rattle.folder_counts.specs.Findings.{IsInJournal};
-
-    type Finding = Found;
-
-    ghost is_after = { IsAfter };
-
-    ghost is_damaged = { IsDamaged };
-
-    ghost is_in = { IsInJournal };
-
-    fn feed(&mut self, piece: &[u8]) -> Result<(), Stop> {
-        if self.fed().checked_add(piece.len() as u64).is_none() {
-            return Err(Stop::Unread);
-        }
-        match self.feed(piece) {
-            Ok(()) => Ok(()),
-            Err(ReplayError::BadRecord) => Err(Stop::Damaged),
-            Err(ReplayError::Memory | ReplayError::NotSealed) => Err(Stop::Memory),
-        }
-    }
-
-    fn finish(self) -> Result<Found, AllocError> {
-        found_in(self)
-    }
-
-    fn damaged() -> Found {
-        Found::Damaged
-    }
-
-    fn unread() -> Found {
-        Found::Unread
-    }
+/// What is found in the journal of this name, counted. The error is want of memory.
+pub(crate) fn count_journal<A: Allocator + Copy, O: Open>(
+    alloc: A,
+    name: &str,
+    files: &O,
+) -> Result<Found, AllocError>
+    ensures { IfOk result (λ found. IfSome (O.text_of files.now name.now) (λ bytes. IsInJournal bytes found)) }
+{
+    let outlined = found_in(alloc, Outline::new(alloc), name, files)?;
+    counts_of(outlined)
 }
 
-// What is found in a journal that was fed. The error is want of memory.
-fn found_in<A: Allocator + Copy>(outline: Outline<A>) -> Result<Found, AllocError>
-    ensures { (bytes : List ℕ) → IsAfter outline bytes → IfOk result (λ found. IsInJournal bytes found) }
+// What is found in a journal, counted. The error is want of memory.
+fn counts_of<A: Allocator + Copy>(found: FoundJournal<A>) -> Result<Found, AllocError>
+    ensures { (bytes : List ℕ) → IsOutlineIn bytes found → IfOk result (λ counts. IsInJournal bytes counts) }
 {
-    let fed = outline.fed();
-    match outline.finish() {
-        Ok(outlined) => Ok(Found::Chunks {
+    match found {
+        FoundJournal::Sealed { outlined, torn } => Ok(Found::Chunks {
             chunks: count_chunks(&outlined.chunks)?,
-            torn: fed.saturating_sub(outlined.used),
+            torn,
             next: outlined.chunks.next(),
         }),
-        Err((ReplayError::NotSealed, _)) => Ok(Found::Unsealed),
-        Err((ReplayError::BadRecord, _)) => Ok(Found::Damaged),
-        Err((ReplayError::Memory, _)) => Err(AllocError),
+        FoundJournal::Unsealed => Ok(Found::Unsealed),
+        FoundJournal::Damaged => Ok(Found::Damaged),
+        FoundJournal::Unread => Ok(Found::Unread),
     }
 }
 

@@ -5,7 +5,6 @@
 mod buffers;
 mod counts;
 mod events;
-mod feeding;
 mod folder;
 mod journal;
 mod limits;

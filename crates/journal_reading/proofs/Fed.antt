@@ -5,8 +5,13 @@ use Rattle.std.specs.Io.KnownBytes.{Consumes, IsAtEnd, Keeps}
 use Rattle.std.proofs.KnownBytes.{Consumes-nil, Consumes-trans, Consumes-kept, Consumes-whole}
 use Rattle.std.proofs.Math.Seq.{take-append_seam}
 use Rattle.chunk_journal.specs.Meaning.{IsDamaged}
-use Rattle.event_listing.proofs.Items.{known_is}
 use Rattle.journal_files.proofs.Heard.{damaged_front}
+
+-- what holds of what was read, whatever follows, holds of the bytes where they are known
+pub known_is : (known now : Option (List ℕ)) (read : List ℕ) (P : List ℕ → Type 0) → Consumes known now read → ((more : List ℕ) → P (read ++ more)) → IfSome known P
+known_is None now read P consumed holds = tt
+known_is (Some bytes) None read P consumed holds = absurd consumed
+known_is (Some bytes) (Some more) read P consumed holds = subst P (sym consumed) (holds more)
 
 -- what was read so far was fed
 pub record FedOn {S : Type 0} (after : S → List ℕ → Type 0) (known now : Option (List ℕ)) (fed : S) : Type 0 where

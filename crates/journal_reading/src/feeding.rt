@@ -9,7 +9,7 @@ use std::io::ErrorKind;
 
 /// Why a file isn't read to its end.
 #[derive(Clone, Copy, Debug, PartialEq, Eq)]
-pub(crate) enum Stop {
+pub enum FeedStop {
     /// It is damaged, whatever follows.
     Damaged,
     /// Its reader failed.
@@ -18,31 +18,31 @@ pub(crate) enum Stop {
     Memory,
 }
 
-impl From<AllocError> for Stop {
+impl From<AllocError> for FeedStop {
     ghost use Rattle.std.specs.Prelude.{◌≡◌};
-    ghost use Rattle.folder_counts.specs.declared.feeding.Stop.TheVariants.{Memory};
+    ghost use Rattle.journal_reading.specs.declared.feeding.FeedStop.TheVariants.{Memory};
 
     ghost from_gives = { λ _ stop. stop ≡ Memory };
 
-    fn from(_: AllocError) -> Stop {
-        Stop::Memory
+    fn from(_: AllocError) -> FeedStop {
+        FeedStop::Memory
     }
 }
 
-impl Stop {
+impl FeedStop {
     /// Why a file isn't read to its end whose reader failed so, or couldn't be had.
-    pub(crate) fn of_reader(error: &io::Error) -> Stop
-        ensures { result ≢ Stop.Damaged }
+    pub fn of_reader(error: &io::Error) -> FeedStop
+        ensures { result ≢ FeedStop.Damaged }
     {
         match ReadFault::of(error) {
-            ReadFault::Memory => Stop::Memory,
-            ReadFault::Read => Stop::Unread,
+            ReadFault::Memory => FeedStop::Memory,
+            ReadFault::Read => FeedStop::Unread,
         }
     }
 }
 
 /// What takes the pieces of a file, one after another, and says in the end what is found in it.
-pub(crate) trait Feed: Sized {
+pub trait Feed: Sized {
     ghost use Rattle.std.specs.Prelude.{List, ℕ};
 
     /// What is found in a file.
@@ -58,9 +58,9 @@ pub(crate) trait Feed: Sized {
     ghost is_in: { List ℕ → Self.Finding → Type 0 };
 
     /// Takes the next piece. `Damaged` where what was fed is damaged, whatever follows.
-    fn feed(&mut self, piece: &[u8]) -> Result<(), Stop>
+    fn feed(&mut self, piece: &[u8]) -> Result<(), FeedStop>
         ensures fed { OnOk result ((seen : List ℕ) → is_after self.old seen → is_after self.new (seen ++ piece.now)) }
-        ensures damaged { (seen more : List ℕ) → is_after self.old seen → result ≡ Err Stop.Damaged → is_damaged ((seen ++ piece.now) ++ more) };
+        ensures damaged { (seen more : List ℕ) → is_after self.old seen → result ≡ Err FeedStop.Damaged → is_damaged ((seen ++ piece.now) ++ more) };
 
     /// What is found in a file that was fed whole. The error is want of memory.
     fn finish(self) -> Result<Self::Finding, AllocError>
@@ -77,7 +77,7 @@ pub(crate) trait Feed: Sized {
 }
 
 /// What is found in the file of this name. The error is want of memory.
-pub(crate) fn found_in<A: Allocator, F: Feed + Drop, O: Open>(
+pub fn found_in<A: Allocator, F: Feed + Drop, O: Open>(
     alloc: A,
     fed: F,
     name: &str,
@@ -89,15 +89,15 @@ pub(crate) fn found_in<A: Allocator, F: Feed + Drop, O: Open>(
 {
     match files.open(name) {
         Ok(mut reader) => found_by(alloc, fed, &mut reader),
-        Err(e) => match Stop::of_reader(&e) {
-            Stop::Memory => Err(AllocError),
+        Err(e) => match FeedStop::of_reader(&e) {
+            FeedStop::Memory => Err(AllocError),
             _ => Ok(F::unread()),
         },
     }
 }
 
-// What is found in the file that the reader has left.
-fn found_by<A: Allocator, F: Feed + Drop, R: CountedRead>(
+/// What is found in the file that the reader has left. The error is want of memory.
+pub fn found_by<A: Allocator, F: Feed + Drop, R: CountedRead>(
     alloc: A,
     fed: F,
     input: &mut R,
@@ -108,9 +108,9 @@ fn found_by<A: Allocator, F: Feed + Drop, R: CountedRead>(
     let mut fed = fed;
     match feed_all(alloc, &mut fed, input) {
         Ok(()) => fed.finish(),
-        Err(Stop::Damaged) => Ok(F::damaged()),
-        Err(Stop::Unread) => Ok(F::unread()),
-        Err(Stop::Memory) => Err(AllocError),
+        Err(FeedStop::Damaged) => Ok(F::damaged()),
+        Err(FeedStop::Unread) => Ok(F::unread()),
+        Err(FeedStop::Memory) => Err(AllocError),
     }
 }
 
@@ -119,10 +119,10 @@ fn feed_all<A: Allocator, F: Feed, R: CountedRead>(
     alloc: A,
     fed: &mut F,
     input: &mut R,
-) -> Result<(), Stop>
+) -> Result<(), FeedStop>
     requires { F.is_after fed.old [] }
     ensures whole { OnOk result (IfSome (R.remaining input.old) (F.is_after fed.new)) }
-    ensures damaged { result ≡ Err Stop.Damaged → IfSome (R.remaining input.old) F.is_damaged }
+    ensures damaged { result ≡ Err FeedStop.Damaged → IfSome (R.remaining input.old) F.is_damaged }
 {
     let mut piece = Vec::from_elem(alloc, 0, PIECE)?;
     feed_pieces(&mut piece, fed, input)
@@ -133,11 +133,11 @@ fn feed_pieces<F: Feed, R: CountedRead>(
     piece: &mut [u8],
     fed: &mut F,
     input: &mut R,
-) -> Result<(), Stop>
+) -> Result<(), FeedStop>
     requires room { 0 < length piece.old }
     requires start { F.is_after fed.old [] }
     ensures whole { OnOk result (IfSome (R.remaining input.old) (F.is_after fed.new)) }
-    ensures damaged { result ≡ Err Stop.Damaged → IfSome (R.remaining input.old) F.is_damaged }
+    ensures damaged { result ≡ Err FeedStop.Damaged → IfSome (R.remaining input.old) F.is_damaged }
 {
     for _ in 0..MOST_READS {
         match input.read(piece) {
@@ -148,8 +148,8 @@ fn feed_pieces<F: Feed, R: CountedRead>(
                 }
             }
             Err(e) if e.kind() == ErrorKind::Interrupted => (),
-            Err(e) => return Err(Stop::of_reader(&e)),
+            Err(e) => return Err(FeedStop::of_reader(&e)),
         }
     }
-    Err(Stop::Unread)
+    Err(FeedStop::Unread)
 }

@@ -1,7 +1,7 @@
 use Rattle.std.proofs.Common.{rules}
 use Rattle.chunk_journal.specs.Meaning.{IsDamaged}
-use Rattle.folder_counts.proofs.Fed.{damaged_on}
-use Rattle.folder_counts.proofs.journal.OutlineFeed.feed.Goals as goal
+use Rattle.journal_reading.proofs.Fed.{damaged_on}
+use Rattle.journal_reading.proofs.journal.OutlineFeed.feed.Goals as goal
 
 pub returns-in-Err-BadRecord-clause-damaged : goal.returns-in-Err-BadRecord-clause-damaged
 returns-in-Err-BadRecord-clause-damaged g c = λ seen more on e.

@@ -1,7 +1,7 @@
 use Rattle.std.proofs.Common.{◌≡◌, Err, ap, rules}
-use Rattle.folder_counts.proofs.Fed.{each_known, finished_so, if_known}
-use Rattle.folder_counts.specs.declared.feeding.Stop.TheVariants.{Damaged}
-use Rattle.folder_counts.proofs.feeding.found_by.Goals as goal
+use Rattle.journal_reading.proofs.Fed.{each_known, finished_so, if_known}
+use Rattle.journal_reading.specs.declared.feeding.FeedStop.TheVariants.{Damaged}
+use Rattle.journal_reading.proofs.feeding.found_by.Goals as goal
 
 pub returns-in-Ok : goal.returns-in-Ok
 returns-in-Ok g c =

@@ -1,6 +1,6 @@
 use Rattle.std.proofs.Common.{take}
-use Rattle.folder_counts.proofs.Fed.{fed_damaged}
-use Rattle.folder_counts.proofs.feeding.feed_pieces.Goals as goal
+use Rattle.journal_reading.proofs.Fed.{fed_damaged}
+use Rattle.journal_reading.proofs.feeding.feed_pieces.Goals as goal
 
 pub returns-in-Err-feed-clause-damaged : goal.returns-in-Err-feed-clause-damaged
 returns-in-Err-feed-clause-damaged g c = λ e.
