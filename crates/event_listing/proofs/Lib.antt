@@ -1,3 +1,5 @@
+mod Chunks
+mod Entries
 mod Held
 pub mod Items
 mod Listed

@@ -1,92 +1,85 @@
--- A sink's file, read on piece by piece.
+-- Bytes that spell events, as a sink's file, read on piece by piece.
 use Rattle.std.proofs.Common.{ℕ, List, [], ◌++◌, ◌≡◌, ◌<◌, ◌≤◌, ◌+◌, ◌-◌, length, take, drop, refl, sym, ap, ◌∙◌, subst, arith, inl, append_assoc, append-nil, Option, Some, None, Result, Ok, Err}
 use Rattle.std.specs.Prelude.{IfSome}
 use Rattle.std.specs.Io.KnownBytes.{Appends, Consumes, IsAtEnd}
 use Rattle.std.proofs.KnownBytes.{Appends-nil, Appends-trans, Consumes-trans, Consumes-whole}
 use Rattle.std.proofs.lemmas.List.{length-append, length-take-le, take-append-drop}
-use Rattle.sink_series.specs.Events.{IsEvent, run_of, BeginsNone}
+use Rattle.event_listing.specs.Forms.{Form, spelled_run, BeginsNo, IsIn}
 use Rattle.event_listing.specs.Choices.{Chosen}
 use Rattle.event_listing.specs.Lines.{PrintsAll, PrintsSome, IsPrintedOf}
 use Rattle.event_listing.specs.Reading.{longest_item, IsEnd, IsTaken, PrintsFile, PrintsPiece}
 use Rattle.event_listing.specs.declared.sink.End.TheVariants.{Ended, Damaged}
 use Rattle.event_listing.specs.declared.sink.Stop.{Stop}
 use Rattle.program_text.specs.Output.{TakesPart}
-use Rattle.event_listing.proofs.Items.{each_append, known_is, none_further, nothing_begins, run_append}
+use Rattle.journal_reading.proofs.Fed.{known_is}
+use Rattle.event_listing.proofs.Items.{each_append, none_further, nothing_begins, run_append}
 use Rattle.event_listing.proofs.Listed.{listed_append}
 
 -- ---- what is printed
 
 -- of no bytes nothing
-pub prints_none : (chosen : Chosen) (held : List ℕ) → held ≡ [] → PrintsAll chosen [] [] held
-prints_none chosen held e = record {
+pub prints_none : (form : Form) (chosen : Chosen) (held : List ℕ) → held ≡ [] → PrintsAll form chosen [] [] held
+prints_none form chosen held e = record {
   events = [];
-  holds = record { each = tt; rest = []; whole = refl; torn = nothing_begins };
-  rest_is = e;
+  each = tt;
+  whole = sym e;
+  torn = subst (BeginsNo form) (sym e) (nothing_begins form);
   printed = record { listings = []; each = tt; text_is = refl };
 }
 
 -- of a piece more
-prints_more : (chosen : Chosen) (read piece text held behind left : List ℕ) → PrintsAll chosen read text held → PrintsAll chosen (held ++ piece) behind left
-    → PrintsAll chosen (read ++ piece) (text ++ behind) left
-prints_more chosen read piece text held behind left first more = record {
+prints_more : (form : Form) (chosen : Chosen) (read piece text held behind left : List ℕ) → PrintsAll form chosen read text held → PrintsAll form chosen (held ++ piece) behind left
+    → PrintsAll form chosen (read ++ piece) (text ++ behind) left
+prints_more form chosen read piece text held behind left first more = record {
   events = first.events ++ more.events;
-  holds = record {
-    each = each_append IsEvent first.events more.events first.holds.each more.holds.each;
-    rest = more.holds.rest;
-    whole = ap (λ z. z ++ piece) first.holds.whole ∙ append_assoc (run_of first.events) first.holds.rest piece
-        ∙ ap (λ z. run_of first.events ++ (z ++ piece)) (sym first.rest_is) ∙ ap (λ z. run_of first.events ++ z) more.holds.whole
-        ∙ run_append first.events more.events more.holds.rest;
-    torn = more.holds.torn;
-  };
-  rest_is = more.rest_is;
+  each = each_append (IsIn form) first.events more.events first.each more.each;
+  whole = ap (λ z. z ++ piece) first.whole ∙ append_assoc (spelled_run form first.events) held piece ∙ ap (λ z. spelled_run form first.events ++ z) more.whole
+      ∙ run_append form first.events more.events left;
+  torn = more.torn;
   printed = listed_append (IsPrintedOf chosen) first.events more.events text behind first.printed more.printed;
 }
 
 -- where some of a piece more is printed
-pub some_more : (chosen : Chosen) (read piece text held behind more : List ℕ) → PrintsAll chosen read text held → PrintsSome chosen (held ++ piece) behind
-    → PrintsSome chosen ((read ++ piece) ++ more) (text ++ behind)
-some_more chosen read piece text held behind more first some = record {
+pub some_more : (form : Form) (chosen : Chosen) (read piece text held behind more : List ℕ) → PrintsAll form chosen read text held → PrintsSome form chosen (held ++ piece) behind
+    → PrintsSome form chosen ((read ++ piece) ++ more) (text ++ behind)
+some_more form chosen read piece text held behind more first some = record {
   events = first.events ++ some.events;
-  each = each_append IsEvent first.events some.events first.holds.each some.each;
+  each = each_append (IsIn form) first.events some.events first.each some.each;
   rest = some.rest ++ more;
-  whole = ap (λ z. (z ++ piece) ++ more) first.holds.whole ∙ ap (λ z. z ++ more) (append_assoc (run_of first.events) first.holds.rest piece)
-      ∙ ap (λ z. (run_of first.events ++ (z ++ piece)) ++ more) (sym first.rest_is) ∙ ap (λ z. (run_of first.events ++ z) ++ more) some.whole
-      ∙ ap (λ z. z ++ more) (run_append first.events some.events some.rest) ∙ append_assoc (run_of (first.events ++ some.events)) some.rest more;
+  whole = ap (λ z. (z ++ piece) ++ more) first.whole ∙ ap (λ z. z ++ more) (append_assoc (spelled_run form first.events) held piece)
+      ∙ ap (λ z. (spelled_run form first.events ++ z) ++ more) some.whole
+      ∙ ap (λ z. z ++ more) (run_append form first.events some.events some.rest) ∙ append_assoc (spelled_run form (first.events ++ some.events)) some.rest more;
   printed = listed_append (IsPrintedOf chosen) first.events some.events text behind first.printed some.printed;
 }
 
 -- what is printed of a beginning of the bytes
-pub some_of_all : (chosen : Chosen) (read text held more : List ℕ) → PrintsAll chosen read text held → PrintsSome chosen (read ++ more) text
-some_of_all chosen read text held more all = record {
+pub some_of_all : (form : Form) (chosen : Chosen) (read text held more : List ℕ) → PrintsAll form chosen read text held → PrintsSome form chosen (read ++ more) text
+some_of_all form chosen read text held more all = record {
   events = all.events;
-  each = all.holds.each;
-  rest = all.holds.rest ++ more;
-  whole = ap (λ z. z ++ more) all.holds.whole ∙ append_assoc (run_of all.events) all.holds.rest more;
+  each = all.each;
+  rest = held ++ more;
+  whole = ap (λ z. z ++ more) all.whole ∙ append_assoc (spelled_run form all.events) held more;
   printed = all.printed;
 }
 
 -- none is printed
-pub some_of_none : (chosen : Chosen) (bytes : List ℕ) → PrintsSome chosen bytes []
-some_of_none chosen bytes = record { events = []; each = tt; rest = bytes; whole = refl; printed = record { listings = []; each = tt; text_is = refl } }
+pub some_of_none : (form : Form) (chosen : Chosen) (bytes : List ℕ) → PrintsSome form chosen bytes []
+some_of_none form chosen bytes = record { events = []; each = tt; rest = bytes; whole = refl; printed = record { listings = []; each = tt; text_is = refl } }
 
--- all that the bytes hold is printed, where more is held than an item has
-pub all_of_long : (chosen : Chosen) (read text held more : List ℕ) → longest_item < length held → PrintsAll chosen read text held → PrintsAll chosen (read ++ more) text (held ++ more)
-all_of_long chosen read text held more long all = record {
+-- all that the bytes hold is printed, where more is held than an event has
+pub all_of_long : (form : Form) (chosen : Chosen) (read text held more : List ℕ) → longest_item < length held → PrintsAll form chosen read text held → PrintsAll form chosen (read ++ more) text (held ++ more)
+all_of_long form chosen read text held more long all = record {
   events = all.events;
-  holds = record {
-    each = all.holds.each;
-    rest = held ++ more;
-    whole = ap (λ z. z ++ more) all.holds.whole ∙ append_assoc (run_of all.events) all.holds.rest more ∙ ap (λ z. run_of all.events ++ (z ++ more)) (sym all.rest_is);
-    torn = none_further held more long (subst BeginsNone (sym all.rest_is) all.holds.torn);
-  };
-  rest_is = refl;
+  each = all.each;
+  whole = ap (λ z. z ++ more) all.whole ∙ append_assoc (spelled_run form all.events) held more;
+  torn = none_further form held more long all.torn;
   printed = all.printed;
 }
 
 -- ---- a file
 
 -- all of the text is taken
-taken : (old new : Option (List ℕ)) (text : List ℕ) → Appends old new text → TakesPart old new text []
+pub taken : (old new : Option (List ℕ)) (text : List ℕ) → Appends old new text → TakesPart old new text []
 taken old new text appends = record { written = text; appends = appends; whole = append-nil text }
 
 -- what is taken of a text behind another
@@ -104,49 +97,49 @@ all_taken old mid new text behind unseen none first more =
     subst (λ z. Appends old new (text ++ z)) whole (Appends-trans old mid new text more.written first more.appends)
 
 -- reading stops between two pieces
-pub file_stopped : (chosen : Chosen) (known now old new : Option (List ℕ)) (read text held : List ℕ) (stop : Stop) → Consumes known now read → Appends old new text → PrintsAll chosen read text held
-    → PrintsFile chosen known old new (Err stop)
-file_stopped chosen known now old new read text held stop consumed appends all = record {
+pub file_stopped : (form : Form) (chosen : Chosen) (known now old new : Option (List ℕ)) (read text held : List ℕ) (stop : Stop) → Consumes known now read → Appends old new text → PrintsAll form chosen read text held
+    → PrintsFile form chosen known old new (Err stop)
+file_stopped form chosen known now old new read text held stop consumed appends all = record {
   text = text;
   unseen = [];
   printed = taken old new text appends;
-  ends = (inl refl, known_is known now read (λ bytes. PrintsSome chosen bytes text) consumed (λ more. some_of_all chosen read text held more all));
+  ends = (inl refl, known_is known now read (λ bytes. PrintsSome form chosen bytes text) consumed (λ more. some_of_all form chosen read text held more all));
 }
 
 -- reading stops in a piece
-pub file_cut : (chosen : Chosen) (known now old mid new : Option (List ℕ)) (read piece text held : List ℕ) (at : ℕ) (left : ℕ × List ℕ) (stop : Stop) → Consumes known now (read ++ piece) → Appends old mid text
-    → PrintsAll chosen read text held → PrintsPiece chosen (at, held ++ piece) left mid new (Err stop) → PrintsFile chosen known old new (Err stop)
-file_cut chosen known now old mid new read piece text held at left stop consumed appends all off = record {
+pub file_cut : (form : Form) (chosen : Chosen) (known now old mid new : Option (List ℕ)) (read piece text held : List ℕ) (at : ℕ) (left : ℕ × List ℕ) (stop : Stop) → Consumes known now (read ++ piece) → Appends old mid text
+    → PrintsAll form chosen read text held → PrintsPiece form chosen (at, held ++ piece) left mid new (Err stop) → PrintsFile form chosen known old new (Err stop)
+file_cut form chosen known now old mid new read piece text held at left stop consumed appends all off = record {
   text = text ++ off.text;
   unseen = off.unseen;
   printed = taken_behind old mid new text off.text off.unseen appends off.printed;
-  ends = (off.ends.0, known_is known now (read ++ piece) (λ bytes. PrintsSome chosen bytes (text ++ off.text)) consumed (λ more. some_more chosen read piece text held off.text more all off.ends.1));
+  ends = (off.ends.0, known_is known now (read ++ piece) (λ bytes. PrintsSome form chosen bytes (text ++ off.text)) consumed (λ more. some_more form chosen read piece text held off.text more all off.ends.1));
 }
 
 -- nothing of a piece is printed
-pub piece_lost : (chosen : Chosen) (held left : ℕ × List ℕ) (old : Option (List ℕ)) (stop : Stop) → PrintsPiece chosen held left old old (Err stop)
-piece_lost chosen held left old stop = record { text = []; unseen = []; printed = taken old old [] (Appends-nil old); ends = (inl refl, some_of_none chosen held.1) }
+pub piece_lost : (form : Form) (chosen : Chosen) (held left : ℕ × List ℕ) (old : Option (List ℕ)) (stop : Stop) → PrintsPiece form chosen held left old old (Err stop)
+piece_lost form chosen held left old stop = record { text = []; unseen = []; printed = taken old old [] (Appends-nil old); ends = (inl refl, some_of_none form chosen held.1) }
 
 -- what the bytes hold is printed, and they are not taken off
-pub piece_cut : (chosen : Chosen) (held left : ℕ × List ℕ) (old new : Option (List ℕ)) (text unseen rest : List ℕ) (stop : Stop) → PrintsAll chosen held.1 text rest → TakesPart old new text unseen → IsTaken unseen stop
-    → PrintsPiece chosen held left old new (Err stop)
-piece_cut chosen held left old new text unseen rest stop all takes is = record {
+pub piece_cut : (form : Form) (chosen : Chosen) (held left : ℕ × List ℕ) (old new : Option (List ℕ)) (text unseen rest : List ℕ) (stop : Stop) → PrintsAll form chosen held.1 text rest → TakesPart old new text unseen → IsTaken unseen stop
+    → PrintsPiece form chosen held left old new (Err stop)
+piece_cut form chosen held left old new text unseen rest stop all takes is = record {
   text = text;
   unseen = unseen;
   printed = takes;
-  ends = (is, subst (λ z. PrintsSome chosen z text) (append-nil held.1) (some_of_all chosen held.1 text rest [] all));
+  ends = (is, subst (λ z. PrintsSome form chosen z text) (append-nil held.1) (some_of_all form chosen held.1 text rest [] all));
 }
 
 -- they are taken off
-pub piece_whole : (chosen : Chosen) (at used next : ℕ) (bytes left text : List ℕ) (old new : Option (List ℕ)) → PrintsAll chosen bytes text (drop used bytes) → used ≤ length bytes → left ≡ drop used bytes → next ≡ at + used
-    → TakesPart old new text [] → PrintsPiece chosen (at, bytes) (next, left) old new (Ok tt)
-piece_whole chosen at used next bytes left text old new all fits same place takes = record {
+pub piece_whole : (form : Form) (chosen : Chosen) (at used next : ℕ) (bytes left text : List ℕ) (old new : Option (List ℕ)) → PrintsAll form chosen bytes text (drop used bytes) → used ≤ length bytes → left ≡ drop used bytes → next ≡ at + used
+    → TakesPart old new text [] → PrintsPiece form chosen (at, bytes) (next, left) old new (Ok tt)
+piece_whole form chosen at used next bytes left text old new all fits same place takes = record {
   text = text;
   unseen = [];
   printed = takes;
   ends = (
     refl,
-    subst (λ z. PrintsAll chosen bytes text z) (sym same) all,
+    subst (λ z. PrintsAll form chosen bytes text z) (sym same) all,
     omega (arith, fits, place, ap length same, ap length (take-append-drop used bytes), length-append (take used bytes) (drop used bytes), length-take-le used bytes fits),
   );
 }
@@ -156,15 +149,15 @@ place : (bytes rest at : ℕ) → at + rest ≡ bytes → at ≡ bytes - rest
 place bytes rest at e = omega (arith, e)
 
 -- nothing is left to read
-pub file_ended : (chosen : Chosen) (known now old new : Option (List ℕ)) (read text held : List ℕ) (at behind : ℕ) → Consumes known now read → IsAtEnd now → Appends old new text
-    → PrintsAll chosen read text held → at + length held ≡ length read → behind ≡ length held → PrintsFile chosen known old new (Ok (Ended at behind))
-file_ended chosen known now old new read text held at behind consumed none appends all at_is behind_is = record {
+pub file_ended : (form : Form) (chosen : Chosen) (known now old new : Option (List ℕ)) (read text held : List ℕ) (at behind : ℕ) → Consumes known now read → IsAtEnd now → Appends old new text
+    → PrintsAll form chosen read text held → at + length held ≡ length read → behind ≡ length held → PrintsFile form chosen known old new (Ok (Ended at behind))
+file_ended form chosen known now old new read text held at behind consumed none appends all at_is behind_is = record {
   text = text;
   unseen = [];
   printed = taken old new text appends;
   ends = (
     refl,
-    Consumes-whole known now read (λ bytes. (rest : List ℕ) × PrintsAll chosen bytes text rest × IsEnd bytes rest (Ended at behind)) consumed none (
+    Consumes-whole known now read (λ bytes. (rest : List ℕ) × PrintsAll form chosen bytes text rest × IsEnd bytes rest (Ended at behind)) consumed none (
       held,
       all,
       (place (length read) (length held) at at_is, behind_is),
@@ -173,60 +166,60 @@ file_ended chosen known now old new read text held at behind consumed none appen
 }
 
 -- more is held than an item has
-file_long : (chosen : Chosen) (known now old new : Option (List ℕ)) (read text held : List ℕ) (at : ℕ) → Consumes known now read → longest_item < length held → Appends old new text
-    → PrintsAll chosen read text held → at + length held ≡ length read → PrintsFile chosen known old new (Ok (Damaged at))
-file_long chosen known now old new read text held at consumed long appends all at_is = record {
+file_long : (form : Form) (chosen : Chosen) (known now old new : Option (List ℕ)) (read text held : List ℕ) (at : ℕ) → Consumes known now read → longest_item < length held → Appends old new text
+    → PrintsAll form chosen read text held → at + length held ≡ length read → PrintsFile form chosen known old new (Ok (Damaged at))
+file_long form chosen known now old new read text held at consumed long appends all at_is = record {
   text = text;
   unseen = [];
   printed = taken old new text appends;
   ends = (
     refl,
-    known_is known now read (λ bytes. (rest : List ℕ) × PrintsAll chosen bytes text rest × IsEnd bytes rest (Damaged at)) consumed (λ more. (
+    known_is known now read (λ bytes. (rest : List ℕ) × PrintsAll form chosen bytes text rest × IsEnd bytes rest (Damaged at)) consumed (λ more. (
       held ++ more,
-      all_of_long chosen read text held more long all,
+      all_of_long form chosen read text held more long all,
       (omega (arith, at_is, length-append read more, length-append held more), omega (arith, long, length-append held more)),
     )),
   );
 }
 
-none_of : (chosen : Chosen) (known : Option (List ℕ)) → IfSome known (λ bytes. PrintsSome chosen bytes [])
-none_of chosen None = tt
-none_of chosen (Some bytes) = some_of_none chosen bytes
+none_of : (form : Form) (chosen : Chosen) (known : Option (List ℕ)) → IfSome known (λ bytes. PrintsSome form chosen bytes [])
+none_of form chosen None = tt
+none_of form chosen (Some bytes) = some_of_none form chosen bytes
 
 -- the place, a piece further
 place_more : (read piece held left : List ℕ) (at next : ℕ) → at + length held ≡ length read → next + length left ≡ at + length (held ++ piece) → next + length left ≡ length (read ++ piece)
 place_more read piece held left at next before after = omega (arith, before, after, length-append read piece, length-append held piece)
 
 -- no file is read
-pub file_unread : (chosen : Chosen) (known old : Option (List ℕ)) (stop : Stop) → PrintsFile chosen known old old (Err stop)
-file_unread chosen known old stop = record { text = []; unseen = []; printed = taken old old [] (Appends-nil old); ends = (inl refl, none_of chosen known) }
+pub file_unread : (form : Form) (chosen : Chosen) (known old : Option (List ℕ)) (stop : Stop) → PrintsFile form chosen known old old (Err stop)
+file_unread form chosen known old stop = record { text = []; unseen = []; printed = taken old old [] (Appends-nil old); ends = (inl refl, none_of form chosen known) }
 
 -- ---- the pieces of a file, one behind another
 
 -- what is printed of the pieces so far, of which these bytes are held, from this place of the file
 -- on
-pub record FileOn (chosen : Chosen) (known now old new : Option (List ℕ)) (held : List ℕ) (at : ℕ) : Type 0 where
+pub record FileOn (form : Form) (chosen : Chosen) (known now old new : Option (List ℕ)) (held : List ℕ) (at : ℕ) : Type 0 where
   pub read : List ℕ
   pub text : List ℕ
   pub consumed : Consumes known now read
   pub written : Appends old new text
-  pub printed : PrintsAll chosen read text held
+  pub printed : PrintsAll form chosen read text held
   pub at_is : at + length held ≡ length read
 
 -- a piece more
-pub piece_more : (chosen : Chosen) (known now later old mid new : Option (List ℕ)) (held piece left : List ℕ) (at next : ℕ) (result : Result (Unit {0}) Stop) (u : Unit {0}) → FileOn chosen known now old mid held at
-    → Consumes now later piece → PrintsPiece chosen (at, held ++ piece) (next, left) mid new result → result ≡ Ok u → FileOn chosen known later old new left next
-piece_more chosen known now later old mid new held piece left at next result u on consumes prints is =
-    let whole : PrintsPiece chosen (at, held ++ piece) (next, left) mid new (Ok u) = subst (λ r. PrintsPiece chosen (at, held ++ piece) (next, left) mid new r) is prints in
+pub piece_more : (form : Form) (chosen : Chosen) (known now later old mid new : Option (List ℕ)) (held piece left : List ℕ) (at next : ℕ) (result : Result (Unit {0}) Stop) (u : Unit {0}) → FileOn form chosen known now old mid held at
+    → Consumes now later piece → PrintsPiece form chosen (at, held ++ piece) (next, left) mid new result → result ≡ Ok u → FileOn form chosen known later old new left next
+piece_more form chosen known now later old mid new held piece left at next result u on consumes prints is =
+    let whole : PrintsPiece form chosen (at, held ++ piece) (next, left) mid new (Ok u) = subst (λ r. PrintsPiece form chosen (at, held ++ piece) (next, left) mid new r) is prints in
     record {
       read = on.read ++ piece;
       text = on.text ++ whole.text;
       consumed = Consumes-trans known now later on.read piece on.consumed consumes;
       written = all_taken old mid new on.text whole.text whole.unseen whole.ends.0 on.written whole.printed;
-      printed = prints_more chosen on.read piece on.text held whole.text left on.printed whole.ends.1;
+      printed = prints_more form chosen on.read piece on.text held whole.text left on.printed whole.ends.1;
       at_is = place_more on.read piece held left at next on.at_is whole.ends.2;
     }
 
 -- more is held behind it than an item has
-pub piece_long : (chosen : Chosen) (known now old new : Option (List ℕ)) (held : List ℕ) (at : ℕ) → FileOn chosen known now old new held at → longest_item < length held → PrintsFile chosen known old new (Ok (Damaged at))
-piece_long chosen known now old new held at on long = file_long chosen known now old new on.read on.text held at on.consumed long on.written on.printed on.at_is
+pub piece_long : (form : Form) (chosen : Chosen) (known now old new : Option (List ℕ)) (held : List ℕ) (at : ℕ) → FileOn form chosen known now old new held at → longest_item < length held → PrintsFile form chosen known old new (Ok (Damaged at))
+piece_long form chosen known now old new held at on long = file_long form chosen known now old new on.read on.text held at on.consumed long on.written on.printed on.at_is

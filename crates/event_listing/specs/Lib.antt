@@ -1,5 +1,7 @@
 pub mod Choices
 pub mod Files
+pub mod Forms
 pub mod Lines
+pub mod Live
 pub mod Notes
 pub mod Reading

@@ -1,7 +1,8 @@
--- What reading a sink's file in pieces prints.
+-- What reading bytes that spell events in pieces prints.
 use Rattle.std.specs.Prelude.{ℕ, ◌≡◌, ◌+◌, ◌<◌, ◌⊎◌, ◌-◌, Bool, true, false, List, [], length, Option, IfSome, Result, MatchResult}
 use Rattle.program_text.specs.Output.{TakesPart}
 use Rattle.event_listing.specs.Choices.{Chosen}
+use Rattle.event_listing.specs.Forms.{Form}
 use Rattle.event_listing.specs.Lines.{PrintsAll, PrintsSome}
 use Rattle.event_listing.specs.declared.sink.End.{End}
 use Rattle.event_listing.specs.declared.sink.End.TheVariants.{Ended, Damaged}
@@ -26,22 +27,22 @@ is_ended (Damaged at) = false
 abbrev pub IsTaken : List ℕ → Stop → Type 0
 IsTaken unseen stop = (unseen ≡ []) ⊎ (stop ≡ Output)
 
--- How the file is read, where it is known what it has: to the end of its events, all of which are
--- printed; or some are.
-pub record PrintsFile (chosen : Chosen) (known old new : Option (List ℕ)) (result : Result End Stop) : Type 0 where
+-- How bytes that spell events so are read, where it is known what they are: to the end of the
+-- events, all of which are printed; or some are.
+pub record PrintsFile (form : Form) (chosen : Chosen) (known old new : Option (List ℕ)) (result : Result End Stop) : Type 0 where
   pub text : List ℕ
   pub unseen : List ℕ
   pub printed : TakesPart old new text unseen
   pub ends :
-      MatchResult result (λ end. (unseen ≡ []) × IfSome known (λ bytes. (rest : List ℕ) × PrintsAll chosen bytes text rest × IsEnd bytes rest end))
-      (λ stop. IsTaken unseen stop × IfSome known (λ bytes. PrintsSome chosen bytes text))
+      MatchResult result (λ end. (unseen ≡ []) × IfSome known (λ bytes. (rest : List ℕ) × PrintsAll form chosen bytes text rest × IsEnd bytes rest end))
+      (λ stop. IsTaken unseen stop × IfSome known (λ bytes. PrintsSome form chosen bytes text))
 
 -- Of the bytes that are held with a piece, from this place of the file on, all events are printed
 -- and taken off; or some are printed.
-pub record PrintsPiece (chosen : Chosen) (held left : ℕ × List ℕ) (old new : Option (List ℕ)) (result : Result (Unit {0}) Stop) : Type 0 where
+pub record PrintsPiece (form : Form) (chosen : Chosen) (held left : ℕ × List ℕ) (old new : Option (List ℕ)) (result : Result (Unit {0}) Stop) : Type 0 where
   pub text : List ℕ
   pub unseen : List ℕ
   pub printed : TakesPart old new text unseen
   pub ends :
-      MatchResult result (λ _. (unseen ≡ []) × PrintsAll chosen held.1 text left.1 × (left.0 + length left.1 ≡ held.0 + length held.1))
-      (λ stop. IsTaken unseen stop × PrintsSome chosen held.1 text)
+      MatchResult result (λ _. (unseen ≡ []) × PrintsAll form chosen held.1 text left.1 × (left.0 + length left.1 ≡ held.0 + length held.1))
+      (λ stop. IsTaken unseen stop × PrintsSome form chosen held.1 text)

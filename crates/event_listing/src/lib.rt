@@ -1,9 +1,12 @@
-//! The word `events`: the events that a relay's sinks hold, each as a line of JSON. Nothing is
-//! written to a sink.
+//! The word `events`: the events that a relay's sinks hold, and those that its journals hold live,
+//! each as a line of JSON. Nothing is written to a sink or a journal.
 #![tactic(auto)]
 
 mod choice;
 mod files;
+mod first;
+mod form;
+mod journal;
 mod lines;
 mod notes;
 mod sink;

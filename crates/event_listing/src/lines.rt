@@ -1,12 +1,12 @@
 //! The lines of the events that bytes hold.
 
-ghost use Rattle.std.specs.Prelude.{◌≡◌, ◌≤◌, ◌++◌, ℕ, List, drop, length, IfOk};
-ghost use Rattle.sink_series.specs.Events.{IsEvent};
-ghost use Rattle.event_listing.specs.Lines.{IsPrintedOf, PrintsAll};
+ghost use Rattle.std.specs.Prelude.{◌≤◌, drop, length, IfOk};
+ghost use Rattle.event_listing.specs.Forms.{form_of};
+ghost use Rattle.event_listing.specs.Lines.{PrintsAll};
 
 use crate::choice::Choice;
-use event_json::{put_event, time_of};
-use sink_series::{SinkEvent, next_event};
+use crate::first::take_first;
+use crate::form::Form;
 use std::alloc::{AllocError, Allocator};
 
 /// What is printed of the events that bytes hold.
@@ -14,7 +14,7 @@ use std::alloc::{AllocError, Allocator};
 pub(crate) struct Printed<A: Allocator> {
     /// The lines.
     pub(crate) lines: Vec<u8, A>,
-    /// How many bytes the items of the events have.
+    /// How many bytes spell the events.
     pub(crate) used: usize,
 }
 
@@ -22,40 +22,24 @@ pub(crate) struct Printed<A: Allocator> {
 pub(crate) fn print_held<A: Allocator + Copy, B: Allocator>(
     alloc: A,
     choice: &Choice<B>,
+    form: Form<'_>,
     bytes: &[u8],
 ) -> Result<Printed<A>, AllocError>
-    ensures all { IfOk result (λ printed. PrintsAll choice.now bytes.now printed.lines.items (drop printed.used bytes.now)) }
+    ensures all { IfOk result (λ printed. PrintsAll (form_of form.entry) choice.now bytes.now printed.lines.items (drop printed.used bytes.now)) }
     ensures used { IfOk result (λ printed. printed.used ≤ length bytes.now) }
 {
     let mut lines = Vec::new(alloc);
     let mut rest = bytes;
-    while let Some(first) = next_event(alloc, rest)? {
-        let (event, behind) = first;
-        lines = put_chosen(alloc, choice, lines, &event)?;
-        rest = behind;
+    'events: loop {
+        let taken = take_first(alloc, choice, form, lines, rest)?;
+        lines = taken.lines;
+        match taken.behind {
+            Some(behind) => rest = behind,
+            None => break,
+        }
     }
     Ok(Printed {
         lines,
         used: bytes.len() - rest.len(),
     })
-}
-
-// Adds what is printed of an event to lines, which it takes and gives back. The error is want of
-// memory.
-fn put_chosen<A: Allocator + Copy, B: Allocator>(
-    alloc: A,
-    choice: &Choice<B>,
-    lines: Vec<u8, A>,
-    event: &SinkEvent<A>,
-) -> Result<Vec<u8, A>, AllocError>
-    requires { IsEvent event.now }
-    ensures { IfOk result (λ all. (text : List ℕ) × IsPrintedOf choice.now event.now text × (all.items ≡ lines.items ++ text)) }
-{
-    let nanos = time_of(event.entry());
-    if choice.takes(alloc, event.tag(), nanos)? {
-        let all = put_event(alloc, lines, event.tag(), event.entry())?;
-        Ok(all)
-    } else {
-        Ok(lines)
-    }
 }

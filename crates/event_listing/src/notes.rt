@@ -4,8 +4,9 @@ ghost use Rattle.std.specs.Prelude.{◌≡◌, ℕ, List, string_bytes, IfOk, Ma
 ghost use Rattle.program_text.specs.Lines.{memory_line};
 ghost use Rattle.program_text.specs.Output.{TakesPart};
 ghost use Rattle.program_text.specs.declared.status.Status.TheVariants.{Usage};
-ghost use Rattle.event_listing.specs.Notes.{damaged_line, torn_line, IsEndNote};
+ghost use Rattle.event_listing.specs.Notes.{damaged_journal_line, damaged_line, torn_journal_line, torn_line, unsealed_line, IsEndNote, IsJournalNote};
 
+use crate::journal::JournalEnd;
 use crate::sink::{End, Stop};
 use program_text::{Status, put_all};
 use std::alloc::{AllocError, Allocator};
@@ -43,6 +44,56 @@ fn damaged_line<A: Allocator>(alloc: A, name: &str, at: u64) -> Result<String<A>
 {
     format!(in alloc;
         "{name}: damaged at byte {at}: no event begins there, and what follows is not read\n"
+    )
+}
+
+/// Says what is found at the end of the journal of this name, unless it is sealed and nothing
+/// stands behind its records. Where there is no memory for it, that is said.
+pub(crate) fn note_journal<A: Allocator, V: Write>(
+    alloc: A,
+    name: &str,
+    end: JournalEnd,
+    notes: &mut V,
+)
+    ensures { (text unseen : List ℕ) × IsJournalNote name.now end text × TakesPart (V.contents notes.old) (V.contents notes.new) text unseen }
+{
+    match end {
+        JournalEnd::Sealed { behind: 0, .. } => (),
+        JournalEnd::Sealed { at, behind } => {
+            put_line(torn_journal_line(alloc, name, at, behind), notes)
+        }
+        JournalEnd::Unsealed => put_line(unsealed_line(alloc, name), notes),
+        JournalEnd::Damaged => put_line(damaged_journal_line(alloc, name), notes),
+    }
+}
+
+// The line of a journal that has so many bytes behind its records.
+fn torn_journal_line<A: Allocator>(
+    alloc: A,
+    name: &str,
+    at: u64,
+    behind: u64,
+) -> Result<String<A>, AllocError>
+    ensures { IfOk result (λ line. string_bytes line ≡ torn_journal_line name.now at behind) }
+{
+    format!(in alloc;
+        "{name}: torn at byte {at}: {behind} bytes stand behind the last whole record\n"
+    )
+}
+
+// The line of a journal whose records end before a Seal.
+fn unsealed_line<A: Allocator>(alloc: A, name: &str) -> Result<String<A>, AllocError>
+    ensures { IfOk result (λ line. string_bytes line ≡ unsealed_line name.now) }
+{
+    format!(in alloc; "{name}: unsealed: a generation that was begun and isn't whole\n")
+}
+
+// The line of a journal that no buffer writes so.
+fn damaged_journal_line<A: Allocator>(alloc: A, name: &str) -> Result<String<A>, AllocError>
+    ensures { IfOk result (λ line. string_bytes line ≡ damaged_journal_line name.now) }
+{
+    format!(in alloc;
+        "{name}: damaged: something stands there that no buffer writes, and none of its events is printed\n"
     )
 }
 

@@ -1,9 +1,11 @@
-//! A sink's file, read in pieces.
+//! Bytes that spell events, as a sink's file, read in pieces.
 
 ghost use Rattle.std.specs.Prelude.{◌≡◌, ◌≢◌, ◌<◌, ◌++◌, [], length};
+ghost use Rattle.event_listing.specs.Forms.{form_of, Items};
 ghost use Rattle.event_listing.specs.Reading.{is_ended, PrintsFile, PrintsPiece};
 
 use crate::choice::Choice;
+use crate::form::Form;
 use crate::lines::print_held;
 use event_modes::drop_front;
 use program_text::{CountedRead, MOST_READS, OutputFault, PIECE, ReadFault, put_all};
@@ -65,24 +67,26 @@ pub(crate) fn print_sink<A: Allocator + Copy, B: Allocator, R: CountedRead, W: W
     input: &mut R,
     out: &mut W,
 ) -> Result<End, Stop>
-    ensures { PrintsFile choice.now (R.remaining input.old) (W.contents out.old) (W.contents out.new) result }
+    ensures { PrintsFile Items choice.now (R.remaining input.old) (W.contents out.old) (W.contents out.new) result }
 {
     match Vec::from_elem(alloc, 0, PIECE) {
-        Ok(mut piece) => print_pieces(alloc, choice, &mut piece, input, out),
+        Ok(mut piece) => print_pieces(alloc, choice, Form::Items, &mut piece, input, out),
         Err(AllocError) => Err(Stop::Memory),
     }
 }
 
-// The same, by pieces of this length.
-fn print_pieces<A: Allocator + Copy, B: Allocator, R: CountedRead, W: Write>(
+/// Prints the chosen events that are spelled so in what the reader has left, by pieces of this
+/// length. It holds the bytes of one event, and the lines of those that end in the piece.
+pub(crate) fn print_pieces<A: Allocator + Copy, B: Allocator, R: CountedRead, W: Write>(
     alloc: A,
     choice: &Choice<B>,
+    form: Form<'_>,
     piece: &mut [u8],
     input: &mut R,
     out: &mut W,
 ) -> Result<End, Stop>
     requires { 0 < length piece.old }
-    ensures { PrintsFile choice.now (R.remaining input.old) (W.contents out.old) (W.contents out.new) result }
+    ensures { PrintsFile (form_of form.entry) choice.now (R.remaining input.old) (W.contents out.old) (W.contents out.new) result }
 {
     let mut held = Held::new(alloc);
     for _ in 0..MOST_READS {
@@ -94,7 +98,7 @@ fn print_pieces<A: Allocator + Copy, B: Allocator, R: CountedRead, W: Write>(
                 });
             }
             Ok(n) => {
-                if let Err(stop) = held.print(choice, &piece[..n], out) {
+                if let Err(stop) = held.print(choice, form, &piece[..n], out) {
                     return Err(stop);
                 }
                 if held.bytes.len() > LONGEST_ITEM {
@@ -135,15 +139,16 @@ impl<A: Allocator + Copy> Held<A> {
     fn print<B: Allocator, W: Write>(
         &mut self,
         choice: &Choice<B>,
+        form: Form<'_>,
         piece: &[u8],
         out: &mut W,
     ) -> Result<(), Stop>
-        ensures { PrintsPiece choice.now (self.old.at, self.old.bytes.items ++ piece.now) (self.new.at, self.new.bytes.items) (W.contents out.old) (W.contents out.new) result }
+        ensures { PrintsPiece (form_of form.entry) choice.now (self.old.at, self.old.bytes.items ++ piece.now) (self.new.at, self.new.bytes.items) (W.contents out.old) (W.contents out.new) result }
     {
         if let Err(AllocError) = self.bytes.extend_from_slice(piece) {
             return Err(Stop::Memory);
         }
-        let Ok(printed) = print_held(self.alloc, choice, &self.bytes) else {
+        let Ok(printed) = print_held(self.alloc, choice, form, &self.bytes) else {
             return Err(Stop::Memory);
         };
         if let Err(OutputFault) = put_all(out, &printed.lines) {

@@ -3,6 +3,7 @@ use Rattle.std.proofs.Common.{ℕ, List, [], ◌++◌, ◌≡◌, ◌<◌, ◌+�
 use Rattle.std.proofs.Math.Seq.{drop-append_seam}
 use Rattle.std.proofs.lemmas.List.{length-append}
 use Rattle.sink_series.specs.Events.{IsEvent, run_of, BeginsNone, Counts}
+use Rattle.event_listing.specs.Forms.{Items}
 use Rattle.event_listing.specs.Reading.{longest_item}
 use Rattle.event_listing.proofs.Items.{each_append, none_further, nothing_begins, run_append}
 use Rattle.folder_counts.specs.Counts.{file_of}
@@ -10,7 +11,7 @@ use Rattle.folder_counts.specs.Findings.{CountsEvents, EndsLong, IsInSink, Whole
 use Rattle.folder_counts.specs.Held.{IsHeldAfter}
 
 pub held_start : IsHeldAfter 0 0 [] []
-held_start = record { events = []; each = tt; whole = refl; torn = nothing_begins; count_is = refl; taken_is = refl }
+held_start = record { events = []; each = tt; whole = refl; torn = nothing_begins Items; count_is = refl; taken_is = refl }
 
 -- what stands behind the events of bytes
 behind_events : (bytes : List ℕ) (count torn : ℕ) (counts : Counts bytes count torn) → drop (length bytes - torn) bytes ≡ counts.holds.rest
@@ -30,7 +31,7 @@ held_more count taken more torn new_count new_taken held piece left seen on coun
       events = on.events ++ counts.events;
       each = each_append IsEvent on.events counts.events on.each counts.holds.each;
       whole = ap (λ z. z ++ piece) on.whole ∙ append_assoc (run_of on.events) held piece ∙ ap (λ z. run_of on.events ++ z) counts.holds.whole
-          ∙ run_append on.events counts.events rest ∙ ap (λ z. run_of (on.events ++ counts.events) ++ z) (sym same);
+          ∙ run_append Items on.events counts.events rest ∙ ap (λ z. run_of (on.events ++ counts.events) ++ z) (sym same);
       torn = subst BeginsNone (sym same) counts.holds.torn;
       count_is = omega (arith, count_is, on.count_is, counts.count_is, length-append on.events counts.events);
       taken_is = omega (
@@ -57,7 +58,7 @@ held_long count taken held seen more on long = record {
       each = on.each;
       rest = held ++ more;
       whole = ap (λ z. z ++ more) on.whole ∙ append_assoc (run_of on.events) held more;
-      torn = none_further held more long on.torn;
+      torn = none_further Items held more long on.torn;
     };
     count_is = on.count_is;
     torn_is = refl;

@@ -11,6 +11,19 @@ pub enum Kind {
     Sink,
 }
 
+impl Kind {
+    /// Of which kind a file of this name is; none where the name ends as those of neither do.
+    pub fn of(name: &str) -> Option<Kind> {
+        if name.ends_with(".journal") {
+            return Some(Kind::Journal);
+        }
+        if name.ends_with(".sink") {
+            return Some(Kind::Sink);
+        }
+        None
+    }
+}
+
 /// A file that is to be listed.
 #[derive(Drop)]
 pub struct DataFile<A: Allocator> {

@@ -6,6 +6,6 @@ mod folder;
 mod kind;
 mod show;
 
-pub use folder::DataFolder;
+pub use folder::{DataFolder, PlacedFile};
 pub use kind::{DataFile, Kind};
 pub use show::run_show;

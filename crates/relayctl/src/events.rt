@@ -3,7 +3,7 @@
 use event_listing::{Choice, run_events};
 use folder_listing::{DataFile, DataFolder, Kind};
 use jiff::Timestamp;
-use program_text::{Folder, ReadFault, Status};
+use program_text::{ReadFault, Status};
 use std::alloc::{AllocError, AllocFailed, Allocator, Global};
 use std::io::Write;
 use tag_pattern::{Pattern, PatternError};
@@ -11,7 +11,7 @@ use tag_pattern::{Pattern, PatternError};
 /// What stands behind `events`.
 #[derive(Drop)]
 pub struct EventWords<'a, A: Allocator> {
-    /// The paths of sinks' files, or one of a data folder.
+    /// The paths of sinks' files and journals, or one of a data folder.
     pub paths: Vec<&'a str, A>,
     /// The patterns of tags: what stands behind each `--tag`.
     pub tags: Vec<&'a str, A>,
@@ -95,7 +95,7 @@ enum Fault<'a> {
     Tag(&'a str, PatternError),
     // A text is no time as RFC 3339 writes it.
     Time(&'a str),
-    // A path is neither that of a sink's file nor the only one.
+    // A path is neither that of a sink's file or a journal nor the only one.
     Path(&'a str),
     // Memory ran out, or the folder can't be read.
     Unread(ReadFault),
@@ -119,8 +119,8 @@ impl<T: Drop> From<AllocFailed<T>> for Fault<'_> {
     }
 }
 
-/// Prints the events that are asked for, of sinks' files or of those in a data folder. What is
-/// found beside them stands on standard error.
+/// Prints the events that are asked for, of sinks' files and journals or of those in a data folder.
+/// What is found beside them stands on standard error.
 pub fn print_events<'a, A: Allocator, W: Write>(
     rt: &'a HostRuntime,
     asked: &EventWords<'a, A>,
@@ -143,7 +143,7 @@ fn print_chosen<'a, A: Allocator, W: Write>(
 ) -> Result<Status, Fault<'a>> {
     let choice = choice_of(rt, asked)?;
     match asked.paths.as_slice() {
-        [path] if !is_sink(path) => print_folder(rt, path, &choice, out),
+        [path] if Kind::of(path).is_none() => print_folder(rt, path, &choice, out),
         paths => print_files(rt, paths, &choice, out),
     }
 }
@@ -183,13 +183,8 @@ fn time_of(text: Option<&str>) -> Result<Option<i128>, Fault<'_>> {
     }
 }
 
-// Whether a path is that of a sink's file.
-fn is_sink(path: &str) -> bool {
-    path.ends_with(".sink")
-}
-
-// Prints the events of the sinks' files in a data folder. Where there are none, that is said on
-// standard error.
+// Prints the events of the sinks and the journals in a data folder. Where there are none, that is
+// said on standard error.
 fn print_folder<'a, W: Write>(
     rt: &'a HostRuntime,
     path: &'a str,
@@ -197,35 +192,32 @@ fn print_folder<'a, W: Write>(
     out: &mut W,
 ) -> Result<Status, Fault<'a>> {
     let folder = DataFolder::new(rt, path);
-    let mut names = Vec::new(rt.alloc());
-    for file in folder.files(rt.alloc())? {
-        let DataFile { name, kind } = file;
-        if kind == Kind::Sink {
-            names.push(name)?;
-        }
+    let mut files = Vec::new(rt.alloc());
+    folder.put_files(rt.alloc(), &mut files, Kind::Sink)?;
+    folder.put_files(rt.alloc(), &mut files, Kind::Journal)?;
+    if files.is_empty() {
+        let _ = eprintln!(rt; "{path}: no journals and no sinks are there");
     }
-    if names.is_empty() {
-        let _ = eprintln!(rt; "{path}: no sinks are there");
-    }
-    Ok(run_events(rt.alloc(), choice, &names, &folder, out, &mut rt.stderr()))
+    Ok(run_events(rt.alloc(), choice, &files, &folder, out, &mut rt.stderr()))
 }
 
-// Prints the events of sinks' files.
+// Prints the events of sinks' files and journals.
 fn print_files<'a, W: Write>(
     rt: &'a HostRuntime,
     paths: &[&'a str],
     choice: &Choice<Global>,
     out: &mut W,
 ) -> Result<Status, Fault<'a>> {
-    let mut names = Vec::new(rt.alloc());
+    let mut files = Vec::new(rt.alloc());
     for path in paths {
-        if !is_sink(path) {
+        let Some(kind) = Kind::of(path) else {
             return Err(Fault::Path(path));
-        }
-        names.push(String::from_str(rt.alloc(), path)?)?;
+        };
+        let name = String::from_str(rt.alloc(), path)?;
+        files.push(DataFile { name, kind })?;
     }
-    let folder = Folder::saying(rt);
-    Ok(run_events(rt.alloc(), choice, &names, &folder, out, &mut rt.stderr()))
+    let folder = DataFolder::new(rt, "");
+    Ok(run_events(rt.alloc(), choice, &files, &folder, out, &mut rt.stderr()))
 }
 
 // Says on standard error why nothing is printed.
@@ -234,7 +226,7 @@ fn say(rt: &HostRuntime, fault: Fault<'_>) {
         Fault::Tag(text, why) => eprintln!(rt; "fault tag {text}: {why}"),
         Fault::Time(text) => eprintln!(rt; "fault time {text}: not as RFC 3339 writes one"),
         Fault::Path(path) => eprintln!(rt;
-            "fault path {path}: no file of a sink, and not the only path"
+            "fault path {path}: neither a file of a sink nor a journal, and not the only path"
         ),
         Fault::Unread(ReadFault::Memory) => eprintln!(rt; "fault memory"),
         Fault::Unread(ReadFault::Read) => eprintln!(rt; "fault read"),

@@ -65,9 +65,10 @@ show DIR         prints which chunks the journals in a relay's data folder DIR h
 status DIR       prints what each buffer and each sink in a relay's data folder DIR holds, and what
                  all buffers hold together; --max-bytes N, --max-chunks N: the status is 1 where a
                  buffer holds more; --json, --prometheus: in these forms
-events PATH..    prints the events that sinks hold, each as a line of JSON; PATH is a file of a
-                 sink, as all.0000000001.sink, or a relay's data folder; --tag PATTERN: those
-                 whose tag matches; --since TIME: not those before; --until TIME: those before
+events PATH..    prints the events that sinks hold, and those that buffers have yet to deliver, each
+                 as a line of JSON; PATH is a file of a sink, as all.0000000001.sink, or a journal,
+                 as out.0000000001.journal, or a relay's data folder; --tag PATTERN: those whose
+                 tag matches; --since TIME: not those before; --until TIME: those before
 --help           prints this
 --version        prints the version
 

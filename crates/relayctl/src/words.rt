@@ -33,7 +33,7 @@ pub enum Word<'a, A: Allocator> {
     Show(&'a str),
     /// Count what the journals and sinks in a data folder hold.
     Status(StatusWords<'a>),
-    /// Print events that sinks hold.
+    /// Print events that sinks and journals hold.
     Events(EventWords<'a, A>),
 }
 

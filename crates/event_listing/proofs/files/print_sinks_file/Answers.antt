@@ -1,5 +1,5 @@
 use Rattle.event_listing.proofs.Sequence.{named_ended}
-use Rattle.event_listing.proofs.files.print_named.Goals as goal
+use Rattle.event_listing.proofs.files.print_sinks_file.Goals as goal
 
 pub returns-in-Ok : goal.returns-in-Ok
 returns-in-Ok g c =
