@@ -1,5 +1,6 @@
 pub mod Agreement
 pub mod Clients
+pub mod Entries
 pub mod Gets
 pub mod Hosts
 pub mod Nowhere

@@ -2,7 +2,7 @@
 
 ghost use Rattle.std.specs.Prelude.{◌≡◌};
 ghost use Rattle.std.specs.Option.{option_copied};
-ghost use Rattle.relay_net.specs.Network.{all_enter, enters, node_of, source_of_port, source_at as first_source_at, host_from};
+ghost use Rattle.relay_net.specs.Network.{all_enter, enters, node_of, source_of_port, host_from};
 
 use crate::node::{Client, Node};
 use relay_conf::{Relay, Source};
@@ -35,21 +35,6 @@ pub(crate) fn host<A: Allocator>(relays: &[Node<A>], number: u32) -> &[u8]
     }
 }
 
-/// The first source of the relay with this host and port.
-pub(crate) fn source_at<'a, A: Allocator>(
-    node: &'a Node<A>,
-    host: &[u8],
-    port: u16,
-) -> Option<&'a Source<A>>
-    ensures { option_copied result ≡ first_source_at node.now (record { host = host.now; port = port }) }
-{
-    if node.host.as_bytes() == host {
-        source_of(&node.relay, port)
-    } else {
-        None
-    }
-}
-
 // The relay that this number means.
 fn node_of_number<A: Allocator>(relays: &[Node<A>], number: u32) -> Option<&Node<A>>
     ensures { option_copied result ≡ node_of relays.now number }
@@ -57,8 +42,8 @@ fn node_of_number<A: Allocator>(relays: &[Node<A>], number: u32) -> Option<&Node
     relays.iter().find(|node| node.number == number)
 }
 
-// The first source of the relay with this port.
-fn source_of<A: Allocator>(relay: &Relay<A>, port: u16) -> Option<&Source<A>>
+/// The first source of the relay with this port.
+pub(crate) fn source_of<A: Allocator>(relay: &Relay<A>, port: u16) -> Option<&Source<A>>
     ensures { option_copied result ≡ source_of_port relay.now port }
 {
     relay.sources.iter().find(|source| source.port == port)

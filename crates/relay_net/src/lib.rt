@@ -8,6 +8,7 @@ mod lookup;
 mod net;
 mod node;
 mod output;
+mod sources;
 
 pub use address::{Address, Entrance};
 pub use entering::enter;

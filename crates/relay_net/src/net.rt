@@ -4,14 +4,16 @@ ghost use Rattle.std.specs.Prelude.{◌≡◌, true, IfOk, IfErr, IfSome, IsSome
 ghost use Rattle.std.specs.Option.{option_copied};
 ghost use Rattle.route_graph.specs.Listing.{IsWay, HasLeaves, HasEachOnce};
 ghost use Rattle.relay_net.specs.Network.{place_of, entrance, prefix_at, address_of_client, all_enter, output_at, is_in_memory};
+ghost use Rattle.relay_net.specs.Sources.{first_source};
 ghost use Rattle.relay_net.specs.Ways.{table_at};
 
 use crate::address::Entrance;
-use crate::entering::{host, source_at};
+use crate::entering::{host, source_of};
 use crate::lookup::{Lookup, lookups_of};
 use crate::node::{Client, Node};
 use crate::output;
-use relay_conf::{Output, ScopeNo};
+use crate::sources::SourceIndex;
+use relay_conf::{Output, ScopeNo, Source};
 use route_graph::Way;
 use std::alloc::{AllocError, Allocator};
 use std::marker::Model;
@@ -20,14 +22,16 @@ use tag_pattern::{Prefix, Tag};
 /// A network: its relays and its clients, each in the order of the plan. To contracts it is these
 /// two lists.
 ///
-/// Beside them it keeps, for each relay, its routes and where its outputs stand, so that no step of
-/// the network looks through a configuration.
+/// Beside them it keeps, for each relay, its routes and where its outputs stand, and the first relay
+/// with a source of each address, so that no step of the network looks through a configuration for
+/// an output or a way, or through the relays for an address.
 #[derive(Drop)]
 pub struct Net<A: Allocator> {
     alloc: A,
     relays: Vec<Node<A>, A>,
     clients: Vec<Client<A>, A>,
     lookups: Vec<Lookup<A>, A>,
+    sources: SourceIndex<A>,
 }
 
 impl<A: Allocator> Model for Net<A> {
@@ -37,10 +41,11 @@ impl<A: Allocator> Model for Net<A> {
     ghost Value = { Network A };
 
     ghost use Rattle.relay_net.specs.Lookups.{AreLookups};
+    ghost use Rattle.relay_net.specs.Sources.{IsSourceIndex};
 
     ghost view = { λ net. record { relays = net.relays.items; clients = net.clients.items } };
 
-    ghost invariant = { λ net. (all_enter net.relays.items net.clients.items ≡ true) × AreLookups net.lookups.items net.relays.items };
+    ghost invariant = { λ net. (all_enter net.relays.items net.clients.items ≡ true) × AreLookups net.lookups.items net.relays.items × IsSourceIndex net.sources net.relays.items };
 }
 
 /// Memory ran out: the relays and the clients that no network was made of.
@@ -66,12 +71,16 @@ impl<A: Allocator + Copy> Net<A> {
         ensures relays_back { IfErr result (λ refused. refused.relays ≡ relays) }
         ensures clients_back { IfErr result (λ refused. refused.clients ≡ clients) }
     {
-        match lookups_of(alloc, &relays) {
-            Ok(lookups) => Ok(Net {
+        let Ok(lookups) = lookups_of(alloc, &relays) else {
+            return Err(Refused { relays, clients });
+        };
+        match SourceIndex::new(alloc, &relays) {
+            Ok(sources) => Ok(Net {
                 alloc,
                 relays,
                 clients,
                 lookups,
+                sources,
             }),
             Err(_) => Err(Refused { relays, clients }),
         }
@@ -123,20 +132,17 @@ impl<A: Allocator + Copy> Net<A> {
     }
 
     /// Where a message to this host and port comes in: at the first source with that address, in
-    /// the order of the relays and then of their sources. It looks at each relay's host, and at the
-    /// sources of those that have it.
+    /// the order of the relays and then of their sources.
     pub fn entrance(&self, host: &[u8], port: u16) -> Option<Entrance>
         ensures { result ≡ entrance self.now (record { host = host.now; port = port }) }
     {
-        for (place, node) in self.relays.iter().enumerate() {
-            if let Some(source) = source_at(node, host, port) {
-                return Some(Entrance {
-                    relay: place,
-                    scope: source.label.0,
-                });
-            }
+        match self.source(host, port) {
+            Some((relay, source)) => Some(Entrance {
+                relay,
+                scope: source.label.0,
+            }),
+            None => None,
         }
-        None
     }
 
     /// What is put in front of the tags of messages to this host and port: the prefix of the first
@@ -144,12 +150,26 @@ impl<A: Allocator + Copy> Net<A> {
     pub fn prefix(&self, host: &[u8], port: u16) -> Option<&Prefix<A>>
         ensures { option_copied result ≡ prefix_at self.now (record { host = host.now; port = port }) }
     {
-        for node in &self.relays {
-            if let Some(source) = source_at(node, host, port) {
-                return source.prefix.as_ref();
-            }
+        match self.source(host, port) {
+            Some((_, source)) => source.prefix.as_ref(),
+            None => None,
         }
-        None
+    }
+
+    // The first source with this host and port, and the place of its relay before it.
+    fn source(&self, host: &[u8], port: u16) -> Option<(usize, &Source<A>)>
+        ensures { option_map (λ found. (found.0, found.1.now)) result ≡ first_source 0 self.now.relays (record { host = host.now; port = port }) }
+    {
+        let Some(place) = self.sources.place(host, port) else {
+            return None;
+        };
+        let Some(node) = self.relays.get(place) else {
+            return None;
+        };
+        match source_of(&node.relay, port) {
+            Some(source) => Some((place, source)),
+            None => None,
+        }
     }
 
     /// The output with this buffer of the relay at this place: of equal numbers the first. No
