@@ -9,6 +9,8 @@ use Rattle.sink_series.specs.Events.{Event}
 use Rattle.event_listing.specs.Choices.{Chosen}
 use Rattle.event_listing.specs.Forms.{Form, spelled, spelled_run, BeginsNo, IsIn}
 use Rattle.event_listing.specs.Lines.{ArePrinted, IsPrintedOf, PrintsAll, PrintsFirst, TakesFirst}
+use Rattle.recent_lines.specs.Lines.{EndsALine}
+use Rattle.event_listing.proofs.Printed.{printed_ends}
 use Rattle.event_listing.proofs.Items.{each_append, fewer_behind, run_append}
 
 -- what is printed of the events so far, and what is behind them
@@ -36,6 +38,10 @@ held_more form chosen bytes rest behind lines new on one =
 -- no more bytes are behind them than there are
 pub held_fits : (form : Form) (chosen : Chosen) (bytes rest lines : List ℕ) → HeldOn form chosen bytes rest lines → length rest ≤ length bytes
 held_fits form chosen bytes rest lines on = omega (arith, ap length on.whole, length-append (spelled_run form on.events) rest)
+
+-- their lines end one
+pub held_lines : (form : Form) (chosen : Chosen) (bytes rest lines new : List ℕ) → HeldOn form chosen bytes rest lines → new ≡ lines → EndsALine new
+held_lines form chosen bytes rest lines new on same = subst EndsALine (sym same) (printed_ends chosen on.events lines on.printed)
 
 -- no event more
 pub held_end : (form : Form) (chosen : Chosen) (bytes rest lines new : List ℕ) (used : ℕ) → HeldOn form chosen bytes rest lines → BeginsNo form rest → new ≡ lines → used ≡ length bytes - length rest

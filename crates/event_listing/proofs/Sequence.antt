@@ -1,5 +1,5 @@
 -- Files that are printed one behind another.
-use Rattle.std.proofs.Common.{ℕ, ◌≡◌, ◌⊎◌, Bool, true, false, List, [], ◌∷◌, ◌++◌, Option, Some, None, Ok, Err, ⊎_elim, inl, inr, refl, sym, ◌∙◌, subst, append-nil}
+use Rattle.std.proofs.Common.{ℕ, ◌≡◌, Bool, true, false, List, [], ◌∷◌, ◌++◌, Option, Some, None, Ok, Err, inl, inr, refl, sym, ◌∙◌, subst, append-nil}
 use Rattle.std.specs.Prelude.{IfSome}
 use Rattle.std.specs.Io.KnownBytes.{Appends}
 use Rattle.std.proofs.KnownBytes.{Appends-nil, Appends-trans}
@@ -18,11 +18,13 @@ use Rattle.folder_listing.specs.declared.kind.Kind.TheVariants.{Journal, Sink}
 use Rattle.event_listing.specs.declared.journal.JournalEnd.{JournalEnd}
 use Rattle.event_listing.specs.declared.journal.JournalEnd.TheVariants as journal
 use Rattle.event_listing.specs.Reading.{is_ended, IsEnd, PrintsFile}
+use Rattle.event_listing.specs.Shown.{Shown, ShowsAll}
 use Rattle.event_listing.specs.declared.sink.End.{End}
 use Rattle.event_listing.specs.declared.sink.End.TheVariants.{Ended, Damaged}
-use Rattle.event_listing.specs.declared.sink.Stop.{Stop}
-use Rattle.event_listing.specs.declared.sink.Stop.TheVariants.{Output, Read}
-use Rattle.event_listing.proofs.Pieces.{all_taken, some_of_all, taken_behind}
+use Rattle.event_listing.specs.declared.stop.Stop.{Stop}
+use Rattle.event_listing.specs.declared.stop.Stop.TheVariants.{Read}
+use Rattle.event_listing.proofs.Outputs.{shown_behind, shows_more, shows_none, some_shown}
+use Rattle.event_listing.proofs.Pieces.{some_of_all}
 
 -- ---- a sink's file
 
@@ -62,46 +64,37 @@ noted_of chosen (Some bytes) name text line at behind old new unseen whole said 
 )
 
 -- the file is read to its end, or to where it is damaged
-pub named_ended : (chosen : Chosen) (known : Option (List ℕ)) (name : List ℕ) (old new old_notes new_notes : Option (List ℕ)) (end : End) (sound : Bool) (line unseen : List ℕ)
+pub named_ended : (chosen : Chosen) (known : Option (List ℕ)) (name : List ℕ) (old new : Shown) (old_notes new_notes : Option (List ℕ)) (end : End) (sound : Bool) (line unseen : List ℕ)
     → PrintsFile Items chosen known old new (Ok end) → sound ≡ is_ended end → IsEndNote name end line → TakesPart old_notes new_notes line unseen
     → PrintsNamed Sink known chosen name (old, new) (old_notes, new_notes) (Ok sound)
 named_ended chosen known name old new old_notes new_notes (Ended at behind) sound line unseen file is said takes = record {
   text = file.text;
-  unseen = file.unseen;
-  printed = file.printed;
-  begun = begun_of_whole chosen known file.text (Ended at behind) file.ends.1;
-  ends = (
-    file.ends.0,
-    λ e. (whole_of chosen known file.text (Ended at behind) file.ends.1, noted_of chosen known name file.text line at behind old_notes new_notes unseen file.ends.1 said takes),
-  );
+  shown = file.shown;
+  begun = begun_of_whole chosen known file.text (Ended at behind) file.ends;
+  ends = λ e. (whole_of chosen known file.text (Ended at behind) file.ends, noted_of chosen known name file.text line at behind old_notes new_notes unseen file.ends said takes);
 }
 named_ended chosen known name old new old_notes new_notes (Damaged at) sound line unseen file is said takes = record {
   text = file.text;
-  unseen = file.unseen;
-  printed = file.printed;
-  begun = begun_of_whole chosen known file.text (Damaged at) file.ends.1;
-  ends = (file.ends.0, λ e. absurd (cc (e, is)));
+  shown = file.shown;
+  begun = begun_of_whole chosen known file.text (Damaged at) file.ends;
+  ends = λ e. absurd (cc (e, is));
 }
 
-all_seen : (unseen : List ℕ) → (unseen ≡ []) ⊎ (Read ≡ Output) → unseen ≡ []
-all_seen unseen is = ⊎_elim (λ e. e) (λ e. absurd (cc e)) is
-
 -- its reader failed
-pub named_unread : (chosen : Chosen) (known : Option (List ℕ)) (name : List ℕ) (old new old_notes new_notes : Option (List ℕ)) → PrintsFile Items chosen known old new (Err Read)
+pub named_unread : (chosen : Chosen) (known : Option (List ℕ)) (name : List ℕ) (old new : Shown) (old_notes new_notes : Option (List ℕ)) → PrintsFile Items chosen known old new (Err Read)
     → PrintsNamed Sink known chosen name (old, new) (old_notes, new_notes) (Ok false)
 named_unread chosen known name old new old_notes new_notes file = record {
   text = file.text;
-  unseen = file.unseen;
-  printed = file.printed;
-  begun = file.ends.1;
-  ends = (all_seen file.unseen file.ends.0, λ e. absurd (cc e));
+  shown = file.shown;
+  begun = file.ends;
+  ends = λ e. absurd (cc e);
 }
 
 -- memory ran out, or the writer failed
-pub named_stopped : (chosen : Chosen) (known : Option (List ℕ)) (name : List ℕ) (old new old_notes new_notes : Option (List ℕ)) (stop : Stop) → PrintsFile Items chosen known old new (Err stop)
+pub named_stopped : (chosen : Chosen) (known : Option (List ℕ)) (name : List ℕ) (old new : Shown) (old_notes new_notes : Option (List ℕ)) (stop : Stop) → PrintsFile Items chosen known old new (Err stop)
     → PrintsNamed Sink known chosen name (old, new) (old_notes, new_notes) (Err stop)
 named_stopped chosen known name old new old_notes new_notes stop file =
-    record { text = file.text; unseen = file.unseen; printed = file.printed; begun = file.ends.1; ends = tt }
+    record { text = file.text; shown = file.shown; begun = file.ends; ends = tt }
 
 -- ---- a journal
 
@@ -144,21 +137,14 @@ journal_noted chosen (Some bytes) name text line end old new unseen is ends said
 )
 
 -- the journal is read to its end, or damaged
-pub journal_ended : (chosen : Chosen) (known : Option (List ℕ)) (name : List ℕ) (old new old_notes new_notes : Option (List ℕ)) (end : JournalEnd) (sound : Bool) (line unseen : List ℕ)
+pub journal_ended : (chosen : Chosen) (known : Option (List ℕ)) (name : List ℕ) (old new : Shown) (old_notes new_notes : Option (List ℕ)) (end : JournalEnd) (sound : Bool) (line unseen : List ℕ)
     → PrintsJournal chosen known old new (Ok end) → sound ≡ is_readable end → IsJournalNote name end line → TakesPart old_notes new_notes line unseen
     → PrintsNamed Journal known chosen name (old, new) (old_notes, new_notes) (Ok sound)
 journal_ended chosen known name old new old_notes new_notes end sound line unseen file is said takes = record {
   text = file.text;
-  unseen = file.unseen;
-  printed = file.printed;
-  begun = journal_begun chosen known file.text end file.ends.1;
-  ends = (
-    file.ends.0,
-    λ e. (
-      journal_whole chosen known file.text end (sym is ∙ e) file.ends.1,
-      journal_noted chosen known name file.text line end old_notes new_notes unseen (sym is ∙ e) file.ends.1 said takes,
-    ),
-  );
+  shown = file.shown;
+  begun = journal_begun chosen known file.text end file.ends;
+  ends = λ e. (journal_whole chosen known file.text end (sym is ∙ e) file.ends, journal_noted chosen known name file.text line end old_notes new_notes unseen (sym is ∙ e) file.ends said takes);
 }
 
 begun_so : (chosen : Chosen) (known : Option (List ℕ)) (text : List ℕ) → IfSome known (λ bytes. IsJournalBegun chosen bytes text) → IsBegun Journal chosen known text
@@ -166,35 +152,34 @@ begun_so chosen None text begun = tt
 begun_so chosen (Some bytes) text begun = begun
 
 -- its reader failed
-pub journal_unread : (chosen : Chosen) (known : Option (List ℕ)) (name : List ℕ) (old new old_notes new_notes : Option (List ℕ)) → PrintsJournal chosen known old new (Err Read)
+pub journal_unread : (chosen : Chosen) (known : Option (List ℕ)) (name : List ℕ) (old new : Shown) (old_notes new_notes : Option (List ℕ)) → PrintsJournal chosen known old new (Err Read)
     → PrintsNamed Journal known chosen name (old, new) (old_notes, new_notes) (Ok false)
 journal_unread chosen known name old new old_notes new_notes file = record {
   text = file.text;
-  unseen = file.unseen;
-  printed = file.printed;
-  begun = begun_so chosen known file.text file.ends.1;
-  ends = (all_seen file.unseen file.ends.0, λ e. absurd (cc e));
+  shown = file.shown;
+  begun = begun_so chosen known file.text file.ends;
+  ends = λ e. absurd (cc e);
 }
 
 -- memory ran out, or the writer failed
-pub journal_stopped : (chosen : Chosen) (known : Option (List ℕ)) (name : List ℕ) (old new old_notes new_notes : Option (List ℕ)) (stop : Stop) → PrintsJournal chosen known old new (Err stop)
+pub journal_stopped : (chosen : Chosen) (known : Option (List ℕ)) (name : List ℕ) (old new : Shown) (old_notes new_notes : Option (List ℕ)) (stop : Stop) → PrintsJournal chosen known old new (Err stop)
     → PrintsNamed Journal known chosen name (old, new) (old_notes, new_notes) (Err stop)
 journal_stopped chosen known name old new old_notes new_notes stop file =
-    record { text = file.text; unseen = file.unseen; printed = file.printed; begun = begun_so chosen known file.text file.ends.1; ends = tt }
+    record { text = file.text; shown = file.shown; begun = begun_so chosen known file.text file.ends; ends = tt }
 
 -- ---- files, one behind another
 
 -- what is printed of the files so far
-pub record SoFar (named : List ℕ → Option (List ℕ)) (chosen : Chosen) (files : List Named) (out notes : Option (List ℕ) × Option (List ℕ)) (sound : Bool) : Type 0 where
+pub record SoFar (named : List ℕ → Option (List ℕ)) (chosen : Chosen) (files : List Named) (out : Shown × Shown) (notes : Option (List ℕ) × Option (List ℕ)) (sound : Bool) : Type 0 where
   pub text : List ℕ
-  pub written : Appends out.0 out.1 text
+  pub written : ShowsAll out.0 out.1 text
   pub begun : AreListed (λ f. IsBegun f.0 chosen (named f.1)) files text
   pub whole : sound ≡ true → AreWhole named chosen files text notes
 
-pub none_so_far : (named : List ℕ → Option (List ℕ)) (chosen : Chosen) (old old_notes : Option (List ℕ)) → SoFar named chosen [] (old, old) (old_notes, old_notes) true
+pub none_so_far : (named : List ℕ → Option (List ℕ)) (chosen : Chosen) (old : Shown) (old_notes : Option (List ℕ)) → SoFar named chosen [] (old, old) (old_notes, old_notes) true
 none_so_far named chosen old old_notes = record {
   text = [];
-  written = Appends-nil old;
+  written = shows_none old;
   begun = none_listed (λ f. IsBegun f.0 chosen (named f.1));
   whole = λ e. record {
     whole = none_listed (λ f. IsWhole f.0 chosen (named f.1));
@@ -205,16 +190,16 @@ none_so_far named chosen old old_notes = record {
 }
 
 -- a file more
-pub file_printed : (named : List ℕ → Option (List ℕ)) (chosen : Chosen) (files : List Named) (file : Named) (old mid new old_notes mid_notes new_notes : Option (List ℕ)) (sound one both : Bool)
+pub file_printed : (named : List ℕ → Option (List ℕ)) (chosen : Chosen) (files : List Named) (file : Named) (old mid new : Shown) (old_notes mid_notes new_notes : Option (List ℕ)) (sound one both : Bool)
     → SoFar named chosen files (old, mid) (old_notes, mid_notes) sound → PrintsNamed file.0 (named file.1) chosen file.1 (mid, new) (mid_notes, new_notes) (Ok one)
     → (both ≡ true → (sound ≡ true) × (one ≡ true)) → SoFar named chosen (files ++ file ∷ []) (old, new) (old_notes, new_notes) both
 file_printed named chosen files file old mid new old_notes mid_notes new_notes sound one both so_far last still = record {
   text = so_far.text ++ last.text;
-  written = all_taken old mid new so_far.text last.text last.unseen last.ends.0 so_far.written last.printed;
+  written = shows_more old mid new so_far.text last.text so_far.written last.shown;
   begun = listed_push (λ f. IsBegun f.0 chosen (named f.1)) files file so_far.text last.text (so_far.text ++ last.text) so_far.begun last.begun refl;
   whole = λ e.
       let before = so_far.whole (still e).0 in
-      let noted = last.ends.1 (still e).1 in
+      let noted = last.ends (still e).1 in
       record {
         whole = listed_push (λ f. IsWhole f.0 chosen (named f.1)) files file so_far.text last.text (so_far.text ++ last.text) before.whole noted.0 refl;
         written = before.written ++ noted.1.0;
@@ -224,33 +209,30 @@ file_printed named chosen files file old mid new old_notes mid_notes new_notes s
 }
 
 -- nothing is printed behind it
-pub stops_there : (named : List ℕ → Option (List ℕ)) (chosen : Chosen) (all files others : List Named) (file : Named) (old mid new old_notes mid_notes new_notes last_notes : Option (List ℕ)) (sound : Bool)
+pub stops_there : (named : List ℕ → Option (List ℕ)) (chosen : Chosen) (all files others : List Named) (file : Named) (old mid new : Shown) (old_notes mid_notes new_notes last_notes : Option (List ℕ)) (sound : Bool)
     (stop : Stop) → all ≡ (files ++ file ∷ []) ++ others → SoFar named chosen files (old, mid) (old_notes, mid_notes) sound
     → PrintsNamed file.0 (named file.1) chosen file.1 (mid, new) (mid_notes, new_notes) (Err stop) → PrintsEvents named chosen all (old, new) (old_notes, last_notes) Usage
 stops_there named chosen all files others file old mid new old_notes mid_notes new_notes last_notes sound stop e so_far last = record {
   text = so_far.text ++ last.text;
-  unseen = last.unseen;
-  printed = taken_behind old mid new so_far.text last.text last.unseen so_far.written last.printed;
-  status_is = record {
-    first = files ++ file ∷ [];
-    others = others;
-    whole = e;
-    begun = listed_push (λ f. IsBegun f.0 chosen (named f.1)) files file so_far.text last.text (so_far.text ++ last.text) so_far.begun last.begun refl;
-  };
+  status_is = (
+    some_shown old new (so_far.text ++ last.text) stop (shown_behind old mid new so_far.text last.text stop so_far.written last.shown),
+    record {
+      first = files ++ file ∷ [];
+      others = others;
+      whole = e;
+      begun = listed_push (λ f. IsBegun f.0 chosen (named f.1)) files file so_far.text last.text (so_far.text ++ last.text) so_far.begun last.begun refl;
+    },
+  );
 }
 
 -- that was the last
-pub all_printed : (named : List ℕ → Option (List ℕ)) (chosen : Chosen) (files : List Named) (old new old_notes new_notes : Option (List ℕ)) (sound : Bool)
+pub all_printed : (named : List ℕ → Option (List ℕ)) (chosen : Chosen) (files : List Named) (old new : Shown) (old_notes new_notes : Option (List ℕ)) (sound : Bool)
     → SoFar named chosen files (old, new) (old_notes, new_notes) sound → PrintsEvents named chosen files (old, new) (old_notes, new_notes) (status_of sound)
 all_printed named chosen files old new old_notes new_notes true so_far = record {
   text = so_far.text;
-  unseen = [];
-  printed = record { written = so_far.text; appends = so_far.written; whole = append-nil so_far.text };
-  status_is = (refl, so_far.whole refl);
+  status_is = (so_far.written, so_far.whole refl);
 }
 all_printed named chosen files old new old_notes new_notes false so_far = record {
   text = so_far.text;
-  unseen = [];
-  printed = record { written = so_far.text; appends = so_far.written; whole = append-nil so_far.text };
-  status_is = (refl, so_far.begun);
+  status_is = (so_far.written, so_far.begun);
 }

@@ -1,8 +1,7 @@
 -- What is printed of the files of sinks and journals.
-use Rattle.std.specs.Prelude.{ℕ, ◌≡◌, ◌-◌, ◌⊎◌, Bool, true, false, List, [], ◌++◌, Option, IfSome, Result, MatchResult, length}
+use Rattle.std.specs.Prelude.{ℕ, ◌≡◌, ◌-◌, ◌⊎◌, Bool, true, false, List, ◌++◌, Option, IfSome, Result, MatchResult, length}
 use Rattle.std.specs.Io.KnownBytes.{Appends}
 use Rattle.program_text.specs.Listings.{AreListed}
-use Rattle.program_text.specs.Output.{TakesPart}
 use Rattle.program_text.specs.declared.status.Status.{Status}
 use Rattle.program_text.specs.declared.status.Status.TheVariants.{Done, No, Usage}
 use Rattle.chunk_journal.specs.Meaning.{EndsUnsealed, IsReplayed}
@@ -17,9 +16,10 @@ use Rattle.event_listing.specs.Lines.{PrintsAll, PrintsSome}
 use Rattle.event_listing.specs.Live.{IsJournalBegun, IsJournalWhole}
 use Rattle.event_listing.specs.Notes.{IsEndNote, IsJournalNote}
 use Rattle.event_listing.specs.Reading.{IsEnd}
+use Rattle.event_listing.specs.Shown.{Shown, IsShown, ShowsAll, ShowsPart}
 use Rattle.event_listing.specs.declared.sink.End.TheVariants.{Ended}
 use Rattle.event_listing.specs.declared.journal.JournalEnd.TheVariants.{Sealed, Unsealed}
-use Rattle.event_listing.specs.declared.sink.Stop.{Stop}
+use Rattle.event_listing.specs.declared.stop.Stop.{Stop}
 
 -- The text is what is printed of all events of a file of this kind, whose bytes are these where
 -- they are known.
@@ -61,12 +61,11 @@ pub record IsNoted (kind : Kind) (known : Option (List ℕ)) (name written : Lis
 
 -- What is printed and said of the file of this kind and name: it is read to its end, or it isn't; or
 -- memory ran out or the writer failed.
-pub record PrintsNamed (kind : Kind) (known : Option (List ℕ)) (chosen : Chosen) (name : List ℕ) (out notes : Option (List ℕ) × Option (List ℕ)) (result : Result Bool Stop) : Type 0 where
+pub record PrintsNamed (kind : Kind) (known : Option (List ℕ)) (chosen : Chosen) (name : List ℕ) (out : Shown × Shown) (notes : Option (List ℕ) × Option (List ℕ)) (result : Result Bool Stop) : Type 0 where
   pub text : List ℕ
-  pub unseen : List ℕ
-  pub printed : TakesPart out.0 out.1 text unseen
+  pub shown : MatchResult result (λ sound. ShowsAll out.0 out.1 text) (IsShown out.0 out.1 text)
   pub begun : IsBegun kind chosen known text
-  pub ends : MatchResult result (λ sound. (unseen ≡ []) × (sound ≡ true → IsWhole kind chosen known text × ((written : List ℕ) × Appends notes.0 notes.1 written × IsNoted kind known name written))) (λ stop. Unit {0})
+  pub ends : MatchResult result (λ sound. sound ≡ true → IsWhole kind chosen known text × ((written : List ℕ) × Appends notes.0 notes.1 written × IsNoted kind known name written)) (λ stop. Unit {0})
 
 -- the text is what is printed of the first of these files, one behind another
 pub record AreBegun (named : List ℕ → Option (List ℕ)) (chosen : Chosen) (files : List Named) (text : List ℕ) : Type 0 where
@@ -88,16 +87,14 @@ pub record AreWhole (named : List ℕ → Option (List ℕ)) (chosen : Chosen) (
   pub appends : Appends notes.0 notes.1 written
   pub noted : AreListed (λ file. IsNoted file.0 (named file.1) file.1) files written
 
--- what the status says of a text of which the writer took all but what is unseen
-abbrev pub IsStatus : (List ℕ → Option (List ℕ)) → Chosen → List Named → List ℕ → List ℕ → Option (List ℕ) × Option (List ℕ) → Status → Type 0
-IsStatus named chosen files text unseen notes Done = (unseen ≡ []) × AreWhole named chosen files text notes
-IsStatus named chosen files text unseen notes No = (unseen ≡ []) × AreListed (λ file. IsBegun file.0 chosen (named file.1)) files text
-IsStatus named chosen files text unseen notes Usage = AreBegun named chosen files text
+-- what the status says of a text that was printed
+abbrev pub IsStatus : (List ℕ → Option (List ℕ)) → Chosen → List Named → List ℕ → Shown × Shown → Option (List ℕ) × Option (List ℕ) → Status → Type 0
+IsStatus named chosen files text out notes Done = ShowsAll out.0 out.1 text × AreWhole named chosen files text notes
+IsStatus named chosen files text out notes No = ShowsAll out.0 out.1 text × AreListed (λ file. IsBegun file.0 chosen (named file.1)) files text
+IsStatus named chosen files text out notes Usage = ((unseen : List ℕ) × ShowsPart out.0 out.1 text unseen) × AreBegun named chosen files text
 
 -- These files are printed: all events of all of them; or of each its first events; or memory ran
 -- out or the writer failed before that.
-pub record PrintsEvents (named : List ℕ → Option (List ℕ)) (chosen : Chosen) (files : List Named) (out notes : Option (List ℕ) × Option (List ℕ)) (status : Status) : Type 0 where
+pub record PrintsEvents (named : List ℕ → Option (List ℕ)) (chosen : Chosen) (files : List Named) (out : Shown × Shown) (notes : Option (List ℕ) × Option (List ℕ)) (status : Status) : Type 0 where
   pub text : List ℕ
-  pub unseen : List ℕ
-  pub printed : TakesPart out.0 out.1 text unseen
-  pub status_is : IsStatus named chosen files text unseen notes status
+  pub status_is : IsStatus named chosen files text out notes status

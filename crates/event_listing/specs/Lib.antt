@@ -4,4 +4,6 @@ pub mod Forms
 pub mod Lines
 pub mod Live
 pub mod Notes
+pub mod Passes
 pub mod Reading
+pub mod Shown

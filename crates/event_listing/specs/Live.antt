@@ -5,14 +5,13 @@ use Rattle.buffer_state.specs.State.{Numbered, State}
 use Rattle.chunk_journal.specs.Meaning.{EndsUnsealed, IsDamaged, IsReplayed}
 use Rattle.chunk_journal.specs.Places.{Spots, ArePlaced}
 use Rattle.sink_series.specs.Events.{Event, under}
-use Rattle.program_text.specs.Output.{TakesPart}
 use Rattle.event_listing.specs.Choices.{Chosen}
 use Rattle.event_listing.specs.Forms.{Under}
 use Rattle.event_listing.specs.Lines.{ArePrinted, PrintsAll, PrintsSome}
-use Rattle.event_listing.specs.Reading.{IsTaken}
+use Rattle.event_listing.specs.Shown.{Shown, IsShown, ShowsAll}
 use Rattle.event_listing.specs.declared.journal.JournalEnd.{JournalEnd}
 use Rattle.event_listing.specs.declared.journal.JournalEnd.TheVariants.{Sealed, Unsealed, Damaged}
-use Rattle.event_listing.specs.declared.sink.Stop.{Stop}
+use Rattle.event_listing.specs.declared.stop.Stop.{Stop}
 
 -- the events of a chunk, in their order: each entry under the chunk's tag
 abbrev pub chunk_events : Numbered → List Event
@@ -66,30 +65,27 @@ is_readable Damaged = false
 
 -- How a journal is read, where it is known what it has: all that it holds live is printed; or some
 -- is.
-pub record PrintsJournal (chosen : Chosen) (known old new : Option (List ℕ)) (result : Result JournalEnd Stop) : Type 0 where
+pub record PrintsJournal (chosen : Chosen) (known : Option (List ℕ)) (old new : Shown) (result : Result JournalEnd Stop) : Type 0 where
   pub text : List ℕ
-  pub unseen : List ℕ
-  pub printed : TakesPart old new text unseen
+  pub shown : MatchResult result (λ end. ShowsAll old new text) (IsShown old new text)
   pub ends :
-      MatchResult result (λ end. (unseen ≡ []) × IfSome known (λ bytes. IsJournalEnd chosen bytes text end))
-      (λ stop. IsTaken unseen stop × IfSome known (λ bytes. IsJournalBegun chosen bytes text))
+      MatchResult result (λ end. IfSome known (λ bytes. IsJournalEnd chosen bytes text end))
+      (λ stop. IfSome known (λ bytes. IsJournalBegun chosen bytes text))
 
 -- Of live chunks, whose entries lie at these places of a file, all events are printed, where it is
 -- known what the file has; or some are.
-pub record PrintsLive (chosen : Chosen) (state : State) (places : Spots) (known old new : Option (List ℕ)) (result : Result (Unit {0}) Stop) : Type 0 where
+pub record PrintsLive (chosen : Chosen) (state : State) (places : Spots) (known : Option (List ℕ)) (old new : Shown) (result : Result (Unit {0}) Stop) : Type 0 where
   pub text : List ℕ
-  pub unseen : List ℕ
-  pub printed : TakesPart old new text unseen
+  pub shown : MatchResult result (λ _. ShowsAll old new text) (IsShown old new text)
   pub ends :
-      MatchResult result (λ _. (unseen ≡ []) × IfSome known (λ bytes. ArePlaced bytes places state → ArePrinted chosen (live_events state) text))
-      (λ stop. IsTaken unseen stop × IfSome known (λ bytes. ArePlaced bytes places state → PrintsFirstOf chosen (live_events state) text))
+      MatchResult result (λ _. IfSome known (λ bytes. ArePlaced bytes places state → ArePrinted chosen (live_events state) text))
+      (λ stop. IfSome known (λ bytes. ArePlaced bytes places state → PrintsFirstOf chosen (live_events state) text))
 
 -- Of the bytes of a chunk that has this tag all events are printed, and nothing stands behind them;
 -- or some are printed.
-pub record PrintsChunk (chosen : Chosen) (tag : List ℕ) (known old new : Option (List ℕ)) (result : Result (Unit {0}) Stop) : Type 0 where
+pub record PrintsChunk (chosen : Chosen) (tag : List ℕ) (known : Option (List ℕ)) (old new : Shown) (result : Result (Unit {0}) Stop) : Type 0 where
   pub text : List ℕ
-  pub unseen : List ℕ
-  pub printed : TakesPart old new text unseen
+  pub shown : MatchResult result (λ _. ShowsAll old new text) (IsShown old new text)
   pub ends :
-      MatchResult result (λ _. (unseen ≡ []) × IfSome known (λ bytes. PrintsAll (Under tag) chosen bytes text []))
-      (λ stop. IsTaken unseen stop × IfSome known (λ bytes. PrintsSome (Under tag) chosen bytes text))
+      MatchResult result (λ _. IfSome known (λ bytes. PrintsAll (Under tag) chosen bytes text []))
+      (λ stop. IfSome known (λ bytes. PrintsSome (Under tag) chosen bytes text))

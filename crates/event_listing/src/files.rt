@@ -11,17 +11,19 @@ ghost use Rattle.event_listing.specs.Reading.{PrintsFile};
 use crate::choice::Choice;
 use crate::journal::{JournalEnd, print_journal};
 use crate::notes::{note_end, note_journal, note_stop, note_unread};
-use crate::sink::{End, Stop, print_sink};
+use crate::output::Output;
+use crate::sink::{End, print_sink};
+use crate::stop::Stop;
 use folder_listing::{DataFile, Kind};
 use journal_reading::OpenPlaced;
 use program_text::{Open, Status};
 use std::alloc::Allocator;
 use std::io::Write;
 
-/// Prints the chosen events of these files, in the files' order: a line of JSON for each. Of a
-/// sink's file come those that it holds, in its own order; of a journal those that it holds live,
-/// which a relay still has to deliver that opens it: its chunks by rising serial, and the events of
-/// each in their order.
+/// Prints the chosen events of these files, in the files' order: a line of JSON for each, of which
+/// the output may leave out those that repeat others. Of a sink's file come those that it holds, in
+/// its own order; of a journal those that it holds live, which a relay still has to deliver that
+/// opens it: its chunks by rising serial, and the events of each in their order.
 ///
 /// On `notes` stands how many bytes are behind the events or the records of a file, where there are
 /// some: a write under way, or one that a stop cut; and of a journal that it is unsealed, which has
@@ -46,10 +48,10 @@ pub fn run_events<
     choice: &Choice<B>,
     listed: &[DataFile<C>],
     files: &O,
-    out: &mut W,
+    out: &mut Output<W, A>,
     notes: &mut V,
 ) -> Status
-    ensures { PrintsEvents (O.text_of files.now) choice.now (map named_of listed.now) (W.contents out.old, W.contents out.new) (V.contents notes.old, V.contents notes.new) result }
+    ensures { PrintsEvents (O.text_of files.now) choice.now (map named_of listed.now) (out.old, out.new) (V.contents notes.old, V.contents notes.new) result }
 {
     let mut is_sound = true;
     for file in listed {
@@ -77,10 +79,10 @@ fn print_named<A: Allocator + Copy, B: Allocator, O: OpenPlaced, W: Write, V: Wr
     kind: Kind,
     name: &str,
     files: &O,
-    out: &mut W,
+    out: &mut Output<W, A>,
     notes: &mut V,
 ) -> Result<bool, Stop>
-    ensures { PrintsNamed kind (O.text_of files.now name.now) choice.now name.now (W.contents out.old, W.contents out.new) (V.contents notes.old, V.contents notes.new) result }
+    ensures { PrintsNamed kind (O.text_of files.now name.now) choice.now name.now (out.old, out.new) (V.contents notes.old, V.contents notes.new) result }
 {
     match kind {
         Kind::Sink => print_sinks_file(alloc, choice, name, files, out, notes),
@@ -94,10 +96,10 @@ fn print_sinks_file<A: Allocator + Copy, B: Allocator, O: Open, W: Write, V: Wri
     choice: &Choice<B>,
     name: &str,
     files: &O,
-    out: &mut W,
+    out: &mut Output<W, A>,
     notes: &mut V,
 ) -> Result<bool, Stop>
-    ensures { PrintsNamed Sink (O.text_of files.now name.now) choice.now name.now (W.contents out.old, W.contents out.new) (V.contents notes.old, V.contents notes.new) result }
+    ensures { PrintsNamed Sink (O.text_of files.now name.now) choice.now name.now (out.old, out.new) (V.contents notes.old, V.contents notes.new) result }
 {
     match print_file(alloc, choice, name, files, out) {
         Ok(end) => {
@@ -118,10 +120,10 @@ fn print_journals_file<A: Allocator + Copy, B: Allocator, O: OpenPlaced, W: Writ
     choice: &Choice<B>,
     name: &str,
     files: &O,
-    out: &mut W,
+    out: &mut Output<W, A>,
     notes: &mut V,
 ) -> Result<bool, Stop>
-    ensures { PrintsNamed Journal (O.text_of files.now name.now) choice.now name.now (W.contents out.old, W.contents out.new) (V.contents notes.old, V.contents notes.new) result }
+    ensures { PrintsNamed Journal (O.text_of files.now name.now) choice.now name.now (out.old, out.new) (V.contents notes.old, V.contents notes.new) result }
 {
     match open_journal(alloc, choice, name, files, out) {
         Ok(end) => {
@@ -142,9 +144,9 @@ fn print_file<A: Allocator + Copy, B: Allocator, O: Open, W: Write>(
     choice: &Choice<B>,
     name: &str,
     files: &O,
-    out: &mut W,
+    out: &mut Output<W, A>,
 ) -> Result<End, Stop>
-    ensures { PrintsFile Items choice.now (O.text_of files.now name.now) (W.contents out.old) (W.contents out.new) result }
+    ensures { PrintsFile Items choice.now (O.text_of files.now name.now) out.old out.new result }
 {
     match files.open(name) {
         Ok(mut reader) => print_sink(alloc, choice, &mut reader, out),
@@ -158,9 +160,9 @@ fn open_journal<A: Allocator + Copy, B: Allocator, O: OpenPlaced, W: Write>(
     choice: &Choice<B>,
     name: &str,
     files: &O,
-    out: &mut W,
+    out: &mut Output<W, A>,
 ) -> Result<JournalEnd, Stop>
-    ensures { PrintsJournal choice.now (O.text_of files.now name.now) (W.contents out.old) (W.contents out.new) result }
+    ensures { PrintsJournal choice.now (O.text_of files.now name.now) out.old out.new result }
 {
     match files.open_placed(name) {
         Ok(file) => print_journal(alloc, choice, &file, out),

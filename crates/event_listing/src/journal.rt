@@ -7,7 +7,9 @@ ghost use Rattle.journal_reading.specs.Placed.{known_at};
 
 use crate::choice::Choice;
 use crate::form::Form;
-use crate::sink::{End, Stop, print_pieces};
+use crate::output::Output;
+use crate::sink::{End, print_pieces};
+use crate::stop::Stop;
 use chunk_journal::{Extent, Outline, Outlined};
 use journal_reading::{FoundJournal, FrontReader, PlacesReader, ReadAt, found_by};
 use msgpack_bytes::prefix_free;
@@ -42,9 +44,9 @@ pub(crate) fn print_journal<A: Allocator + Copy, B: Allocator, R: ReadAt, W: Wri
     alloc: A,
     choice: &Choice<B>,
     file: &R,
-    out: &mut W,
+    out: &mut Output<W, A>,
 ) -> Result<JournalEnd, Stop>
-    ensures { PrintsJournal choice.now (R.bytes_of file.now) (W.contents out.old) (W.contents out.new) result }
+    ensures { PrintsJournal choice.now (R.bytes_of file.now) out.old out.new result }
 {
     let mut front = FrontReader::new(file);
     match found_by(alloc, Outline::new(alloc), &mut front) {
@@ -59,10 +61,10 @@ fn print_found<A: Allocator + Copy, B: Allocator, R: ReadAt, W: Write>(
     choice: &Choice<B>,
     found: FoundJournal<A>,
     file: &R,
-    out: &mut W,
+    out: &mut Output<W, A>,
 ) -> Result<JournalEnd, Stop>
     ensures { IfSome (R.bytes_of file.now) (λ bytes. IsInJournal bytes found)
-        → PrintsJournal choice.now (R.bytes_of file.now) (W.contents out.old) (W.contents out.new) result }
+        → PrintsJournal choice.now (R.bytes_of file.now) out.old out.new result }
 {
     match found {
         FoundJournal::Sealed { outlined, torn } => {
@@ -81,10 +83,10 @@ fn print_sealed<A: Allocator + Copy, B: Allocator, R: ReadAt, W: Write>(
     outlined: &Outlined<A>,
     torn: u64,
     file: &R,
-    out: &mut W,
+    out: &mut Output<W, A>,
 ) -> Result<JournalEnd, Stop>
     ensures { IfSome (R.bytes_of file.now) (λ bytes. IsSealedIn bytes outlined.now torn)
-        → PrintsJournal choice.now (R.bytes_of file.now) (W.contents out.old) (W.contents out.new) result }
+        → PrintsJournal choice.now (R.bytes_of file.now) out.old out.new result }
 {
     match print_live(alloc, choice, outlined, file, out) {
         Ok(()) => Ok(JournalEnd::Sealed {
@@ -101,9 +103,9 @@ fn print_live<A: Allocator + Copy, B: Allocator, R: ReadAt, W: Write>(
     choice: &Choice<B>,
     outlined: &Outlined<A>,
     file: &R,
-    out: &mut W,
+    out: &mut Output<W, A>,
 ) -> Result<(), Stop>
-    ensures { PrintsLive choice.now outlined.now.chunks outlined.now.places (R.bytes_of file.now) (W.contents out.old) (W.contents out.new) result }
+    ensures { PrintsLive choice.now outlined.now.chunks outlined.now.places (R.bytes_of file.now) out.old out.new result }
 {
     match Vec::from_elem(alloc, 0, PIECE) {
         Ok(mut piece) => print_chunks(alloc, choice, outlined, &mut piece, file, out),
@@ -118,10 +120,10 @@ fn print_chunks<A: Allocator + Copy, B: Allocator, R: ReadAt, W: Write>(
     outlined: &Outlined<A>,
     piece: &mut [u8],
     file: &R,
-    out: &mut W,
+    out: &mut Output<W, A>,
 ) -> Result<(), Stop>
     requires { 0 < length piece.old }
-    ensures { PrintsLive choice.now outlined.now.chunks outlined.now.places (R.bytes_of file.now) (W.contents out.old) (W.contents out.new) result }
+    ensures { PrintsLive choice.now outlined.now.chunks outlined.now.places (R.bytes_of file.now) out.old out.new result }
 {
     // Called for its law alone, as `stays_stored` below.
     prefix_free();
@@ -145,10 +147,10 @@ fn print_chunk<A: Allocator + Copy, B: Allocator, R: ReadAt, W: Write>(
     places: &[Extent],
     piece: &mut [u8],
     file: &R,
-    out: &mut W,
+    out: &mut Output<W, A>,
 ) -> Result<(), Stop>
     requires { 0 < length piece.old }
-    ensures { PrintsChunk choice.now tag.now (known_at (R.bytes_of file.now) places.now 0) (W.contents out.old) (W.contents out.new) result }
+    ensures { PrintsChunk choice.now tag.now (known_at (R.bytes_of file.now) places.now 0) out.old out.new result }
 {
     let mut entries = PlacesReader::new(file, places);
     match print_pieces(alloc, choice, Form::Under(tag), piece, &mut entries, out) {

@@ -5,12 +5,18 @@
 mod choice;
 mod files;
 mod first;
+mod follow;
 mod form;
 mod journal;
 mod lines;
 mod notes;
+mod output;
+mod rest;
 mod sink;
+mod stop;
 
 pub use choice::Choice;
 pub use files::run_events;
+pub use follow::{Growth, passes_join, run_pass};
+pub use output::Output;
 pub use sink::LONGEST_ITEM;

@@ -3,6 +3,7 @@
 ghost use Rattle.std.specs.Prelude.{◌≤◌, drop, length, IfOk};
 ghost use Rattle.event_listing.specs.Forms.{form_of};
 ghost use Rattle.event_listing.specs.Lines.{PrintsAll};
+ghost use Rattle.recent_lines.specs.Lines.{EndsALine};
 
 use crate::choice::Choice;
 use crate::first::take_first;
@@ -26,6 +27,7 @@ pub(crate) fn print_held<A: Allocator + Copy, B: Allocator>(
     bytes: &[u8],
 ) -> Result<Printed<A>, AllocError>
     ensures all { IfOk result (λ printed. PrintsAll (form_of form.entry) choice.now bytes.now printed.lines.items (drop printed.used bytes.now)) }
+    ensures lines { IfOk result (λ printed. EndsALine printed.lines.items) }
     ensures used { IfOk result (λ printed. printed.used ≤ length bytes.now) }
 {
     let mut lines = Vec::new(alloc);

@@ -7,7 +7,8 @@ ghost use Rattle.program_text.specs.declared.status.Status.TheVariants.{Usage};
 ghost use Rattle.event_listing.specs.Notes.{damaged_journal_line, damaged_line, torn_journal_line, torn_line, unsealed_line, IsEndNote, IsJournalNote};
 
 use crate::journal::JournalEnd;
-use crate::sink::{End, Stop};
+use crate::sink::End;
+use crate::stop::Stop;
 use program_text::{Status, put_all};
 use std::alloc::{AllocError, Allocator};
 use std::io::Write;

@@ -1,16 +1,17 @@
 //! Bytes that spell events, as a sink's file, read in pieces.
 
-ghost use Rattle.std.specs.Prelude.{◌≡◌, ◌≢◌, ◌<◌, ◌++◌, [], length};
+ghost use Rattle.std.specs.Prelude.{◌≡◌, ◌<◌, ◌++◌, [], length};
 ghost use Rattle.event_listing.specs.Forms.{form_of, Items};
 ghost use Rattle.event_listing.specs.Reading.{is_ended, PrintsFile, PrintsPiece};
 
 use crate::choice::Choice;
 use crate::form::Form;
 use crate::lines::print_held;
+use crate::output::Output;
+use crate::stop::Stop;
 use event_modes::drop_front;
-use program_text::{CountedRead, MOST_READS, OutputFault, PIECE, ReadFault, put_all};
+use program_text::{CountedRead, MOST_READS, PIECE};
 use std::alloc::{AllocError, Allocator};
-use std::io;
 use std::io::{ErrorKind, Write};
 
 /// The most bytes that the item of an event has: its first byte, its tag as a str, and its time and
@@ -36,38 +37,15 @@ impl End {
     }
 }
 
-/// Why the events of a file are not all printed.
-#[derive(Clone, Copy)]
-pub(crate) enum Stop {
-    /// Memory ran out.
-    Memory,
-    /// The reader failed.
-    Read,
-    /// The writer failed.
-    Output,
-}
-
-impl Stop {
-    /// Why the events are not all printed where the reader failed so.
-    pub(crate) fn of_reader(error: &io::Error) -> Stop
-        ensures { result ≢ Stop.Output }
-    {
-        match ReadFault::of(error) {
-            ReadFault::Memory => Stop::Memory,
-            ReadFault::Read => Stop::Read,
-        }
-    }
-}
-
 /// Prints the chosen events that a sink's file holds, in their order. It holds a piece, the bytes
 /// of one event, and the lines of those that end in the piece.
 pub(crate) fn print_sink<A: Allocator + Copy, B: Allocator, R: CountedRead, W: Write>(
     alloc: A,
     choice: &Choice<B>,
     input: &mut R,
-    out: &mut W,
+    out: &mut Output<W, A>,
 ) -> Result<End, Stop>
-    ensures { PrintsFile Items choice.now (R.remaining input.old) (W.contents out.old) (W.contents out.new) result }
+    ensures { PrintsFile Items choice.now (R.remaining input.old) out.old out.new result }
 {
     match Vec::from_elem(alloc, 0, PIECE) {
         Ok(mut piece) => print_pieces(alloc, choice, Form::Items, &mut piece, input, out),
@@ -83,10 +61,10 @@ pub(crate) fn print_pieces<A: Allocator + Copy, B: Allocator, R: CountedRead, W:
     form: Form<'_>,
     piece: &mut [u8],
     input: &mut R,
-    out: &mut W,
+    out: &mut Output<W, A>,
 ) -> Result<End, Stop>
     requires { 0 < length piece.old }
-    ensures { PrintsFile (form_of form.entry) choice.now (R.remaining input.old) (W.contents out.old) (W.contents out.new) result }
+    ensures { PrintsFile (form_of form.entry) choice.now (R.remaining input.old) out.old out.new result }
 {
     let mut held = Held::new(alloc);
     for _ in 0..MOST_READS {
@@ -141,9 +119,9 @@ impl<A: Allocator + Copy> Held<A> {
         choice: &Choice<B>,
         form: Form<'_>,
         piece: &[u8],
-        out: &mut W,
+        out: &mut Output<W, A>,
     ) -> Result<(), Stop>
-        ensures { PrintsPiece (form_of form.entry) choice.now (self.old.at, self.old.bytes.items ++ piece.now) (self.new.at, self.new.bytes.items) (W.contents out.old) (W.contents out.new) result }
+        ensures { PrintsPiece (form_of form.entry) choice.now (self.old.at, self.old.bytes.items ++ piece.now) (self.new.at, self.new.bytes.items) out.old out.new result }
     {
         if let Err(AllocError) = self.bytes.extend_from_slice(piece) {
             return Err(Stop::Memory);
@@ -151,8 +129,8 @@ impl<A: Allocator + Copy> Held<A> {
         let Ok(printed) = print_held(self.alloc, choice, form, &self.bytes) else {
             return Err(Stop::Memory);
         };
-        if let Err(OutputFault) = put_all(out, &printed.lines) {
-            return Err(Stop::Output);
+        if let Err(stop) = out.put(&printed.lines) {
+            return Err(stop);
         }
         let Some(at) = self.at.checked_add(printed.used as u64) else {
             return Err(Stop::Read);

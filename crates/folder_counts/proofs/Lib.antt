@@ -1,3 +1,5 @@
 mod Files
-mod Held
+mod Live
 mod Owners
+mod Seconds
+mod Tallied

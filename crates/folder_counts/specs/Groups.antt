@@ -8,7 +8,7 @@ use Rattle.folder_counts.specs.declared.buffers.Found.TheVariants.{Chunks, Unsea
 
 -- a journal's whole records end before a Seal
 abbrev pub is_unsealed : Found → Bool
-is_unsealed (Chunks chunks torn next) = false
+is_unsealed (Chunks chunks torn next oldest) = false
 is_unsealed Unsealed = true
 is_unsealed Damaged = false
 is_unsealed Unread = false

@@ -2,7 +2,7 @@ pub mod Counts
 pub mod Findings
 pub mod Folders
 pub mod Groups
-pub mod Held
+pub mod Instants
 pub mod Limits
 pub mod Lines
 pub mod Metrics
@@ -10,4 +10,6 @@ pub mod Names
 pub mod Object
 pub mod Order
 pub mod Status
+pub mod Tallies
+pub mod Times
 pub mod Views

@@ -1,13 +1,16 @@
 -- The lines of what a data folder holds.
 use Rattle.std.specs.Prelude.{ℕ, ◌==◌, cond, List, [], ◌++◌, codes, decimal, fold, Option}
 use Rattle.std.specs.List.{flat_map}
+use Rattle.std.specs.Option.{option_map_or}
 use Rattle.program_text.specs.Lines.{line}
 use Rattle.folder_counts.specs.Counts.{chunks_sum}
-use Rattle.folder_counts.specs.Limits.{chunks_in, chunks_of, is_above, no_chunks}
+use Rattle.folder_counts.specs.Limits.{age_in, chunks_in, chunks_of, is_above, most_age, no_chunks, oldest_in}
+use Rattle.folder_counts.specs.Times.{instant_text}
 use Rattle.folder_counts.specs.Views.{BufferView, FolderView, SinkView}
 use Rattle.folder_counts.specs.declared.buffers.Found.{Found}
 use Rattle.folder_counts.specs.declared.buffers.Found.TheVariants.{Chunks, Unsealed, Damaged, Unread}
 use Rattle.folder_counts.specs.declared.counts.ChunkCounts.{ChunkCounts}
+use Rattle.folder_counts.specs.declared.instant.Instant.{Instant}
 use Rattle.folder_counts.specs.declared.limits.Limits.{Limits}
 
 -- a text, and behind it what chunks count to
@@ -15,9 +18,13 @@ abbrev pub with_chunks : List ℕ → ChunkCounts → List ℕ
 with_chunks text chunks =
     text ++ codes " staged " ++ decimal chunks.staged ++ codes " queued " ++ decimal chunks.queued ++ codes " entries " ++ decimal chunks.entries ++ codes " bytes " ++ decimal chunks.bytes
 
+-- a word and an instant; nothing where there is none
+abbrev pub time_field : List ℕ → Option Instant → List ℕ
+time_field word instant = option_map_or (λ at. word ++ instant_text at) instant []
+
 -- a text, and behind it what is found in a journal
 abbrev pub with_found : List ℕ → Found → List ℕ
-with_found text (Chunks chunks torn next) = with_chunks text chunks ++ codes " torn " ++ decimal torn ++ codes " next " ++ decimal next
+with_found text (Chunks chunks torn next oldest) = with_chunks text chunks ++ codes " torn " ++ decimal torn ++ codes " next " ++ decimal next ++ time_field (codes " oldest event ") oldest
 with_found text Unsealed = text ++ codes " unsealed"
 with_found text Damaged = text ++ codes " damaged"
 with_found text Unread = text ++ codes " unread"
@@ -31,7 +38,7 @@ abbrev pub sink_line : SinkView → List ℕ
 sink_line sink =
     line
     (codes "sink " ++ sink.path ++ codes " files " ++ decimal sink.counts.files ++ codes " events " ++ decimal sink.counts.events ++ codes " bytes " ++ decimal sink.counts.bytes ++ codes " torn " ++ decimal sink.counts.torn
-    ++ codes " newest " ++ sink.newest)
+    ++ codes " newest " ++ sink.newest ++ time_field (codes " newest event ") sink.counts.newest_event)
 
 -- the line of so many files of a sink of which a word is true; nothing where there are none
 abbrev pub flaw_line : List ℕ → List ℕ → ℕ → List ℕ
@@ -57,6 +64,7 @@ above_line name word most number = cond (is_above most number) (line (codes "ove
 abbrev pub over_lines : Limits → BufferView → List ℕ
 over_lines limits buffer =
     above_line buffer.path (codes " bytes ") limits.bytes (chunks_in buffer.found).bytes ++ above_line buffer.path (codes " chunks ") limits.chunks (chunks_of (chunks_in buffer.found))
+    ++ above_line buffer.path (codes " age ") (most_age limits) (age_in limits (oldest_in buffer.found))
 
 -- All lines: those of the buffers and of the sinks, in their order, the one of what all buffers
 -- hold, and those of the limits that some are above.

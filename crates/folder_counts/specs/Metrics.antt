@@ -1,15 +1,19 @@
 -- Samples in the text format of Prometheus, version 0.0.4.
-use Rattle.std.specs.Prelude.{ℕ, ◌==◌, ◌||◌, cond, List, [], ◌∷◌, ◌++◌, codes, decimal, Option, Some, None}
+use Rattle.std.specs.Prelude.{ℕ, ◌==◌, ◌||◌, cond, List, [], ◌∷◌, ◌++◌, codes, decimal, Option, Some, None, option_map}
 use Rattle.std.specs.List.{flat_map}
 use Rattle.std.specs.Option.{option_map_or}
 use Rattle.program_text.specs.Lines.{line}
+use Rattle.folder_counts.specs.Times.{seconds_text}
 use Rattle.folder_counts.specs.Views.{BufferView, FolderView, SinkView}
 use Rattle.folder_counts.specs.declared.buffers.Found.{Found}
 use Rattle.folder_counts.specs.declared.buffers.Found.TheVariants as found
 use Rattle.folder_counts.specs.declared.counts.ChunkCounts.{ChunkCounts}
 use Rattle.folder_counts.specs.declared.counts.SinkCounts.{SinkCounts}
+use Rattle.folder_counts.specs.declared.instant.Instant.{Instant}
 use Rattle.folder_counts.specs.declared.metrics.BufferMetric.{BufferMetric}
-use Rattle.folder_counts.specs.declared.metrics.BufferMetric.TheVariants.{Sound, Staged, Queued, Entries, Bytes, Torn, Next}
+use Rattle.folder_counts.specs.declared.metrics.BufferMetric.TheVariants.{Sound, Staged, Queued, Entries, Bytes, Torn, Next, Oldest}
+use Rattle.folder_counts.specs.declared.metrics.Figure.{Figure}
+use Rattle.folder_counts.specs.declared.metrics.Figure.TheVariants as figure
 use Rattle.folder_counts.specs.declared.metrics.SinkMetric.{SinkMetric}
 use Rattle.folder_counts.specs.declared.metrics.SinkMetric.TheVariants as sink
 
@@ -17,10 +21,15 @@ use Rattle.folder_counts.specs.declared.metrics.SinkMetric.TheVariants as sink
 abbrev pub escaped : ℕ → List ℕ
 escaped byte = cond ((byte == 34) || (byte == 92)) (92 ∷ byte ∷ []) (cond (byte == 10) (92 ∷ 110 ∷ []) (byte ∷ []))
 
+-- what a sample says: a number, or the seconds that so many nanoseconds are
+abbrev pub figure_text : Figure → List ℕ
+figure_text (figure.Number number) = decimal number
+figure_text (figure.Seconds nanos) = seconds_text nanos
+
 -- the line of a sample: the metric, a label up to the quote in front of its value, the value, and
--- the number
-abbrev pub sample_line : List ℕ → List ℕ → List ℕ → ℕ → List ℕ
-sample_line metric label value number = line (metric ++ label ++ flat_map escaped value ++ (34 ∷ 125 ∷ 32 ∷ []) ++ decimal number)
+-- what it says
+abbrev pub sample_line : List ℕ → List ℕ → List ℕ → Figure → List ℕ
+sample_line metric label value says = line (metric ++ label ++ flat_map escaped value ++ (34 ∷ 125 ∷ 32 ∷ []) ++ figure_text says)
 
 -- a line that says something of a metric
 abbrev pub comment_line : List ℕ → List ℕ → List ℕ → List ℕ
@@ -41,6 +50,7 @@ buffer_name Entries = codes "relaynet_buffer_entries"
 buffer_name Bytes = codes "relaynet_buffer_bytes"
 buffer_name Torn = codes "relaynet_buffer_torn_bytes"
 buffer_name Next = codes "relaynet_buffer_next_serial"
+buffer_name Oldest = codes "relaynet_buffer_oldest_event_timestamp_seconds"
 
 -- what it is
 abbrev pub buffer_help : BufferMetric → List ℕ
@@ -51,46 +61,57 @@ buffer_help Entries = codes "Entries in all chunks."
 buffer_help Bytes = codes "Bytes of the entries in all chunks."
 buffer_help Torn = codes "Bytes behind the last whole record of the journal."
 buffer_help Next = codes "Serial that the next chunk gets."
+buffer_help Oldest = codes "Time of the oldest event in all chunks, in seconds since the beginning of 1970."
 
--- its number in a journal that is whole
-abbrev pub measured : BufferMetric → ChunkCounts → ℕ → ℕ → ℕ
-measured Sound chunks torn next = 1
-measured Staged chunks torn next = chunks.staged
-measured Queued chunks torn next = chunks.queued
-measured Entries chunks torn next = chunks.entries
-measured Bytes chunks torn next = chunks.bytes
-measured Torn chunks torn next = torn
-measured Next chunks torn next = next
+-- the seconds of an instant; none where there is none
+abbrev pub seconds_at : Option Instant → Option Figure
+seconds_at instant = option_map (λ at. figure.Seconds at.nanos) instant
 
--- its number for another: only whether the journal is sound is known
-abbrev pub only_sound : BufferMetric → ℕ → Option ℕ
-only_sound Sound number = Some number
+-- what its sample says of a journal that is whole
+abbrev pub measured : BufferMetric → ChunkCounts → ℕ → ℕ → Option Instant → Option Figure
+measured Sound chunks torn next oldest = Some (figure.Number 1)
+measured Staged chunks torn next oldest = Some (figure.Number chunks.staged)
+measured Queued chunks torn next oldest = Some (figure.Number chunks.queued)
+measured Entries chunks torn next oldest = Some (figure.Number chunks.entries)
+measured Bytes chunks torn next oldest = Some (figure.Number chunks.bytes)
+measured Torn chunks torn next oldest = Some (figure.Number torn)
+measured Next chunks torn next oldest = Some (figure.Number next)
+measured Oldest chunks torn next oldest = seconds_at oldest
+
+-- the same of another: only whether the journal is sound is known
+abbrev pub only_sound : BufferMetric → ℕ → Option Figure
+only_sound Sound number = Some (figure.Number number)
 only_sound Staged number = None
 only_sound Queued number = None
 only_sound Entries number = None
 only_sound Bytes number = None
 only_sound Torn number = None
 only_sound Next number = None
+only_sound Oldest number = None
 
--- its number where this is found
-abbrev pub buffer_number : BufferMetric → Found → Option ℕ
-buffer_number metric (found.Chunks chunks torn next) = Some (measured metric chunks torn next)
-buffer_number metric found.Unsealed = only_sound metric 1
-buffer_number metric found.Damaged = only_sound metric 0
-buffer_number metric found.Unread = only_sound metric 0
+-- what its sample says where this is found
+abbrev pub buffer_figure : BufferMetric → Found → Option Figure
+buffer_figure metric (found.Chunks chunks torn next oldest) = measured metric chunks torn next oldest
+buffer_figure metric found.Unsealed = only_sound metric 1
+buffer_figure metric found.Damaged = only_sound metric 0
+buffer_figure metric found.Unread = only_sound metric 0
 
--- its sample of a buffer; nothing where there is no number
+-- its sample of a buffer; nothing where it says nothing
 abbrev pub buffer_sample : BufferMetric → BufferView → List ℕ
-buffer_sample metric buffer = option_map_or (λ number. sample_line (buffer_name metric) (codes "{buffer=" ++ 34 ∷ []) buffer.path number) (buffer_number metric buffer.found) []
+buffer_sample metric buffer = option_map_or (λ says. sample_line (buffer_name metric) (codes "{buffer=" ++ 34 ∷ []) buffer.path says) (buffer_figure metric buffer.found) []
 
 -- a metric of buffers
 abbrev pub buffer_family : BufferMetric → List BufferView → List ℕ
 buffer_family metric buffers = head_lines (buffer_name metric) (buffer_help metric) ++ flat_map (buffer_sample metric) buffers
 
 -- a text, and behind it the metrics of what is counted of buffers
-abbrev pub with_buffers : List ℕ → List BufferView → List ℕ
-with_buffers text buffers =
+abbrev pub with_buffer_counts : List ℕ → List BufferView → List ℕ
+with_buffer_counts text buffers =
     text ++ buffer_family Staged buffers ++ buffer_family Queued buffers ++ buffer_family Entries buffers ++ buffer_family Bytes buffers ++ buffer_family Torn buffers ++ buffer_family Next buffers
+
+-- the same, and behind that the one of their oldest events
+abbrev pub with_buffers : List ℕ → List BufferView → List ℕ
+with_buffers text buffers = with_buffer_counts text buffers ++ buffer_family Oldest buffers
 
 -- ---- sinks
 
@@ -102,6 +123,7 @@ sink_name sink.Bytes = codes "relaynet_sink_bytes"
 sink_name sink.Torn = codes "relaynet_sink_torn_bytes"
 sink_name sink.Damaged = codes "relaynet_sink_damaged_files"
 sink_name sink.Unread = codes "relaynet_sink_unread_files"
+sink_name sink.Newest = codes "relaynet_sink_newest_event_timestamp_seconds"
 
 -- what it is
 abbrev pub sink_help : SinkMetric → List ℕ
@@ -111,28 +133,34 @@ sink_help sink.Bytes = codes "Bytes of the events in all files of the sink."
 sink_help sink.Torn = codes "Bytes behind the last whole events of the files."
 sink_help sink.Damaged = codes "Files in which more bytes stand behind the events than any event has."
 sink_help sink.Unread = codes "Files that aren't read to their ends."
+sink_help sink.Newest = codes "Time of the newest event in all files of the sink, in seconds since the beginning of 1970."
 
--- its number in these counts
-abbrev pub sink_number : SinkMetric → SinkCounts → ℕ
-sink_number sink.Files counts = counts.files
-sink_number sink.Events counts = counts.events
-sink_number sink.Bytes counts = counts.bytes
-sink_number sink.Torn counts = counts.torn
-sink_number sink.Damaged counts = counts.damaged
-sink_number sink.Unread counts = counts.unread
+-- what its sample says of these counts
+abbrev pub sink_figure : SinkMetric → SinkCounts → Option Figure
+sink_figure sink.Files counts = Some (figure.Number counts.files)
+sink_figure sink.Events counts = Some (figure.Number counts.events)
+sink_figure sink.Bytes counts = Some (figure.Number counts.bytes)
+sink_figure sink.Torn counts = Some (figure.Number counts.torn)
+sink_figure sink.Damaged counts = Some (figure.Number counts.damaged)
+sink_figure sink.Unread counts = Some (figure.Number counts.unread)
+sink_figure sink.Newest counts = seconds_at counts.newest_event
 
--- its sample of a sink
+-- its sample of a sink; nothing where it says nothing
 abbrev pub sink_sample : SinkMetric → SinkView → List ℕ
-sink_sample metric one = sample_line (sink_name metric) (codes "{sink=" ++ 34 ∷ []) one.path (sink_number metric one.counts)
+sink_sample metric one = option_map_or (λ says. sample_line (sink_name metric) (codes "{sink=" ++ 34 ∷ []) one.path says) (sink_figure metric one.counts) []
 
 -- a metric of sinks
 abbrev pub sink_family : SinkMetric → List SinkView → List ℕ
 sink_family metric sinks = head_lines (sink_name metric) (sink_help metric) ++ flat_map (sink_sample metric) sinks
 
--- a text, and behind it all metrics of sinks
-abbrev pub with_sinks : List ℕ → List SinkView → List ℕ
-with_sinks text sinks =
+-- a text, and behind it the metrics of what is counted of sinks
+abbrev pub with_sink_counts : List ℕ → List SinkView → List ℕ
+with_sink_counts text sinks =
     text ++ sink_family sink.Files sinks ++ sink_family sink.Events sinks ++ sink_family sink.Bytes sinks ++ sink_family sink.Torn sinks ++ sink_family sink.Damaged sinks ++ sink_family sink.Unread sinks
+
+-- the same, and behind that the one of their newest events
+abbrev pub with_sinks : List ℕ → List SinkView → List ℕ
+with_sinks text sinks = with_sink_counts text sinks ++ sink_family sink.Newest sinks
 
 -- the samples of a folder
 abbrev pub status_metrics : FolderView → List ℕ

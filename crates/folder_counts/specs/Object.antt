@@ -1,16 +1,19 @@
 -- What a folder holds, as a JSON object (RFC 8259): the tokens of its text.
 use Rattle.std.specs.Prelude.{ℕ, ◌≡◌, cond, List, [], ◌∷◌, ◌++◌, codes, decimal, fold, Option}
+use Rattle.std.specs.Option.{option_map_or}
 use Rattle.json.specs.Print.{print}
 use Rattle.json.specs.Token.{Token, begin_object, end_object, begin_array, end_array, key, string, number}
 use Rattle.json.specs.Written.{Written}
 use Rattle.program_text.specs.Lines.{line}
-use Rattle.folder_counts.specs.Limits.{chunks_in, chunks_of, is_above}
+use Rattle.folder_counts.specs.Limits.{age_in, chunks_in, chunks_of, is_above, most_age, oldest_in}
 use Rattle.folder_counts.specs.Lines.{total_of}
+use Rattle.folder_counts.specs.Times.{seconds_text}
 use Rattle.folder_counts.specs.Views.{BufferView, FolderView, SinkView}
 use Rattle.folder_counts.specs.declared.buffers.Found.{Found}
 use Rattle.folder_counts.specs.declared.buffers.Found.TheVariants.{Chunks, Unsealed, Damaged, Unread}
 use Rattle.folder_counts.specs.declared.counts.ChunkCounts.{ChunkCounts}
 use Rattle.folder_counts.specs.declared.counts.SinkCounts.{SinkCounts}
+use Rattle.folder_counts.specs.declared.instant.Instant.{Instant}
 use Rattle.folder_counts.specs.declared.limits.Limits.{Limits}
 
 -- a writer has these tokens now, behind what it had before all of them
@@ -37,14 +40,19 @@ with_chunks tokens chunks =
 
 -- the word for what is found in a journal
 abbrev pub state_word : Found → List ℕ
-state_word (Chunks chunks torn next) = codes "whole"
+state_word (Chunks chunks torn next oldest) = codes "whole"
 state_word Unsealed = codes "unsealed"
 state_word Damaged = codes "damaged"
 state_word Unread = codes "unread"
 
+-- a member whose value is an instant, in seconds since the beginning of 1970; nothing where there
+-- is none
+abbrev pub with_time : List Token → List ℕ → Option Instant → List Token
+with_time tokens name instant = option_map_or (λ at. (tokens ++ key name ∷ []) ++ number (seconds_text at.nanos) ∷ []) instant tokens
+
 -- the members of the numbers that are found in a journal, where it is whole
 abbrev pub with_numbers : List Token → Found → List Token
-with_numbers tokens (Chunks chunks torn next) = with_number (with_number (with_chunks tokens chunks) (codes "torn") torn) (codes "next") next
+with_numbers tokens (Chunks chunks torn next oldest) = with_time (with_number (with_number (with_chunks tokens chunks) (codes "torn") torn) (codes "next") next) (codes "oldest_event") oldest
 with_numbers tokens Unsealed = tokens
 with_numbers tokens Damaged = tokens
 with_numbers tokens Unread = tokens
@@ -67,9 +75,13 @@ with_counts tokens counts =
     with_number (with_number (with_number (with_number (with_number (with_number tokens (codes "files") counts.files) (codes "events") counts.events) (codes "bytes") counts.bytes) (codes "torn") counts.torn)
     (codes "damaged") counts.damaged) (codes "unread") counts.unread
 
+-- the members of a sink's newest file, and of its newest event
+abbrev pub with_newest : List Token → SinkView → List Token
+with_newest tokens sink = with_time (with_word tokens (codes "newest") sink.newest) (codes "newest_event") sink.counts.newest_event
+
 -- the object of a sink
 abbrev pub with_sink : List Token → SinkView → List Token
-with_sink tokens sink = with_word (with_counts (with_name tokens sink.path) sink.counts) (codes "newest") sink.newest ++ end_object ∷ []
+with_sink tokens sink = with_newest (with_counts (with_name tokens sink.path) sink.counts) sink ++ end_object ∷ []
 
 -- the member of these sinks
 abbrev pub with_sinks : List Token → List SinkView → List Token
@@ -86,7 +98,9 @@ with_above tokens name word most value = cond (is_above most value) (with_number
 -- the objects of the limits that a buffer is above
 abbrev pub with_over : Limits → List Token → BufferView → List Token
 with_over limits tokens buffer =
-    with_above (with_above tokens buffer.path (codes "bytes") limits.bytes (chunks_in buffer.found).bytes) buffer.path (codes "chunks") limits.chunks (chunks_of (chunks_in buffer.found))
+    with_above
+    (with_above (with_above tokens buffer.path (codes "bytes") limits.bytes (chunks_in buffer.found).bytes) buffer.path (codes "chunks") limits.chunks (chunks_of (chunks_in buffer.found)))
+    buffer.path (codes "age") (most_age limits) (age_in limits (oldest_in buffer.found))
 
 -- the member of the limits that these buffers are above
 abbrev pub with_overs : List Token → Limits → List BufferView → List Token

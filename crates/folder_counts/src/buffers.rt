@@ -2,21 +2,24 @@
 
 ghost use Rattle.std.specs.Prelude.{◌≡◌};
 ghost use Rattle.folder_counts.specs.Groups.{is_unsealed, outranks};
-ghost use Rattle.folder_counts.specs.Limits.{chunks_in, is_sound};
+ghost use Rattle.folder_counts.specs.Limits.{chunks_in, is_sound, oldest_in};
 
 use crate::counts::{ChunkCounts, NO_CHUNKS};
+use crate::instant::Instant;
 use crate::parts::Part;
 use std::alloc::AllocError;
 use std::marker::Model;
 
 /// What is found in a journal.
-#[derive(Clone, Copy, Debug, PartialEq, Eq)]
+#[derive(Clone, Copy, Debug)]
 pub enum Found {
-    /// It is sealed: its live chunks, how many bytes are torn at its end, and the next serial.
+    /// It is sealed: its live chunks, how many bytes are torn at its end, the next serial, and when
+    /// the oldest event in the chunks happened; none where there are no events.
     Chunks {
         chunks: ChunkCounts,
         torn: u64,
         next: u64,
+        oldest: Option<Instant>,
     },
     /// Its whole records end before a Seal.
     Unsealed,
@@ -85,6 +88,13 @@ impl<'a> Buffer<'a> {
         chunks_in(self.found)
     }
 
+    /// When the oldest event in these happened; none where there are no events.
+    pub fn oldest(&self) -> Option<Instant>
+        ensures { result ≡ oldest_in self.now.found }
+    {
+        oldest_in(self.found)
+    }
+
     /// Whether its journal is read, and not damaged.
     pub fn is_sound(&self) -> bool
         ensures { result ≡ is_sound self.now.found }
@@ -141,6 +151,16 @@ fn chunks_in(found: Found) -> ChunkCounts
     match found {
         Found::Chunks { chunks, .. } => chunks,
         Found::Unsealed | Found::Damaged | Found::Unread => NO_CHUNKS,
+    }
+}
+
+// When the oldest event in these chunks happened.
+fn oldest_in(found: Found) -> Option<Instant>
+    ensures { result ≡ oldest_in found }
+{
+    match found {
+        Found::Chunks { oldest, .. } => oldest,
+        Found::Unsealed | Found::Damaged | Found::Unread => None,
     }
 }
 

@@ -4,6 +4,7 @@ ghost use Rattle.std.specs.Prelude.{◌≡◌, ◌+◌, IfOk};
 ghost use Rattle.folder_counts.specs.Counts.{chunks_sum, sinks_sum};
 ghost use Rattle.folder_counts.specs.Limits.{chunks_of};
 
+use crate::instant::{Instant, later_instant};
 use std::alloc::AllocError;
 
 /// Live chunks, counted.
@@ -49,7 +50,7 @@ impl ChunkCounts {
 }
 
 /// Files of sinks, counted.
-#[derive(Clone, Copy, Debug, PartialEq, Eq)]
+#[derive(Clone, Copy, Debug)]
 pub struct SinkCounts {
     /// How many files they are.
     pub files: u64,
@@ -63,6 +64,8 @@ pub struct SinkCounts {
     pub damaged: u64,
     /// How many files aren't read to their ends.
     pub unread: u64,
+    /// When the newest of these events happened; none where there are no events.
+    pub newest_event: Option<Instant>,
 }
 
 /// No files.
@@ -73,6 +76,7 @@ pub const NO_FILES: SinkCounts = SinkCounts {
     torn: 0,
     damaged: 0,
     unread: 0,
+    newest_event: None,
 };
 
 impl SinkCounts {
@@ -87,6 +91,7 @@ impl SinkCounts {
             torn: plus(self.torn, other.torn)?,
             damaged: plus(self.damaged, other.damaged)?,
             unread: plus(self.unread, other.unread)?,
+            newest_event: later_instant(self.newest_event, other.newest_event),
         })
     }
 }

@@ -11,8 +11,9 @@ use crate::journal::count_journal;
 use crate::names::owner_of;
 use crate::parts::{put_part, sort_parts};
 use crate::sinks::Sink;
+use crate::spelling::Items;
 use folder_listing::{DataFile, Kind};
-use journal_reading::found_in;
+use journal_reading::{OpenPlaced, found_in};
 use program_text::Open;
 use std::alloc::{AllocError, Allocator};
 use std::marker::Model;
@@ -69,7 +70,7 @@ impl<'a, A: Allocator> FolderCounts<'a, A> {
     }
 
     // Counts the file of this kind and name, and takes it. The error is want of memory.
-    fn take<B: Allocator + Copy, O: Open>(
+    fn take<B: Allocator + Copy, O: OpenPlaced>(
         &mut self,
         alloc: B,
         kind: Kind,
@@ -109,7 +110,7 @@ impl<'a, A: Allocator> FolderCounts<'a, A> {
 /// file are held a piece, one record or event that isn't whole, and of a journal what its live
 /// chunks are, without their entries. The error is want of memory, also for a number of 2^64 or
 /// more.
-pub fn count_folder<'a, A: Allocator + Copy, B: Allocator, O: Open>(
+pub fn count_folder<'a, A: Allocator + Copy, B: Allocator, O: OpenPlaced>(
     alloc: A,
     listed: &'a [DataFile<B>],
     files: &O,
@@ -124,7 +125,7 @@ pub fn count_folder<'a, A: Allocator + Copy, B: Allocator, O: Open>(
 }
 
 // The generation of a buffer in the journal of this name. The error is want of memory.
-fn count_buffer<'a, A: Allocator + Copy, O: Open>(
+fn count_buffer<'a, A: Allocator + Copy, O: OpenPlaced>(
     alloc: A,
     name: &'a str,
     files: &O,
@@ -146,7 +147,7 @@ fn count_part<'a, A: Allocator + Copy, O: Open>(
     ensures is { IfOk result (λ sink. IsCounted (O.text_of files.now) (OfSink sink)) }
     ensures name { IfOk result (λ sink. sink.newest ≡ name.now) }
 {
-    let counts = found_in(alloc, Held::new(alloc), name, files)?;
+    let found = found_in(alloc, Held::new(alloc, Items), name, files)?;
     let (path, number) = owner_of(Kind::Sink, name);
-    Ok(Sink::new(path, name, number, counts))
+    Ok(Sink::new(path, name, number, found.counts()))
 }

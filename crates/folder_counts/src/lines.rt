@@ -10,6 +10,7 @@ ghost use Rattle.folder_counts.specs.Lines.{
   sink_line,
   sink_lines,
   status_lines,
+  time_field,
   total_line,
   total_of,
   with_chunks,
@@ -19,8 +20,10 @@ ghost use Rattle.folder_counts.specs.Lines.{
 use crate::buffers::{Buffer, Found};
 use crate::counts::{ChunkCounts, NO_CHUNKS};
 use crate::folder::FolderCounts;
+use crate::instant::Instant;
 use crate::limits::{Limits, is_above};
 use crate::sinks::Sink;
+use crate::times::put_instant;
 use std::alloc::{AllocError, Allocator};
 
 /// A line for each buffer and each sink, one for all buffers together, and one for each limit that
@@ -101,15 +104,37 @@ fn put_found<A: Allocator + Copy>(
     ensures { OnOk result (line.new.items ≡ with_found line.old.items found) }
 {
     match found {
-        Found::Chunks { chunks, torn, next } => {
+        Found::Chunks {
+            chunks,
+            torn,
+            next,
+            oldest,
+        } => {
             put_chunks(alloc, line, chunks)?;
             put_field(alloc, line, b" torn ", torn)?;
-            put_field(alloc, line, b" next ", next)
+            put_field(alloc, line, b" next ", next)?;
+            put_time(alloc, line, b" oldest event ", oldest)
         }
         Found::Unsealed => line.extend_from_slice(b" unsealed"),
         Found::Damaged => line.extend_from_slice(b" damaged"),
         Found::Unread => line.extend_from_slice(b" unread"),
     }
+}
+
+// Adds a word and an instant; nothing where there is none.
+fn put_time<A: Allocator + Copy>(
+    alloc: A,
+    line: &mut Vec<u8, A>,
+    word: &[u8],
+    instant: Option<Instant>,
+) -> Result<(), AllocError>
+    ensures { OnOk result (line.new.items ≡ line.old.items ++ time_field word.now instant) }
+{
+    let Some(instant) = instant else {
+        return Ok(());
+    };
+    line.extend_from_slice(word)?;
+    put_instant(alloc, line, instant)
 }
 
 // Adds what chunks count to.
@@ -165,6 +190,7 @@ fn sink_line<A: Allocator + Copy>(alloc: A, sink: &Sink<'_>) -> Result<Vec<u8, A
     put_field(alloc, &mut line, b" torn ", counts.torn)?;
     line.extend_from_slice(b" newest ")?;
     line.extend_from_slice(sink.newest().as_bytes())?;
+    put_time(alloc, &mut line, b" newest event ", counts.newest_event)?;
     line.extend_from_slice(b"\n")?;
     Ok(line)
 }
@@ -254,6 +280,14 @@ fn put_over<A: Allocator + Copy>(
         b" chunks ",
         limits.chunks,
         chunks.number()?,
+    )?;
+    put_above(
+        alloc,
+        lines,
+        buffer.path(),
+        b" age ",
+        limits.most_age(),
+        limits.age(buffer.oldest()),
     )
 }
 

@@ -4,32 +4,47 @@ ghost use Rattle.std.specs.Prelude.{◌≡◌, ◌++◌, IfOk, OnOk};
 ghost use Rattle.std.specs.List.{flat_map};
 ghost use Rattle.folder_counts.specs.Metrics.{
   buffer_family,
+  buffer_figure,
   buffer_help,
   buffer_name,
-  buffer_number,
   buffer_sample,
   comment_line,
   escaped,
+  figure_text,
   head_lines,
   measured,
   only_sound,
   sample_line,
+  seconds_at,
   sink_family,
+  sink_figure,
   sink_help,
   sink_name,
-  sink_number,
   sink_sample,
   status_metrics,
+  with_buffer_counts,
   with_buffers,
+  with_sink_counts,
   with_sinks,
 };
 
 use crate::buffers::{Buffer, Found};
 use crate::counts::{ChunkCounts, SinkCounts};
 use crate::folder::FolderCounts;
+use crate::instant::Instant;
 use crate::lines::{begun, put_field};
 use crate::sinks::Sink;
+use crate::times::seconds_text;
 use std::alloc::{AllocError, Allocator};
+
+// What a sample says.
+#[derive(Clone, Copy, Debug, PartialEq, Eq)]
+enum Figure {
+    // This number.
+    Number(u64),
+    // The seconds that so many nanoseconds are.
+    Seconds(i128),
+}
 
 // What is measured of a buffer.
 #[derive(Clone, Copy, Debug, PartialEq, Eq)]
@@ -41,6 +56,7 @@ enum BufferMetric {
     Bytes,
     Torn,
     Next,
+    Oldest,
 }
 
 impl BufferMetric {
@@ -56,6 +72,7 @@ impl BufferMetric {
             BufferMetric::Bytes => "relaynet_buffer_bytes",
             BufferMetric::Torn => "relaynet_buffer_torn_bytes",
             BufferMetric::Next => "relaynet_buffer_next_serial",
+            BufferMetric::Oldest => "relaynet_buffer_oldest_event_timestamp_seconds",
         }
     }
 
@@ -71,49 +88,74 @@ impl BufferMetric {
             BufferMetric::Bytes => "Bytes of the entries in all chunks.",
             BufferMetric::Torn => "Bytes behind the last whole record of the journal.",
             BufferMetric::Next => "Serial that the next chunk gets.",
+            BufferMetric::Oldest =>
+                "Time of the oldest event in all chunks, in seconds since the beginning of 1970.",
         }
     }
 
-    // Its number where this is found; none where nothing is counted there.
-    fn number(self, found: Found) -> Option<u64>
-        ensures { result ≡ buffer_number self found }
+    // What its sample says where this is found; none where nothing is counted there.
+    fn figure(self, found: Found) -> Option<Figure>
+        ensures { result ≡ buffer_figure self found }
     {
         match found {
-            Found::Chunks { chunks, torn, next } => Some(self.measured(chunks, torn, next)),
+            Found::Chunks {
+                chunks,
+                torn,
+                next,
+                oldest,
+            } => self.measured(chunks, torn, next, oldest),
             Found::Unsealed => self.only_sound(1),
             Found::Damaged => self.only_sound(0),
             Found::Unread => self.only_sound(0),
         }
     }
 
-    // Its number in a journal that is whole.
-    fn measured(self, chunks: ChunkCounts, torn: u64, next: u64) -> u64
-        ensures { result ≡ measured self chunks torn next }
+    // The same of a journal that is whole.
+    fn measured(
+        self,
+        chunks: ChunkCounts,
+        torn: u64,
+        next: u64,
+        oldest: Option<Instant>,
+    ) -> Option<Figure>
+        ensures { result ≡ measured self chunks torn next oldest }
     {
         match self {
-            BufferMetric::Sound => 1,
-            BufferMetric::Staged => chunks.staged,
-            BufferMetric::Queued => chunks.queued,
-            BufferMetric::Entries => chunks.entries,
-            BufferMetric::Bytes => chunks.bytes,
-            BufferMetric::Torn => torn,
-            BufferMetric::Next => next,
+            BufferMetric::Sound => Some(Figure::Number(1)),
+            BufferMetric::Staged => Some(Figure::Number(chunks.staged)),
+            BufferMetric::Queued => Some(Figure::Number(chunks.queued)),
+            BufferMetric::Entries => Some(Figure::Number(chunks.entries)),
+            BufferMetric::Bytes => Some(Figure::Number(chunks.bytes)),
+            BufferMetric::Torn => Some(Figure::Number(torn)),
+            BufferMetric::Next => Some(Figure::Number(next)),
+            BufferMetric::Oldest => seconds_at(oldest),
         }
     }
 
-    // The number for a journal that isn't whole: only whether it is sound is known.
-    fn only_sound(self, number: u64) -> Option<u64>
+    // The same of a journal that isn't whole: only whether it is sound is known.
+    fn only_sound(self, number: u64) -> Option<Figure>
         ensures { result ≡ only_sound self number }
     {
         match self {
-            BufferMetric::Sound => Some(number),
+            BufferMetric::Sound => Some(Figure::Number(number)),
             BufferMetric::Staged
             | BufferMetric::Queued
             | BufferMetric::Entries
             | BufferMetric::Bytes
             | BufferMetric::Torn
-            | BufferMetric::Next => None,
+            | BufferMetric::Next
+            | BufferMetric::Oldest => None,
         }
+    }
+}
+
+// The seconds of an instant; none where there is none.
+fn seconds_at(instant: Option<Instant>) -> Option<Figure>
+    ensures { result ≡ seconds_at instant }
+{
+    match instant {
+        Some(instant) => Some(Figure::Seconds(instant.nanos)),
+        None => None,
     }
 }
 
@@ -126,6 +168,7 @@ enum SinkMetric {
     Torn,
     Damaged,
     Unread,
+    Newest,
 }
 
 impl SinkMetric {
@@ -140,6 +183,7 @@ impl SinkMetric {
             SinkMetric::Torn => "relaynet_sink_torn_bytes",
             SinkMetric::Damaged => "relaynet_sink_damaged_files",
             SinkMetric::Unread => "relaynet_sink_unread_files",
+            SinkMetric::Newest => "relaynet_sink_newest_event_timestamp_seconds",
         }
     }
 
@@ -155,20 +199,23 @@ impl SinkMetric {
             SinkMetric::Damaged =>
                 "Files in which more bytes stand behind the events than any event has.",
             SinkMetric::Unread => "Files that aren't read to their ends.",
+            SinkMetric::Newest =>
+                "Time of the newest event in all files of the sink, in seconds since the beginning of 1970.",
         }
     }
 
-    // Its number in these counts.
-    fn number(self, counts: SinkCounts) -> u64
-        ensures { result ≡ sink_number self counts }
+    // What its sample says of these counts; none where there is nothing to say.
+    fn figure(self, counts: SinkCounts) -> Option<Figure>
+        ensures { result ≡ sink_figure self counts }
     {
         match self {
-            SinkMetric::Files => counts.files,
-            SinkMetric::Events => counts.events,
-            SinkMetric::Bytes => counts.bytes,
-            SinkMetric::Torn => counts.torn,
-            SinkMetric::Damaged => counts.damaged,
-            SinkMetric::Unread => counts.unread,
+            SinkMetric::Files => Some(Figure::Number(counts.files)),
+            SinkMetric::Events => Some(Figure::Number(counts.events)),
+            SinkMetric::Bytes => Some(Figure::Number(counts.bytes)),
+            SinkMetric::Torn => Some(Figure::Number(counts.torn)),
+            SinkMetric::Damaged => Some(Figure::Number(counts.damaged)),
+            SinkMetric::Unread => Some(Figure::Number(counts.unread)),
+            SinkMetric::Newest => seconds_at(counts.newest_event),
         }
     }
 }
@@ -187,13 +234,25 @@ pub(crate) fn status_metrics<A: Allocator + Copy>(
     Ok(text)
 }
 
-// Adds what is counted of these buffers.
+// Adds what is said of these buffers, but for whether they are sound.
 fn put_buffers<A: Allocator + Copy>(
     alloc: A,
     text: &mut Vec<u8, A>,
     buffers: &[Buffer<'_>],
 ) -> Result<(), AllocError>
     ensures { OnOk result (text.new.items ≡ with_buffers text.old.items buffers.now) }
+{
+    put_buffer_counts(alloc, text, buffers)?;
+    put_buffer_family(alloc, text, BufferMetric::Oldest, buffers)
+}
+
+// Adds what is counted of these buffers.
+fn put_buffer_counts<A: Allocator + Copy>(
+    alloc: A,
+    text: &mut Vec<u8, A>,
+    buffers: &[Buffer<'_>],
+) -> Result<(), AllocError>
+    ensures { OnOk result (text.new.items ≡ with_buffer_counts text.old.items buffers.now) }
 {
     put_buffer_family(alloc, text, BufferMetric::Staged, buffers)?;
     put_buffer_family(alloc, text, BufferMetric::Queued, buffers)?;
@@ -203,13 +262,25 @@ fn put_buffers<A: Allocator + Copy>(
     put_buffer_family(alloc, text, BufferMetric::Next, buffers)
 }
 
-// Adds what is counted of these sinks.
+// Adds what is said of these sinks.
 fn put_sinks<A: Allocator + Copy>(
     alloc: A,
     text: &mut Vec<u8, A>,
     sinks: &[Sink<'_>],
 ) -> Result<(), AllocError>
     ensures { OnOk result (text.new.items ≡ with_sinks text.old.items sinks.now) }
+{
+    put_sink_counts(alloc, text, sinks)?;
+    put_sink_family(alloc, text, SinkMetric::Newest, sinks)
+}
+
+// Adds what is counted of these sinks.
+fn put_sink_counts<A: Allocator + Copy>(
+    alloc: A,
+    text: &mut Vec<u8, A>,
+    sinks: &[Sink<'_>],
+) -> Result<(), AllocError>
+    ensures { OnOk result (text.new.items ≡ with_sink_counts text.old.items sinks.now) }
 {
     put_sink_family(alloc, text, SinkMetric::Files, sinks)?;
     put_sink_family(alloc, text, SinkMetric::Events, sinks)?;
@@ -257,14 +328,14 @@ fn put_buffer_sample<A: Allocator + Copy>(
 ) -> Result<(), AllocError>
     ensures { OnOk result (text.new.items ≡ text.old.items ++ buffer_sample metric buffer.now) }
 {
-    match metric.number(buffer.found()) {
-        Some(number) => put_sample(
+    match metric.figure(buffer.found()) {
+        Some(figure) => put_sample(
             alloc,
             text,
             metric.name(),
             b"{buffer=\"",
             buffer.path(),
-            number,
+            figure,
         ),
         None => Ok(()),
     }
@@ -294,10 +365,24 @@ fn put_sink_samples<A: Allocator + Copy>(
         ≡ text.old.items ++ flat_map (sink_sample metric) sinks.now) }
 {
     for sink in sinks {
-        let number = metric.number(sink.counts());
-        put_sample(alloc, text, metric.name(), b"{sink=\"", sink.path(), number)?;
+        put_sink_sample(alloc, text, metric, sink)?;
     }
     Ok(())
+}
+
+// Adds its sample of one sink.
+fn put_sink_sample<A: Allocator + Copy>(
+    alloc: A,
+    text: &mut Vec<u8, A>,
+    metric: SinkMetric,
+    sink: &Sink<'_>,
+) -> Result<(), AllocError>
+    ensures { OnOk result (text.new.items ≡ text.old.items ++ sink_sample metric sink.now) }
+{
+    match metric.figure(sink.counts()) {
+        Some(figure) => put_sample(alloc, text, metric.name(), b"{sink=\"", sink.path(), figure),
+        None => Ok(()),
+    }
 }
 
 // Adds the two lines in front of the samples of a metric.
@@ -332,24 +417,42 @@ fn put_comment<A: Allocator + Copy>(
 }
 
 // Adds the line of a sample: the metric, a label, from its brace to the quote in front of its
-// value, the value, and the number.
+// value, the value, and the figure.
 fn put_sample<A: Allocator + Copy>(
     alloc: A,
     text: &mut Vec<u8, A>,
     metric: &str,
     label: &[u8],
     value: &str,
-    number: u64,
+    figure: Figure,
 ) -> Result<(), AllocError>
     ensures { OnOk result (text.new.items
-        ≡ text.old.items ++ sample_line metric.now label.now value.now number) }
+        ≡ text.old.items ++ sample_line metric.now label.now value.now figure) }
 {
     let mut line = Vec::from_slice(alloc, metric.as_bytes())?;
     line.extend_from_slice(label)?;
     put_escaped(&mut line, value.as_bytes())?;
-    put_field(alloc, &mut line, b"\"} ", number)?;
+    line.extend_from_slice(b"\"} ")?;
+    put_figure(alloc, &mut line, figure)?;
     line.extend_from_slice(b"\n")?;
     text.extend_from_slice(&line)
+}
+
+// Adds a figure.
+fn put_figure<A: Allocator + Copy>(
+    alloc: A,
+    line: &mut Vec<u8, A>,
+    figure: Figure,
+) -> Result<(), AllocError>
+    ensures { OnOk result (line.new.items ≡ line.old.items ++ figure_text figure) }
+{
+    match figure {
+        Figure::Number(number) => put_field(alloc, line, b"", number),
+        Figure::Seconds(nanos) => {
+            let seconds = seconds_text(alloc, nanos)?;
+            line.extend_from_slice(seconds.as_bytes())
+        }
+    }
 }
 
 // Adds the value of a label: with `\` in front of a quote and of `\`, and `\n` in place of a line

@@ -11,12 +11,14 @@ ghost use Rattle.folder_counts.specs.Object.{
   with_counts,
   with_found,
   with_name,
+  with_newest,
   with_number,
   with_over,
   with_overs,
   with_sink,
   with_sinks,
   with_status,
+  with_time,
   with_total,
   with_word,
   Becomes,
@@ -25,9 +27,11 @@ ghost use Rattle.folder_counts.specs.Object.{
 use crate::buffers::{Buffer, Found};
 use crate::counts::{ChunkCounts, SinkCounts};
 use crate::folder::FolderCounts;
+use crate::instant::Instant;
 use crate::limits::{Limits, is_above};
 use crate::lines::total_of;
 use crate::sinks::Sink;
+use crate::times::seconds_text;
 use json::Writer;
 use std::alloc::{AllocError, Allocator};
 
@@ -40,14 +44,15 @@ pub(crate) fn status_object<A: Allocator + Copy>(
     ensures { IfOk result (λ text. text.items ≡ status_object limits folder.now) }
 {
     let mut writer = Writer::new(Vec::new(alloc));
-    put_status(&mut writer, limits, folder)?;
+    put_status(alloc, &mut writer, limits, folder)?;
     let mut text = writer.into_inner();
     text.extend_from_slice(b"\n")?;
     Ok(text)
 }
 
 // Writes the object.
-fn put_status<A: Allocator>(
+fn put_status<A: Allocator + Copy>(
+    alloc: A,
     writer: &mut Writer<A>,
     limits: Limits,
     folder: &FolderCounts<'_, A>,
@@ -56,8 +61,8 @@ fn put_status<A: Allocator>(
         (with_status writer.old.tokens limits folder.now)) }
 {
     writer.begin_object()?;
-    put_buffers(writer, folder.buffers())?;
-    put_sinks(writer, folder.sinks())?;
+    put_buffers(alloc, writer, folder.buffers())?;
+    put_sinks(alloc, writer, folder.sinks())?;
     put_total(writer, folder.buffers())?;
     put_overs(writer, limits, folder.buffers())?;
     writer.end_object()
@@ -94,7 +99,8 @@ fn begin_named<A: Allocator>(writer: &mut Writer<A>, name: &str) -> Result<(), A
 }
 
 // Writes the member with all buffers.
-fn put_buffers<A: Allocator>(
+fn put_buffers<A: Allocator + Copy>(
+    alloc: A,
     writer: &mut Writer<A>,
     buffers: &[Buffer<'_>],
 ) -> Result<(), AllocError>
@@ -103,12 +109,13 @@ fn put_buffers<A: Allocator>(
 {
     writer.key("buffers")?;
     writer.begin_array()?;
-    put_each_buffer(writer, buffers)?;
+    put_each_buffer(alloc, writer, buffers)?;
     writer.end_array()
 }
 
 // Writes the objects of these buffers.
-fn put_each_buffer<A: Allocator>(
+fn put_each_buffer<A: Allocator + Copy>(
+    alloc: A,
     writer: &mut Writer<A>,
     buffers: &[Buffer<'_>],
 ) -> Result<(), AllocError>
@@ -116,34 +123,67 @@ fn put_each_buffer<A: Allocator>(
         (fold with_buffer writer.old.tokens buffers.now)) }
 {
     for buffer in buffers {
-        put_buffer(writer, buffer)?;
+        put_buffer(alloc, writer, buffer)?;
     }
     Ok(())
 }
 
 // Writes the object of a buffer.
-fn put_buffer<A: Allocator>(writer: &mut Writer<A>, buffer: &Buffer<'_>) -> Result<(), AllocError>
+fn put_buffer<A: Allocator + Copy>(
+    alloc: A,
+    writer: &mut Writer<A>,
+    buffer: &Buffer<'_>,
+) -> Result<(), AllocError>
     ensures { OnOk result (Becomes writer.old writer.new
         (with_buffer writer.old.tokens buffer.now)) }
 {
     begin_named(writer, buffer.path())?;
-    put_found(writer, buffer.found())?;
+    put_found(alloc, writer, buffer.found())?;
     writer.end_object()
 }
 
 // Writes the members that say what is found in a journal.
-fn put_found<A: Allocator>(writer: &mut Writer<A>, found: Found) -> Result<(), AllocError>
+fn put_found<A: Allocator + Copy>(
+    alloc: A,
+    writer: &mut Writer<A>,
+    found: Found,
+) -> Result<(), AllocError>
     ensures { OnOk result (Becomes writer.old writer.new (with_found writer.old.tokens found)) }
 {
     put_word(writer, "state", state_word(found))?;
     match found {
-        Found::Chunks { chunks, torn, next } => {
+        Found::Chunks {
+            chunks,
+            torn,
+            next,
+            oldest,
+        } => {
             put_chunks(writer, chunks)?;
             put_number(writer, "torn", torn)?;
-            put_number(writer, "next", next)
+            put_number(writer, "next", next)?;
+            put_time(alloc, writer, "oldest_event", oldest)
         }
         Found::Unsealed | Found::Damaged | Found::Unread => Ok(()),
     }
+}
+
+// Writes a member whose value is this instant, in seconds since the beginning of 1970 with nine
+// places behind the point; nothing where there is none.
+fn put_time<A: Allocator + Copy>(
+    alloc: A,
+    writer: &mut Writer<A>,
+    key: &str,
+    instant: Option<Instant>,
+) -> Result<(), AllocError>
+    ensures { OnOk result (Becomes writer.old writer.new
+        (with_time writer.old.tokens key.now instant)) }
+{
+    let Some(instant) = instant else {
+        return Ok(());
+    };
+    let seconds = seconds_text(alloc, instant.nanos)?;
+    writer.key(key)?;
+    writer.number(seconds.as_str())
 }
 
 // The word for what is found in a journal.
@@ -169,34 +209,60 @@ fn put_chunks<A: Allocator>(writer: &mut Writer<A>, chunks: ChunkCounts) -> Resu
 }
 
 // Writes the member with all sinks.
-fn put_sinks<A: Allocator>(writer: &mut Writer<A>, sinks: &[Sink<'_>]) -> Result<(), AllocError>
+fn put_sinks<A: Allocator + Copy>(
+    alloc: A,
+    writer: &mut Writer<A>,
+    sinks: &[Sink<'_>],
+) -> Result<(), AllocError>
     ensures { OnOk result (Becomes writer.old writer.new (with_sinks writer.old.tokens sinks.now)) }
 {
     writer.key("sinks")?;
     writer.begin_array()?;
-    put_each_sink(writer, sinks)?;
+    put_each_sink(alloc, writer, sinks)?;
     writer.end_array()
 }
 
 // Writes the objects of these sinks.
-fn put_each_sink<A: Allocator>(writer: &mut Writer<A>, sinks: &[Sink<'_>]) -> Result<(), AllocError>
+fn put_each_sink<A: Allocator + Copy>(
+    alloc: A,
+    writer: &mut Writer<A>,
+    sinks: &[Sink<'_>],
+) -> Result<(), AllocError>
     ensures { OnOk result (Becomes writer.old writer.new
         (fold with_sink writer.old.tokens sinks.now)) }
 {
     for sink in sinks {
-        put_sink(writer, sink)?;
+        put_sink(alloc, writer, sink)?;
     }
     Ok(())
 }
 
 // Writes the object of a sink.
-fn put_sink<A: Allocator>(writer: &mut Writer<A>, sink: &Sink<'_>) -> Result<(), AllocError>
+fn put_sink<A: Allocator + Copy>(
+    alloc: A,
+    writer: &mut Writer<A>,
+    sink: &Sink<'_>,
+) -> Result<(), AllocError>
     ensures { OnOk result (Becomes writer.old writer.new (with_sink writer.old.tokens sink.now)) }
 {
     begin_named(writer, sink.path())?;
     put_counts(writer, sink.counts())?;
-    put_word(writer, "newest", sink.newest())?;
+    put_newest(alloc, writer, sink)?;
     writer.end_object()
+}
+
+// Writes the members of a sink's newest file, and of its newest event.
+fn put_newest<A: Allocator + Copy>(
+    alloc: A,
+    writer: &mut Writer<A>,
+    sink: &Sink<'_>,
+) -> Result<(), AllocError>
+    ensures { OnOk result (Becomes writer.old writer.new
+        (with_newest writer.old.tokens sink.now)) }
+{
+    let counts = sink.counts();
+    put_word(writer, "newest", sink.newest())?;
+    put_time(alloc, writer, "newest_event", counts.newest_event)
 }
 
 // Writes the members that say what files of a sink count to.
@@ -269,6 +335,13 @@ fn put_over<A: Allocator>(
         "chunks",
         limits.chunks,
         chunks.number()?,
+    )?;
+    put_above(
+        writer,
+        buffer.path(),
+        "age",
+        limits.most_age(),
+        limits.age(buffer.oldest()),
     )
 }
 

@@ -10,7 +10,8 @@ use crate::lines::status_lines;
 use crate::metrics::status_metrics;
 use crate::object::status_object;
 use folder_listing::DataFile;
-use program_text::{Open, Status, put_last};
+use journal_reading::OpenPlaced;
+use program_text::{Status, put_last};
 use std::alloc::{AllocError, Allocator};
 use std::io::Write;
 
@@ -30,7 +31,7 @@ pub enum Form {
 /// a journal that counts, or a file of a sink, is damaged or isn't read; else `No` where a buffer
 /// is above a limit. It is `Usage` too where memory runs out, also for a number of 2^64 or more,
 /// and where the writer fails.
-pub fn run_status<A: Allocator + Copy, B: Allocator, O: Open, W: Write>(
+pub fn run_status<A: Allocator + Copy, B: Allocator, O: OpenPlaced, W: Write>(
     alloc: A,
     listed: &[DataFile<B>],
     files: &O,
@@ -55,7 +56,7 @@ struct Said<A: Allocator> {
 }
 
 // What is printed of these files. The error is want of memory.
-fn say_status<A: Allocator + Copy, B: Allocator, O: Open>(
+fn say_status<A: Allocator + Copy, B: Allocator, O: OpenPlaced>(
     alloc: A,
     listed: &[DataFile<B>],
     files: &O,

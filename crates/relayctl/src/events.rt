@@ -1,6 +1,7 @@
 //! The word `events`: which files are read, and which of their events are printed.
 
-use event_listing::{Choice, run_events};
+use crate::follow::{add_sink, follow};
+use event_listing::{Choice, Output, run_events};
 use folder_listing::{DataFile, DataFolder, Kind};
 use jiff::Timestamp;
 use program_text::{ReadFault, Status};
@@ -19,6 +20,10 @@ pub struct EventWords<'a, A: Allocator> {
     pub since: Option<&'a str>,
     /// The time before which they are: what stands behind `--until`.
     pub until: Option<&'a str>,
+    /// Whether lines that repeat others are left out: `--unique`.
+    pub is_unique: bool,
+    /// Whether the paths are those of sinks' files that are followed: `--follow`.
+    pub is_followed: bool,
 }
 
 // What an option waits for.
@@ -35,8 +40,8 @@ enum Awaited {
 }
 
 /// Reads what stands behind `events`, in any order: one path or more, `--tag` and a pattern as
-/// often as wanted, and once each `--since` and `--until` and a time. `None` where something is
-/// missing or can't stand there. The only error is want of memory.
+/// often as wanted, and once each `--since` and `--until` and a time, `--unique` and `--follow`.
+/// `None` where something is missing or can't stand there. The only error is want of memory.
 pub fn event_words<A: Allocator + Copy>(
     alloc: A,
     words: &[String],
@@ -46,6 +51,8 @@ pub fn event_words<A: Allocator + Copy>(
         tags: Vec::new(alloc),
         since: None,
         until: None,
+        is_unique: false,
+        is_followed: false,
     };
     let mut awaited = Awaited::Nothing;
     for word in words {
@@ -79,6 +86,14 @@ impl<'a, A: Allocator> EventWords<'a, A> {
             "--tag" => Some(Awaited::Tag),
             "--since" if self.since.is_none() => Some(Awaited::Since),
             "--until" if self.until.is_none() => Some(Awaited::Until),
+            "--unique" if !self.is_unique => {
+                self.is_unique = true;
+                Some(Awaited::Nothing)
+            }
+            "--follow" if !self.is_followed => {
+                self.is_followed = true;
+                Some(Awaited::Nothing)
+            }
             path if !path.as_bytes().starts_with(b"--") => {
                 self.paths.push(path)?;
                 Some(Awaited::Nothing)
@@ -97,6 +112,8 @@ enum Fault<'a> {
     Time(&'a str),
     // A path is neither that of a sink's file or a journal nor the only one.
     Path(&'a str),
+    // A path that is to be followed is none of a sink's file.
+    Follow(&'a str),
     // Memory ran out, or the folder can't be read.
     Unread(ReadFault),
 }
@@ -121,10 +138,10 @@ impl<T: Drop> From<AllocFailed<T>> for Fault<'_> {
 
 /// Prints the events that are asked for, of sinks' files and journals or of those in a data folder.
 /// What is found beside them stands on standard error.
-pub fn print_events<'a, A: Allocator, W: Write>(
+pub fn print_events<'a, A: Allocator, W: Write + Drop>(
     rt: &'a HostRuntime,
     asked: &EventWords<'a, A>,
-    out: &mut W,
+    out: W,
 ) -> Status {
     match print_chosen(rt, asked, out) {
         Ok(status) => status,
@@ -136,15 +153,21 @@ pub fn print_events<'a, A: Allocator, W: Write>(
 }
 
 // The same; or why nothing is printed.
-fn print_chosen<'a, A: Allocator, W: Write>(
+fn print_chosen<'a, A: Allocator, W: Write + Drop>(
     rt: &'a HostRuntime,
     asked: &EventWords<'a, A>,
-    out: &mut W,
+    out: W,
 ) -> Result<Status, Fault<'a>> {
     let choice = choice_of(rt, asked)?;
+    let mut output = if asked.is_unique {
+        Output::unique(rt.alloc(), out)?
+    } else {
+        Output::all(out)
+    };
     match asked.paths.as_slice() {
-        [path] if Kind::of(path).is_none() => print_folder(rt, path, &choice, out),
-        paths => print_files(rt, paths, &choice, out),
+        paths if asked.is_followed => follow_files(rt, paths, &choice, &mut output),
+        [path] if Kind::of(path).is_none() => print_folder(rt, path, &choice, &mut output),
+        paths => print_files(rt, paths, &choice, &mut output),
     }
 }
 
@@ -189,7 +212,7 @@ fn print_folder<'a, W: Write>(
     rt: &'a HostRuntime,
     path: &'a str,
     choice: &Choice<Global>,
-    out: &mut W,
+    out: &mut Output<W, Global>,
 ) -> Result<Status, Fault<'a>> {
     let folder = DataFolder::new(rt, path);
     let mut files = Vec::new(rt.alloc());
@@ -206,7 +229,7 @@ fn print_files<'a, W: Write>(
     rt: &'a HostRuntime,
     paths: &[&'a str],
     choice: &Choice<Global>,
-    out: &mut W,
+    out: &mut Output<W, Global>,
 ) -> Result<Status, Fault<'a>> {
     let mut files = Vec::new(rt.alloc());
     for path in paths {
@@ -220,6 +243,23 @@ fn print_files<'a, W: Write>(
     Ok(run_events(rt.alloc(), choice, &files, &folder, out, &mut rt.stderr()))
 }
 
+// Prints the events of the sinks that have these files, and follows them.
+fn follow_files<'a, W: Write>(
+    rt: &'a HostRuntime,
+    paths: &[&'a str],
+    choice: &Choice<Global>,
+    out: &mut Output<W, Global>,
+) -> Result<Status, Fault<'a>> {
+    let mut sinks = Vec::new(rt.alloc());
+    for path in paths {
+        if !add_sink(&mut sinks, path)? {
+            return Err(Fault::Follow(path));
+        }
+    }
+    let status = follow(rt, &mut sinks, choice, out)?;
+    Ok(status)
+}
+
 // Says on standard error why nothing is printed.
 fn say(rt: &HostRuntime, fault: Fault<'_>) {
     let _ = match fault {
@@ -228,6 +268,7 @@ fn say(rt: &HostRuntime, fault: Fault<'_>) {
         Fault::Path(path) => eprintln!(rt;
             "fault path {path}: neither a file of a sink nor a journal, and not the only path"
         ),
+        Fault::Follow(path) => eprintln!(rt; "fault follow {path}: not a file of a sink"),
         Fault::Unread(ReadFault::Memory) => eprintln!(rt; "fault memory"),
         Fault::Unread(ReadFault::Read) => eprintln!(rt; "fault read"),
     };

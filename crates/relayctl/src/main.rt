@@ -9,6 +9,7 @@ mod drops;
 mod events;
 mod explain;
 mod faults;
+mod follow;
 mod label;
 mod listing;
 mod status;
@@ -35,10 +36,10 @@ use std::{env, io};
 use words::{CheckWords, Word, read_word};
 
 const USAGE: &str =
-    "usage: relayctl check NET [--drop MATCH].. [--drops FILE].. | check --adapt NET [--accept NAME].. [--drop MATCH].. [--drops FILE].. | label [--fresh] NET | explain NET [--drop MATCH].. [--drops FILE].. | draw NET [--dot] | ways CONF TAG.. | ways --plan NET TAG.. | adapt CONF [--accept NAME].. | show DIR | status DIR [--max-bytes N] [--max-chunks N] [--json | --prometheus] | events PATH.. [--tag PATTERN].. [--since TIME] [--until TIME] | --help | --version";
+    "usage: relayctl check NET [--drop MATCH].. [--drops FILE].. | check --adapt NET [--accept NAME].. [--drop MATCH].. [--drops FILE].. | label [--fresh] NET | explain NET [--drop MATCH].. [--drops FILE].. | draw NET [--dot] | ways CONF TAG.. | ways --plan NET TAG.. | adapt CONF [--accept NAME].. | show DIR | status DIR [--max-bytes N] [--max-chunks N] [--max-age SECONDS] [--json | --prometheus] | events PATH.. [--tag PATTERN].. [--since TIME] [--until TIME] [--unique] [--follow] | --help | --version";
 
 const HELP: &str =
-    "usage: relayctl check NET [--drop MATCH].. [--drops FILE].. | check --adapt NET [--accept NAME].. [--drop MATCH].. [--drops FILE].. | label [--fresh] NET | explain NET [--drop MATCH].. [--drops FILE].. | draw NET [--dot] | ways CONF TAG.. | ways --plan NET TAG.. | adapt CONF [--accept NAME].. | show DIR | status DIR [--max-bytes N] [--max-chunks N] [--json | --prometheus] | events PATH.. [--tag PATTERN].. [--since TIME] [--until TIME] | --help | --version
+    "usage: relayctl check NET [--drop MATCH].. [--drops FILE].. | check --adapt NET [--accept NAME].. [--drop MATCH].. [--drops FILE].. | label [--fresh] NET | explain NET [--drop MATCH].. [--drops FILE].. | draw NET [--dot] | ways CONF TAG.. | ways --plan NET TAG.. | adapt CONF [--accept NAME].. | show DIR | status DIR [--max-bytes N] [--max-chunks N] [--max-age SECONDS] [--json | --prometheus] | events PATH.. [--tag PATTERN].. [--since TIME] [--until TIME] [--unique] [--follow] | --help | --version
 
 check NET        labels the plan NET, and prints `yes`, with warnings of what may keep events from
                  arriving, or every rule that is broken then, each with what it means, what mends
@@ -62,13 +63,17 @@ adapt CONF       prints the configuration CONF, as it runs in Fluentd, in the fo
                  reads, or what of it changes what the relay does; --accept NAME accepts that
 show DIR         prints which chunks the journals in a relay's data folder DIR hold,
                  and how many events its sinks hold
-status DIR       prints what each buffer and each sink in a relay's data folder DIR holds, and what
-                 all buffers hold together; --max-bytes N, --max-chunks N: the status is 1 where a
-                 buffer holds more; --json, --prometheus: in these forms
+status DIR       prints what each buffer and each sink in a relay's data folder DIR holds, when the
+                 oldest event that waits and a sink's newest one happened, and what all buffers hold
+                 together; --max-bytes N, --max-chunks N: the status is 1 where a buffer holds more;
+                 --max-age SECONDS: and where its oldest event is older; --json, --prometheus: in
+                 these forms
 events PATH..    prints the events that sinks hold, and those that buffers have yet to deliver, each
                  as a line of JSON; PATH is a file of a sink, as all.0000000001.sink, or a journal,
                  as out.0000000001.journal, or a relay's data folder; --tag PATTERN: those whose
-                 tag matches; --since TIME: not those before; --until TIME: those before
+                 tag matches; --since TIME: not those before; --until TIME: those before; --unique:
+                 not what repeats one of the last 1,000,000 lines; --follow: where each PATH is a
+                 file of a sink, what is written to it and to later files of the sink, as it comes
 --help           prints this
 --version        prints the version
 

@@ -7,9 +7,11 @@ ghost use Rattle.plan_answers.specs.Networks.{unread_line};
 ghost use Rattle.program_text.specs.Output.{IsPrinted};
 ghost use Rattle.program_text.specs.declared.status.Status.TheVariants.{Usage};
 
-use folder_counts::{Form, Limits, run_status};
+use folder_counts::{AgeLimit, Form, Limits, run_status};
 use folder_listing::{DataFile, DataFolder};
-use program_text::{Open, ReadFault, Status, put_last};
+use jiff::Timestamp;
+use journal_reading::OpenPlaced;
+use program_text::{ReadFault, Status, put_last};
 use std::alloc::Allocator;
 use std::io::Write;
 
@@ -18,8 +20,12 @@ use std::io::Write;
 pub struct StatusWords<'a> {
     /// The path of the data folder.
     pub path: &'a str,
-    /// How much a buffer may hold: what stands behind `--max-bytes` and `--max-chunks`.
-    pub limits: Limits,
+    /// The most bytes that a buffer may hold: what stands behind `--max-bytes`.
+    pub bytes: Option<u64>,
+    /// The most chunks: what stands behind `--max-chunks`.
+    pub chunks: Option<u64>,
+    /// How many seconds old its oldest event may be: what stands behind `--max-age`.
+    pub age: Option<u64>,
     /// The form in which it is printed: `--json` or `--prometheus`, or lines.
     pub form: Form,
 }
@@ -33,6 +39,8 @@ enum Awaited {
     Bytes,
     // The most chunks.
     Chunks,
+    // The most seconds.
+    Age,
 }
 
 // What was read so far of the words behind `status`.
@@ -41,18 +49,20 @@ struct StatusReader<'a> {
     path: Option<&'a str>,
     bytes: Option<u64>,
     chunks: Option<u64>,
+    age: Option<u64>,
     form: Option<Form>,
     awaited: Awaited,
 }
 
-/// Reads what stands behind `status`, in any order: a path, `--max-bytes` and `--max-chunks`, each
-/// once and with a number below 2^64, and `--json` or `--prometheus`. `None` where something is
-/// missing or can't stand there.
+/// Reads what stands behind `status`, in any order: a path, `--max-bytes`, `--max-chunks` and
+/// `--max-age`, each once and with a number below 2^64, and `--json` or `--prometheus`. `None`
+/// where something is missing or can't stand there.
 pub fn status_words(words: &[String]) -> Option<StatusWords<'_>> {
     let mut reader = StatusReader {
         path: None,
         bytes: None,
         chunks: None,
+        age: None,
         form: None,
         awaited: Awaited::Nothing,
     };
@@ -71,6 +81,7 @@ impl<'a> StatusReader<'a> {
             Awaited::Nothing => return self.begin(word),
             Awaited::Bytes => self.bytes = number_of(word),
             Awaited::Chunks => self.chunks = number_of(word),
+            Awaited::Age => self.age = number_of(word),
         }
         self.awaited = Awaited::Nothing;
         number_of(word).is_some()
@@ -81,6 +92,7 @@ impl<'a> StatusReader<'a> {
         match word {
             "--max-bytes" if self.bytes.is_none() => self.awaited = Awaited::Bytes,
             "--max-chunks" if self.chunks.is_none() => self.awaited = Awaited::Chunks,
+            "--max-age" if self.age.is_none() => self.awaited = Awaited::Age,
             "--json" if self.form.is_none() => self.form = Some(Form::Object),
             "--prometheus" if self.form.is_none() => self.form = Some(Form::Metrics),
             path if !path.as_bytes().starts_with(b"--") && self.path.is_none() => {
@@ -96,13 +108,11 @@ impl<'a> StatusReader<'a> {
         if self.awaited != Awaited::Nothing {
             return None;
         }
-        let limits = Limits {
-            bytes: self.bytes,
-            chunks: self.chunks,
-        };
         Some(StatusWords {
             path: self.path?,
-            limits,
+            bytes: self.bytes,
+            chunks: self.chunks,
+            age: self.age,
             form: self.form.unwrap_or(Form::Lines),
         })
     }
@@ -120,8 +130,13 @@ fn number_of(word: &str) -> Option<u64> {
 }
 
 /// Prints what the journals and sinks of a data folder hold. Where there are none, that is said on
-/// standard error.
+/// standard error; so it is where ages are asked for and the host has no time, with the status
+/// `Usage`.
 pub fn print_status<W: Write>(rt: &HostRuntime, asked: StatusWords<'_>, out: &mut W) -> Status {
+    let Ok(limits) = limits_now(rt, asked) else {
+        let _ = eprintln!(rt; "fault clock");
+        return Status::Usage;
+    };
     let folder = DataFolder::new(rt, asked.path);
     let listed = folder.files(rt.alloc());
     if let Ok(files) = &listed
@@ -129,11 +144,27 @@ pub fn print_status<W: Write>(rt: &HostRuntime, asked: StatusWords<'_>, out: &mu
     {
         let _ = eprintln!(rt; "{}: no journals and no sinks are there", asked.path);
     }
-    status_listed(rt.alloc(), listed, &folder, asked.limits, asked.form, out)
+    status_listed(rt.alloc(), listed, &folder, limits, asked.form, out)
+}
+
+// The limits that are asked for, with the host's time where an age is one.
+fn limits_now(rt: &HostRuntime, asked: StatusWords<'_>) -> Result<Limits, jiff::Error> {
+    let age = match asked.age {
+        Some(seconds) => {
+            let now = Timestamp::now(rt)?.as_nanosecond();
+            Some(AgeLimit { seconds, now })
+        }
+        None => None,
+    };
+    Ok(Limits {
+        bytes: asked.bytes,
+        chunks: asked.chunks,
+        age,
+    })
 }
 
 // Prints what the files hold that a folder was found to have; or why it isn't listed.
-fn status_listed<A: Allocator + Copy, B: Allocator, O: Open, W: Write>(
+fn status_listed<A: Allocator + Copy, B: Allocator, O: OpenPlaced, W: Write>(
     alloc: A,
     listed: Result<Vec<DataFile<B>, B>, ReadFault>,
     files: &O,

@@ -1,0 +1,3 @@
+pub mod Kept
+mod Laws
+mod Told
