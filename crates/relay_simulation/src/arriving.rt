@@ -145,7 +145,7 @@ fn note_message<R: Wait, D: Disk + Drop>(
 ) -> Result<(), AllocError> {
     match branches(alloc, site, link.source, message)? {
         Some(branches) => note_branches(rt, alloc, site, link, judge, &branches),
-        None => Ok(()),
+        None => judge.fail_message(link.message, "goes nowhere"),
     }
 }
 

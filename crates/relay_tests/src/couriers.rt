@@ -8,11 +8,12 @@ use buffer_store::{Buffer, Settings};
 use disk_files::{Dir, MemoryDir};
 use event_modes::{Entries, Message};
 use flush_pool::{CarryFault, ClaimView, Courier};
+use relay_conf::ForwardSettings;
 use relay_ports::{BufferedOutput, RelaySetup};
 use relay_sockets::{Dialer, Nonces, SystemDialer};
 use std::alloc::Global;
 use std::io::Read;
-use std::net::{Ipv4Addr, Net, SocketAddr, TcpListener};
+use std::net::{Ipv4Addr, Net, OpenListener, SocketAddr, TcpListener};
 use std::random::RandomSource;
 use std::sync::atomic::AtomicBool;
 use std::sync::{Arc, Wait};
@@ -22,11 +23,26 @@ use tcp_courier::TcpCourier;
 
 type Shared<D> = SharedBuffer<D, Global>;
 
+// Which buffer it is.
+const LEAF: Leaf = Leaf {
+    relay: 1,
+    buffer: 0,
+};
+
 // What connects by the system.
 pub type System<R> = SystemDialer<R, Global>;
 
-// A buffer in this folder with one queued chunk.
-fn queued<R: Wait, D: Dir + Drop>(rt: &R, alloc: Global, dir: D) -> Result<Shared<D>, Fail> {
+// What lets its chunks go.
+fn takes() -> Takes<Global> {
+    Takes {
+        basis: Basis::Acknowledged,
+        expires: false,
+        drops: false,
+    }
+}
+
+// A buffer in this folder.
+fn shelf<D: Dir + Drop>(alloc: Global, dir: D) -> Result<Shared<D>, Fail> {
     let settings = Settings {
         limits: Limits {
             chunk: 1_000,
@@ -34,61 +50,78 @@ fn queued<R: Wait, D: Dir + Drop>(rt: &R, alloc: Global, dir: D) -> Result<Share
         },
         renewed_past: 1_000_000,
     };
-    let Ok(buffer) = Buffer::open(alloc, dir, b"out", settings) else {
-        return Err(Fail::from("the buffer doesn't open"));
-    };
-    let leaf = Leaf {
-        relay: 1,
-        buffer: 0,
-    };
-    let takes = Takes {
-        basis: Basis::Acknowledged,
-        expires: false,
-        drops: false,
-    };
-    let shared = SharedBuffer::new(alloc, buffer, leaf, takes);
-    fill(rt, alloc, &shared, leaf)?;
-    Ok(shared)
+    match Buffer::open(alloc, dir, b"out", settings) {
+        Ok(buffer) => Ok(SharedBuffer::new(alloc, buffer, LEAF, takes())),
+        Err(_) => Err(Fail::from("the buffer doesn't open")),
+    }
 }
 
-// Appends one entry, and queues its chunk.
-fn fill<R: Wait, D: Dir>(
-    rt: &R,
-    alloc: Global,
-    shared: &Shared<D>,
-    leaf: Leaf,
-) -> Result<(), Fail> {
+// A message of one entry.
+fn message(alloc: Global) -> Result<Message<Global>, Fail> {
     let Some(entries) = Entries::read(alloc, b"\x92\x01\x80", 1)? else {
         return Err(Fail::from("an entry"));
     };
-    let message = Message {
+    Ok(Message {
         tag: Vec::from_slice(alloc, b"a")?,
         entries,
         ack: None,
-    };
-    let mut numbers = Numbers::new();
-    let Some(number) = numbers.draw() else {
+    })
+}
+
+// A delivery of it to the buffer.
+fn delivery(alloc: Global, message: Message<Global>) -> Result<Delivery<Global>, Fail> {
+    let leaves = Vec::from_slice(alloc, &[LEAF])?;
+    let Some(number) = Numbers::new().draw() else {
         return Err(Fail::from("a number"));
     };
-    let leaves = Vec::from_slice(alloc, &[leaf])?;
-    let Ok(delivery) = Delivery::begin(alloc, number, message, leaves) else {
-        return Err(Fail::from("no memory"));
-    };
+    match Delivery::begin(alloc, number, message, leaves) {
+        Ok(delivery) => Ok(delivery),
+        Err(_) => Err(Fail::from("no memory")),
+    }
+}
+
+// Appends what this delivers, and abandons it; `false` where the append is refused.
+fn append<R: Wait, D: Dir>(rt: &R, shared: &Shared<D>, delivery: Delivery<Global>) -> bool {
     if delivery.entries().count() == 0 {
         delivery.abandon();
-        return Err(Fail::from("an entry"));
+        return false;
     }
     let appended = shared.append(rt, &delivery);
     delivery.abandon();
     match appended {
         Ok(receipt) => {
             receipt.spend();
+            true
         }
-        Err(_) => return Err(Fail::from("the append is refused")),
+        Err(_) => false,
+    }
+}
+
+// Appends one entry, and queues its chunk.
+fn fill<R: Wait, D: Dir>(rt: &R, alloc: Global, shared: &Shared<D>) -> Result<(), Fail> {
+    let delivery = delivery(alloc, message(alloc)?)?;
+    if !append(rt, shared, delivery) {
+        return Err(Fail::from("the append is refused"));
     }
     match shared.enqueue(rt, 0) {
         Ok(()) => Ok(()),
         Err(_) => Err(Fail::from("the chunk isn't queued")),
+    }
+}
+
+// A courier with these settings.
+fn courier_with<R: RandomSource + AllocGlobal, C: Dialer + Drop>(
+    rt: &R,
+    settings: &ForwardSettings<Global>,
+    dialer: C,
+) -> Result<TcpCourier<C, Global>, Fail> {
+    let alloc = rt.alloc();
+    let nonces = Nonces::new(rt)?;
+    let stop = Arc::new(alloc, AtomicBool::new(false))?;
+    let dialer = Arc::new(alloc, dialer)?;
+    match TcpCourier::new(alloc, settings, nonces, stop, dialer) {
+        Ok(courier) => Ok(courier),
+        Err(_) => Err(Fail::from("no memory")),
     }
 }
 
@@ -98,30 +131,30 @@ pub fn courier_of<R: RandomSource + AllocGlobal, C: Dialer + Drop>(
     output: &BufferedOutput<Global>,
     dialer: C,
 ) -> Result<TcpCourier<C, Global>, Fail> {
-    let alloc = rt.alloc();
-    let stop = Arc::new(alloc, AtomicBool::new(false))?;
     match output {
-        BufferedOutput::Forward(settings) => {
-            let dialer = Arc::new(alloc, dialer)?;
-            let nonces = Nonces::new(rt)?;
-            Ok(TcpCourier::new(alloc, settings, nonces, stop, dialer)?)
-        }
+        BufferedOutput::Forward(settings) => courier_with(rt, settings, dialer),
         BufferedOutput::File(_) => Err(Fail::from("an output with servers")),
     }
 }
 
+// The outputs of the relay of this text, whose servers are at this port.
+fn outputs_to(alloc: Global, text: &str, port: u16) -> Result<Vec<BufferedOutput<Global>>, Fail> {
+    let relay = relay_to(alloc, text, port)?;
+    match RelaySetup::new(alloc, relay, 1) {
+        Ok(setup) => Ok(setup.into_parts().outputs),
+        Err(_) => Err(Fail::from("the relay can't run")),
+    }
+}
+
 // A courier to this port, of the only output of the relay of this text.
-pub fn courier_to<R: RandomSource + AllocGlobal, C: Dialer + Drop>(
+fn courier_to<R: RandomSource + AllocGlobal, C: Dialer + Drop>(
     rt: &R,
     text: &str,
     port: u16,
     dialer: C,
 ) -> Result<TcpCourier<C, Global>, Fail> {
-    let relay = relay_to(rt.alloc(), text, port)?;
-    let Ok(setup) = RelaySetup::new(rt.alloc(), relay, 1) else {
-        return Err(Fail::from("the relay can't run"));
-    };
-    match setup.into_parts().outputs.as_slice() {
+    let outputs = outputs_to(rt.alloc(), text, port)?;
+    match outputs.as_slice() {
         [output] => courier_of(rt, output, dialer),
         _ => Err(Fail::from("one output")),
     }
@@ -132,48 +165,88 @@ pub fn system<R: Net + Clock + AllocGlobal + Clone>(rt: &R) -> Result<System<R>,
     Ok(SystemDialer::new(copy_of(rt)?, rt.alloc()))
 }
 
-// Why the queued chunk isn't carried; then whether it is queued again.
-fn carried<R: Wait, D: Dir, C: Dialer + Drop>(
+// Whether a chunk is queued. What it claims it gives back.
+pub fn has_queued<R: Wait, D: Dir>(rt: &R, shared: &Shared<D>) -> Result<bool, Fail> {
+    match shared.claim(rt)? {
+        Some(claim) => {
+            shared.give_back(rt, claim);
+            Ok(true)
+        }
+        None => Ok(false),
+    }
+}
+
+// Why this chunk isn't carried.
+fn fault_of<R: Wait, D: Dir, C: Dialer + Drop>(
     rt: &R,
-    shared: &Shared<D>,
     courier: &TcpCourier<C, Global>,
-) -> Result<(Option<CarryFault>, bool), Fail> {
-    let Some(claim) = shared.claim(rt)? else {
-        return Err(Fail::from("a chunk is queued"));
-    };
-    let fault = match courier.carry(rt, &ClaimView::new(shared, &claim)) {
+    chunk: &ClaimView<'_, D, Global>,
+) -> Option<CarryFault> {
+    match courier.carry(rt, chunk) {
         Ok(evidence) => {
             Evidence::waste(evidence);
             None
         }
         Err(fault) => Some(fault),
-    };
-    shared.give_back(rt, claim);
-    let again = match shared.claim(rt)? {
-        Some(claim) => {
-            shared.give_back(rt, claim);
-            true
-        }
-        None => false,
-    };
-    Ok((fault, again))
+    }
 }
 
-// The same of a buffer in this folder with one queued chunk.
-pub fn carried_from<R: Wait + AllocGlobal, D: Dir + Drop, C: Dialer + Drop>(
+// Why the queued chunk isn't carried. It is given back then.
+fn carried<R: Wait, D: Dir, C: Dialer + Drop>(
+    rt: &R,
+    shared: &Shared<D>,
+    courier: &TcpCourier<C, Global>,
+) -> Result<Option<CarryFault>, Fail> {
+    let Some(claim) = shared.claim(rt)? else {
+        return Err(Fail::from("a chunk is queued"));
+    };
+    let fault = fault_of(rt, courier, &ClaimView::new(shared, &claim));
+    shared.give_back(rt, claim);
+    Ok(fault)
+}
+
+// Why the queued chunk of a buffer in this folder isn't carried; then whether it is queued again.
+fn carried_from<R: Wait + AllocGlobal, D: Dir + Drop, C: Dialer + Drop>(
     rt: &R,
     dir: D,
     courier: &TcpCourier<C, Global>,
 ) -> Result<(Option<CarryFault>, bool), Fail> {
-    let shared = queued(rt, rt.alloc(), dir)?;
-    carried(rt, &shared, courier)
+    let shared = shelf(rt.alloc(), dir)?;
+    fill(rt, rt.alloc(), &shared)?;
+    let fault = carried(rt, &shared, courier)?;
+    Ok((fault, has_queued(rt, &shared)?))
+}
+
+// The same, by a courier to this port, of the only output of the relay of this text.
+pub fn carried_to<R, D, C>(
+    rt: &R,
+    dir: D,
+    text: &str,
+    port: u16,
+    dialer: C,
+) -> Result<(Option<CarryFault>, bool), Fail>
+where
+    R: Wait + RandomSource + AllocGlobal,
+    D: Dir + Drop,
+    C: Dialer + Drop,
+{
+    let courier = courier_to(rt, text, port, dialer)?;
+    carried_from(rt, dir, &courier)
+}
+
+// A listener at a port of this machine that is free.
+fn listen<R: Net>(rt: &R) -> Result<R::Listener, Fail> {
+    let address = SocketAddr::from((Ipv4Addr::LOCALHOST, 0));
+    Ok(TcpListener::bind(rt, address)?)
+}
+
+// The port that it has.
+fn port_of<L: OpenListener>(listener: &L) -> Result<u16, Fail> {
+    Ok(listener.local_addr()?.port())
 }
 
 // Reads what a client sent that has closed its end: whether that was anything.
-fn swallow(listener: &TcpListener) -> bool {
-    let Ok((mut stream, _)) = listener.accept() else {
-        return false;
-    };
+fn swallow<S: Read>(stream: &mut S) -> bool {
     let mut piece = [0u8; 256];
     let mut any = false;
     for _ in 0..10_000u32 {
@@ -185,27 +258,49 @@ fn swallow(listener: &TcpListener) -> bool {
     false
 }
 
+// Whether the first client of this listener sent anything. It has closed its end.
+fn has_heard<S: Read + Drop, L: OpenListener<Stream = S>>(listener: &L) -> bool {
+    match listener.accept() {
+        Ok((mut stream, _)) => swallow(&mut stream),
+        Err(_) => false,
+    }
+}
+
+// What becomes of a chunk that is sent to a server which takes it and never answers; and whether
+// that took anything.
+fn unanswered<R, D>(rt: &R, dir: D) -> Result<((Option<CarryFault>, bool), bool), Fail>
+where
+    R: Wait + Clock + Net + RandomSource + AllocGlobal + Clone,
+    D: Dir + Drop,
+{
+    let listener = listen(rt)?;
+    let came = carried_to(rt, dir, HASTY, port_of(&listener)?, system(rt)?)?;
+    Ok((came, has_heard(&listener)))
+}
+
 // A server that takes the chunk and never answers is too late, and the chunk is queued again.
 #[test]
 fn no_answer_is_a_timeout(rt: HostRuntime) -> Result<(), Fail> {
-    let address = SocketAddr::from((Ipv4Addr::LOCALHOST, 0));
-    let listener = TcpListener::bind(&rt, address)?;
-    let courier = courier_to(&rt, HASTY, listener.local_addr()?.port(), system(&rt)?)?;
-    let came = carried_from(&rt, MemoryDir::new(rt.alloc()), &courier)?;
-    assert_eq!(rt; came, (Some(CarryFault::Timeout), true));
-    assert!(rt; swallow(&listener));
+    let (came, has_heard) = unanswered(&rt, MemoryDir::new(rt.alloc()))?;
+    assert!(rt; came == (Some(CarryFault::Timeout), true));
+    assert!(rt; has_heard);
     Ok(())
+}
+
+// What becomes of a chunk for a port at which nobody listens.
+fn unheard<R, D>(rt: &R, dir: D) -> Result<(Option<CarryFault>, bool), Fail>
+where
+    R: Wait + Clock + Net + RandomSource + AllocGlobal + Clone,
+    D: Dir + Drop,
+{
+    let port = port_of(&listen(rt)?)?;
+    carried_to(rt, dir, HASTY, port, system(rt)?)
 }
 
 // Nobody listens.
 #[test]
 fn no_listener_is_no_server(rt: HostRuntime) -> Result<(), Fail> {
-    let address = SocketAddr::from((Ipv4Addr::LOCALHOST, 0));
-    let listener = TcpListener::bind(&rt, address)?;
-    let port = listener.local_addr()?.port();
-    drop(listener);
-    let courier = courier_to(&rt, HASTY, port, system(&rt)?)?;
-    let came = carried_from(&rt, MemoryDir::new(rt.alloc()), &courier)?;
-    assert_eq!(rt; came, (Some(CarryFault::NoServer), true));
+    let came = unheard(&rt, MemoryDir::new(rt.alloc()))?;
+    assert!(rt; came == (Some(CarryFault::NoServer), true));
     Ok(())
 }

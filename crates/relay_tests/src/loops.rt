@@ -4,7 +4,7 @@ use crate::relays::{LOOPING, SHARED, SINK, SMALL, relay_of};
 use crate::turned::{ended, goes_on};
 use disk_files::Dir;
 use loop_core::LoopFault;
-use mio_relay::InLoop;
+use mio_relay::{Ended, InLoop};
 use relay_buffers::{Folders, MemoryFolders};
 use relay_conf::Relay;
 use relay_sockets::{Network, SocketNetwork};
@@ -79,20 +79,29 @@ pub fn turn<R: Wait, N: Network + Drop, D: Dir + Drop>(
     Ok(())
 }
 
+// The next byte that comes.
+fn next_byte<S: Read>(stream: &mut S) -> Result<u8, Fail> {
+    let mut one = [0u8; 1];
+    stream.read_exact(&mut one)?;
+    Ok(one[0])
+}
+
+// Whether nothing comes for now.
+fn is_silent<S: Read>(stream: &mut S) -> bool {
+    match stream.read(&mut [0u8; 1]) {
+        Err(e) => e.kind() == ErrorKind::WouldBlock || e.kind() == ErrorKind::TimedOut,
+        Ok(_) => false,
+    }
+}
+
 // Whether these bytes come, and no others.
 pub fn hears<S: Read>(stream: &mut S, wanted: &[u8]) -> Result<bool, Fail> {
     for byte in wanted {
-        let mut one = [0u8; 1];
-        stream.read_exact(&mut one)?;
-        if one[0] != *byte {
+        if next_byte(stream)? != *byte {
             return Ok(false);
         }
     }
-    let mut more = [0u8; 1];
-    match stream.read(&mut more) {
-        Err(e) => Ok(e.kind() == ErrorKind::WouldBlock || e.kind() == ErrorKind::TimedOut),
-        Ok(_) => Ok(false),
-    }
+    Ok(is_silent(stream))
 }
 
 // Ends the loop, and says how many deliveries left something, each of so many parts.
@@ -125,30 +134,50 @@ fn hears_three<S: Read>(stream: &mut S, answer: &[u8], alloc: Global) -> Result<
     hears(stream, &three(answer, alloc)?)
 }
 
+// A client that has sent three of these messages.
+fn client_of_three<R: Net + AllocGlobal, N: Network + Drop, D: Dir + Drop>(
+    rt: &R,
+    turning: &InLoop<N, D, Global>,
+    message: &[u8],
+) -> Result<R::Stream, Fail> {
+    let mut stream = client(rt, turning)?;
+    send_three(&mut stream, message, rt.alloc())?;
+    Ok(stream)
+}
+
+// Whether each of two clients, who sent three messages, hears three answers, its own.
 fn talk_apart<R: Wait + Net + AllocGlobal, N: Network + Drop, D: Dir + Drop>(
     rt: &R,
     turning: &mut InLoop<N, D, Global>,
-) -> Result<(bool, bool), Fail> {
-    let mut one = client(rt, turning)?;
-    let mut two = client(rt, turning)?;
-    send_three(&mut one, MESSAGE, rt.alloc())?;
-    send_three(&mut two, OTHER, rt.alloc())?;
+) -> Result<bool, Fail> {
+    let mut one = client_of_three(rt, turning, MESSAGE)?;
+    let mut two = client_of_three(rt, turning, OTHER)?;
     turn(rt, turning)?;
     let first = hears_three(&mut one, ANSWER, rt.alloc())?;
-    Ok((first, hears_three(&mut two, OTHER_ANSWER, rt.alloc())?))
+    Ok(hears_three(&mut two, OTHER_ANSWER, rt.alloc())? && first)
 }
 
-// What two clients hear, and what is left of the loop's deliveries then.
-fn heard_apart<R, D, F>(rt: &R, folders: &F) -> Result<((bool, bool), (usize, bool)), Fail>
+// Whether two clients of this loop hear this, and six deliveries of a part each are left of it then.
+fn ends_apart<R, N, D>(rt: &R, turning: InLoop<N, D, Global>) -> Result<bool, Fail>
+where
+    R: Wait + Net + AllocGlobal,
+    N: Network + Drop,
+    D: Dir + Drop,
+{
+    let mut turning = turning;
+    let heard = talk_apart(rt, &mut turning);
+    let left = left_of(rt, turning, 1);
+    Ok(heard? && left == (6, true))
+}
+
+// The same of a loop that is opened for it.
+fn is_heard_apart<R, D, F>(rt: &R, folders: &F) -> Result<bool, Fail>
 where
     R: Wait + Clock + Net + RandomSource + AllocGlobal + Clone + Drop,
     D: Dir + Drop,
     F: Folders<D, Global>,
 {
-    let mut turning = open(rt, SINK, folders)?;
-    let heard = talk_apart(rt, &mut turning);
-    let left = left_of(rt, turning, 1);
-    Ok((heard?, left))
+    ends_apart(rt, open(rt, SINK, folders)?)
 }
 
 // Two clients ask for their own chunks, each three times in one write: each hears three answers,
@@ -156,80 +185,116 @@ where
 #[test]
 fn each_client_hears_its_own_answers(rt: HostRuntime) -> Result<(), Fail> {
     let folders = MemoryFolders { alloc: rt.alloc() };
-    assert_eq!(rt; heard_apart(&rt, &folders)?, ((true, true), (6, true)));
+    assert!(rt; is_heard_apart(&rt, &folders)?);
     Ok(())
 }
 
+// Writes this message, which the loop takes in.
+fn say<R: Wait, N: Network + Drop, D: Dir + Drop, S: Write>(
+    rt: &R,
+    turning: &mut InLoop<N, D, Global>,
+    stream: &mut S,
+    message: &[u8],
+) -> Result<(), Fail> {
+    stream.write_all(message)?;
+    turn(rt, turning)
+}
+
+// Whether a client hears its answer, and nothing more once a second one has written, which hears
+// nothing.
 fn talk_in_turn<R: Wait + Net, N: Network + Drop, D: Dir + Drop>(
     rt: &R,
     turning: &mut InLoop<N, D, Global>,
-) -> Result<(bool, bool), Fail> {
+) -> Result<bool, Fail> {
     let mut one = client(rt, turning)?;
     let mut two = client(rt, turning)?;
-    one.write_all(MESSAGE)?;
-    turn(rt, turning)?;
+    say(rt, turning, &mut one, MESSAGE)?;
     let first = hears(&mut one, ANSWER)?;
-    two.write_all(OTHER)?;
-    turn(rt, turning)?;
-    Ok((first && hears(&mut one, b"")?, hears(&mut two, b"")?))
+    say(rt, turning, &mut two, OTHER)?;
+    Ok(is_silent(&mut one) && is_silent(&mut two) && first)
 }
 
-// What clients of a small buffer hear, and how many parts are left of the first delivery and of the
-// second.
-fn heard_in_turn<R, D, F>(rt: &R, folders: &F) -> Result<((bool, bool), (usize, usize)), Fail>
+// Whether these are what is left of two deliveries, the first of a part and the second of none, and
+// the loop ended without a fault.
+fn are_of_one_part(left: &Ended<Global>) -> bool {
+    match left.stubs() {
+        [one, two] => left.fault().is_none() && one.parts.len() == 1 && two.parts.is_empty(),
+        _ => false,
+    }
+}
+
+// Whether clients of this loop, which has a small buffer, hear this, and so is what is left of their
+// deliveries.
+fn ends_in_turn<R, N, D>(rt: &R, turning: InLoop<N, D, Global>) -> Result<bool, Fail>
+where
+    R: Wait + Net,
+    N: Network + Drop,
+    D: Dir + Drop,
+{
+    let mut turning = turning;
+    let heard = talk_in_turn(rt, &mut turning);
+    let left = ended(rt, turning);
+    Ok(heard? && are_of_one_part(&left))
+}
+
+// The same of a loop that is opened for it.
+fn is_heard_in_turn<R, D, F>(rt: &R, folders: &F) -> Result<bool, Fail>
 where
     R: Wait + Clock + Net + RandomSource + AllocGlobal + Clone + Drop,
     D: Dir + Drop,
     F: Folders<D, Global>,
 {
-    let mut turning = open(rt, SMALL, folders)?;
-    let heard = talk_in_turn(rt, &mut turning);
-    let left = ended(rt, turning);
-    let heard = heard?;
-    match left.stubs() {
-        [one, two] if left.fault().is_none() => Ok((heard, (one.parts.len(), two.parts.len()))),
-        _ => Err(Fail::from("two deliveries and no fault")),
-    }
+    ends_in_turn(rt, open(rt, SMALL, folders)?)
 }
 
 // What a full buffer refuses isn't answered, and its connection stays.
 #[test]
 fn a_full_buffer_refuses(rt: HostRuntime) -> Result<(), Fail> {
     let folders = MemoryFolders { alloc: rt.alloc() };
-    assert_eq!(rt; heard_in_turn(&rt, &folders)?, ((true, true), (1, 0)));
+    assert!(rt; is_heard_in_turn(&rt, &folders)?);
     Ok(())
 }
 
+// Whether a client hears the answer to the second of its messages alone.
 fn talk_round<R: Wait + Net, N: Network + Drop, D: Dir + Drop>(
     rt: &R,
     turning: &mut InLoop<N, D, Global>,
 ) -> Result<bool, Fail> {
     let mut one = client(rt, turning)?;
     one.write_all(MESSAGE)?;
-    one.write_all(OTHER)?;
-    turn(rt, turning)?;
+    say(rt, turning, &mut one, OTHER)?;
     hears(&mut one, OTHER_ANSWER)
 }
 
-// Whether the message is answered that no match takes, and what is left of the loop's deliveries
-// then.
-fn heard_round<R, D, F>(rt: &R, folders: &F) -> Result<(bool, (usize, bool)), Fail>
+// Whether the message is answered that no match takes, and one delivery is left of this loop then,
+// of no part.
+fn ends_round<R, N, D>(rt: &R, turning: InLoop<N, D, Global>) -> Result<bool, Fail>
+where
+    R: Wait + Net,
+    N: Network + Drop,
+    D: Dir + Drop,
+{
+    let mut turning = turning;
+    let heard = talk_round(rt, &mut turning);
+    let left = left_of(rt, turning, 0);
+    Ok(heard? && left == (1, true))
+}
+
+// The same of a loop that is opened for it.
+fn is_heard_round<R, D, F>(rt: &R, folders: &F) -> Result<bool, Fail>
 where
     R: Wait + Clock + Net + RandomSource + AllocGlobal + Clone + Drop,
     D: Dir + Drop,
     F: Folders<D, Global>,
 {
-    let mut turning = open(rt, LOOPING, folders)?;
-    let heard = talk_round(rt, &mut turning);
-    let left = left_of(rt, turning, 0);
-    Ok((heard?, left))
+    ends_round(rt, open(rt, LOOPING, folders)?)
 }
 
 // A message whose way is a loop is no delivery, and isn't answered; one that no match takes is.
 #[test]
 fn what_goes_round_is_no_delivery(rt: HostRuntime) -> Result<(), Fail> {
     let folders = MemoryFolders { alloc: rt.alloc() };
-    assert_eq!(rt; heard_round(&rt, &folders)?, (true, (1, true)));
+    assert!(rt; is_heard_round(&rt, &folders)?);
     Ok(())
 }
 
@@ -249,28 +314,44 @@ where
     }
 }
 
-// Why another relay isn't opened at the port of one that is.
+// The relay of this text with all its sources at this port.
+fn relay_at(alloc: Global, text: &str, port: u16) -> Result<Relay<Global>, Fail> {
+    let mut relay = relay_of(alloc, text)?;
+    for source in relay.sources.iter_mut() {
+        source.port = port;
+    }
+    Ok(relay)
+}
+
+// Why a relay isn't opened at this port.
+fn fault_at<R, D, F>(rt: &R, folders: &F, port: u16) -> Result<Option<LoopFault>, Fail>
+where
+    R: Wait + Clock + Net + RandomSource + AllocGlobal + Clone + Drop,
+    D: Dir + Drop,
+    F: Folders<D, Global>,
+{
+    let relay = relay_at(rt.alloc(), SINK, port)?;
+    Ok(fault_of(rt, relay, folders))
+}
+
+// The same at the port of one that is open.
 fn fault_of_another<R, D, F>(rt: &R, folders: &F) -> Result<Option<LoopFault>, Fail>
 where
     R: Wait + Clock + Net + RandomSource + AllocGlobal + Clone + Drop,
     D: Dir + Drop,
     F: Folders<D, Global>,
 {
-    let mut relay = relay_of(rt.alloc(), SINK)?;
     let turning = open(rt, SINK, folders)?;
-    for source in relay.sources.iter_mut() {
-        source.port = turning.port(0).unwrap_or(1);
-    }
-    let fault = fault_of(rt, relay, folders);
+    let fault = fault_at(rt, folders, turning.port(0).unwrap_or(1));
     left_of(rt, turning, 0);
-    Ok(fault)
+    fault
 }
 
 // A relay whose source is taken isn't opened.
 #[test]
 fn a_taken_source_is_bind(rt: HostRuntime) -> Result<(), Fail> {
     let folders = MemoryFolders { alloc: rt.alloc() };
-    assert_eq!(rt; fault_of_another(&rt, &folders)?, Some(LoopFault::Bind));
+    assert!(rt; fault_of_another(&rt, &folders)? == Some(LoopFault::Bind));
     Ok(())
 }
 
@@ -279,6 +360,6 @@ fn a_taken_source_is_bind(rt: HostRuntime) -> Result<(), Fail> {
 fn a_shared_path_is_path(rt: HostRuntime) -> Result<(), Fail> {
     let folders = MemoryFolders { alloc: rt.alloc() };
     let relay = relay_of(rt.alloc(), SHARED)?;
-    assert_eq!(rt; fault_of(&rt, relay, &folders), Some(LoopFault::Path));
+    assert!(rt; fault_of(&rt, relay, &folders) == Some(LoopFault::Path));
     Ok(())
 }

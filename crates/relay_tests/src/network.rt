@@ -1,10 +1,10 @@
 //! An edge and a hub, each with a flush thread's work done by hand.
 
-use crate::couriers::{courier_of, system};
+use crate::couriers::{courier_of, has_queued, system};
 use crate::loops::{ANSWER, ENTRY, MESSAGE, TAG, client, hears, turn};
 use crate::relays::{FORWARD, SINK, relay_of, relay_to};
 use crate::turned::{Hub, HubDialer, LoopHub, are_accounted, ended, open_relay};
-use ack_receipt::{Evidence, SharedBuffer};
+use ack_receipt::Evidence;
 use disk_files::{Dir, MemoryDir};
 use flush_pool::{CarryFault, ClaimView, Courier, OpenGate, Retries, SinkCourier, Worked, work};
 use mio_relay::{InLoop, OpenRelay};
@@ -21,8 +21,6 @@ use std::sync::atomic::{AtomicBool, Ordering};
 use std::test::Fail;
 use std::time::Clock;
 use tcp_courier::TcpCourier;
-
-type Shelf<D> = SharedBuffer<D, Global>;
 
 type Job<D> = DeliveryJob<D, Global>;
 
@@ -41,17 +39,6 @@ impl<'a, R: Wait, D: Dir, C: Courier<R, D, Global>> Courier<R, D, Global> for On
     ) -> Result<Evidence<Global>, CarryFault> {
         self.stop.store(true, Ordering::SeqCst);
         self.courier.carry(rt, chunk)
-    }
-}
-
-// Whether a chunk is queued. What it claims it gives back.
-fn has_queued<R: Wait, D: Dir>(rt: &R, shelf: &Shelf<D>) -> Result<bool, Fail> {
-    match shelf.claim(rt)? {
-        Some(claim) => {
-            shelf.give_back(rt, claim);
-            Ok(true)
-        }
-        None => Ok(false),
     }
 }
 
@@ -142,8 +129,29 @@ where
     }
 }
 
-// The same with an edge that is opened in front of a hub at this port: whether its book accounts
-// for what is left.
+// A client is answered by this edge, whose chunk is delivered to the hub: whether the edge's book
+// accounts for what is left.
+fn is_passed_by<R, N, D, H>(rt: &R, edge: OpenRelay<N, D, Global>, hub: &H) -> Result<bool, Fail>
+where
+    R: Wait + Clock + Net + RandomSource + AllocGlobal + Clone,
+    N: Network + Drop,
+    D: Dir + Drop,
+    H: Hub,
+{
+    let OpenRelay {
+        turning,
+        jobs,
+        ports: _,
+    } = edge;
+    let mut turning = turning;
+    let passed = hand_on(rt, &mut turning, &jobs, hub);
+    let left = ended(rt, turning);
+    let accounted = are_accounted(rt.alloc(), jobs, &left);
+    passed?;
+    Ok(accounted)
+}
+
+// The same with an edge that is opened in front of a hub at this port.
 fn is_passed_to<R, D, F, H>(rt: &R, folders: &F, port: u16, hub: &H) -> Result<bool, Fail>
 where
     R: Wait + Clock + Net + RandomSource + AllocGlobal + Clone + Drop,
@@ -152,17 +160,7 @@ where
     H: Hub,
 {
     let relay = relay_to(rt.alloc(), FORWARD, port)?;
-    let OpenRelay {
-        turning,
-        jobs,
-        ports: _,
-    } = open_relay(rt, relay, folders)?;
-    let mut edge = turning;
-    let passed = hand_on(rt, &mut edge, &jobs, hub);
-    let left = ended(rt, edge);
-    let accounted = are_accounted(rt.alloc(), jobs, &left);
-    passed?;
-    Ok(accounted)
+    is_passed_by(rt, open_relay(rt, relay, folders)?, hub)
 }
 
 // Whether these are the client's event, once.
@@ -171,6 +169,26 @@ fn are_the_messages(events: &[SinkEvent<Global>]) -> bool {
         [event] => event.tag() == TAG && event.entry() == ENTRY,
         _ => false,
     }
+}
+
+// The sink in this folder.
+fn sink_in<S: Dir + Drop>(alloc: Global, dir: S) -> Result<SinkCourier<S, Global>, Fail> {
+    match Rotation::open(alloc, dir, b"all", ONE_FILE, 0) {
+        Ok(opened) => Ok(SinkCourier::new(opened)),
+        Err(_) => Err(Fail::from("the sink doesn't open")),
+    }
+}
+
+// Whether this sink, which nobody else has, has the client's event, once.
+fn has_the_message<S: Dir + Drop>(
+    alloc: Global,
+    sink: SinkCourier<S, Global>,
+) -> Result<bool, Fail> {
+    let Some(dir) = sink.into_dir() else {
+        return Err(Fail::from("the sink is away"));
+    };
+    let mut series = Series::open(alloc, dir, b"all").map_err(|(fault, _dir)| fault)?;
+    Ok(are_the_messages(&series.content()?))
 }
 
 // Whether the hub's chunk is delivered to a sink in this folder, which has the client's event then.
@@ -183,16 +201,9 @@ where
     let [job] = jobs else {
         return Err(Fail::from("the hub has one buffer"));
     };
-    let Ok(opened) = Rotation::open(rt.alloc(), dir, b"all", ONE_FILE, 0) else {
-        return Err(Fail::from("the sink doesn't open"));
-    };
-    let sink = SinkCourier::new(opened);
+    let sink = sink_in(rt.alloc(), dir)?;
     let delivered = is_delivered(rt, job, &sink)?;
-    let Some(dir) = sink.into_dir() else {
-        return Err(Fail::from("the sink is away"));
-    };
-    let mut series = Series::open(rt.alloc(), dir, b"all").map_err(|(fault, _dir)| fault)?;
-    Ok(delivered && are_the_messages(&series.content()?))
+    Ok(has_the_message(rt.alloc(), sink)? && delivered)
 }
 
 // A client's message goes by an edge to this hub: whether the edge's book accounts for it, and
@@ -216,7 +227,34 @@ where
     Ok((accounted, is_stored(rt, jobs, dir)?))
 }
 
-// The same with a hub that is opened for it, and whether its book accounts for it too.
+// The same with this hub, and whether its book accounts for it too.
+fn go_by<R, N, D, F, S>(
+    rt: &R,
+    folders: &F,
+    hub: OpenRelay<N, D, Global>,
+    dir: S,
+) -> Result<((bool, bool), bool), Fail>
+where
+    R: Wait + Clock + Net + RandomSource + AllocGlobal + Clone + Drop,
+    N: Network + Drop,
+    D: Dir + Drop,
+    F: Folders<D, Global>,
+    S: Dir + Drop,
+{
+    let OpenRelay {
+        turning,
+        jobs,
+        ports: _,
+    } = hub;
+    let port = turning.port(0).unwrap_or(1);
+    let hub = LoopHub::new(rt, turning);
+    let passed = go_through(rt, folders, port, &hub, &jobs, dir);
+    let left = hub.end();
+    let accounted = are_accounted(rt.alloc(), jobs, &left);
+    Ok((passed?, accounted))
+}
+
+// The same with a hub that is opened for it.
 fn go_to_the_sink<R, D, F, S>(rt: &R, folders: &F, dir: S) -> Result<((bool, bool), bool), Fail>
 where
     R: Wait + Clock + Net + RandomSource + AllocGlobal + Clone + Drop,
@@ -225,17 +263,7 @@ where
     S: Dir + Drop,
 {
     let relay = relay_of(rt.alloc(), SINK)?;
-    let OpenRelay {
-        turning,
-        jobs,
-        ports: _,
-    } = open_relay(rt, relay, folders)?;
-    let port = turning.port(0).unwrap_or(1);
-    let hub = LoopHub::new(rt, turning);
-    let passed = go_through(rt, folders, port, &hub, &jobs, dir);
-    let left = hub.end();
-    let accounted = are_accounted(rt.alloc(), jobs, &left);
-    Ok((passed?, accounted))
+    go_by(rt, folders, open_relay(rt, relay, folders)?, dir)
 }
 
 // A client's message to an edge is answered, handed on to a hub and stored in its sink, and the

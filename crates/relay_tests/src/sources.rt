@@ -1,6 +1,6 @@
 //! A relay with two sources, each with its own key, and two buffers.
 
-use crate::couriers::{carried_from, courier_to, system};
+use crate::couriers::{carried_to, system};
 use crate::relays::{TWO_KEYS, WITH_FIRST_KEY, WITH_SECOND_KEY, relay_of};
 use crate::turned::{Hub, HubDialer, LoopHub, are_accounted, open_relay};
 use auth_handshake::HandshakeFault;
@@ -10,6 +10,7 @@ use forward_core::SessionFault;
 use mio_relay::{Ended, OpenRelay};
 use relay_buffers::{DeliveryJob, Folders, MemoryFolders, PlacedDir};
 use relay_conf::{BufferKind, BufferNo};
+use relay_sockets::Network;
 use std::alloc::Global;
 use std::net::Net;
 use std::random::RandomSource;
@@ -36,9 +37,8 @@ where
         hub,
         dialer: system(rt)?,
     };
-    let courier = courier_to(rt, text, port, dialer)?;
     let PlacedDir { dir, path: _ } = folders.folder_of(&BufferKind::Memory)?;
-    let (fault, _) = carried_from(rt, dir, &courier)?;
+    let (fault, _) = carried_to(rt, dir, text, port, dialer)?;
     Ok(fault)
 }
 
@@ -79,20 +79,24 @@ fn are_two<D: Dir + Drop>(jobs: &[DeliveryJob<D, Global>]) -> bool {
     }
 }
 
-// What such clients make of their chunks at the two sources, and whether the two buffers have what
-// was taken, and their books account for it.
-fn sent_and_stored<R, D, F>(rt: &R, folders: &F) -> Result<([Option<CarryFault>; 4], bool), Fail>
+// What such clients make of their chunks at the two sources of this hub, and whether its two buffers
+// have what was taken, and their books account for it.
+fn sent_by<R, N, D, F>(
+    rt: &R,
+    folders: &F,
+    hub: OpenRelay<N, D, Global>,
+) -> Result<([Option<CarryFault>; 4], bool), Fail>
 where
-    R: Wait + Clock + Net + RandomSource + AllocGlobal + Clone + Drop,
+    R: Wait + Clock + Net + RandomSource + AllocGlobal + Clone,
+    N: Network + Drop,
     D: Dir + Drop,
     F: Folders<D, Global>,
 {
-    let relay = relay_of(rt.alloc(), TWO_KEYS)?;
     let OpenRelay {
         turning,
         jobs,
         ports: _,
-    } = open_relay(rt, relay, folders)?;
+    } = hub;
     let ports = [turning.port(0).unwrap_or(1), turning.port(1).unwrap_or(1)];
     let hub = LoopHub::new(rt, turning);
     let sent = sent_to_both(rt, folders, &hub, ports);
@@ -102,14 +106,31 @@ where
     Ok((sent?, two && accounted))
 }
 
+// Whether these clients are let in at the source whose key they have, and refused at the other.
+fn are_let_in(sent: &[Option<CarryFault>; 4]) -> bool {
+    let refused = CarryFault::Session(SessionFault::Handshake(HandshakeFault::RefusedByServer));
+    *sent == [None, Some(refused), Some(refused), None]
+}
+
+// Whether clients of a hub that is opened for it are let in so, and what they send is stored so.
+fn are_sent_and_stored<R, D, F>(rt: &R, folders: &F) -> Result<(bool, bool), Fail>
+where
+    R: Wait + Clock + Net + RandomSource + AllocGlobal + Clone + Drop,
+    D: Dir + Drop,
+    F: Folders<D, Global>,
+{
+    let relay = relay_of(rt.alloc(), TWO_KEYS)?;
+    let (sent, stored) = sent_by(rt, folders, open_relay(rt, relay, folders)?)?;
+    Ok((are_let_in(&sent), stored))
+}
+
 // A client is let in at the source whose key it has, and at no other; and what it sends goes to the
 // buffer of each output.
 #[test]
 fn each_source_asks_for_its_own_key(rt: HostRuntime) -> Result<(), Fail> {
     let folders = MemoryFolders { alloc: rt.alloc() };
-    let refused = CarryFault::Session(SessionFault::Handshake(HandshakeFault::RefusedByServer));
-    let (sent, stored) = sent_and_stored(&rt, &folders)?;
-    assert_eq!(rt; sent, [None, Some(refused), Some(refused), None]);
+    let (let_in, stored) = are_sent_and_stored(&rt, &folders)?;
+    assert!(rt; let_in);
     assert!(rt; stored);
     Ok(())
 }

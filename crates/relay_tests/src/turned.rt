@@ -1,5 +1,7 @@
 //! A relay that is turned while a courier waits for its answer, in one thread.
 
+ghost use Rattle.std.specs.Prelude.{◌≡◌, [], IfOk};
+
 use ack_receipt::Stub;
 use disk_files::Dir;
 use mio_relay::{BoundRelay, Ended, InLoop, OpenRelay};
@@ -18,6 +20,55 @@ use std::time::{Clock, Duration};
 // A relay with sockets of the system.
 pub type Opened<R, D> = OpenRelay<SocketNetwork<R, Global>, D, Global>;
 
+// The system's sockets, none of which listens yet.
+fn sockets<R>(rt: &R) -> Result<SocketNetwork<R, Global>, Fail>
+where
+    R: Net + Clock + AllocGlobal + Clone + Drop,
+    ensures { IfOk result (λ network. ⟦<SocketNetwork<R, Global> as Network>⟧.bound network ≡ []) }
+{
+    match SocketNetwork::new(copy_of(rt)?, rt.alloc()) {
+        Ok(network) => Ok(network),
+        Err(_) => Err(Fail::from("no sockets")),
+    }
+}
+
+// The relay of this setup, which listens over this network.
+fn listening<R, N>(
+    rt: &R,
+    network: N,
+    setup: RelaySetup<Global>,
+) -> Result<BoundRelay<N, Global>, Fail>
+where
+    R: RandomSource + AllocGlobal,
+    N: Network + Drop,
+    requires { N.bound network ≡ [] }
+{
+    match BoundRelay::bind(rt, rt.alloc(), network, setup) {
+        Ok(bound) => Ok(bound),
+        Err(_) => Err(Fail::from("a source isn't bound")),
+    }
+}
+
+// The same once its buffers are open in these folders. Its loop keeps what is left of its
+// deliveries.
+fn with_buffers<N, D, F>(
+    bound: BoundRelay<N, Global>,
+    folders: &F,
+) -> Result<OpenRelay<N, D, Global>, Fail>
+where
+    N: Network + Drop,
+    D: Dir + Drop,
+    F: Folders<D, Global>,
+{
+    match bound.open(folders) {
+        Ok(mut opened) => {
+            opened.turning.keep_stubs();
+            Ok(opened)
+        }
+        Err(_) => Err(Fail::from("a buffer doesn't open")),
+    }
+}
+
 // The relay with buffers in these folders, whose loop keeps what is left of its deliveries.
 pub fn open_relay<R, D, F>(rt: &R, relay: Relay<Global>, folders: &F) -> Result<Opened<R, D>, Fail>
 where
@@ -28,19 +79,7 @@ where
     let Ok(setup) = RelaySetup::new(rt.alloc(), relay, 1) else {
         return Err(Fail::from("the relay can't run"));
     };
-    let Ok(network) = SocketNetwork::new(copy_of(rt)?, rt.alloc()) else {
-        return Err(Fail::from("no sockets"));
-    };
-    let Ok(bound) = BoundRelay::bind(rt, rt.alloc(), network, setup) else {
-        return Err(Fail::from("a source isn't bound"));
-    };
-    match bound.open(folders) {
-        Ok(mut opened) => {
-            opened.turning.keep_stubs();
-            Ok(opened)
-        }
-        Err(_) => Err(Fail::from("a buffer doesn't open")),
-    }
+    with_buffers(listening(rt, sockets(rt)?, setup)?, folders)
 }
 
 // A handle of one's own.

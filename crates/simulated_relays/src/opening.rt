@@ -40,25 +40,59 @@ pub fn open_site<D: Disk + Drop>(
         outputs,
     } = parts;
     let inlets = inlets(alloc, number, &routes, sources)?;
+    open_outputs(alloc, number, inlets, outputs, shelf, sinks)
+}
+
+// The same of these outputs, behind these inlets.
+fn open_outputs<D: Disk + Drop>(
+    alloc: Global,
+    number: u32,
+    inlets: Vec<Arc<Inlet<Global>>>,
+    outputs: Vec<BufferedOutput<Global>>,
+    shelf: &Shelf<D>,
+    sinks: &Shelf<D>,
+) -> Result<Option<OpenSite<D>>, AllocError> {
     let Some(sinks) = open_sinks(alloc, sinks, &outputs)? else {
         return Ok(None);
     };
-    let Ok(opened) = open_all(alloc, number, outputs, shelf, 0) else {
-        return Ok(None);
-    };
+    match open_buffers(alloc, number, outputs, shelf)? {
+        Some(parts) => Ok(Some(put_together(parts, inlets, sinks))),
+        None => Ok(None),
+    }
+}
+
+// The buffers of these outputs; `None` where one doesn't open.
+fn open_buffers<D: Disk + Drop>(
+    alloc: Global,
+    number: u32,
+    outputs: Vec<BufferedOutput<Global>>,
+    shelf: &Shelf<D>,
+) -> Result<Option<RelayParts<Lent<D>, Global>>, AllocError> {
+    match open_all(alloc, number, outputs, shelf, 0) {
+        Ok(opened) => Ok(Some(parts_of(alloc, opened)?)),
+        Err(_) => Ok(None),
+    }
+}
+
+// A relay of these parts.
+fn put_together<D: Disk + Drop>(
+    parts: RelayParts<Lent<D>, Global>,
+    inlets: Vec<Arc<Inlet<Global>>>,
+    sinks: Vec<Option<SinkCourier<Lent<D>, Global>>>,
+) -> OpenSite<D> {
     let RelayParts {
         lanes,
         buffers,
         jobs,
-    } = parts_of(alloc, opened)?;
-    Ok(Some(OpenSite {
+    } = parts;
+    OpenSite {
         lanes,
         buffers,
         jobs,
         inlets,
         sinks,
         numbers: Numbers::new(),
-    }))
+    }
 }
 
 // What the configuration says.
@@ -78,11 +112,21 @@ fn inlets(
 ) -> Result<Vec<Arc<Inlet<Global>>>, AllocError> {
     let mut all = Vec::new(alloc);
     for source in sources {
-        let theirs = Arc::try_clone(routes)?;
-        let inlet = Inlet::new(number, theirs, source.label, source.prefix);
-        all.push(Arc::new(alloc, inlet)?)?;
+        all.push(inlet(alloc, number, routes, source)?)?;
     }
     Ok(all)
+}
+
+// Where the messages of this source come in.
+fn inlet(
+    alloc: Global,
+    number: u32,
+    routes: &Arc<Routes<Global>>,
+    source: Source<Global>,
+) -> Result<Arc<Inlet<Global>>, AllocError> {
+    let theirs = Arc::try_clone(routes)?;
+    let inlet = Inlet::new(number, theirs, source.label, source.prefix);
+    Ok(Arc::new(alloc, inlet)?)
 }
 
 // The sinks of these outputs, by their numbers; `None` where one doesn't open.

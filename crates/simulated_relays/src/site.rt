@@ -2,7 +2,7 @@
 //! open.
 
 use crate::chunks::{Chunks, Stage};
-use crate::closing::{SinkContent, close_buffers, close_sinks, paths_of};
+use crate::closing::{SinkContent, close_site};
 use crate::disk::{Devices, Disk, Stop};
 use crate::lent::Lent;
 use crate::opening::open_site;
@@ -159,17 +159,21 @@ impl<D: Disk + Drop> Site<D> {
         alloc: Global,
         devices: Devices,
     ) -> Result<bool, AllocError> {
+        self.set_devices(devices);
+        match open_site(alloc, self.number, &self.conf, &self.shelf, &self.sinks)? {
+            Some(open) => {
+                put_open(rt, &mut self.open, open);
+                Ok(true)
+            }
+            None => Ok(false),
+        }
+    }
+
+    // Its folders are over such devices from now on.
+    fn set_devices(&mut self, devices: Devices) {
         self.is_failing = devices.may_fail();
         self.shelf.set_device(devices.buffers);
         self.sinks.set_device(devices.sinks);
-        let opened = open_site(alloc, self.number, &self.conf, &self.shelf, &self.sinks)?;
-        let Some(open) = opened else {
-            return Ok(false);
-        };
-        if let Some(other) = self.open.replace(open) {
-            other.end(rt);
-        }
-        Ok(true)
     }
 
     /// Ends it.
@@ -207,34 +211,26 @@ impl<D: Disk + Drop> Site<D> {
         let Some(open) = self.open.take() else {
             return Ok(None);
         };
-        let OpenSite {
-            lanes,
-            buffers,
-            jobs,
-            inlets: _,
-            sinks,
-            numbers: _,
-        } = open;
-        let have_failed = lanes.fault().is_some();
-        let _ = lanes.end(rt);
-        if have_failed {
+        let closed = close_site(rt, alloc, open, stop)?;
+        if closed.has_failed {
             self.refuse(String::from_str(alloc, "a buffer fails")?);
         }
-        let paths = paths_of(alloc, &jobs)?;
-        drop(jobs);
-        if close_buffers(buffers, stop) {
+        if closed.has_device_failed {
             self.refusal = None;
         }
-        let (content, have_failed) = close_sinks(alloc, sinks, paths, stop.settled())?;
-        if have_failed {
-            self.refusal = None;
-        }
-        Ok(content)
+        Ok(closed.content)
     }
 
     /// What was refused before the last stop without a failure of a device, if anything was.
     pub fn take_refusal(&mut self) -> Option<String> {
         self.refusal.take()
+    }
+}
+
+// These are the parts of a relay from now on; others that it had end.
+fn put_open<R: Wait, D: Disk + Drop>(rt: &R, parts: &mut Option<OpenSite<D>>, open: OpenSite<D>) {
+    if let Some(other) = parts.replace(open) {
+        other.end(rt);
     }
 }
 
