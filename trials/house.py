@@ -1,5 +1,5 @@
 """Relays in folders of their own, for the trials: standard library alone, and loopback alone."""
-import os, shutil, signal, socket, subprocess, tempfile, time
+import contextlib, os, shutil, signal, socket, subprocess, tempfile, time
 from client import HOST, Client, chunk_id, message, stored, take
 
 TAG = "app.x"
@@ -151,6 +151,16 @@ class Relay:
             self.process.kill()
             self.process.wait()
             self.process = None
+
+    @contextlib.contextmanager
+    def paused(self):
+        """Holds it where it is, with its sockets and its lock, so that it changes nothing meanwhile."""
+        self.process.send_signal(signal.SIGSTOP)
+        os.waitpid(self.process.pid, os.WUNTRACED)
+        try:
+            yield
+        finally:
+            self.process.send_signal(signal.SIGCONT)
 
     def sink_files(self, path=None):
         """The paths of its sinks' files, or of those of one sink, in their order."""
