@@ -59,8 +59,8 @@ pub record IsNoted (kind : Kind) (known : Option (List ℕ)) (name written : Lis
   pub line_is : written ++ unseen ≡ line
   pub said : IfSome known (λ bytes. IsSaid kind bytes name line)
 
--- What is printed and said of the file of this kind and name: it is read to its end, or it isn't; or
--- memory ran out or the writer failed.
+-- What is printed and said of the file of this kind and name: it is read to its end, or it isn't;
+-- or memory ran out or the writer failed.
 pub record PrintsNamed (kind : Kind) (known : Option (List ℕ)) (chosen : Chosen) (name : List ℕ) (out : Shown × Shown) (notes : Option (List ℕ) × Option (List ℕ)) (result : Result Bool Stop) : Type 0 where
   pub text : List ℕ
   pub shown : MatchResult result (λ sound. ShowsAll out.0 out.1 text) (IsShown out.0 out.1 text)

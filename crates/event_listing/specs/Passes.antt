@@ -49,9 +49,9 @@ pub record PrintsPass (known : Option (List ℕ)) (chosen : Chosen) (name : List
   pub ends : MatchResult result (λ next. IfSome known (λ bytes. IsPass chosen bytes at next behind text)) (λ status. IfSome known (λ bytes. PrintsSome Items chosen (drop at bytes) text))
   pub noted : MatchResult result (λ next. IsPassNoted growth name next behind notes) (λ status. Unit {0})
 
--- Two passes join, the second from where the first ended, over a file that grew in between: together
--- they print what one pass prints over the file as it is then. So no event is passed over, and none
--- comes twice.
+-- Two passes join, the second from where the first ended, over a file that grew in between:
+-- together they print what one pass prints over the file as it is then. So no event is passed over,
+-- and none comes twice.
 abbrev pub DoPassesJoin : Type 0
 DoPassesJoin =
     (chosen : Chosen) (bytes more : List ℕ) (at next end behind left : ℕ) (text others : List ℕ) → at ≤ length bytes → IsPass chosen bytes at next behind text → IsPass chosen (bytes ++ more) next end left others

@@ -13,8 +13,8 @@ use Rattle.mio_relay.specs.Turning.{ComesOn, EachKey}
 -- a loop: the addresses that were bound, its sources in the order of the configuration, its
 -- connections by their keys, its buffers by their places, the same as it uses them, how many
 -- numbers deliveries have had, its time in milliseconds, what time its network says that it is,
--- where that is known, the fault of a turn that ended it, if one did, and why its network refuses to
--- wait for sockets, where it is known to
+-- where that is known, the fault of a turn that ended it, if one did, and why its network refuses
+-- to wait for sockets, where it is known to
 pub record LoopState (A : Type 0) : Type 0 where
   pub bound : List Endpoint
   pub sources : List Served
