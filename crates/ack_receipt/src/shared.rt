@@ -27,11 +27,20 @@ use std::time::Duration;
 ///
 /// Beside the lock a bell rings for each chunk that is queued, so that workers can sleep until
 /// then.
-#[derive(Drop)]
 pub struct SharedBuffer<D: Dir, A: Allocator> {
     terms: Terms<A>,
     lock: Mutex<LockedBuffer<D, A>>,
     bell: Bell,
+}
+
+impl<D: Dir + Drop, A: Allocator> Drop for SharedBuffer<D, A> {
+    fn drop(self) {
+        let SharedBuffer {
+            terms: _terms,
+            lock: _lock,
+            bell: _bell,
+        } = self;
+    }
 }
 
 impl<D: Dir, A: Allocator> Model for SharedBuffer<D, A> {

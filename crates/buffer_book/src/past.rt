@@ -20,9 +20,14 @@ pub struct Written {
 }
 
 /// What was told of appends, receipts, removals and syncs, in order.
-#[derive(Drop)]
 pub struct Past<D: Dir, A: Allocator> {
     chain: Snapshot<Chain<D, A>>,
+}
+
+impl<D: Dir, A: Allocator> Drop for Past<D, A> {
+    fn drop(self) {
+        let Past { chain: _chain } = self;
+    }
 }
 
 impl<D: Dir, A: Allocator> Model for Past<D, A> {

@@ -21,12 +21,21 @@ use std::time::Clock;
 
 /// Writes chunks to a sink's files, one at a time: its workers share them behind a lock of its own.
 /// They are away only while one writes, under that lock. Contracts see the sink as it was opened.
-#[derive(Drop)]
 pub struct SinkCourier<S: Dir, A: Allocator> {
     sink: Mutex<Option<Rotation<S, A>>>,
     given: Snapshot<Rotation<S, A>>,
     // Tells of the sink.
     teller: Teller<A>,
+}
+
+impl<S: Dir + Drop, A: Allocator> Drop for SinkCourier<S, A> {
+    fn drop(self) {
+        let SinkCourier {
+            sink: _sink,
+            given: _given,
+            teller: _teller,
+        } = self;
+    }
 }
 
 impl<S: Dir, A: Allocator> Model for SinkCourier<S, A> {
@@ -55,7 +64,16 @@ impl<S: Dir, A: Allocator + Copy> SinkCourier<S, A> {
     pub fn telling(self, teller: Teller<A>) -> Self
         ensures { result ≡ self }
     {
-        SinkCourier { teller, ..self }
+        let SinkCourier {
+            sink,
+            given,
+            teller: _before,
+        } = self;
+        SinkCourier {
+            sink,
+            given,
+            teller,
+        }
     }
 
     /// The sink's folder, when all work is done.
