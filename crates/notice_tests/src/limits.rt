@@ -1,7 +1,7 @@
 //! Which lines are said when.
 
-use relay_notices::{Due, Failure, Limiter, Notice, Notices, Pending, Teller};
-use std::alloc::Global;
+use relay_notices::{Due, Failure, Limiter, Notice, Notices, Pending, Tally, Teller};
+use std::alloc::{AllocError, Global};
 use std::sync::Arc;
 use std::test::Fail;
 
@@ -66,14 +66,19 @@ fn places_are_said_once_in_ten_seconds(rt: HostRuntime) -> Result<(), Fail> {
     Ok(())
 }
 
+// Notices of three places.
+fn three_places(alloc: Global) -> Result<Arc<Notices<Global>>, AllocError> {
+    let mut names = Vec::new(alloc);
+    for name in ["a", "b", "c"] {
+        names.push(String::from_str(alloc, name)?)?;
+    }
+    Ok(Arc::new(alloc, Notices::new(alloc, names)?)?)
+}
+
 // Who tells of places from the second one on.
 #[test]
 fn tellers_tell_of_their_own_places(rt: HostRuntime) -> Result<(), Fail> {
-    let mut names = Vec::new(rt.alloc());
-    for name in ["a", "b", "c"] {
-        names.push(String::from_str(rt.alloc(), name)?)?;
-    }
-    let notices = Arc::new(rt.alloc(), Notices::new(rt.alloc(), names)?)?;
+    let notices = three_places(rt.alloc())?;
     assert_eq!(rt; notices.places(), 3);
     let teller = Teller::new(&notices, 1);
     teller.tell(&rt, 0, FAILS);
@@ -89,5 +94,31 @@ fn tellers_tell_of_their_own_places(rt: HostRuntime) -> Result<(), Fail> {
         assert_eq!(rt; notices.name(place), Some(name));
     }
     assert_eq!(rt; notices.take(&rt, 0), None);
+    Ok(())
+}
+
+// That a place works is counted where it isn't said, and what was said stays counted.
+#[test]
+fn places_are_counted(rt: HostRuntime) -> Result<(), Fail> {
+    let notices = three_places(rt.alloc())?;
+    let teller = Teller::new(&notices, 1);
+    for notice in [FAILS, LOST, Notice::Works, Notice::Works] {
+        teller.tell(&rt, 0, notice);
+    }
+    teller.tell(&rt, 1, FAILS);
+    assert_eq!(rt; notices.take(&rt, 0).is_some(), true);
+    for (place, is_failing, failures, works) in [
+        (0, false, 0, 0),
+        (1, false, 2, 2),
+        (2, true, 1, 0),
+    ] {
+        let tally = Tally {
+            is_failing,
+            failures,
+            works,
+        };
+        assert_eq!(rt; notices.tally(&rt, place), Some(tally));
+    }
+    assert_eq!(rt; notices.tally(&rt, 3), None);
     Ok(())
 }

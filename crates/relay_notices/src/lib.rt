@@ -15,4 +15,4 @@ pub use limiter::{Due, Limiter};
 pub use line::line_of;
 pub use notice::{Closing, Ending, Failure, Notice, Refusal};
 pub use notices::{Notices, Teller};
-pub use slot::{Pending, Slot};
+pub use slot::{Pending, Slot, Tally};

@@ -1,10 +1,10 @@
 //! The lines that are to be said: of a place at most one in a while.
 
 ghost use Rattle.std.specs.Prelude.{◌≡◌, All, IfNone, IfOk, IfSome, replicate};
-ghost use Rattle.relay_notices.specs.Telling.{IsQuiet, IsSaid, told_at, untold};
+ghost use Rattle.relay_notices.specs.Telling.{IsQuiet, IsSaid, tally_at, told_at, untold};
 
 use crate::notice::Notice;
-use crate::slot::{Pending, Slot};
+use crate::slot::{Pending, Slot, Tally};
 use std::alloc::{AllocError, Allocator};
 use std::marker::Model;
 
@@ -61,5 +61,14 @@ impl<A: Allocator> Limiter<A> {
         let pending = slot.pending?;
         self.slots[place] = slot.said(now);
         Some(Due { place, pending })
+    }
+    /// How often a place worked and failed; `None` of what is no place.
+    pub fn tally(&self, place: usize) -> Option<Tally>
+        ensures { result ≡ tally_at place self.now }
+    {
+        match self.slots.get(place) {
+            Some(slot) => Some(slot.tally),
+            None => None,
+        }
     }
 }

@@ -2,6 +2,7 @@
 
 use crate::limiter::{Due, Limiter};
 use crate::notice::Notice;
+use crate::slot::Tally;
 use std::alloc::{AllocError, Allocator};
 use std::sync::{Arc, Mutex, Wait};
 
@@ -33,6 +34,11 @@ impl<A: Allocator + Copy> Notices<A> {
         self.limiter.lock(rt).take(now)
     }
 
+    /// How often the place with this number worked and failed; `None` of what is no place.
+    pub fn tally<R: Wait>(&self, rt: &R, place: usize) -> Option<Tally> {
+        self.limiter.lock(rt).tally(place)
+    }
+
     /// How many places there are.
     pub fn places(&self) -> usize {
         self.names.len()
@@ -45,11 +51,19 @@ impl<A: Allocator + Copy> Notices<A> {
 }
 
 /// Tells of some places that stand one behind another, or of none.
-#[derive(Drop)]
 pub struct Teller<A: Allocator> {
     notices: Option<Arc<Notices<A>, A>>,
     // The first of its places.
     first: usize,
+}
+
+impl<A: Allocator> Drop for Teller<A> {
+    fn drop(self) {
+        let Teller {
+            notices: _notices,
+            first: _,
+        } = self;
+    }
 }
 
 impl<A: Allocator + Copy> Teller<A> {

@@ -1,7 +1,7 @@
 //! What is known of a place of which is told.
 
 ghost use Rattle.std.specs.Prelude.{◌≡◌};
-ghost use Rattle.relay_notices.specs.Telling.{is_due, said, told};
+ghost use Rattle.relay_notices.specs.Telling.{counted, is_due, said, told};
 
 use crate::notice::Notice;
 
@@ -16,13 +16,43 @@ pub struct Pending {
     pub left_out: u64,
 }
 
+/// How often it was told of a place that it works, and that it fails; each number stays at the
+/// greatest u64. It fails where the last notice says so.
+#[derive(Clone, Copy, Debug, PartialEq, Eq)]
+pub struct Tally {
+    pub is_failing: bool,
+    pub failures: u64,
+    pub works: u64,
+}
+
 /// What is known of a place: what is to be said of it, from when on something may be said, in
-/// milliseconds, and whether the last notice was that it fails.
+/// milliseconds, and how often it worked and failed.
 #[derive(Clone, Copy, Debug, PartialEq, Eq)]
 pub struct Slot {
     pub pending: Option<Pending>,
     pub due: u64,
-    pub is_failing: bool,
+    pub tally: Tally,
+}
+
+impl Tally {
+    // The same with this notice.
+    fn counted(self, notice: Notice) -> Tally
+        ensures { result ≡ counted notice self }
+    {
+        if notice.is_good() {
+            Tally {
+                is_failing: false,
+                failures: self.failures,
+                works: self.works.saturating_add(1),
+            }
+        } else {
+            Tally {
+                is_failing: true,
+                failures: self.failures.saturating_add(1),
+                works: self.works,
+            }
+        }
+    }
 }
 
 impl Slot {
@@ -30,16 +60,20 @@ impl Slot {
     pub(crate) const UNTOLD: Slot = Slot {
         pending: None,
         due: 0,
-        is_failing: false,
+        tally: Tally {
+            is_failing: false,
+            failures: 0,
+            works: 0,
+        },
     };
 
-    /// The same once this was told. That a place works is passed over where it didn't fail.
+    /// The same once this was told. That a place works is counted, and said only where it failed.
     pub(crate) fn told(self, notice: Notice) -> Slot
         ensures { result ≡ told notice self }
     {
-        let is_good = notice.is_good();
-        if is_good && !self.is_failing {
-            return self;
+        let tally = self.tally.counted(notice);
+        if notice.is_good() && !self.tally.is_failing {
+            return Slot { tally, ..self };
         }
         let left_out = match self.pending {
             Some(pending) => pending.left_out.saturating_add(1),
@@ -48,7 +82,7 @@ impl Slot {
         Slot {
             pending: Some(Pending { notice, left_out }),
             due: self.due,
-            is_failing: !is_good,
+            tally,
         }
     }
 
@@ -66,7 +100,7 @@ impl Slot {
         Slot {
             pending: None,
             due: now.saturating_add(QUIET),
-            is_failing: self.is_failing,
+            tally: self.tally,
         }
     }
 }
