@@ -9,7 +9,9 @@ pub mod Metrics
 pub mod Names
 pub mod Object
 pub mod Order
+pub mod Outputs
 pub mod Status
 pub mod Tallies
+pub mod Texts
 pub mod Times
 pub mod Views

@@ -1,12 +1,11 @@
--- The lines of what a data folder holds.
+-- The lines of buffers and sinks.
 use Rattle.std.specs.Prelude.{ℕ, ◌==◌, cond, List, [], ◌++◌, codes, decimal, fold, Option}
-use Rattle.std.specs.List.{flat_map}
 use Rattle.std.specs.Option.{option_map_or}
 use Rattle.program_text.specs.Lines.{line}
 use Rattle.folder_counts.specs.Counts.{chunks_sum}
 use Rattle.folder_counts.specs.Limits.{age_in, chunks_in, chunks_of, is_above, most_age, no_chunks, oldest_in}
 use Rattle.folder_counts.specs.Times.{instant_text}
-use Rattle.folder_counts.specs.Views.{BufferView, FolderView, SinkView}
+use Rattle.folder_counts.specs.Views.{BufferView, SinkView}
 use Rattle.folder_counts.specs.declared.buffers.Found.{Found}
 use Rattle.folder_counts.specs.declared.buffers.Found.TheVariants.{Chunks, Unsealed, Damaged, Unread}
 use Rattle.folder_counts.specs.declared.counts.ChunkCounts.{ChunkCounts}
@@ -65,8 +64,3 @@ abbrev pub over_lines : Limits → BufferView → List ℕ
 over_lines limits buffer =
     above_line buffer.path (codes " bytes ") limits.bytes (chunks_in buffer.found).bytes ++ above_line buffer.path (codes " chunks ") limits.chunks (chunks_of (chunks_in buffer.found))
     ++ above_line buffer.path (codes " age ") (most_age limits) (age_in limits (oldest_in buffer.found))
-
--- All lines: those of the buffers and of the sinks, in their order, the one of what all buffers
--- hold, and those of the limits that some are above.
-abbrev pub status_lines : Limits → FolderView → List ℕ
-status_lines limits folder = flat_map buffer_line folder.buffers ++ flat_map sink_lines folder.sinks ++ total_line folder.buffers ++ flat_map (over_lines limits) folder.buffers

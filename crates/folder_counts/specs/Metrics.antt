@@ -4,7 +4,7 @@ use Rattle.std.specs.List.{flat_map}
 use Rattle.std.specs.Option.{option_map_or}
 use Rattle.program_text.specs.Lines.{line}
 use Rattle.folder_counts.specs.Times.{seconds_text}
-use Rattle.folder_counts.specs.Views.{BufferView, FolderView, SinkView}
+use Rattle.folder_counts.specs.Views.{BufferView, SinkView}
 use Rattle.folder_counts.specs.declared.buffers.Found.{Found}
 use Rattle.folder_counts.specs.declared.buffers.Found.TheVariants as found
 use Rattle.folder_counts.specs.declared.counts.ChunkCounts.{ChunkCounts}
@@ -36,8 +36,8 @@ abbrev pub comment_line : List ℕ → List ℕ → List ℕ → List ℕ
 comment_line word name said = line (word ++ name ++ codes " " ++ said)
 
 -- the lines in front of a metric's samples: what it is, and its type
-abbrev pub head_lines : List ℕ → List ℕ → List ℕ
-head_lines name help = comment_line (codes "# HELP ") name help ++ comment_line (codes "# TYPE ") name (codes "gauge")
+abbrev pub head_lines : List ℕ → List ℕ → List ℕ → List ℕ
+head_lines name help type = comment_line (codes "# HELP ") name help ++ comment_line (codes "# TYPE ") name type
 
 -- ---- buffers
 
@@ -102,7 +102,7 @@ buffer_sample metric buffer = option_map_or (λ says. sample_line (buffer_name m
 
 -- a metric of buffers
 abbrev pub buffer_family : BufferMetric → List BufferView → List ℕ
-buffer_family metric buffers = head_lines (buffer_name metric) (buffer_help metric) ++ flat_map (buffer_sample metric) buffers
+buffer_family metric buffers = head_lines (buffer_name metric) (buffer_help metric) (codes "gauge") ++ flat_map (buffer_sample metric) buffers
 
 -- a text, and behind it the metrics of what is counted of buffers
 abbrev pub with_buffer_counts : List ℕ → List BufferView → List ℕ
@@ -151,7 +151,7 @@ sink_sample metric one = option_map_or (λ says. sample_line (sink_name metric) 
 
 -- a metric of sinks
 abbrev pub sink_family : SinkMetric → List SinkView → List ℕ
-sink_family metric sinks = head_lines (sink_name metric) (sink_help metric) ++ flat_map (sink_sample metric) sinks
+sink_family metric sinks = head_lines (sink_name metric) (sink_help metric) (codes "gauge") ++ flat_map (sink_sample metric) sinks
 
 -- a text, and behind it the metrics of what is counted of sinks
 abbrev pub with_sink_counts : List ℕ → List SinkView → List ℕ
@@ -161,7 +161,3 @@ with_sink_counts text sinks =
 -- the same, and behind that the one of their newest events
 abbrev pub with_sinks : List ℕ → List SinkView → List ℕ
 with_sinks text sinks = with_sink_counts text sinks ++ sink_family sink.Newest sinks
-
--- the samples of a folder
-abbrev pub status_metrics : FolderView → List ℕ
-status_metrics folder = with_sinks (with_buffers (buffer_family Sound folder.buffers) folder.buffers) folder.sinks

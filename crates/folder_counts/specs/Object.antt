@@ -1,14 +1,12 @@
--- What a folder holds, as a JSON object (RFC 8259): the tokens of its text.
+-- Buffers and sinks in a JSON object (RFC 8259): the tokens of its text.
 use Rattle.std.specs.Prelude.{ℕ, ◌≡◌, cond, List, [], ◌∷◌, ◌++◌, codes, decimal, fold, Option}
 use Rattle.std.specs.Option.{option_map_or}
-use Rattle.json.specs.Print.{print}
 use Rattle.json.specs.Token.{Token, begin_object, end_object, begin_array, end_array, key, string, number}
 use Rattle.json.specs.Written.{Written}
-use Rattle.program_text.specs.Lines.{line}
 use Rattle.folder_counts.specs.Limits.{age_in, chunks_in, chunks_of, is_above, most_age, oldest_in}
 use Rattle.folder_counts.specs.Lines.{total_of}
 use Rattle.folder_counts.specs.Times.{seconds_text}
-use Rattle.folder_counts.specs.Views.{BufferView, FolderView, SinkView}
+use Rattle.folder_counts.specs.Views.{BufferView, SinkView}
 use Rattle.folder_counts.specs.declared.buffers.Found.{Found}
 use Rattle.folder_counts.specs.declared.buffers.Found.TheVariants.{Chunks, Unsealed, Damaged, Unread}
 use Rattle.folder_counts.specs.declared.counts.ChunkCounts.{ChunkCounts}
@@ -105,12 +103,3 @@ with_over limits tokens buffer =
 -- the member of the limits that these buffers are above
 abbrev pub with_overs : List Token → Limits → List BufferView → List Token
 with_overs tokens limits buffers = fold (with_over limits) ((tokens ++ key (codes "over") ∷ []) ++ begin_array ∷ []) buffers ++ end_array ∷ []
-
--- the object of a folder
-abbrev pub with_status : List Token → Limits → FolderView → List Token
-with_status tokens limits folder =
-    with_overs (with_total (with_sinks (with_buffers (tokens ++ begin_object ∷ []) folder.buffers) folder.sinks) folder.buffers) limits folder.buffers ++ end_object ∷ []
-
--- its text, in a line
-abbrev pub status_object : Limits → FolderView → List ℕ
-status_object limits folder = line (print (with_status [] limits folder))

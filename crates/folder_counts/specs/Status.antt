@@ -7,29 +7,30 @@ use Rattle.program_text.specs.declared.status.Status.{Status}
 use Rattle.program_text.specs.declared.status.Status.TheVariants.{Usage}
 use Rattle.folder_counts.specs.Folders.{AreCounted}
 use Rattle.folder_counts.specs.Limits.{status_of}
-use Rattle.folder_counts.specs.Lines.{status_lines}
-use Rattle.folder_counts.specs.Metrics.{status_metrics}
-use Rattle.folder_counts.specs.Object.{status_object}
 use Rattle.folder_counts.specs.Order.{IsInOrder}
-use Rattle.folder_counts.specs.Views.{FolderView}
+use Rattle.folder_counts.specs.Outputs.{state_name, AreOutputs}
+use Rattle.folder_counts.specs.Texts.{status_lines, status_metrics, status_object}
+use Rattle.folder_counts.specs.Views.{FolderView, OutputView}
 use Rattle.folder_counts.specs.declared.limits.Limits.{Limits}
 use Rattle.folder_counts.specs.declared.status.Form.{Form}
 use Rattle.folder_counts.specs.declared.status.Form.TheVariants.{Lines, Object, Metrics}
 
--- the text of a folder in a form
-abbrev pub text_of : Limits → Form → FolderView → List ℕ
-text_of limits Lines folder = status_lines limits folder
-text_of limits Object folder = status_object limits folder
-text_of limits Metrics folder = status_metrics folder
+-- the text of a folder and of its relay's outputs, in a form
+abbrev pub text_of : Limits → Form → FolderView → List OutputView → List ℕ
+text_of limits Lines folder outputs = status_lines limits folder outputs
+text_of limits Object folder outputs = status_object limits folder outputs
+text_of limits Metrics folder outputs = status_metrics folder outputs
 
--- These files are counted, and this is the text of what they hold, in the order of names, and the
--- status that it means.
+-- These files are counted, and this is the text of what they hold, in the order of names, and of
+-- what the relay says of its outputs; and the status that the files mean.
 pub record IsSaid (named : List ℕ → Option (List ℕ)) (files : List Named) (limits : Limits) (form : Form) (text : List ℕ) (status : Status) : Type 0 where
   pub counted : FolderView
   pub folder : FolderView
   pub are_counted : AreCounted named files counted
   pub in_order : IsInOrder counted folder
-  pub text_is : text ≡ text_of limits form folder
+  pub outputs : List OutputView
+  pub outputs_are : AreOutputs (named state_name) outputs
+  pub text_is : text ≡ text_of limits form folder outputs
   pub status_is : status ≡ status_of limits folder
 
 -- what these files hold is printed

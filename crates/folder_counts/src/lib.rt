@@ -1,5 +1,6 @@
 //! The word `status`: what the journals and sinks in a relay's data folder hold, counted for each
-//! buffer and each sink. Files are read in pieces.
+//! buffer and each sink, and what the relay says there of its outputs. Journals and sinks are read
+//! in pieces.
 #![tactic(auto)]
 
 mod buffers;
@@ -13,6 +14,10 @@ mod lines;
 mod metrics;
 mod names;
 mod object;
+mod outputs;
+mod outputs_lines;
+mod outputs_metrics;
+mod outputs_object;
 mod parts;
 mod sinks;
 mod spelling;

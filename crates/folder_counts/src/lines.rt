@@ -1,4 +1,4 @@
-//! The lines of buffers and sinks, and of what they hold together.
+//! The lines of a folder: those of buffers and sinks, and of what they hold together.
 
 ghost use Rattle.std.specs.Prelude.{◌≡◌, ◌++◌, decimal, IfOk, OnOk};
 ghost use Rattle.std.specs.List.{flat_map};
@@ -9,35 +9,40 @@ ghost use Rattle.folder_counts.specs.Lines.{
   over_lines,
   sink_line,
   sink_lines,
-  status_lines,
   time_field,
   total_line,
   total_of,
   with_chunks,
   with_found,
 };
+ghost use Rattle.folder_counts.specs.Texts.{status_lines};
 
 use crate::buffers::{Buffer, Found};
 use crate::counts::{ChunkCounts, NO_CHUNKS};
 use crate::folder::FolderCounts;
 use crate::instant::Instant;
 use crate::limits::{Limits, is_above};
+use crate::outputs::Output;
+use crate::outputs_lines::put_outputs;
 use crate::sinks::Sink;
 use crate::times::put_instant;
 use std::alloc::{AllocError, Allocator};
 
-/// A line for each buffer and each sink, one for all buffers together, and one for each limit that
-/// a buffer is above. The error is want of memory, also for a number of 2^64 or more.
+/// A line for each buffer, each sink and each output, one for all buffers together, and one for
+/// each limit that a buffer is above. The error is want of memory, also for a number of 2^64 or
+/// more.
 pub(crate) fn status_lines<A: Allocator + Copy>(
     alloc: A,
     limits: Limits,
     folder: &FolderCounts<'_, A>,
+    outputs: &[Output<'_>],
 ) -> Result<Vec<u8, A>, AllocError>
-    ensures { IfOk result (λ lines. lines.items ≡ status_lines limits folder.now) }
+    ensures { IfOk result (λ lines. lines.items ≡ status_lines limits folder.now outputs.now) }
 {
     let mut lines = Vec::new(alloc);
     put_buffers(alloc, &mut lines, folder.buffers())?;
     put_sinks(alloc, &mut lines, folder.sinks())?;
+    put_outputs(alloc, &mut lines, folder.buffers(), outputs)?;
     put_total(alloc, &mut lines, folder.buffers())?;
     put_overs(alloc, &mut lines, limits, folder.buffers())?;
     Ok(lines)
@@ -121,8 +126,8 @@ fn put_found<A: Allocator + Copy>(
     }
 }
 
-// Adds a word and an instant; nothing where there is none.
-fn put_time<A: Allocator + Copy>(
+/// Adds a word and an instant; nothing where there is none.
+pub(crate) fn put_time<A: Allocator + Copy>(
     alloc: A,
     line: &mut Vec<u8, A>,
     word: &[u8],

@@ -21,28 +21,30 @@ ghost use Rattle.folder_counts.specs.Metrics.{
   sink_help,
   sink_name,
   sink_sample,
-  status_metrics,
   with_buffer_counts,
   with_buffers,
   with_sink_counts,
   with_sinks,
 };
+ghost use Rattle.folder_counts.specs.Texts.{status_metrics};
 
 use crate::buffers::{Buffer, Found};
 use crate::counts::{ChunkCounts, SinkCounts};
 use crate::folder::FolderCounts;
 use crate::instant::Instant;
 use crate::lines::{begun, put_field};
+use crate::outputs::Output;
+use crate::outputs_metrics::put_outputs;
 use crate::sinks::Sink;
 use crate::times::seconds_text;
 use std::alloc::{AllocError, Allocator};
 
-// What a sample says.
+/// What a sample says.
 #[derive(Clone, Copy, Debug, PartialEq, Eq)]
-enum Figure {
-    // This number.
+pub(crate) enum Figure {
+    /// This number.
     Number(u64),
-    // The seconds that so many nanoseconds are.
+    /// The seconds that so many nanoseconds are.
     Seconds(i128),
 }
 
@@ -149,8 +151,8 @@ impl BufferMetric {
     }
 }
 
-// The seconds of an instant; none where there is none.
-fn seconds_at(instant: Option<Instant>) -> Option<Figure>
+/// The seconds of an instant; none where there is none.
+pub(crate) fn seconds_at(instant: Option<Instant>) -> Option<Figure>
     ensures { result ≡ seconds_at instant }
 {
     match instant {
@@ -220,17 +222,19 @@ impl SinkMetric {
     }
 }
 
-/// The samples of these buffers and sinks, by metrics. The error is want of memory.
+/// The samples of these buffers, sinks and outputs, by metrics. The error is want of memory.
 pub(crate) fn status_metrics<A: Allocator + Copy>(
     alloc: A,
     folder: &FolderCounts<'_, A>,
+    outputs: &[Output<'_>],
 ) -> Result<Vec<u8, A>, AllocError>
-    ensures { IfOk result (λ text. text.items ≡ status_metrics folder.now) }
+    ensures { IfOk result (λ text. text.items ≡ status_metrics folder.now outputs.now) }
 {
     let mut text = Vec::new(alloc);
     put_buffer_family(alloc, &mut text, BufferMetric::Sound, folder.buffers())?;
     put_buffers(alloc, &mut text, folder.buffers())?;
     put_sinks(alloc, &mut text, folder.sinks())?;
+    put_outputs(alloc, &mut text, outputs)?;
     Ok(text)
 }
 
@@ -299,7 +303,7 @@ fn put_buffer_family<A: Allocator + Copy>(
 ) -> Result<(), AllocError>
     ensures { OnOk result (text.new.items ≡ text.old.items ++ buffer_family metric buffers.now) }
 {
-    put_head(alloc, text, metric.name(), metric.help())?;
+    put_head(alloc, text, metric.name(), metric.help(), "gauge")?;
     put_buffer_samples(alloc, text, metric, buffers)
 }
 
@@ -350,7 +354,7 @@ fn put_sink_family<A: Allocator + Copy>(
 ) -> Result<(), AllocError>
     ensures { OnOk result (text.new.items ≡ text.old.items ++ sink_family metric sinks.now) }
 {
-    put_head(alloc, text, metric.name(), metric.help())?;
+    put_head(alloc, text, metric.name(), metric.help(), "gauge")?;
     put_sink_samples(alloc, text, metric, sinks)
 }
 
@@ -385,17 +389,19 @@ fn put_sink_sample<A: Allocator + Copy>(
     }
 }
 
-// Adds the two lines in front of the samples of a metric.
-fn put_head<A: Allocator + Copy>(
+/// Adds the two lines in front of the samples of a metric: what it is, and its type.
+pub(crate) fn put_head<A: Allocator + Copy>(
     alloc: A,
     text: &mut Vec<u8, A>,
     name: &str,
     help: &str,
+    kind: &str,
 ) -> Result<(), AllocError>
-    ensures { OnOk result (text.new.items ≡ text.old.items ++ head_lines name.now help.now) }
+    ensures { OnOk result (text.new.items
+        ≡ text.old.items ++ head_lines name.now help.now kind.now) }
 {
     put_comment(alloc, text, b"# HELP ", name, help)?;
-    put_comment(alloc, text, b"# TYPE ", name, "gauge")
+    put_comment(alloc, text, b"# TYPE ", name, kind)
 }
 
 // Adds a line that says something of a metric.
@@ -416,9 +422,9 @@ fn put_comment<A: Allocator + Copy>(
     text.extend_from_slice(&line)
 }
 
-// Adds the line of a sample: the metric, a label, from its brace to the quote in front of its
-// value, the value, and the figure.
-fn put_sample<A: Allocator + Copy>(
+/// Adds the line of a sample: the metric, a label, from its brace to the quote in front of its
+/// value, the value, and the figure.
+pub(crate) fn put_sample<A: Allocator + Copy>(
     alloc: A,
     text: &mut Vec<u8, A>,
     metric: &str,

@@ -3,7 +3,6 @@
 ghost use Rattle.std.specs.Prelude.{◌≡◌, fold, IfOk, OnOk};
 ghost use Rattle.folder_counts.specs.Object.{
   state_word,
-  status_object,
   with_above,
   with_buffer,
   with_buffers,
@@ -17,12 +16,12 @@ ghost use Rattle.folder_counts.specs.Object.{
   with_overs,
   with_sink,
   with_sinks,
-  with_status,
   with_time,
   with_total,
   with_word,
   Becomes,
 };
+ghost use Rattle.folder_counts.specs.Texts.{status_object, with_status};
 
 use crate::buffers::{Buffer, Found};
 use crate::counts::{ChunkCounts, SinkCounts};
@@ -30,6 +29,8 @@ use crate::folder::FolderCounts;
 use crate::instant::Instant;
 use crate::limits::{Limits, is_above};
 use crate::lines::total_of;
+use crate::outputs::Output;
+use crate::outputs_object::put_outputs;
 use crate::sinks::Sink;
 use crate::times::seconds_text;
 use json::Writer;
@@ -40,11 +41,12 @@ pub(crate) fn status_object<A: Allocator + Copy>(
     alloc: A,
     limits: Limits,
     folder: &FolderCounts<'_, A>,
+    outputs: &[Output<'_>],
 ) -> Result<Vec<u8, A>, AllocError>
-    ensures { IfOk result (λ text. text.items ≡ status_object limits folder.now) }
+    ensures { IfOk result (λ text. text.items ≡ status_object limits folder.now outputs.now) }
 {
     let mut writer = Writer::new(Vec::new(alloc));
-    put_status(alloc, &mut writer, limits, folder)?;
+    put_status(alloc, &mut writer, limits, folder, outputs)?;
     let mut text = writer.into_inner();
     text.extend_from_slice(b"\n")?;
     Ok(text)
@@ -56,20 +58,22 @@ fn put_status<A: Allocator + Copy>(
     writer: &mut Writer<A>,
     limits: Limits,
     folder: &FolderCounts<'_, A>,
+    outputs: &[Output<'_>],
 ) -> Result<(), AllocError>
     ensures { OnOk result (Becomes writer.old writer.new
-        (with_status writer.old.tokens limits folder.now)) }
+        (with_status writer.old.tokens limits folder.now outputs.now)) }
 {
     writer.begin_object()?;
     put_buffers(alloc, writer, folder.buffers())?;
     put_sinks(alloc, writer, folder.sinks())?;
+    put_outputs(alloc, writer, folder.buffers(), outputs)?;
     put_total(writer, folder.buffers())?;
     put_overs(writer, limits, folder.buffers())?;
     writer.end_object()
 }
 
-// Writes a member whose value is this number.
-fn put_number<A: Allocator>(
+/// Writes a member whose value is this number.
+pub(crate) fn put_number<A: Allocator>(
     writer: &mut Writer<A>,
     key: &str,
     number: u64,
@@ -167,9 +171,9 @@ fn put_found<A: Allocator + Copy>(
     }
 }
 
-// Writes a member whose value is this instant, in seconds since the beginning of 1970 with nine
-// places behind the point; nothing where there is none.
-fn put_time<A: Allocator + Copy>(
+/// Writes a member whose value is this instant, in seconds since the beginning of 1970 with nine
+/// places behind the point; nothing where there is none.
+pub(crate) fn put_time<A: Allocator + Copy>(
     alloc: A,
     writer: &mut Writer<A>,
     key: &str,

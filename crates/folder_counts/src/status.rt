@@ -9,6 +9,7 @@ use crate::limits::{Limits, status_of};
 use crate::lines::status_lines;
 use crate::metrics::status_metrics;
 use crate::object::status_object;
+use crate::outputs::{Output, outputs_of, state_text};
 use folder_listing::DataFile;
 use journal_reading::OpenPlaced;
 use program_text::{Status, put_last};
@@ -27,7 +28,9 @@ pub enum Form {
 }
 
 /// Prints what these files hold, in this form: each buffer and each sink, in the order of their
-/// names, what all buffers hold together, and which are above a limit. The status is `Usage` where
+/// names, what the relay's own file `relay.status` says of its outputs, what all buffers hold
+/// together, and which are above a limit. Where that file isn't read, there are no outputs. The
+/// status is `Usage` where
 /// a journal that counts, or a file of a sink, is damaged or isn't read; else `No` where a buffer
 /// is above a limit. It is `Usage` too where memory runs out, also for a number of 2^64 or more,
 /// and where the writer fails.
@@ -68,23 +71,26 @@ fn say_status<A: Allocator + Copy, B: Allocator, O: OpenPlaced>(
 {
     let mut folder = count_folder(alloc, listed, files)?;
     folder.sort();
-    let text = text_of(alloc, &folder, limits, form)?;
+    let state = state_text(alloc, files)?;
+    let outputs = outputs_of(alloc, &state)?;
+    let text = text_of(alloc, limits, form, &folder, &outputs)?;
     let status = status_of(limits, &folder);
     Ok(Said { text, status })
 }
 
-// The text of a folder in this form. The error is want of memory.
+// The text of a folder and of its relay's outputs, in this form. The error is want of memory.
 fn text_of<A: Allocator + Copy>(
     alloc: A,
-    folder: &FolderCounts<'_, A>,
     limits: Limits,
     form: Form,
+    folder: &FolderCounts<'_, A>,
+    outputs: &[Output<'_>],
 ) -> Result<Vec<u8, A>, AllocError>
-    ensures { IfOk result (λ text. text.items ≡ text_of limits form folder.now) }
+    ensures { IfOk result (λ text. text.items ≡ text_of limits form folder.now outputs.now) }
 {
     match form {
-        Form::Lines => status_lines(alloc, limits, folder),
-        Form::Object => status_object(alloc, limits, folder),
-        Form::Metrics => status_metrics(alloc, folder),
+        Form::Lines => status_lines(alloc, limits, folder, outputs),
+        Form::Object => status_object(alloc, limits, folder, outputs),
+        Form::Metrics => status_metrics(alloc, folder, outputs),
     }
 }

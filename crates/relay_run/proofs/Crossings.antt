@@ -26,6 +26,8 @@ use Rattle.relay_notices.specs.contracts.notices.Teller as Teller
 use Rattle.relay_notices.proofs.notices.Notices.TheSendSync as notices
 use Rattle.relay_run.specs.contracts.flush.Carrier as Carrier
 use Rattle.relay_run.specs.contracts.flush.Pool as Pool
+use Rattle.relay_run.specs.contracts.state.StateFile as StateFile
+use Rattle.relay_run.specs.contracts.state.Watched as Watched
 use Rattle.relay_run.specs.contracts.voice.Flags as Flags
 
 module _ (D A : RattleType) (d : dir.Ghosts D.Denot) (a : alloc.Ghosts A.Denot) where
@@ -55,6 +57,14 @@ Flags-send = search (crosses, sendable) depth 20
 
 pub Flags-sync : IsSync Flags.the_field.row
 Flags-sync = search (crosses, sendable) depth 20
+
+-- The file that the thread keeps.
+
+Watched-send : IsSend Watched.the_field.row
+Watched-send = search (crosses, over.crosses, sendable) depth 60 fits 20000
+
+pub StateFile-send : IsSend StateFile.the_field.row
+StateFile-send = let w = Watched-send in search (crosses, over.crosses, sendable) depth 60 fits 20000
 
 -- A sink that stays open.
 

@@ -129,12 +129,14 @@ impl Pool {
         ensures carrier { IfOk result (IsPoolOf home.entry.path.now) }
     {
         let settings = job.output().buffer();
+        let buffer = Arc::try_clone(job.buffer())?;
+        let theirs = Arc::try_clone(stop)?;
         Ok(Pool {
-            buffer: Arc::try_clone(job.buffer())?,
+            buffer,
             carrier: carrier_of(rt, home, job.output(), stop, voice.of_carrier(number))?,
             threads: settings.flush_thread_count,
             retry: settings.retry,
-            stop: Arc::try_clone(stop)?,
+            stop: theirs,
             teller: voice.of_chunks(number),
             of: Snapshot::of(job),
         })

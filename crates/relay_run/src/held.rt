@@ -1,10 +1,39 @@
 //! A relay's folder, which it has to itself.
 
+use crate::flush::{Home, copy_of};
 use buffer_store::BufferFault;
 use loop_core::LoopFault;
+use std::alloc::Global;
 use std::fs;
 use std::fs::TryLockError;
 use std::rt::Files;
+use std::sync::Arc;
+use std::sync::atomic::AtomicBool;
+
+/// What a relay has of its folder before a file in it is touched.
+pub(crate) struct OwnFolder {
+    /// A handle of its own.
+    pub files: HostRuntime,
+    /// The folder, which no other relay takes.
+    pub held: HeldFolder,
+    /// Raised where what works there shall end.
+    pub stop: Arc<AtomicBool>,
+}
+
+impl OwnFolder {
+    /// Makes the folder, and takes it.
+    ///
+    /// `Buffer`: it can't be made, or another relay has it. `Memory`.
+    pub(crate) fn take(alloc: Global, home: Home<'_>) -> Result<OwnFolder, LoopFault> {
+        let files = copy_of(home.files)?;
+        let stop = Arc::new(alloc, AtomicBool::new(false))?;
+        if fs::create_dir_all(&files, home.path).is_err() {
+            return Err(LoopFault::Buffer(BufferFault::Fault));
+        }
+        let held = HeldFolder::take(&files, home.path)?;
+        Ok(OwnFolder { files, held, stop })
+    }
+}
 
 type OpenFolder = <HostRuntime as Files>::File;
 

@@ -6,6 +6,7 @@ mod held;
 mod names;
 mod relay;
 mod running;
+mod state;
 mod voice;
 
 pub use flush::Home;

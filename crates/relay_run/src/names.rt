@@ -16,7 +16,14 @@ pub(crate) struct Places {
     /// The journals of these buffers.
     pub journals: usize,
     /// The servers of each of these outputs, or its sink.
-    pub carriers: Vec<usize, Global>,
+    pub carriers: Vec<Carriers, Global>,
+}
+
+/// The places of what carries an output's chunks: the first, and the one behind the last.
+#[derive(Clone, Copy)]
+pub(crate) struct Carriers {
+    pub first: usize,
+    pub end: usize,
 }
 
 /// The places of a relay with files in this folder, and their names. The error is want of memory.
@@ -75,13 +82,12 @@ fn put_outputs_of(
     Ok(())
 }
 
-// Puts the names of what carries the chunks of a scope's outputs, and at which place those of each
-// begin.
+// Puts the names of what carries the chunks of a scope's outputs, and the places of each.
 fn put_carriers(
     alloc: Global,
     scope: &Scope<Global>,
     folder: &str,
-    carriers: &mut Vec<usize, Global>,
+    carriers: &mut Vec<Carriers, Global>,
     names: &mut Names,
 ) -> Result<(), AllocError> {
     for rule in &scope.matches {
@@ -96,22 +102,21 @@ fn put_carriers_of(
     alloc: Global,
     output: &Output<Global>,
     folder: &str,
-    carriers: &mut Vec<usize, Global>,
+    carriers: &mut Vec<Carriers, Global>,
     names: &mut Names,
 ) -> Result<(), AllocError> {
+    let first = names.len();
     match output {
-        Output::Null { line: _ } | Output::Relabel { target: _, line: _ } => Ok(()),
-        Output::Forward { settings, line: _ } => {
-            carriers.push(names.len())?;
-            put_servers(alloc, &settings.servers, names)
-        }
+        Output::Null { line: _ } | Output::Relabel { target: _, line: _ } => return Ok(()),
+        Output::Forward { settings, line: _ } => put_servers(alloc, &settings.servers, names)?,
         Output::File { settings, line: _ } => {
-            carriers.push(names.len())?;
             let sink = settings.path.as_str();
             names.push(format!(in alloc; "sink {sink} in {folder}")?)?;
-            Ok(())
         }
     }
+    let end = names.len();
+    carriers.push(Carriers { first, end })?;
+    Ok(())
 }
 
 fn put_servers(

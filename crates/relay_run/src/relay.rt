@@ -134,7 +134,10 @@ where
         ensures { PrintsRun self.now (setup_of number relay) (W.contents out.old) (W.contents out.new) result }
     {
         match self.open(relay, number, voice) {
-            Ok(running) => self.run_open(running, voice, out),
+            Ok(running) => {
+                voice.keep_state();
+                self.run_open(running, voice, out)
+            }
             Err(fault) => {
                 voice.tell_end(self.rt, fault);
                 put_last(out, fault_line(fault).as_bytes(), Status::Usage)

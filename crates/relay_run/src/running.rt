@@ -5,12 +5,11 @@ ghost use Rattle.relay_run.specs.Running.{Continues, IsPoolOf, first_fault, rela
 ghost use Rattle.relay_run.specs.Starting.{ready_lines};
 
 use crate::flush::{Folder, Home, Pool, PoolEnd, copy_of};
-use crate::held::HeldFolder;
+use crate::held::{HeldFolder, OwnFolder};
 use crate::voice::Voice;
-use buffer_store::BufferFault;
 use loop_core::LoopFault;
 use mio_relay::{BoundRelay, Ended, InLoop, OpenRelay, ReadyPorts};
-use relay_buffers::{DeliveryJob, Folders, SystemFolders};
+use relay_buffers::{DeliveryJob, SystemFolders};
 use relay_sockets::SocketNetwork;
 use std::alloc::{AllocError, Allocator, Global};
 use std::marker::Model;
@@ -155,13 +154,12 @@ where
     ) -> Result<Self, LoopFault>
         ensures { IfOk result (Continues home.entry.path.now bound) }
     {
-        let stop = Arc::new(rt.alloc(), AtomicBool::new(false))?;
+        let OwnFolder { files, held, stop } = OwnFolder::take(rt.alloc(), home)?;
         let folders = SystemFolders {
-            rt: copy_of(home.files)?,
+            rt: files,
             alloc: rt.alloc(),
             path: home.path,
         };
-        let held = hold(&folders, home)?;
         let OpenRelay {
             turning,
             jobs,
@@ -177,8 +175,7 @@ where
                 held,
             }),
             Err(fault) => {
-                stop.store(true, Ordering::SeqCst);
-                let _ = turning.run(rt, &stop);
+                close(rt, turning, &stop);
                 Err(fault)
             }
         }
@@ -220,15 +217,10 @@ where
     }
 }
 
-// Makes the folder ready, and takes it, before a file in it is touched.
-fn hold(
-    folders: &SystemFolders<'_, HostRuntime, Global>,
-    home: Home<'_>,
-) -> Result<HeldFolder, LoopFault> {
-    if !folders.make_ready() {
-        return Err(LoopFault::Buffer(BufferFault::Fault));
-    }
-    HeldFolder::take(home.files, home.path)
+// Closes a loop that didn't run.
+fn close<R: Wait + Net + Clock + Clone + Drop>(rt: &R, turning: Turning<R>, stop: &AtomicBool) {
+    stop.store(true, Ordering::SeqCst);
+    let _ = turning.run(rt, stop);
 }
 
 // What delivers the chunks of each output, and the lines that say that the sources are ready.
@@ -299,14 +291,33 @@ where
     let mut left = pools.into_iter();
     while let Some(pool) = left.next() {
         threads.reserve(1)?;
-        let theirs = copy_of(rt)?;
-        let promise = EndsAs(Snapshot::of(&pool));
-        match thread::spawn_with(rt, promise, move || pool.run(&theirs)) {
-            Ok(thread) => threads.push_reserved(thread),
-            Err(_) => return Err(LoopFault::Memory),
-        }
+        threads.push_reserved(start(rt, pool)?);
     }
     Ok(())
+}
+
+// Starts the thread of a pool. The error is want of memory for it.
+fn start<R>(rt: &R, pool: Pool) -> Result<Delivery, LoopFault>
+where
+    R: Wait
+        + Threads
+        + Net<Listener = TcpListener, Stream = TcpStream>
+        + Clock
+        + AllocGlobal
+        + Clone
+        + Drop
+        + Send
+        + Sync
+        + 'static,
+    ensures started { IfOk result (λ thread. thread.promise ≡ pool) }
+    ensures full { IfErr result (λ fault. fault ≡ LoopFault.Memory) }
+{
+    let theirs = copy_of(rt)?;
+    let promise = EndsAs(Snapshot::of(&pool));
+    match thread::spawn_with(rt, promise, move || pool.run(&theirs)) {
+        Ok(thread) => Ok(thread),
+        Err(_) => Err(LoopFault::Memory),
+    }
 }
 
 // Waits for the threads to end. Where there is no memory for what they give, they have ended all

@@ -2,6 +2,7 @@
 
 use crate::flush::{Home, copy_of};
 use crate::names::{Places, places_of};
+use crate::state::StateFile;
 use loop_core::LoopFault;
 use relay_conf::Relay;
 use relay_notices::{Due, Ending, Notice, Notices, Teller, line_of};
@@ -19,8 +20,8 @@ const REST: u64 = 100;
 /// How often it is looked whether all was said, with ten milliseconds between: for a second.
 const LOOKS: u32 = 100;
 
-/// A relay's notices: who has something to tell tells it here, and a thread says it. So who tells
-/// never waits for standard error.
+/// A relay's notices: who has something to tell tells it here, and a thread says it, and keeps the
+/// file that tells of the outputs. So who tells never waits for standard error, or for a disk.
 #[derive(Drop)]
 pub(crate) struct Voice {
     notices: Arc<Notices<Global>>,
@@ -31,6 +32,8 @@ pub(crate) struct Voice {
 // What the thread and who ends it tell each other.
 #[derive(Drop)]
 struct Flags {
+    // The folder is the relay's own.
+    is_open: AtomicBool,
     // Nothing more is told.
     is_over: AtomicBool,
     // All was said.
@@ -50,6 +53,7 @@ impl Voice {
     {
         let alloc = home.files.alloc();
         let (places, names) = places_of(alloc, relay, home.path)?;
+        let state = StateFile::new(home, relay, &places.carriers)?;
         let notices = Arc::new(alloc, Notices::new(alloc, names)?)?;
         let flags = Arc::new(alloc, Flags::new())?;
         let voice = Voice {
@@ -57,7 +61,7 @@ impl Voice {
             places,
             flags,
         };
-        voice.spawn(rt)?;
+        voice.spawn(rt, state)?;
         if relay.sources.is_empty() {
             voice.notices.tell(rt, 0, Notice::NoSource);
         }
@@ -65,17 +69,22 @@ impl Voice {
     }
 
     // Starts the thread. It isn't joined: where nobody reads standard error, it may wait for ever.
-    fn spawn<R>(&self, rt: &R) -> Result<(), LoopFault>
+    fn spawn<R>(&self, rt: &R, state: StateFile) -> Result<(), LoopFault>
     where
         R: Wait + Threads + Clock + Eprint + AllocGlobal + Clone + Drop + Send + 'static,
     {
         let theirs = copy_of(rt)?;
         let notices = Arc::try_clone(&self.notices)?;
         let flags = Arc::try_clone(&self.flags)?;
-        match thread::spawn(rt, move || say_all(&theirs, &notices, &flags)) {
+        match thread::spawn(rt, move || say_all(&theirs, &notices, &flags, state)) {
             Ok(_) => Ok(()),
             Err(_) => Err(LoopFault::Memory),
         }
+    }
+
+    /// The relay has its folder: what no journal tells is kept in a file there.
+    pub(crate) fn keep_state(&self) {
+        self.flags.is_open.store(true, Ordering::SeqCst);
     }
 
     /// Nothing more is told: waits until all is said, for a second at most.
@@ -113,7 +122,7 @@ impl Voice {
     /// Tells of what carries the chunks of the buffer with this number: its servers, or its sink.
     pub(crate) fn of_carrier(&self, buffer: usize) -> Teller<Global> {
         match self.places.carriers.get(buffer) {
-            Some(first) => self.teller(*first),
+            Some(places) => self.teller(places.first),
             None => Teller::silent(),
         }
     }
@@ -127,25 +136,32 @@ impl Flags {
     // It begins.
     fn new() -> Flags {
         Flags {
+            is_open: AtomicBool::new(false),
             is_over: AtomicBool::new(false),
             is_done: AtomicBool::new(false),
         }
     }
 }
 
-// Says what is told until nothing more is.
+// Says what is told until nothing more is, and keeps the file meanwhile.
 fn say_all<R: Wait + Clock + Eprint + AllocGlobal>(
     rt: &R,
     notices: &Notices<Global>,
     flags: &Flags,
+    state: StateFile,
 ) {
+    let mut state = state;
     for _ in rt.forever() {
-        if flags.is_over.load(Ordering::SeqCst) {
-            say_due(rt, notices, u64::MAX);
+        let is_over = flags.is_over.load(Ordering::SeqCst);
+        let now = if is_over { u64::MAX } else { now_after(rt, 0) };
+        say_due(rt, notices, now);
+        if flags.is_open.load(Ordering::SeqCst) {
+            state.look(rt, notices, now, second_of(rt));
+        }
+        if is_over {
             flags.is_done.store(true, Ordering::SeqCst);
             return;
         }
-        say_due(rt, notices, now_after(rt, 0));
         thread::sleep(rt, Duration::from_millis(REST));
     }
 }
@@ -162,13 +178,17 @@ fn say_due<R: Wait + Clock + Eprint + AllocGlobal>(rt: &R, notices: &Notices<Glo
 
 // Says this. Where it can't be written, or there is no memory for its line, it is passed over.
 fn say<R: Clock + Eprint + AllocGlobal>(rt: &R, notices: &Notices<Global>, due: &Due) {
-    let second = match rt.since_1970() {
+    let name = notices.name(due.place).unwrap_or("");
+    if let Ok(line) = line_of(rt.alloc(), second_of(rt), name, &due.pending) {
+        let _ = rt.eprint(line);
+    }
+}
+
+// How many seconds have passed since 1970 began; 0 where the host has no time.
+fn second_of(rt: &impl Clock) -> u64 {
+    match rt.since_1970() {
         Ok(since) => since.as_secs(),
         Err(_) => 0,
-    };
-    let name = notices.name(due.place).unwrap_or("");
-    if let Ok(line) = line_of(rt.alloc(), second, name, &due.pending) {
-        let _ = rt.eprint(line);
     }
 }
 

@@ -13,6 +13,7 @@ mod follow;
 mod label;
 mod listing;
 mod status;
+mod watched;
 mod words;
 
 use check::{lent_names, run_adapted_check, run_check};
@@ -64,10 +65,10 @@ adapt CONF       prints the configuration CONF, as it runs in Fluentd, in the fo
 show DIR         prints which chunks the journals in a relay's data folder DIR hold,
                  and how many events its sinks hold
 status DIR       prints what each buffer and each sink in a relay's data folder DIR holds, when the
-                 oldest event that waits and a sink's newest one happened, and what all buffers hold
-                 together; --max-bytes N, --max-chunks N: the status is 1 where a buffer holds more;
-                 --max-age SECONDS: and where its oldest event is older; --json, --prometheus: in
-                 these forms
+                 oldest event that waits and a sink's newest one happened, what the relay says of
+                 its outputs, and what all buffers hold together; --max-bytes N, --max-chunks N: the
+                 status is 1 where a buffer holds more; --max-age SECONDS: and where its oldest
+                 event is older; --json, --prometheus: in these forms
 events PATH..    prints the events that sinks hold, and those that buffers have yet to deliver, each
                  as a line of JSON; PATH is a file of a sink, as all.0000000001.sink, or a journal,
                  as out.0000000001.journal, or a relay's data folder; --tag PATTERN: those whose

@@ -7,6 +7,7 @@ ghost use Rattle.plan_answers.specs.Networks.{unread_line};
 ghost use Rattle.program_text.specs.Output.{IsPrinted};
 ghost use Rattle.program_text.specs.declared.status.Status.TheVariants.{Usage};
 
+use crate::watched::WatchedFolder;
 use folder_counts::{AgeLimit, Form, Limits, run_status};
 use folder_listing::{DataFile, DataFolder};
 use jiff::Timestamp;
@@ -129,9 +130,9 @@ fn number_of(word: &str) -> Option<u64> {
     }
 }
 
-/// Prints what the journals and sinks of a data folder hold. Where there are none, that is said on
-/// standard error; so it is where ages are asked for and the host has no time, with the status
-/// `Usage`.
+/// Prints what the journals and sinks of a data folder hold, and what its relay says of its outputs.
+/// Where there are no journals and no sinks, that is said on standard error; so it is where ages are
+/// asked for and the host has no time, with the status `Usage`.
 pub fn print_status<W: Write>(rt: &HostRuntime, asked: StatusWords<'_>, out: &mut W) -> Status {
     let Ok(limits) = limits_now(rt, asked) else {
         let _ = eprintln!(rt; "fault clock");
@@ -144,7 +145,8 @@ pub fn print_status<W: Write>(rt: &HostRuntime, asked: StatusWords<'_>, out: &mu
     {
         let _ = eprintln!(rt; "{}: no journals and no sinks are there", asked.path);
     }
-    status_listed(rt.alloc(), listed, &folder, limits, asked.form, out)
+    let files = WatchedFolder::new(rt, asked.path, folder);
+    status_listed(rt.alloc(), listed, &files, limits, asked.form, out)
 }
 
 // The limits that are asked for, with the host's time where an age is one.

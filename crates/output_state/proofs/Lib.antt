@@ -1,0 +1,4 @@
+mod Digits
+mod Kept
+mod Lines
+mod ReadBack
