@@ -174,7 +174,7 @@ def digest(salt, name, nonce, key):
 
 
 class Client(Stream):
-    def __init__(self, port, wait=10.0, host=HOST):
+    def __init__(self, port, wait=30.0, host=HOST):
         super().__init__(socket.create_connection((host, port), timeout=wait), wait)
         self.nonce = None
 
@@ -209,7 +209,7 @@ def main():
     parser.add_argument("--count", type=int, default=3)
     parser.add_argument("--key")
     parser.add_argument("--cut", default="whole")
-    parser.add_argument("--wait", type=float, default=10.0)
+    parser.add_argument("--wait", type=float, default=30.0)
     words = parser.parse_args()
     try:
         client = Client(words.port, words.wait)
