@@ -1,10 +1,12 @@
 """Relays in folders of their own, for the trials: standard library alone, and loopback alone."""
-import contextlib, os, shutil, signal, socket, subprocess, tempfile, time
+import contextlib, os, re, shutil, signal, socket, subprocess, tempfile, time
 from client import HOST, Client, chunk_id, message, stored, take
 
 TAG = "app.x"
 # Connections come from HOST: so none of them takes the port of a relay here that is down.
 OTHER = "127.0.0.2"
+# What a relay says, behind the time.
+LINE = re.compile(r"^\d{4}-\d\d-\d\dT\d\d:\d\d:\d\dZ (.+)$")
 
 
 def section(name, lines, argument=""):
@@ -60,10 +62,19 @@ def edge_conf(port, servers, *its, more=()):
     return source(port, *its) + match("app.**", to_servers(servers, buffer("out"), *more))
 
 
+# The sockets that keep the ports that were given.
+held_ports = []
+
+
 def free_port(host=HOST):
-    with socket.socket() as found:
-        found.bind((host, 0))
-        return found.getsockname()[1]
+    """A port for a relay. It stays bound here, to the end: so no other process, no other relay and no
+    connection gets it before the relay, or while that is down. The relay binds it all the same, since both
+    sockets have SO_REUSEADDR and this one doesn't listen; a client is refused until it does."""
+    held = socket.socket()
+    held.setsockopt(socket.SOL_SOCKET, socket.SO_REUSEADDR, 1)
+    held.bind((host, 0))
+    held_ports.append(held)
+    return held.getsockname()[1]
 
 
 def away(host=HOST):
@@ -122,10 +133,12 @@ class Relay:
     def run(self, folder=None):
         """Runs it to its end: its status, and what it prints."""
         words = [self.program, "relay", self.conf, str(self.number), folder or self.folder]
-        ran = subprocess.run(words, capture_output=True, text=True, timeout=20)
+        with open(self.said + ".err", "a") as err:
+            outputs = {"stdout": subprocess.PIPE, "stderr": err}
+            ran = subprocess.run(words, **outputs, text=True, timeout=60)
         return ran.returncode, ran.stdout
 
-    def ended(self, wait=20):
+    def ended(self, wait=60):
         """Its status, once it has ended by itself."""
         try:
             return self.process.wait(wait)
@@ -173,7 +186,7 @@ class Relay:
         return [event for file in self.sink_files(path) for event in stored_in(file)]
 
 
-def becomes(holds, wait=20.0):
+def becomes(holds, wait=60.0):
     """Whether this comes to hold."""
     until = time.monotonic() + wait
     while not holds():
@@ -183,12 +196,34 @@ def becomes(holds, wait=20.0):
     return True
 
 
-def comes(relay, wanted, path="all", wait=20.0):
+def comes(relay, wanted, path="all", wait=60.0):
     """Whether these events come to stand in the relay's sink."""
     return becomes(lambda: set(wanted) <= set(relay.sink(path)), wait)
 
 
-def sends(port, n, tag=TAG, key=None, host=HOST, wait=5.0):
+def told(text):
+    """What is said in this text, a line each, without the times; a line that has none is marked."""
+    found = [(line, LINE.match(line)) for line in text.splitlines()]
+    return [line.group(1) if line else "no line: " + whole for whole, line in found]
+
+
+def said(relay):
+    """What a relay said."""
+    with open(relay.said + ".err") as text:
+        return told(text.read())
+
+
+def says(relay, line, wait=60.0):
+    """Whether it comes to say this line."""
+    return becomes(lambda: line in said(relay), wait)
+
+
+def begins_to_say(relay, text, wait=60.0):
+    """Whether it comes to say a line that begins so: how often it was left out may stand behind."""
+    return becomes(lambda: any(line.startswith(text) for line in said(relay)), wait)
+
+
+def sends(port, n, tag=TAG, key=None, host=HOST, wait=30.0):
     """Whether event N is acknowledged that a client sends there."""
     try:
         client = Client(port, wait=wait, host=host)
@@ -214,7 +249,8 @@ class Report:
 
     def case(self, name, holds, why=""):
         self.failed += not holds
-        print("ok" if holds else "failed", name, "" if holds else why, flush=True)
+        # In one piece, as several trials print at once.
+        print("%s %s %s\n" % ("ok" if holds else "failed", name, "" if holds else why), end="", flush=True)
 
     def run(self, trial, room):
         """A trial with its cases, of which the last is that it doesn't break off."""

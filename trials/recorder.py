@@ -3,13 +3,18 @@ import base64, os, socket, struct, threading, time
 from client import HOST, Stream, array, digest, table, text
 
 
+def acknowledgement(chunk):
+    return table([("ack", text(chunk))])
+
+
 class Recorder(threading.Thread):
     """A server at a free port, which acknowledges each message, but says nothing on its first connections. Or one without the key, which shows
-    each client its own name and digest."""
+    each client its own name and digest. Or one that gives another answer to a message with a chunk, or closes the connection where that is
+    empty."""
 
-    def __init__(self, key=None, silent=0, host=HOST, reflects=False):
+    def __init__(self, key=None, silent=0, host=HOST, reflects=False, answer=acknowledgement):
         super().__init__(daemon=True)
-        self.key, self.silent, self.host, self.reflects = key, silent, host, reflects
+        self.key, self.silent, self.host, self.reflects, self.answer = key, silent, host, reflects, answer
         self.chunks, self.times, self.salts, self.connections = [], [], [], []
         self.socket = socket.create_server((host, 0), backlog=128)
         self.port = self.socket.getsockname()[1]
@@ -33,8 +38,11 @@ class Recorder(threading.Thread):
                 tag, packed, option = stream.value()
                 self.times.append(time.monotonic())
                 self.chunks.append((tag, packed, option[b"chunk"]))
+                answer = self.answer(option[b"chunk"])
+                if not answer:
+                    return stream.close()
                 if place > self.silent:
-                    stream.send(table([("ack", text(option[b"chunk"]))]))
+                    stream.send(answer)
         except (OSError, TimeoutError):
             stream.close()
 
