@@ -26,7 +26,7 @@ pub enum HandshakeFault {
 }
 
 /// What a server makes of an item that should be a PING.
-#[derive(Clone, Copy, Debug, Drop, PartialEq, Eq)]
+#[derive(Clone, Copy, Drop, PartialEq, Eq)]
 pub enum Ping {
     /// It is a PING, and the client has the shared key.
     Passed,

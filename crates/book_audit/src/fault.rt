@@ -35,7 +35,7 @@ impl fmt::Display for BookFault {
 impl Error for BookFault {}
 
 /// Why an audit gives no account.
-#[derive(Clone, Copy, Debug, PartialEq, Eq)]
+#[derive(Clone, Copy, PartialEq, Eq)]
 pub enum AuditError {
     /// The stubs don't account for the book.
     Fault(BookFault),

@@ -7,7 +7,7 @@ use std::alloc::Allocator;
 use std::marker::Model;
 
 /// A buffer that a delivery goes to: the relay's number, and the buffer's number in that relay.
-#[derive(Clone, Copy, Debug, PartialEq, Eq)]
+#[derive(Clone, Copy, PartialEq, Eq)]
 pub struct Leaf {
     pub relay: u32,
     pub buffer: u32,
@@ -15,7 +15,7 @@ pub struct Leaf {
 
 /// An append of one delivery to one chunk of a buffer: the delivery's number, the chunk's serial,
 /// and how many entries were appended.
-#[derive(Clone, Copy, Debug, PartialEq, Eq)]
+#[derive(Clone, Copy, PartialEq, Eq)]
 pub struct Line {
     pub delivery: u64,
     pub serial: u64,
@@ -24,7 +24,7 @@ pub struct Line {
 
 /// What is left of a receipt: the buffer, the chunk's serial, and the line of the buffer's book,
 /// counted from 0.
-#[derive(Clone, Copy, Debug, PartialEq, Eq)]
+#[derive(Clone, Copy, PartialEq, Eq)]
 pub struct Part {
     pub relay: u32,
     pub buffer: u32,

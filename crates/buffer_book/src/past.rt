@@ -13,7 +13,7 @@ use std::marker::Model;
 use std::snapshot::Snapshot;
 
 /// A line of the book, as contracts see it: the place of its append, and what it says.
-#[derive(Clone, Copy, Debug, PartialEq, Eq)]
+#[derive(Clone, Copy, PartialEq, Eq)]
 pub struct Written {
     pub place: u64,
     pub line: Line,

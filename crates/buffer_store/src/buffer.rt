@@ -25,7 +25,7 @@ use std::alloc::Allocator;
 use std::marker::Model;
 
 /// Where entries were appended.
-#[derive(Clone, Copy, Debug, PartialEq, Eq)]
+#[derive(Clone, Copy, PartialEq, Eq)]
 pub struct Appended {
     /// The serial of the chunk that has them.
     pub serial: u64,

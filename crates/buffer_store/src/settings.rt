@@ -9,7 +9,7 @@ pub const RENEWED_PAST_IN_FILES: u64 = 268_435_456;
 pub const RENEWED_PAST_IN_MEMORY: u64 = 16_777_216;
 
 /// What a buffer takes at most, and when its journal is to be renewed.
-#[derive(Clone, Copy, Debug, PartialEq, Eq)]
+#[derive(Clone, Copy, PartialEq, Eq)]
 pub struct Settings {
     /// How many bytes of entries a chunk and the buffer take at most.
     pub limits: Limits,

@@ -15,7 +15,7 @@ const LENGTHS_END: u64 = 1 << 24;
 
 /// Where bytes lie in a journal: the first of them, and how many. They begin below 2^40, and are
 /// fewer than 2^24.
-#[derive(Clone, Copy, Debug, PartialEq, Eq)]
+#[derive(Clone, Copy, PartialEq, Eq)]
 pub struct Extent {
     // `at * 2^24 + length`, since a buffer keeps one for each append to a live chunk
     bits: u64,

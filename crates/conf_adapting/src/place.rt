@@ -1,7 +1,7 @@
 //! Where a section or a parameter stands.
 
 /// The types of outputs that a relay has.
-#[derive(Clone, Copy, Debug, PartialEq, Eq)]
+#[derive(Clone, Copy, PartialEq, Eq)]
 pub(crate) enum OutputKind {
     Forward,
     File,
@@ -25,7 +25,7 @@ impl OutputKind {
 }
 
 /// What a section is, by its name, its type and where it stands.
-#[derive(Clone, Copy, Debug, PartialEq, Eq)]
+#[derive(Clone, Copy, PartialEq, Eq)]
 pub(crate) enum Place {
     /// The whole configuration.
     Top,

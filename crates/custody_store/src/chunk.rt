@@ -24,7 +24,7 @@ pub enum Stage {
 }
 
 /// What may be asked of a live chunk.
-#[derive(Clone, Copy, Debug, PartialEq, Eq)]
+#[derive(Clone, Copy, PartialEq, Eq)]
 pub struct Look {
     /// What it waits for.
     pub stage: Stage,

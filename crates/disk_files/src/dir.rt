@@ -13,11 +13,11 @@ use std::marker::Model;
 use thiserror::Error;
 
 /// An open file of a folder.
-#[derive(Clone, Copy, Debug, PartialEq, Eq)]
+#[derive(Clone, Copy, PartialEq, Eq)]
 pub struct FileNo(pub usize);
 
 /// When bytes that are added to a file are handed to the system.
-#[derive(Clone, Copy, Debug, PartialEq, Eq)]
+#[derive(Clone, Copy, PartialEq, Eq)]
 pub enum Writing {
     /// Before the call returns: write-through.
     Through,

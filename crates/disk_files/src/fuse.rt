@@ -7,7 +7,7 @@ ghost use Rattle.disk_files.specs.Faults.{Rises};
 use crate::{Dir, DirError, FileName, FileNo, Writing};
 use std::alloc::{AllocError, Allocator};
 
-#[derive(Clone, Copy, Debug, PartialEq, Eq)]
+#[derive(Clone, Copy, PartialEq, Eq)]
 enum Fails {
     All,
     One,

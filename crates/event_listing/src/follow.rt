@@ -17,7 +17,7 @@ use std::alloc::Allocator;
 use std::io::Write;
 
 /// Whether a sink's file may still grow.
-#[derive(Clone, Copy, Debug, PartialEq, Eq)]
+#[derive(Clone, Copy, PartialEq, Eq)]
 pub enum Growth {
     /// It may: what stands behind its last whole event may be one that is being written.
     Open,

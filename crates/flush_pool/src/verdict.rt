@@ -8,7 +8,7 @@ use retry_waits::{Failures, RetrySettings};
 use std::alloc::Allocator;
 
 /// What is to become of a claimed chunk.
-#[derive(Clone, Copy, Debug, PartialEq, Eq)]
+#[derive(Clone, Copy, PartialEq, Eq)]
 pub(crate) enum Verdict {
     /// It is to be carried.
     Try,

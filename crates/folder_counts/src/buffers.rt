@@ -11,7 +11,7 @@ use std::alloc::AllocError;
 use std::marker::Model;
 
 /// What is found in a journal.
-#[derive(Clone, Copy, Debug)]
+#[derive(Clone, Copy)]
 pub enum Found {
     /// It is sealed: its live chunks, how many bytes are torn at its end, the next serial, and when
     /// the oldest event in the chunks happened; none where there are no events.

@@ -8,7 +8,7 @@ use crate::instant::{Instant, later_instant};
 use std::alloc::AllocError;
 
 /// Live chunks, counted.
-#[derive(Clone, Copy, Debug, PartialEq, Eq)]
+#[derive(Clone, Copy, PartialEq, Eq)]
 pub struct ChunkCounts {
     /// How many chunks still grow.
     pub staged: u64,
@@ -50,7 +50,7 @@ impl ChunkCounts {
 }
 
 /// Files of sinks, counted.
-#[derive(Clone, Copy, Debug)]
+#[derive(Clone, Copy)]
 pub struct SinkCounts {
     /// How many files they are.
     pub files: u64,

@@ -10,7 +10,7 @@ use jiff_core::civil::DateTime;
 const FIRST: i128 = -62_167_219_200_000_000_000;
 
 /// An instant, as the time of an event says one.
-#[derive(Clone, Copy, Debug)]
+#[derive(Clone, Copy)]
 pub struct Instant {
     /// In nanoseconds since the beginning of 1970.
     pub nanos: i128,

@@ -40,7 +40,7 @@ use crate::times::seconds_text;
 use std::alloc::{AllocError, Allocator};
 
 /// What a sample says.
-#[derive(Clone, Copy, Debug, PartialEq, Eq)]
+#[derive(Clone, Copy, PartialEq, Eq)]
 pub(crate) enum Figure {
     /// This number.
     Number(u64),
@@ -49,7 +49,7 @@ pub(crate) enum Figure {
 }
 
 // What is measured of a buffer.
-#[derive(Clone, Copy, Debug, PartialEq, Eq)]
+#[derive(Clone, Copy, PartialEq, Eq)]
 enum BufferMetric {
     Sound,
     Staged,
@@ -162,7 +162,7 @@ pub(crate) fn seconds_at(instant: Option<Instant>) -> Option<Figure>
 }
 
 // What is measured of a sink.
-#[derive(Clone, Copy, Debug, PartialEq, Eq)]
+#[derive(Clone, Copy, PartialEq, Eq)]
 enum SinkMetric {
     Files,
     Events,

@@ -20,7 +20,7 @@ use crate::outputs::Output;
 use std::alloc::{AllocError, Allocator};
 
 // What is measured of an output.
-#[derive(Clone, Copy, Debug, PartialEq, Eq)]
+#[derive(Clone, Copy, PartialEq, Eq)]
 enum OutputMetric {
     Limit,
     Failing,

@@ -17,7 +17,7 @@ use std::alloc::{AllocError, Allocator};
 use std::io::Write;
 
 /// In which form a folder's status is printed.
-#[derive(Clone, Copy, Debug, PartialEq, Eq)]
+#[derive(Clone, Copy, PartialEq, Eq)]
 pub enum Form {
     /// Lines of text.
     Lines,

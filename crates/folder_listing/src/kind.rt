@@ -3,7 +3,7 @@
 use std::alloc::Allocator;
 
 /// What a file is.
-#[derive(Clone, Copy, Debug, PartialEq, Eq)]
+#[derive(Clone, Copy, PartialEq, Eq)]
 pub enum Kind {
     /// A generation of a buffer's journal.
     Journal,

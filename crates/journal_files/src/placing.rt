@@ -10,7 +10,7 @@ use disk_files::Writing;
 use std::alloc::{AllocError, Allocator};
 
 /// What a record does to the places of entries.
-#[derive(Clone, Copy, Debug, PartialEq, Eq)]
+#[derive(Clone, Copy, PartialEq, Eq)]
 pub enum Placing {
     /// Nothing, as a Seal and a Queue.
     Stays,

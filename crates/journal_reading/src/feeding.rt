@@ -8,7 +8,7 @@ use std::io;
 use std::io::ErrorKind;
 
 /// Why a file isn't read to its end.
-#[derive(Clone, Copy, Debug, PartialEq, Eq)]
+#[derive(Clone, Copy, PartialEq, Eq)]
 pub enum FeedStop {
     /// It is damaged, whatever follows.
     Damaged,

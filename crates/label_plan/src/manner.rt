@@ -2,7 +2,7 @@
 
 /// The pattern of a reach where neither the label's pattern nor the match's fits the other, and
 /// nothing else decides.
-#[derive(Clone, Copy, Debug, PartialEq, Eq)]
+#[derive(Clone, Copy, PartialEq, Eq)]
 pub(crate) enum Preference {
     /// The label's.
     Label,
@@ -11,7 +11,7 @@ pub(crate) enum Preference {
 }
 
 /// How labels are derived.
-#[derive(Clone, Copy, Debug, PartialEq, Eq)]
+#[derive(Clone, Copy, PartialEq, Eq)]
 pub(crate) struct Manner {
     /// The pattern of a reach where either would do.
     pub prefer: Preference,

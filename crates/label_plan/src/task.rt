@@ -5,14 +5,14 @@ use std::alloc::Allocator;
 use tag_pattern::Plain;
 
 /// A source that puts a prefix in front: the place of its relay, and its port.
-#[derive(Clone, Copy, Debug, PartialEq, Eq)]
+#[derive(Clone, Copy, PartialEq, Eq)]
 pub(crate) struct Gate {
     pub relay: usize,
     pub port: u16,
 }
 
 /// How a label came to be.
-#[derive(Clone, Copy, Debug, PartialEq, Eq)]
+#[derive(Clone, Copy, PartialEq, Eq)]
 pub(crate) struct Origin {
     /// The task of the label that it comes from, if it comes from one.
     pub from: Option<usize>,

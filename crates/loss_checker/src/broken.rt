@@ -16,7 +16,7 @@ use std::alloc::{AllocError, Allocator};
 
 /// A rule that is broken, and every place where it is: by lines of the plan, or by relays in the
 /// order of the plan and then by lines of their configurations.
-#[derive(Debug, Drop)]
+#[derive(Drop)]
 pub struct BrokenRule<A: Allocator> {
     /// The rule.
     pub rule: Rule,

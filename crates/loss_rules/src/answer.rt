@@ -1,7 +1,7 @@
 //! The rules by their names, where one is broken, and what the checker answers.
 
 /// The rules, in the order in which they are looked at.
-#[derive(Clone, Copy, Debug, PartialEq, Eq)]
+#[derive(Clone, Copy, PartialEq, Eq)]
 pub enum Rule {
     /// Relays' numbers, their folders and the addresses of their sources are distinct.
     AddressesAreDistinct,
@@ -28,7 +28,7 @@ pub enum Rule {
 }
 
 /// Where a rule is broken.
-#[derive(Clone, Copy, Debug, PartialEq, Eq)]
+#[derive(Clone, Copy, PartialEq, Eq)]
 pub enum Place {
     /// In this line of the plan, counted from 1.
     Plan { line: usize },
@@ -37,7 +37,7 @@ pub enum Place {
 }
 
 /// What the checker answers.
-#[derive(Clone, Copy, Debug, PartialEq, Eq)]
+#[derive(Clone, Copy, PartialEq, Eq)]
 pub enum Answer {
     /// Every rule holds.
     Yes,

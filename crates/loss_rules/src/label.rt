@@ -33,7 +33,7 @@ pub struct Reach<A: Allocator> {
 }
 
 /// What a plan asks of each match that is reached.
-#[derive(Clone, Copy, Debug, PartialEq, Eq)]
+#[derive(Clone, Copy, PartialEq, Eq)]
 pub enum Duty {
     /// One of its outputs keeps what the match takes, or sends it on to another scope.
     Any,

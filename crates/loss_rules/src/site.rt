@@ -8,7 +8,7 @@ use relay_net::Net;
 use std::alloc::Allocator;
 
 /// Where a match stands, or one of its outputs.
-#[derive(Clone, Copy, Debug, PartialEq, Eq)]
+#[derive(Clone, Copy, PartialEq, Eq)]
 pub(crate) struct Site {
     /// The place of the relay in the plan, counted from 0.
     pub place: usize,

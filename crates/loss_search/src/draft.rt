@@ -7,7 +7,7 @@ use step_lines::{ChunkName, Step};
 use tag_pattern::Tag;
 
 // An append to a new chunk of a buffer, and whether a restart has emptied the buffer since.
-#[derive(Clone, Copy, Debug, PartialEq, Eq)]
+#[derive(Clone, Copy, PartialEq, Eq)]
 struct Appended {
     place: usize,
     buffer: usize,

@@ -18,7 +18,7 @@ const MOST_CHUNKS: u32 = 64;
 const ENTRY: &[u8] = &[0xe1];
 
 /// Why a walk has no end where the event is lost.
-#[derive(Clone, Copy, Debug, PartialEq, Eq)]
+#[derive(Clone, Copy, PartialEq, Eq)]
 pub(crate) enum Halt {
     /// Some chunk stays, or the event never comes in.
     Kept,

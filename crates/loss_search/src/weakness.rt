@@ -5,7 +5,7 @@ use relay_net::{is_in_memory, settings};
 use std::alloc::Allocator;
 
 /// How an output may let go of a chunk that nobody has elsewhere.
-#[derive(Clone, Copy, Debug, PartialEq, Eq)]
+#[derive(Clone, Copy, PartialEq, Eq)]
 pub(crate) enum Weakness {
     /// A restart empties its buffer.
     Forgets,

@@ -1,7 +1,7 @@
 //! Who sent a message: a client, or a relay from one of its chunks.
 
 /// Who sent a message.
-#[derive(Clone, Copy, Debug, PartialEq, Eq)]
+#[derive(Clone, Copy, PartialEq, Eq)]
 pub enum Sender {
     /// The client of this number.
     Client {

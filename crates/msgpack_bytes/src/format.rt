@@ -1,7 +1,7 @@
 //! What a first byte can say of its item, and the steps of a scan.
 
 /// What a scalar is.
-#[derive(Clone, Copy, Debug, Drop, PartialEq, Eq)]
+#[derive(Clone, Copy, Drop, PartialEq, Eq)]
 pub enum Kind {
     Nil,
     Bool,
@@ -16,14 +16,14 @@ pub enum Kind {
 }
 
 /// What holds other items.
-#[derive(Clone, Copy, Debug, Drop, PartialEq, Eq)]
+#[derive(Clone, Copy, Drop, PartialEq, Eq)]
 pub enum Container {
     Array,
     Map,
 }
 
 /// What follows a first byte.
-#[derive(Clone, Copy, Debug, Drop, PartialEq, Eq)]
+#[derive(Clone, Copy, Drop, PartialEq, Eq)]
 pub enum Shape {
     /// A scalar with a content of `size` bytes.
     Fixed {
@@ -51,14 +51,14 @@ pub enum Shape {
 }
 
 /// A part of the bytes, from the index `start` up to `end`.
-#[derive(Clone, Copy, Debug, Drop, PartialEq, Eq)]
+#[derive(Clone, Copy, Drop, PartialEq, Eq)]
 pub struct Span {
     pub start: usize,
     pub end: usize,
 }
 
 /// What a container's header says: how many entries it has, and where the first item begins.
-#[derive(Clone, Copy, Debug, Drop, PartialEq, Eq)]
+#[derive(Clone, Copy, Drop, PartialEq, Eq)]
 pub struct Count {
     pub count: u32,
     pub next: usize,
@@ -66,7 +66,7 @@ pub struct Count {
 
 /// What the first bytes of an item tell, where those of its length or count that are missing count
 /// as 0.
-#[derive(Clone, Copy, Debug, Drop, PartialEq, Eq)]
+#[derive(Clone, Copy, Drop, PartialEq, Eq)]
 pub enum Told {
     /// A scalar of so many bytes.
     Scalar(usize),
@@ -77,7 +77,7 @@ pub enum Told {
 }
 
 /// The next step of a scan; `size` and what is bare are counts of bytes.
-#[derive(Clone, Copy, Debug, Drop, PartialEq, Eq)]
+#[derive(Clone, Copy, Drop, PartialEq, Eq)]
 pub enum ScanStep {
     /// A whole scalar.
     Whole(usize),

@@ -105,7 +105,7 @@ impl Scanner {
 }
 
 /// What a scan goes on from.
-#[derive(Clone, Copy, Debug, Drop, PartialEq, Eq)]
+#[derive(Clone, Copy, Drop, PartialEq, Eq)]
 pub struct Place {
     /// On how many levels items may be missing.
     pub levels: usize,

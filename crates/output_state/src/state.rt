@@ -8,7 +8,7 @@ use std::marker::Model;
 pub const STATE_FILE: &str = "relay.status";
 
 /// The numbers of an output that has a buffer.
-#[derive(Clone, Copy, Debug, PartialEq, Eq)]
+#[derive(Clone, Copy, PartialEq, Eq)]
 pub struct OutputCounts {
     /// How many bytes its buffer takes.
     pub limit: u64,

@@ -16,7 +16,7 @@ const MOST_ITEMS: usize = 32;
 pub(crate) type Numbers<A> = Vec<usize, A>;
 
 /// The steps that are looked at.
-#[derive(Clone, Copy, Debug, PartialEq, Eq)]
+#[derive(Clone, Copy, PartialEq, Eq)]
 pub(crate) enum Steps {
     /// Forwards and relabels.
     All,

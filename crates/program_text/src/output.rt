@@ -8,7 +8,7 @@ use crate::status::Status;
 use std::io::{ErrorKind, Write};
 
 /// The writer failed.
-#[derive(Clone, Copy, Debug, PartialEq, Eq)]
+#[derive(Clone, Copy, PartialEq, Eq)]
 pub struct OutputFault;
 
 /// Writes all the bytes. A writer that fails has a beginning of them, and not the rest.

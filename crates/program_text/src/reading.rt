@@ -21,7 +21,7 @@ pub const PIECE: usize = 65_536;
 pub const MOST_BYTES: usize = 1_073_741_824;
 
 /// Why a text isn't read.
-#[derive(Clone, Copy, Debug, PartialEq, Eq)]
+#[derive(Clone, Copy, PartialEq, Eq)]
 pub enum ReadFault {
     /// Memory ran out.
     Memory,

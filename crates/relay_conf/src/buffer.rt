@@ -34,7 +34,7 @@ pub enum BufferKind<A: Allocator> {
 }
 
 /// When a staged chunk is queued.
-#[derive(Clone, Copy, Debug, PartialEq, Eq)]
+#[derive(Clone, Copy, PartialEq, Eq)]
 pub enum FlushMode {
     /// Once the flush interval has passed since its first event.
     Interval,
@@ -43,7 +43,7 @@ pub enum FlushMode {
 }
 
 /// What follows where a buffer is full.
-#[derive(Clone, Copy, Debug, PartialEq, Eq)]
+#[derive(Clone, Copy, PartialEq, Eq)]
 pub enum OverflowAction {
     /// The append is refused.
     ThrowException,

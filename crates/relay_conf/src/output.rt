@@ -5,7 +5,7 @@ use crate::relay::{ScopeNo, Security};
 use std::alloc::Allocator;
 
 /// The place of a buffer in its relay, counted from 0 in the order of the text.
-#[derive(Clone, Copy, Debug, PartialEq, Eq)]
+#[derive(Clone, Copy, PartialEq, Eq)]
 pub struct BufferNo(pub usize);
 
 /// One output. Its line, counted from 1, is that of its `<store>`, or of its `<match>` without a

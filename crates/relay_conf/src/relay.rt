@@ -5,7 +5,7 @@ use std::alloc::Allocator;
 use tag_pattern::{Plain, Prefix};
 
 /// The place of a scope in its relay, counted from 0; the main scope is 0.
-#[derive(Clone, Copy, Debug, PartialEq, Eq)]
+#[derive(Clone, Copy, PartialEq, Eq)]
 pub struct ScopeNo(pub usize);
 
 /// One relay, as its configuration describes it.

@@ -54,7 +54,7 @@ impl<A: Allocator> Address<A> {
 }
 
 /// Where a message comes in: at a source of a relay.
-#[derive(Clone, Copy, Debug, PartialEq, Eq)]
+#[derive(Clone, Copy, PartialEq, Eq)]
 pub struct Entrance {
     /// The place of the relay, counted from 0 in the order of the relays.
     pub relay: usize,

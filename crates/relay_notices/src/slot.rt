@@ -27,7 +27,7 @@ pub struct Tally {
 
 /// What is known of a place: what is to be said of it, from when on something may be said, in
 /// milliseconds, and how often it worked and failed.
-#[derive(Clone, Copy, Debug, PartialEq, Eq)]
+#[derive(Clone, Copy, PartialEq, Eq)]
 pub struct Slot {
     pub pending: Option<Pending>,
     pub due: u64,

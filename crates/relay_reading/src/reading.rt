@@ -11,7 +11,7 @@ use relay_conf::{Relay, RelayError, RelayFault};
 use std::alloc::Allocator;
 
 /// Why a configuration isn't read.
-#[derive(Clone, Copy, Debug, PartialEq, Eq)]
+#[derive(Clone, Copy, PartialEq, Eq)]
 pub enum ConfStop {
     /// Its text has this fault.
     Text(ConfFault),

@@ -5,7 +5,7 @@ use crate::wire::Wire;
 use std::alloc::AllocError;
 
 /// Why there is no connection to a server.
-#[derive(Clone, Copy, Debug, PartialEq, Eq)]
+#[derive(Clone, Copy, PartialEq, Eq)]
 pub enum Unreached {
     /// Its host has no address.
     NoAddress,

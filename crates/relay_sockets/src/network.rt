@@ -6,7 +6,7 @@ use std::alloc::{AllocError, AllocFailed, Allocator};
 use std::time::Duration;
 
 /// Why a network refuses a call.
-#[derive(Clone, Copy, Debug, Drop, PartialEq, Eq)]
+#[derive(Clone, Copy, Drop, PartialEq, Eq)]
 pub enum NetFault {
     /// The address can't be had.
     Bind,
@@ -52,7 +52,7 @@ pub enum Accepted<S> {
 }
 
 /// What a note is of.
-#[derive(Clone, Copy, Debug, PartialEq, Eq)]
+#[derive(Clone, Copy, PartialEq, Eq)]
 pub enum Spot {
     /// The listener with this number.
     Listener(usize),
@@ -61,7 +61,7 @@ pub enum Spot {
 }
 
 /// What the system says of a socket, once for each change. It is a hint, of which no clause speaks.
-#[derive(Clone, Copy, Debug, PartialEq, Eq)]
+#[derive(Clone, Copy, PartialEq, Eq)]
 pub struct Note {
     pub spot: Spot,
     /// A connection may wait, or bytes, or the end, may be read.

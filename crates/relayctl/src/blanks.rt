@@ -17,7 +17,7 @@ pub(crate) struct Rest<A: Allocator> {
 
 /// Lines that are blank, counted from 1, from the one to the other: of the configuration at this
 /// place, or of the plan.
-#[derive(Clone, Copy, Debug, PartialEq, Eq)]
+#[derive(Clone, Copy, PartialEq, Eq)]
 pub(crate) struct Blank {
     pub conf: Option<usize>,
     pub from: usize,

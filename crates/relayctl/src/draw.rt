@@ -12,7 +12,7 @@ use std::io::Write;
 use text_lines::lines;
 
 /// How a plan is drawn.
-#[derive(Clone, Copy, Debug, PartialEq, Eq)]
+#[derive(Clone, Copy, PartialEq, Eq)]
 pub enum Drawing {
     /// As a tree of text.
     Tree,

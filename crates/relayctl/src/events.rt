@@ -27,7 +27,7 @@ pub struct EventWords<'a, A: Allocator> {
 }
 
 // What an option waits for.
-#[derive(Clone, Copy, Debug, PartialEq, Eq)]
+#[derive(Clone, Copy, PartialEq, Eq)]
 enum Awaited {
     // Nothing: none stands in front.
     Nothing,

@@ -32,7 +32,7 @@ pub struct StatusWords<'a> {
 }
 
 // What an option waits for.
-#[derive(Clone, Copy, Debug, PartialEq, Eq)]
+#[derive(Clone, Copy, PartialEq, Eq)]
 enum Awaited {
     // Nothing: none stands in front.
     Nothing,

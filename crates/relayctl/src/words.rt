@@ -88,7 +88,7 @@ fn other_word<A: Allocator>(words: &[String]) -> Option<Word<'_, A>> {
 }
 
 // What an option of `check` or `explain` waits for.
-#[derive(Clone, Copy, Debug, PartialEq, Eq)]
+#[derive(Clone, Copy, PartialEq, Eq)]
 enum Awaited {
     // Nothing: none stands in front.
     Nothing,

@@ -4,7 +4,7 @@ ghost use Rattle.std.specs.Prelude.{map, string_bytes};
 ghost use Rattle.relaynet.specs.Words.{IsRead};
 
 /// What the program is asked to do; a path is taken from the working folder.
-#[derive(Clone, Copy, Debug, PartialEq, Eq)]
+#[derive(Clone, Copy, PartialEq, Eq)]
 pub enum Word<'a> {
     /// List the messages of a hex text.
     Decode,

@@ -1,7 +1,7 @@
 //! What a configuration says of retries.
 
 /// When a chunk whose delivery failed is tried again, and when it is given up.
-#[derive(Clone, Copy, Debug, PartialEq, Eq)]
+#[derive(Clone, Copy, PartialEq, Eq)]
 pub struct RetrySettings {
     /// The wait after the first failure, in seconds.
     pub wait: u64,

@@ -3,7 +3,7 @@
 use relay_conf::{BufferNo, ScopeNo};
 
 /// Where an output takes an event that it is handed.
-#[derive(Clone, Copy, Debug, PartialEq, Eq)]
+#[derive(Clone, Copy, PartialEq, Eq)]
 pub enum Hop {
     /// Into this buffer.
     Buffer(BufferNo),

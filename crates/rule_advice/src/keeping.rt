@@ -5,7 +5,7 @@ use relay_net::settings;
 use std::alloc::{AllocError, Allocator};
 
 /// One thing that an output lacks to keep what it takes.
-#[derive(Clone, Copy, Debug, PartialEq, Eq)]
+#[derive(Clone, Copy, PartialEq, Eq)]
 pub(crate) enum Lack {
     /// A buffer: it goes to nowhere.
     Buffer,

@@ -1,7 +1,7 @@
 //! When a sink's next file is begun.
 
 /// When a sink's next file is begun, while the sink is open.
-#[derive(Clone, Copy, Debug, PartialEq, Eq)]
+#[derive(Clone, Copy, PartialEq, Eq)]
 pub struct FileLimits {
     /// A file that has so many bytes of entries is followed by the next.
     pub bytes: u64,

@@ -12,7 +12,7 @@ use msgpack_bytes::{array_of, next_item, next_text};
 use std::alloc::{AllocError, Allocator};
 
 /// What the bytes of a sink's file hold, counted.
-#[derive(Clone, Copy, Debug, PartialEq, Eq)]
+#[derive(Clone, Copy, PartialEq, Eq)]
 pub struct EventCount {
     /// How many events they hold.
     pub events: usize,

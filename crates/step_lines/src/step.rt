@@ -4,7 +4,7 @@ use std::alloc::Allocator;
 use tag_pattern::Tag;
 
 /// A chunk, by its relay's number, its buffer and its serial.
-#[derive(Clone, Copy, Debug, PartialEq, Eq)]
+#[derive(Clone, Copy, PartialEq, Eq)]
 pub struct ChunkName {
     /// The number of its relay.
     pub relay: u64,

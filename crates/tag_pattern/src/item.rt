@@ -6,7 +6,7 @@ ghost use Rattle.tag_pattern.specs.Items.{item_of};
 use std::alloc::{AllocError, Allocator};
 
 /// One item of a plain pattern. `Text` is how a literal is kept.
-#[derive(Clone, Copy, Debug, PartialEq, Eq)]
+#[derive(Clone, Copy, PartialEq, Eq)]
 pub enum PatternItem<Text> {
     /// This one part.
     Literal(Text),

@@ -32,7 +32,7 @@ const PIECE: usize = 4_096;
 
 /// With which of a courier's servers the next carry begins: with the one at this place of the list.
 /// Past the end of the list it is the first.
-#[derive(Clone, Copy, Debug, PartialEq, Eq)]
+#[derive(Clone, Copy, PartialEq, Eq)]
 pub struct Turn {
     pub place: usize,
 }

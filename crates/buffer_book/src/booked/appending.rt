@@ -19,7 +19,7 @@ use event_modes::{Entries, LONGEST_TAG};
 use std::alloc::Allocator;
 
 /// Where an append with a receipt is noted.
-#[derive(Clone, Copy, Debug, PartialEq, Eq)]
+#[derive(Clone, Copy, PartialEq, Eq)]
 pub struct Noted {
     /// The serial of the chunk that has the entries.
     pub serial: u64,
@@ -28,7 +28,7 @@ pub struct Noted {
 }
 
 /// Where an append that waits for a receipt is noted.
-#[derive(Clone, Copy, Debug, PartialEq, Eq)]
+#[derive(Clone, Copy, PartialEq, Eq)]
 pub struct Waits {
     /// The serial of the chunk that has the entries.
     pub serial: u64,
