@@ -1,13 +1,13 @@
 //! A folder of the system.
 
-ghost use Rattle.std.specs.Prelude.{◌≡◌, ◌≢◌, ◌⊎◌, ℕ, Err, ◌≤◌, ◌<◌, Some, None, IsSome, IfSome, IfOk, IfErr, OnErr, length, slice_get};
+ghost use Rattle.std.specs.Prelude.{◌≡◌, ◌≢◌, ◌⊎◌, ℕ, Err, ◌≤◌, ◌<◌, Some, None, IsSome, IfSome, Ok, IfOk, IfErr, OnErr, length, slice_get};
 ghost use Rattle.disk_files.specs.declared.dir.FileNo.{FileNo};
 ghost use Rattle.disk_files.specs.Faults.{HasCause, Rises};
 ghost use Rattle.disk_files.specs.Real.{open_name};
 
 use crate::{Dir, DirError, FileName, FileNo, Writing};
 use std::alloc::{AllocError, AllocFailed, Allocator};
-use std::fs::{OpenFile as _, OpenOptions};
+use std::fs::{DirEntry, OpenFile as _, OpenOptions};
 use std::io::{ErrorKind, Write};
 use std::os::unix::fs::FileExt;
 use std::rt::Files;
@@ -134,23 +134,108 @@ where
         ensures only { OnErr result ((result ≡ Err DirError.Memory)
             ⊎ ((result ≡ Err DirError.Fault) ⊎ (result ≡ Err refusal))) }
     {
-        let Some(path) = self.path_of(name)? else {
-            return Err(self.refuse(DirError::Fault));
+        let Ok(at) = free_place(&mut self.files) else {
+            return Err(DirError::Memory);
         };
-        let name = FileName::from_slice(self.alloc, name)?;
-        let at = free_place(&mut self.files)?;
+        match self.open_file(how, name, kind, refusal) {
+            Ok(file) => Ok(put_at(&mut self.files, at, file)),
+            Err(error) => Err(error),
+        }
+    }
+
+    // The same, but for its place.
+    fn open_file(
+        &mut self,
+        how: &OpenOptions,
+        name: &[u8],
+        kind: ErrorKind,
+        refusal: DirError,
+    ) -> Result<OpenFile<R::File, A>, DirError>
+        requires { refusal ≢ DirError.Memory }
+        ensures named { IfOk result (λ file. file.name ≡ name.now) }
+        ensures files { self.new ≡ record self.old { faults = self.new.faults } }
+        ensures cause { HasCause self.old.faults self.new.faults result }
+        ensures only { OnErr result ((result ≡ Err DirError.Memory)
+            ⊎ ((result ≡ Err DirError.Fault) ⊎ (result ≡ Err refusal))) }
+    {
+        match self.path_of(name) {
+            Ok(Some(path)) => self.open_path(how, path, name, kind, refusal),
+            Ok(None) => Err(self.refuse(DirError::Fault)),
+            Err(AllocError) => Err(DirError::Memory),
+        }
+    }
+
+    // The same, where this is the path of the file.
+    fn open_path(
+        &mut self,
+        how: &OpenOptions,
+        path: String<A>,
+        name: &[u8],
+        kind: ErrorKind,
+        refusal: DirError,
+    ) -> Result<OpenFile<R::File, A>, DirError>
+        requires { refusal ≢ DirError.Memory }
+        ensures named { IfOk result (λ file. file.name ≡ name.now) }
+        ensures files { self.new ≡ record self.old { faults = self.new.faults } }
+        ensures cause { HasCause self.old.faults self.new.faults result }
+        ensures only { OnErr result ((result ≡ Err DirError.Memory)
+            ⊎ ((result ≡ Err DirError.Fault) ⊎ (result ≡ Err refusal))) }
+    {
+        let Ok(name) = FileName::from_slice(self.alloc, name) else {
+            return Err(DirError::Memory);
+        };
         match how.open(&self.rt, path.as_str()) {
-            Ok(file) => {
-                self.files[at] = Some(OpenFile {
-                    name,
-                    path,
-                    file,
-                    is_settled: false,
-                });
-                Ok(FileNo(at))
-            }
-            Err(error) if error.kind() == kind => Err(self.refuse(refusal)),
-            Err(error) if error.kind() == ErrorKind::OutOfMemory => Err(DirError::Memory),
+            Ok(file) => Ok(OpenFile {
+                name,
+                path,
+                file,
+                is_settled: false,
+            }),
+            Err(error) => self.refuse_as(error, kind, refusal),
+        }
+    }
+
+    // Answers an error of this kind by `refusal`, and any other as `refuse_by`.
+    fn refuse_as(
+        &mut self,
+        error: io::Error,
+        kind: ErrorKind,
+        refusal: DirError,
+    ) -> Result<OpenFile<R::File, A>, DirError>
+        requires { refusal ≢ DirError.Memory }
+        ensures none { IfOk result (λ _. ⊥) }
+        ensures files { self.new ≡ record self.old { faults = self.new.faults } }
+        ensures cause { HasCause self.old.faults self.new.faults result }
+        ensures only { OnErr result ((result ≡ Err DirError.Memory)
+            ⊎ ((result ≡ Err DirError.Fault) ⊎ (result ≡ Err refusal))) }
+    {
+        if error.kind() == kind {
+            return Err(self.refuse(refusal));
+        }
+        Err(self.refuse_by(error.kind()))
+    }
+
+    // What an error of the system is answered by, which is counted but for want of memory.
+    fn refuse_by(&mut self, kind: ErrorKind) -> DirError
+        ensures files { self.new ≡ record self.old { faults = self.new.faults } }
+        ensures only { (result ≡ DirError.Memory) ⊎ (result ≡ DirError.Fault) }
+        ensures cause { HasCause {T = Unit {0}} self.old.faults self.new.faults (Err result) }
+    {
+        if kind == ErrorKind::OutOfMemory {
+            return DirError::Memory;
+        }
+        self.refuse(DirError::Fault)
+    }
+
+    // What the system answered. Its error is counted, and is a `Fault`.
+    fn answer<T: Drop>(&mut self, answer: io::Result<T>) -> Result<T, DirError>
+        ensures files { self.new ≡ record self.old { faults = self.new.faults } }
+        ensures value { IfOk result (λ value. answer ≡ Ok value) }
+        ensures cause { HasCause self.old.faults self.new.faults result }
+        ensures only { OnErr result (result ≡ Err DirError.Fault) }
+    {
+        match answer {
+            Ok(value) => Ok(value),
             Err(_) => Err(self.refuse(DirError::Fault)),
         }
     }
@@ -176,10 +261,8 @@ where
         ensures cause { HasCause self.old.faults self.new.faults result }
         ensures only { OnErr result (result ≡ Err DirError.Fault) }
     {
-        match self.hand_over() {
-            Ok(()) => Ok(()),
-            Err(_) => Err(self.refuse(DirError::Fault)),
-        }
+        let handed = self.hand_over();
+        self.answer(handed)
     }
 
     // Hands what is held back to the system, and holds none of it any more.
@@ -195,22 +278,156 @@ where
         written
     }
 
+    // Adds bytes at the end of the open file at a place.
+    fn add_at(&mut self, at: usize, bytes: &[u8], writing: Writing) -> Result<(), DirError>
+        requires { IsSome (open_name (slice_get self.old.files.items at)) }
+        ensures files { (j : ℕ) → open_name (slice_get self.new.files.items j) ≡ open_name (slice_get self.old.files.items j) }
+        ensures cause { HasCause self.old.faults self.new.faults result }
+        ensures only { OnErr result (result ≡ Err DirError.Fault) }
+    {
+        match writing {
+            Writing::Back => self.add_back(at, bytes),
+            Writing::Through => self.add_through(at, bytes),
+        }
+    }
+
+    // The same, write-back.
+    fn add_back(&mut self, at: usize, bytes: &[u8]) -> Result<(), DirError>
+        requires { IsSome (open_name (slice_get self.old.files.items at)) }
+        ensures files { (j : ℕ) → open_name (slice_get self.new.files.items j) ≡ open_name (slice_get self.old.files.items j) }
+        ensures cause { HasCause self.old.faults self.new.faults result }
+        ensures only { OnErr result (result ≡ Err DirError.Fault) }
+    {
+        if self.hold(at, bytes)? {
+            self.write_full()
+        } else {
+            self.write_on(at, bytes)
+        }
+    }
+
+    // The same, write-through: with what is held back, where something is.
+    fn add_through(&mut self, at: usize, bytes: &[u8]) -> Result<(), DirError>
+        requires { IsSome (open_name (slice_get self.old.files.items at)) }
+        ensures files { (j : ℕ) → open_name (slice_get self.new.files.items j) ≡ open_name (slice_get self.old.files.items j) }
+        ensures cause { HasCause self.old.faults self.new.faults result }
+        ensures only { OnErr result (result ≡ Err DirError.Fault) }
+    {
+        if !self.held.is_empty() && self.hold(at, bytes)? {
+            self.write_held()
+        } else {
+            self.write_on(at, bytes)
+        }
+    }
+
+    // Writes what is held back, if that is much.
+    fn write_full(&mut self) -> Result<(), DirError>
+        ensures files { (j : ℕ) → open_name (slice_get self.new.files.items j) ≡ open_name (slice_get self.old.files.items j) }
+        ensures cause { HasCause self.old.faults self.new.faults result }
+        ensures only { OnErr result (result ≡ Err DirError.Fault) }
+    {
+        if self.held.len() < MOST_HELD {
+            Ok(())
+        } else {
+            self.write_held()
+        }
+    }
+
+    // Writes what is held back, and then bytes at the end of the open file at a place.
+    fn write_on(&mut self, at: usize, bytes: &[u8]) -> Result<(), DirError>
+        requires { IsSome (open_name (slice_get self.old.files.items at)) }
+        ensures files { (j : ℕ) → open_name (slice_get self.new.files.items j) ≡ open_name (slice_get self.old.files.items j) }
+        ensures cause { HasCause self.old.faults self.new.faults result }
+        ensures only { OnErr result (result ≡ Err DirError.Fault) }
+    {
+        match self.write_held() {
+            Ok(()) => {
+                let written = write_at(&mut self.files, at, bytes);
+                self.answer(written)
+            }
+            Err(error) => Err(error),
+        }
+    }
+
+    // Writes what is held back, and syncs the bytes of the open file at a place.
+    fn sync_written(&mut self, at: usize) -> Result<(), DirError>
+        requires { IsSome (open_name (slice_get self.old.files.items at)) }
+        ensures files { (j : ℕ) → open_name (slice_get self.new.files.items j) ≡ open_name (slice_get self.old.files.items j) }
+        ensures cause { HasCause self.old.faults self.new.faults result }
+        ensures only { OnErr result (result ≡ Err DirError.Fault) }
+    {
+        match self.write_held() {
+            Ok(()) => {
+                let synced = self.sync_bytes(at);
+                self.answer(synced)
+            }
+            Err(error) => Err(error),
+        }
+    }
+
+    // Syncs the bytes of the open file at a place. A settled one has only grown since: a later read
+    // needs its bytes and its length alone.
+    fn sync_bytes(&self, at: usize) -> io::Result<()>
+        requires { IsSome (open_name (slice_get self.now.files.items at)) }
+    {
+        let open = open_at(&self.files, at);
+        if open.is_settled {
+            open.file.sync_data()
+        } else {
+            open.file.sync_all()
+        }
+    }
+
+    // Syncs the folder, unless it was since the file at a place was made or opened.
+    fn settle(&mut self, at: usize) -> Result<(), DirError>
+        requires { IsSome (open_name (slice_get self.old.files.items at)) }
+        ensures files { (j : ℕ) → open_name (slice_get self.new.files.items j) ≡ open_name (slice_get self.old.files.items j) }
+        ensures cause { HasCause self.old.faults self.new.faults result }
+        ensures only { OnErr result (result ≡ Err DirError.Fault) }
+    {
+        if !open_at(&self.files, at).is_settled {
+            self.sync_folder()?;
+            settle_at(&mut self.files, at);
+        }
+        Ok(())
+    }
+
+    // Writes what is held back, and removes the open file at a place, which stays open.
+    fn remove_path(&mut self, at: usize) -> Result<(), DirError>
+        requires { IsSome (open_name (slice_get self.old.files.items at)) }
+        ensures files { (j : ℕ) → open_name (slice_get self.new.files.items j) ≡ open_name (slice_get self.old.files.items j) }
+        ensures cause { HasCause self.old.faults self.new.faults result }
+        ensures only { OnErr result (result ≡ Err DirError.Fault) }
+    {
+        match self.write_held() {
+            Ok(()) => {
+                let removed = fs::remove_file(&self.rt, open_at(&self.files, at).path.as_str());
+                self.answer(removed)
+            }
+            Err(error) => Err(error),
+        }
+    }
+
+    // The length of the open file at a place.
+    fn length_at(&self, at: usize) -> io::Result<usize>
+        requires { IsSome (open_name (slice_get self.now.files.items at)) }
+    {
+        Ok(open_at(&self.files, at).file.metadata()?.len() as usize)
+    }
+
     // Syncs the folder itself, which holds the names of its files.
     fn sync_folder(&mut self) -> Result<(), DirError>
         ensures files { self.new ≡ record self.old { faults = self.new.faults } }
         ensures cause { HasCause self.old.faults self.new.faults result }
         ensures only { OnErr result (result ≡ Err DirError.Fault) }
     {
-        let synced = match fs::open(&self.rt, self.path.as_str()) {
-            Ok(folder) => folder.sync_all().is_ok(),
-            Err(_) => false,
-        };
-        if synced {
-            Ok(())
-        } else {
-            Err(self.refuse(DirError::Fault))
-        }
+        let synced = sync_path(&self.rt, self.path.as_str());
+        self.answer(synced)
     }
+}
+
+// Syncs the folder of a path.
+fn sync_path(rt: &impl Files, path: &str) -> io::Result<()> {
+    fs::open(rt, path)?.sync_all()
 }
 
 // Makes the folder of a path, and those above it, where they aren't there.
@@ -227,7 +444,7 @@ fn make_folder(rt: &impl Files, path: &str) -> io::Result<()> {
 // new one.
 fn make_in(rt: &impl Files, path: &str) -> io::Result<()> {
     match fs::create_dir(rt, path) {
-        Ok(()) => fs::open(rt, above(path))?.sync_all(),
+        Ok(()) => sync_path(rt, above(path)),
         Err(error) if error.kind() == ErrorKind::AlreadyExists => Ok(()),
         Err(error) => Err(error),
     }
@@ -249,12 +466,50 @@ fn free_place<F: Drop, A: Allocator>(
     ensures free { IfOk result (λ at. slice_get files.new.items at ≡ Some None) }
     ensures same { (j : ℕ) → open_name (slice_get files.new.items j) ≡ open_name (slice_get files.old.items j) }
 {
-    if let Some(at) = files.iter().position(|place| place.is_none()) {
-        return Ok(at);
+    match first_free(files) {
+        Some(at) => Ok(at),
+        None => add_place(files),
     }
+}
+
+// The first place where no file is open.
+fn first_free<F, A: Allocator>(files: &Vec<Option<OpenFile<F, A>>, A>) -> Option<usize>
+    ensures { IfSome result (λ at. slice_get files.now.items at ≡ Some None) }
+{
+    for (at, place) in files.iter().enumerate() {
+        match place {
+            Some(_) => {}
+            None => return Some(at),
+        }
+    }
+    None
+}
+
+// One place more, where no file is open.
+fn add_place<F: Drop, A: Allocator>(
+    files: &mut Vec<Option<OpenFile<F, A>>, A>,
+) -> Result<usize, AllocError>
+    ensures free { IfOk result (λ at. slice_get files.new.items at ≡ Some None) }
+    ensures same { (j : ℕ) → open_name (slice_get files.new.items j) ≡ open_name (slice_get files.old.items j) }
+{
     let at = files.len();
     files.push(None)?;
     Ok(at)
+}
+
+// Puts an open file at a place where none is.
+fn put_at<F: Drop, A: Allocator>(
+    files: &mut Vec<Option<OpenFile<F, A>>, A>,
+    at: usize,
+    file: OpenFile<F, A>,
+) -> FileNo
+    requires { slice_get files.old.items at ≡ Some None }
+    ensures here { open_name (slice_get files.new.items result.0) ≡ Some file.name }
+    ensures others { (j : ℕ) → IsSome (open_name (slice_get files.old.items j))
+        → open_name (slice_get files.new.items j) ≡ open_name (slice_get files.old.items j) }
+{
+    files[at] = Some(file);
+    FileNo(at)
 }
 
 // The place of the open file of this name.
@@ -379,59 +634,38 @@ where
     fn list<B: Allocator + Copy>(&mut self, alloc: B) -> Result<Vec<FileName<B>, B>, DirError> {
         match names_in(alloc, &self.rt, self.path.as_str()) {
             Ok(names) => Ok(names),
-            Err(error) if error.kind() == ErrorKind::OutOfMemory => Err(DirError::Memory),
-            Err(_) => Err(self.refuse(DirError::Fault)),
+            Err(error) => Err(self.refuse_by(error.kind())),
         }
     }
 
     fn append(&mut self, file: FileNo, bytes: &[u8], writing: Writing) -> Result<(), DirError> {
-        let is_behind = !self.held.is_empty();
-        if (writing == Writing::Back || is_behind) && self.hold(file.0, bytes)? {
-            if writing == Writing::Back && self.held.len() < MOST_HELD {
-                return Ok(());
-            }
-            return self.write_held();
-        }
-        self.write_held()?;
-        match write_at(&mut self.files, file.0, bytes) {
-            Ok(()) => Ok(()),
-            Err(_) => Err(self.refuse(DirError::Fault)),
-        }
+        self.add_at(file.0, bytes, writing)
     }
 
     fn sync(&mut self, file: FileNo) -> Result<(), DirError> {
-        self.write_held()?;
-        let open = open_at(&self.files, file.0);
-        let is_settled = open.is_settled;
-        // A settled file has only grown since: a later read needs its bytes and its length alone.
-        let synced = if is_settled {
-            open.file.sync_data()
-        } else {
-            open.file.sync_all()
-        };
-        if synced.is_err() {
-            return Err(self.refuse(DirError::Fault));
+        match self.sync_written(file.0) {
+            Ok(()) => self.settle(file.0),
+            Err(error) => Err(error),
         }
-        if !is_settled {
-            self.sync_folder()?;
-            settle_at(&mut self.files, file.0);
-        }
-        Ok(())
     }
 
     fn read_at(&mut self, file: FileNo, at: usize, into: &mut [u8]) -> Result<usize, DirError> {
-        self.write_held()?;
-        match read_all(&open_at(&self.files, file.0).file, at, into) {
-            Ok(n) => Ok(n),
-            Err(_) => Err(self.refuse(DirError::Fault)),
+        match self.write_held() {
+            Ok(()) => {
+                let read = read_all(&open_at(&self.files, file.0).file, at, into);
+                self.answer(read)
+            }
+            Err(error) => Err(error),
         }
     }
 
     fn length(&mut self, file: FileNo) -> Result<usize, DirError> {
-        self.write_held()?;
-        match open_at(&self.files, file.0).file.metadata() {
-            Ok(metadata) => Ok(metadata.len() as usize),
-            Err(_) => Err(self.refuse(DirError::Fault)),
+        match self.write_held() {
+            Ok(()) => {
+                let length = self.length_at(file.0);
+                self.answer(length)
+            }
+            Err(error) => Err(error),
         }
     }
 
@@ -442,13 +676,13 @@ where
     }
 
     fn remove(&mut self, file: FileNo) -> Result<(), DirError> {
-        self.write_held()?;
-        let path = open_at(&self.files, file.0).path.as_str();
-        if fs::remove_file(&self.rt, path).is_err() {
-            return Err(self.refuse(DirError::Fault));
+        match self.remove_path(file.0) {
+            Ok(()) => {
+                close_at(&mut self.files, file.0);
+                Ok(())
+            }
+            Err(error) => Err(error),
         }
-        close_at(&mut self.files, file.0);
-        Ok(())
     }
 
     fn faults(&self) -> u64 {
@@ -471,15 +705,30 @@ where
 {
     let mut names = Vec::new(alloc);
     for entry in fs::read_dir(rt, path)? {
-        match entry {
-            Ok(entry) => {
-                names.push(FileName::from_slice(alloc, entry.file_name().as_bytes())?)?;
-            }
-            Err(error) if error.kind() == ErrorKind::InvalidFilename => {}
-            Err(error) => return Err(error),
-        }
+        take_entry(&mut names, entry)?;
     }
     Ok(names)
+}
+
+// Adds the name of an entry behind the others, if it is a text.
+fn take_entry<B: Allocator + Copy, R: Files, E: Allocator>(
+    names: &mut Vec<FileName<B>, B>,
+    entry: io::Result<DirEntry<R, E>>,
+) -> io::Result<()>
+where
+    R: Drop,
+{
+    match entry {
+        Ok(entry) => add_name(names, entry.file_name().as_bytes()),
+        Err(error) if error.kind() == ErrorKind::InvalidFilename => Ok(()),
+        Err(error) => Err(error),
+    }
+}
+
+// Adds a name behind the others.
+fn add_name<B: Allocator + Copy>(names: &mut Vec<FileName<B>, B>, name: &[u8]) -> io::Result<()> {
+    names.push(FileName::from_slice(*names.allocator(), name)?)?;
+    Ok(())
 }
 
 // Reads from a place on, until the file or the room ends.

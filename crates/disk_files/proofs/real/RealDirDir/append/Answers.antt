@@ -1,0 +1,7 @@
+use Rattle.disk_files.proofs.real.RealDirDir.append.Goals as goal
+
+pub returns-clause-ok : goal.returns-clause-ok
+returns-clause-ok g c = λ honest. absurd honest
+
+pub returns-clause-err : goal.returns-clause-err
+returns-clause-err g c = λ honest. absurd honest
