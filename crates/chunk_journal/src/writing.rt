@@ -1,6 +1,6 @@
 //! Records as they are written.
 
-ghost use Rattle.std.specs.Prelude.{◌≡◌, ◌≤◌, ◌<◌, ◌+◌, ◌++◌, ℕ, List, length, OnOk, OnErr, vec_len, vec_capacity};
+ghost use Rattle.std.specs.Prelude.{◌≡◌, ◌≤◌, ◌<◌, ◌+◌, ◌^◌, ◌++◌, ℕ, List, length, OnOk, OnErr, vec_len, vec_capacity};
 ghost use Rattle.event_modes.specs.Message.{longest_tag};
 ghost use Rattle.chunk_journal.specs.Records.{Append, append_fixed, append_head, numbered, framed, body_of, record_bytes, longest_body, IsRecord};
 ghost use Rattle.chunk_journal.specs.Spelled.{record_of, HasShortTag};
@@ -52,6 +52,7 @@ fn put_numbered<A: Allocator>(out: &mut Vec<u8, A>, kind: u8, number: u64) -> Re
     ensures err { OnErr result (out.new.items ≡ out.old.items) }
     ensures full { OnErr result (vec_capacity out.old < vec_len out.old + length (framed (numbered kind number))) }
     ensures kept { vec_capacity out.old ≤ vec_capacity out.new }
+    ensures fits { number < 2 ^ 64 }
 {
     let [a, b, c, d, e, f, g, h] = number.to_be_bytes();
     out.extend_from_slice(&[0, 0, 0, 9, kind, a, b, c, d, e, f, g, h])
@@ -74,8 +75,8 @@ fn put_append<A: Allocator, B: Allocator>(
 {
     let stored = entries.as_bytes();
     out.reserve(LENGTH_SIZE + APPEND_FIXED + tag.len() + stored.len())?;
-    put_append_head(out, serial, tag, entries.count(), stored.len())?;
-    out.extend_from_slice(stored)?;
+    write_append_head(out, serial, tag, entries.count(), stored.len());
+    write(out, stored);
     Ok(())
 }
 
@@ -100,13 +101,44 @@ pub fn put_append_head<A: Allocator>(
         < vec_len out.old + length (append_head serial tag.now count size)) }
     ensures kept { vec_capacity out.old ≤ vec_capacity out.new }
 {
-    let length = APPEND_FIXED + tag.len() + size;
     out.reserve(LENGTH_SIZE + APPEND_FIXED + tag.len())?;
-    out.extend_from_slice(&(length as u32).to_be_bytes())?;
-    out.push_reserved(APPEND_KIND);
-    out.extend_from_slice(&serial.to_be_bytes())?;
-    out.extend_from_slice(&(tag.len() as u16).to_be_bytes())?;
-    out.extend_from_slice(tag)?;
-    out.extend_from_slice(&(count as u32).to_be_bytes())?;
+    write_append_head(out, serial, tag, count, size);
     Ok(())
+}
+
+// The same, where there is room for it.
+fn write_append_head<A: Allocator>(
+    out: &mut Vec<u8, A>,
+    serial: u64,
+    tag: &[u8],
+    count: usize,
+    size: usize,
+)
+    requires tag { length tag.now ≤ longest_tag }
+    requires short { append_fixed + length tag.now + size ≤ longest_body }
+    requires count { count ≤ size }
+    requires room { vec_len out.old + (4 + append_fixed + length tag.now) ≤ vec_capacity out.old }
+    ensures items { out.new.items ≡ out.old.items ++ append_head serial tag.now count size }
+    ensures len { vec_len out.new ≡ vec_len out.old + (4 + append_fixed + length tag.now) }
+    ensures kept { vec_capacity out.old ≤ vec_capacity out.new }
+{
+    let length = APPEND_FIXED + tag.len() + size;
+    write(out, &(length as u32).to_be_bytes());
+    out.push_reserved(APPEND_KIND);
+    write(out, &serial.to_be_bytes());
+    write(out, &(tag.len() as u16).to_be_bytes());
+    write(out, tag);
+    write(out, &(count as u32).to_be_bytes());
+}
+
+// Appends bytes for which there is room.
+fn write<A: Allocator>(out: &mut Vec<u8, A>, bytes: &[u8])
+    requires { vec_len out.old + length bytes.now ≤ vec_capacity out.old }
+    ensures items { out.new.items ≡ out.old.items ++ bytes.now }
+    ensures len { vec_len out.new ≡ vec_len out.old + length bytes.now }
+    ensures kept { vec_capacity out.old ≤ vec_capacity out.new }
+{
+    if out.extend_from_slice(bytes).is_err() {
+        unreachable!();
+    }
 }
