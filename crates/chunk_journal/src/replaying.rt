@@ -1,12 +1,13 @@
 //! What a journal means.
 
-ghost use Rattle.std.specs.Prelude.{◌≡◌, ◌≤◌, ◌+◌, IfOk, OnErr, IsTrue, ◌↔◌, Err};
+ghost use Rattle.std.specs.Prelude.{◌≡◌, ◌≢◌, ◌≤◌, ◌+◌, false, IfOk, OnErr, IsTrue, ◌↔◌, Err};
 ghost use Rattle.buffer_state.specs.State.{size, empty, IsAt};
 ghost use Rattle.buffer_state.specs.Steps.{CanAppend, greatest_size};
 ghost use Rattle.chunk_journal.specs.Records.{Record, Seal, Append, Queue, Purge};
 ghost use Rattle.chunk_journal.specs.Meaning.{IsReplayed, EndsUnsealed, IsDamaged};
 ghost use Rattle.chunk_journal.specs.Reading.{parsed_of};
-ghost use Rattle.chunk_journal.specs.Replaying.{Takes, Advanced};
+ghost use Rattle.chunk_journal.specs.Journal.{IsTorn};
+ghost use Rattle.chunk_journal.specs.Replaying.{Takes, Advanced, SoFar};
 ghost use Rattle.chunk_journal.specs.Drafts.{place_of};
 ghost use Rattle.chunk_journal.specs.declared.fault.ReplayError.TheVariants.{NotSealed, BadRecord};
 
@@ -46,10 +47,7 @@ pub fn replay<A: Allocator + Copy>(alloc: A, bytes: &[u8]) -> Result<Replayed<A>
         chunks: Chunks::new(alloc),
         is_sealed: false,
     };
-    let mut rest = bytes;
-    while let Some(behind) = advance(alloc, &mut draft, rest)? {
-        rest = behind;
-    }
+    let rest = replay_on(alloc, &mut draft, bytes)?;
     let Draft {
         mut chunks,
         is_sealed,
@@ -62,6 +60,25 @@ pub fn replay<A: Allocator + Copy>(alloc: A, bytes: &[u8]) -> Result<Replayed<A>
         chunks,
         used: bytes.len() - rest.len(),
     })
+}
+
+// Replays the whole records from the beginning on, and gives the bytes behind them.
+fn replay_on<'a, A: Allocator + Copy>(
+    alloc: A,
+    draft: &mut Draft<A>,
+    bytes: &'a [u8],
+) -> Result<&'a [u8], ReplayError>
+    requires { place_of draft.old ≡ record { is_sealed = false; state = empty } }
+    ensures so_far { IfOk result (λ rest. SoFar bytes.now (place_of draft.new) rest.now) }
+    ensures torn { IfOk result (λ rest. IsTorn rest.now) }
+    ensures not_sealed { result ≢ Err NotSealed }
+    ensures bad_record { result ≡ Err BadRecord → IsDamaged bytes.now }
+{
+    let mut rest = bytes;
+    while let Some(behind) = advance(alloc, draft, rest)? {
+        rest = behind;
+    }
+    Ok(rest)
 }
 
 // Replays the next record, and gives the bytes behind it: none where no whole record stands there.
