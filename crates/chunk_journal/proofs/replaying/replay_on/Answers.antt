@@ -2,11 +2,8 @@ use Rattle.std.proofs.Common.{◌≡◌, sym, Err}
 use Rattle.chunk_journal.specs.Replaying.{Advances, Advanced}
 use Rattle.chunk_journal.specs.declared.fault.ReplayError.TheVariants.{BadRecord}
 use Rattle.chunk_journal.specs.Drafts.{place_of}
-use Rattle.chunk_journal.proofs.Coming.{nothing_yet, comes_on, gets_shorter, is_damaged}
+use Rattle.chunk_journal.proofs.Coming.{comes_on, gets_shorter, is_damaged}
 use Rattle.chunk_journal.proofs.replaying.replay_on.Goals as goal
-
-pub loop-behind-init : goal.loop-behind-init
-loop-behind-init g c = nothing_yet c.args.bytes.now (place_of c.args.draft.now) c.requires
 
 went : (g : _) (c : goal.In-Some g) → Advances c.loop-behind.rest.now (place_of c.loop-behind.draft) (place_of c.advance.new.draft) c.in-Some.behind.now
 went g c = rw c.in-Some.is at c.in_ok-behind.ensures
