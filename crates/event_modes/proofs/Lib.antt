@@ -1,4 +1,5 @@
 pub mod Parting
+pub mod Puts
 pub mod Begins
 pub mod Last
 pub mod One

@@ -37,19 +37,19 @@ impl fmt::Display for ModeFault {
     ghost output = { λ f. Some (code_of f) };
 
     fn fmt<W: fmt::Write>(&self, f: &mut fmt::Formatter<W>) -> fmt::Result {
-        match self {
-            ModeFault::NotAMessage => write!(f, "V1"),
-            ModeFault::BadTag => write!(f, "V2"),
-            ModeFault::BadTime => write!(f, "V3"),
-            ModeFault::BadRecord => write!(f, "V4"),
-            ModeFault::BadEntry => write!(f, "V5"),
-            ModeFault::TornPacked => write!(f, "V6"),
-            ModeFault::Compressed => write!(f, "V7"),
-            ModeFault::BadOption => write!(f, "V8"),
-            ModeFault::Bytes(MsgFault::Reserved) => write!(f, "V9 M1"),
-            ModeFault::Bytes(MsgFault::TooDeep) => write!(f, "V9 M2"),
-            ModeFault::Bytes(MsgFault::TooLong) => write!(f, "V9 M3"),
-        }
+        f.write_str(match self {
+            ModeFault::NotAMessage => "V1",
+            ModeFault::BadTag => "V2",
+            ModeFault::BadTime => "V3",
+            ModeFault::BadRecord => "V4",
+            ModeFault::BadEntry => "V5",
+            ModeFault::TornPacked => "V6",
+            ModeFault::Compressed => "V7",
+            ModeFault::BadOption => "V8",
+            ModeFault::Bytes(MsgFault::Reserved) => "V9 M1",
+            ModeFault::Bytes(MsgFault::TooDeep) => "V9 M2",
+            ModeFault::Bytes(MsgFault::TooLong) => "V9 M3",
+        })
     }
 }
 

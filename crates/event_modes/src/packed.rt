@@ -73,14 +73,18 @@ fn put_option<A: Allocator>(
     ensures full { OnErr result (vec_capacity out.old
         < vec_len out.old + length (option_of count (chunk_of chunk.entry))) }
 {
-    let Some(chunk) = chunk else {
-        put_map(out, 1)?;
-        return put_size(out, count);
-    };
-    put_map(out, 2)?;
-    put_size(out, count)?;
-    put_str(out, b"chunk")?;
-    put_str(out, &chunk.text())
+    match chunk {
+        None => {
+            put_map(out, 1)?;
+            put_size(out, count)
+        }
+        Some(chunk) => {
+            put_map(out, 2)?;
+            put_size(out, count)?;
+            put_str(out, b"chunk")?;
+            put_str(out, &chunk.text())
+        }
+    }
 }
 
 fn put_size<A: Allocator>(out: &mut Vec<u8, A>, count: u64) -> Result<(), AllocError>

@@ -7,6 +7,7 @@ ghost use Rattle.event_modes.specs.Message.{Frame, IsFrame};
 ghost use Rattle.event_modes.specs.Places.{elements_list, carrier_of, frame_of, IsBulk, IsNoBulk};
 
 use crate::item::array_of;
+use crate::items::Items;
 use msgpack_bytes::str_or_bin;
 
 /// What carries the events of a message.
@@ -39,8 +40,21 @@ fn elements_of(item: &[u8]) -> Option<Elements<'_>>
         (λ found. IsArray (elements_list found) item.now) }
 {
     let mut items = array_of(item)?;
-    let first = items.next()?;
-    let second = items.next()?;
+    let Some(first) = items.next() else {
+        return None;
+    };
+    let Some(second) = items.next() else {
+        return None;
+    };
+    elements_behind(first, second, items)
+}
+
+// The elements where those behind the second are these.
+fn elements_behind<'a>(first: &'a [u8], second: &'a [u8], items: Items<'a>) -> Option<Elements<'a>>
+    ensures { MatchOption result (2 < length items.entry)
+        (λ found. elements_list found ≡ first.now ∷ second.now ∷ items.entry) }
+{
+    let mut items = items;
     let Some(third) = items.next() else {
         return Some(Elements::Two(first, second));
     };
