@@ -8,6 +8,7 @@ use Rattle.msgpack_bytes.specs.Item.{IsScalar, Item, longest, IsItemWithin}
 use Rattle.msgpack_bytes.specs.Kinds.{IsText, IsBool, IsArrayHeader}
 use Rattle.msgpack_bytes.specs.Containers.{IsArrayOf}
 use Rattle.auth_handshake.specs.Messages.{Asked, Told}
+use Rattle.auth_handshake.specs.Readings.{AreTexts}
 
 pub text_scalar : (bytes content : List ℕ) → IsText bytes content → IsScalar bytes
 text_scalar bytes content (inl p) = record { kind = kind.Str; content = content; spelled = p }
@@ -35,6 +36,9 @@ pub scalars_array : (item header : List ℕ) (items : List (List ℕ)) → IsIte
     → item ≡ header ++ concat items → AllByRecursion IsScalar items → IsArrayOf IsItemWithin items item
 scalars_array item header items p h e s =
     record { header = header; counted = h; each = scalar_items items (length header) s (let l = ap length e in let short = p.short in omega (arith, length-append header (concat items))); whole = e }
+
+pub texts_are : {bytes x y z : List ℕ} (first second third back : List ℕ) → IsText first x → IsText second y → IsText third z → bytes ≡ first ++ (second ++ (third ++ back)) → AreTexts bytes x y z back
+texts_are first second third back p q r e = record { first = first; second = second; third = third; is_first = p; is_second = q; is_third = r; whole = e }
 
 pub same_asked : (a b : Asked) → a.host ≡ b.host → a.salt ≡ b.salt → a.digest ≡ b.digest → a ≡ b
 same_asked a b h s d = ap (λ (x : List ℕ). asked x a.salt a.digest) h ∙ ap (λ (x : List ℕ). asked b.host x a.digest) s ∙ ap (λ (x : List ℕ). asked b.host b.salt x) d

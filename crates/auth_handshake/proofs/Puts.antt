@@ -1,5 +1,5 @@
 -- Parts of a message appended one after another.
-use Rattle.std.proofs.Common.{ℕ, zero, suc, ◌≡◌, ◌+◌, ◌<◌, ◌≤◌, List, [], ◌∷◌, ◌++◌, length, take, get_or, refl, ap, sym, ◌∙◌, arith, Result, Ok, Err, OnErr}
+use Rattle.std.proofs.Common.{ℕ, zero, suc, ◌≡◌, ◌+◌, ◌<◌, ◌≤◌, List, [], ◌∷◌, ◌++◌, length, take, get_or, refl, ap, sym, ◌∙◌, arith, Result, Ok, Err, OnOk, OnErr, is_err, false}
 use Rattle.std.specs.List.{flat_map}
 use Rattle.std.proofs.lemmas.List.{append-nil, length-append, take_at, take_more, flat_map_more}
 use Rattle.auth_handshake.specs.declared.write.Field.{Field}
@@ -21,8 +21,8 @@ puts_on old now next capacity room wide fields n d p h e r = record {
   kept = (let k = p.kept in omega arith);
 }
 
-pub puts_back : (old now : List ℕ) (capacity room : ℕ) (fields : List Field) (n : ℕ) → Puts old now capacity room fields n → take (length old) now ≡ old
-puts_back old now capacity room fields n p = ap (λ (xs : List ℕ). take (length old) xs) p.items ∙ take_at old _ (length old) refl
+pub puts_back : (old now next : List ℕ) (capacity room : ℕ) (fields : List Field) (n start : ℕ) → Puts old now capacity room fields n → next ≡ now → start ≡ length old → take start next ≡ old
+puts_back old now next capacity room fields n start p e l = ap (λ (xs : List ℕ). take start xs) (e ∙ p.items) ∙ take_at old _ start (sym l)
 
 -- the parts put and the next are no more than all
 parts_within : (fields : List Field) (n : ℕ) (d : Field) → n < length fields → length (flat_map field_bytes (take n fields)) + length (field_bytes (get_or fields n d)) ≤ length (flat_map field_bytes fields)
@@ -42,3 +42,7 @@ puts_full old now capacity room before len fields n d p h e f full =
 pub on_err : {P Q : Type 0} {X E : Type 0} (r : Result X E) → (P → Q) → OnErr r P → OnErr r Q
 on_err (Ok x) f p = tt
 on_err (Err e) f p = f p
+
+pub if_ok : {P X E : Type 0} (r : Result X E) → is_err r ≡ false → OnOk r P → P
+if_ok (Ok x) e p = p
+if_ok (Err x) e p = absurd cc

@@ -3,7 +3,7 @@
 
 ghost use Rattle.std.specs.Prelude.{◌≡◌, ℕ, List, IfSome, IsSomeAnd};
 ghost use Rattle.auth_handshake.specs.Messages.{Asked, Told, IsHelo, IsPing, IsPong};
-ghost use Rattle.auth_handshake.specs.Readings.{asked, told};
+ghost use Rattle.auth_handshake.specs.Readings.{AreTexts, asked, told};
 
 use msgpack_bytes::{after_text, array_of, is_item, last_value, next_bool, next_text, str_or_bin};
 
@@ -50,9 +50,7 @@ pub fn ping_of(item: &[u8]) -> Option<PingItem<'_>>
         return None;
     }
     let rest = after_text(array_of(item, 6)?, b"PING")?;
-    let (host, rest) = next_text(rest)?;
-    let (salt, rest) = next_text(rest)?;
-    let (digest, rest) = next_text(rest)?;
+    let (host, salt, digest, rest) = three_texts(rest)?;
     let (_user, rest) = next_text(rest)?;
     let (_password, rest) = next_text(rest)?;
     if rest.is_empty() {
@@ -73,9 +71,7 @@ pub fn pong_of(item: &[u8]) -> Option<PongItem<'_>>
     }
     let rest = after_text(array_of(item, 5)?, b"PONG")?;
     let (accepted, rest) = next_bool(rest)?;
-    let (reason, rest) = next_text(rest)?;
-    let (host, rest) = next_text(rest)?;
-    let (digest, rest) = next_text(rest)?;
+    let (reason, host, digest, rest) = three_texts(rest)?;
     if rest.is_empty() {
         Some(PongItem {
             accepted,
@@ -86,4 +82,22 @@ pub fn pong_of(item: &[u8]) -> Option<PongItem<'_>>
     } else {
         None
     }
+}
+
+// The contents of the three texts that the bytes begin with, and what is behind them.
+fn three_texts(bytes: &[u8]) -> Option<(&[u8], &[u8], &[u8], &[u8])>
+    ensures right { IfSome result (λ found. AreTexts bytes.now found.0.now found.1.now found.2.now found.3.now) }
+    ensures only { (x y z back : List ℕ) → AreTexts bytes.now x y z back
+        → IsSomeAnd result (λ found. (found.0.now ≡ x) × (found.1.now ≡ y) × (found.2.now ≡ z) × (found.3.now ≡ back)) }
+{
+    let Some((first, rest)) = next_text(bytes) else {
+        return None;
+    };
+    let Some((second, rest)) = next_text(rest) else {
+        return None;
+    };
+    let Some((third, rest)) = next_text(rest) else {
+        return None;
+    };
+    Some((first, second, third, rest))
 }
