@@ -1,6 +1,7 @@
 -- Lists, taken apart at a place.
-use Rattle.std.proofs.Common.{◌≡◌, ℕ, zero, suc, ◌+◌, ◌<◌, ◌++◌, [], ◌∷◌, List, length, get_or, take, drop, refl, sym, ap, ◌∙◌, arith}
-use Rattle.std.proofs.lemmas.List.{take_more}
+use Rattle.std.proofs.Common.{◌≡◌, ℕ, zero, suc, ◌+◌, ◌<◌, ◌≤◌, ◌++◌, [], ◌∷◌, List, length, get_or, take, drop, refl, sym, ap, ◌∙◌, arith, Result, Ok, Err, Option, Some, None}
+use Rattle.std.specs.Prelude.{◌-◌, IfOk, IfNone, slice_range}
+use Rattle.std.proofs.lemmas.List.{take_more, take_all}
 
 -- a list, taken apart at one of its elements
 pub split_at : {X : Type 0} (xs : List X) (i : ℕ) (x : X) → i < length xs → x ≡ get_or xs i x → xs ≡ take i xs ++ x ∷ drop (suc i) xs
@@ -24,3 +25,24 @@ two_items [] d h = absurd (omega arith)
 two_items (x ∷ []) d h = absurd (omega arith)
 two_items (x ∷ y ∷ []) d h = refl
 two_items (x ∷ y ∷ z ∷ xs) d h = absurd (omega arith)
+
+-- a list of three elements
+pub three_items : {X : Type 0} (xs : List X) (d : X) → length xs ≡ 3 → xs ≡ get_or xs 0 d ∷ get_or xs 1 d ∷ get_or xs 2 d ∷ []
+three_items [] d h = absurd (omega arith)
+three_items (x ∷ xs) d h = ap (λ more. x ∷ more) (two_items xs d (omega arith))
+
+-- a list of two elements or more
+pub two_and_more : {X : Type 0} (xs : List X) (d : X) → 2 ≤ length xs → xs ≡ get_or xs 0 d ∷ get_or xs 1 d ∷ slice_range xs 2 (length xs)
+two_and_more [] d h = absurd (omega arith)
+two_and_more (x ∷ []) d h = absurd (omega arith)
+two_and_more (x ∷ y ∷ xs) d h = ap (λ more. x ∷ y ∷ more) (sym (take_all (length (x ∷ y ∷ xs) - 2) xs (omega arith)))
+
+-- ---- what holds of an answer
+
+pub if_ok_weaker : {T E : Type 0} {P Q : T → Type 0} (r : Result T E) → ((t : T) → P t → Q t) → IfOk r P → IfOk r Q
+if_ok_weaker (Ok t) f p = f t p
+if_ok_weaker (Err e) f p = tt
+
+pub if_none_weaker : {T P Q : Type 0} (o : Option T) → (P → Q) → IfNone o P → IfNone o Q
+if_none_weaker None f p = f p
+if_none_weaker (Some t) f p = tt
