@@ -1,14 +1,15 @@
 -- Stacks of open sections, as code holds them.
 use Rattle.std.proofs.Common.{◌≡◌, ℕ, ◌<◌, Bool, true, false, List, [], ◌∷◌, ◌++◌, length, map, reverse, Result, Ok, refl, sym, ap, ◌∙◌, arith}
 use Rattle.std.specs.Str.{bytes_eq}
-use Rattle.std.specs.Prelude.{not}
+use Rattle.std.specs.Prelude.{not, nat_lt}
+use Rattle.std.proofs.lemmas.Bool.Decides.{nat_tests}
 use Rattle.std.proofs.lemmas.List.{map-append, reverse-append, length-reverse, length-map, nil_from_length}
 use Rattle.std.proofs.lemmas.Bool.{false≢true}
 use Rattle.conf_text.specs.declared.fault.FaultKind.TheVariants as kinds
 use Rattle.conf_text.specs.declared.fault.ConfFault.{ConfFault}
 use Rattle.conf_text.specs.Trees.{Heading, Setting, Tree, tree, no_trees}
-use Rattle.conf_text.specs.Grammar.{Frame}
-use Rattle.conf_text.specs.Reading.{stack, faulty, with_element, closed, close_in, close_one, first_and, end_in, end_of}
+use Rattle.conf_text.specs.Grammar.{headed, most_open, Frame, frame}
+use Rattle.conf_text.specs.Reading.{stack, open_one, faulty, with_element, closed, close_in, close_one, first_and, end_in, end_of}
 
 -- what is pushed last is the innermost
 pub outer_push : {X Y : Type 0} (f : X → Y) (xs : List X) (x : X) → reverse (map f (xs ++ (x ∷ []))) ≡ f x ∷ reverse (map f xs)
@@ -25,6 +26,16 @@ done x = Ok x
 
 pub ok_is : {A : Type 0} (x y : A) → done x ≡ done y → x ≡ y
 ok_is x y e = cc
+
+-- a section that opens stands round those that are open
+pub open_gives : {X : Type 0} (f : X → Frame) (line : ℕ) (name argument : List ℕ) (old next : X) (outer pushed : List X) → length outer < most_open → f next ≡ frame (headed name argument line) [] []
+    → pushed ≡ outer ++ (old ∷ []) → open_one line name argument (stack (f old) (reverse (map f outer))) ≡ Ok (stack (f next) (reverse (map f pushed)))
+unfolding open_one
+open_gives f line name argument old next outer pushed few made all =
+    let same = outer_length f outer in
+    let room : nat_lt (length (reverse (map f outer))) most_open ≡ true = grind (arith, nat_tests) in
+    rw room
+    (ap (λ (g : Frame). done (stack g (f old ∷ reverse (map f outer)))) (sym made) ∙ ap (λ (fs : List Frame). done (stack (f next) fs)) (sym (ap (λ (xs : List _). reverse (map f xs)) all ∙ outer_push f outer old)))
 
 -- a section that ends becomes an element of its parent
 pub close_gives : (line : ℕ) (name : List ℕ) (innermost : Frame) (around : List Frame) (parent : Frame) (outer : List Frame) (t : Tree) (p f : Frame)
