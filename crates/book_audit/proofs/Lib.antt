@@ -1,3 +1,4 @@
 pub mod Passing
 pub mod Named
 pub mod Again
+pub mod Strangers
