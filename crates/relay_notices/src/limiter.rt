@@ -1,7 +1,8 @@
 //! The lines that are to be said: of a place at most one in a while.
 
-ghost use Rattle.std.specs.Prelude.{◌≡◌, All, IfNone, IfOk, IfSome, replicate};
-ghost use Rattle.relay_notices.specs.Telling.{IsQuiet, IsSaid, tally_at, told_at, untold};
+ghost use Rattle.std.specs.Prelude.{◌≡◌, ◌<◌, All, IfNone, IfOk, IfSome, IsTrue, Some, length, replicate, slice_get};
+ghost use Rattle.relay_notices.specs.declared.slot.Slot.{Slot};
+ghost use Rattle.relay_notices.specs.Telling.{IsQuiet, IsSaid, is_due, tally_at, told_at, untold};
 
 use crate::notice::Notice;
 use crate::slot::{Pending, Slot, Tally};
@@ -56,12 +57,13 @@ impl<A: Allocator> Limiter<A> {
         ensures none { IfNone result (All (IsQuiet now) self.old) }
         ensures same { IfNone result (self.new ≡ self.old) }
     {
-        let place = self.slots.iter().position(|slot| slot.is_due(now))?;
+        let place = first_due(&self.slots, now)?;
         let slot = self.slots[place];
         let pending = slot.pending?;
         self.slots[place] = slot.said(now);
         Some(Due { place, pending })
     }
+
     /// How often a place worked and failed; `None` of what is no place.
     pub fn tally(&self, place: usize) -> Option<Tally>
         ensures { result ≡ tally_at place self.now }
@@ -71,4 +73,13 @@ impl<A: Allocator> Limiter<A> {
             None => None,
         }
     }
+}
+
+// The first place of which something is to be said now.
+fn first_due(slots: &[Slot], now: u64) -> Option<usize>
+    ensures within { IfSome result (λ place. place < length slots.now) }
+    ensures due { IfSome result (λ place. (slot : Slot) × (slice_get slots.now place ≡ Some slot) × IsTrue (is_due now slot)) }
+    ensures none { IfNone result (All (IsQuiet now) slots.now) }
+{
+    slots.iter().position(|slot| slot.is_due(now))
 }
