@@ -5,3 +5,6 @@ pub mod Pieces
 pub mod Examining
 pub mod Labelling
 pub mod Refusals
+pub mod Going
+pub mod Settings
+pub mod Values
