@@ -1,13 +1,13 @@
 -- That no two outputs share a buffer.
-use Rattle.std.proofs.Common.{◌≡◌, ◌∙◌, ℕ, zero, suc, ◌+◌, ◌<◌, ◌≤◌, ◌&&◌, ◌||◌, Bool, true, false, eqb, List, [], ◌∷◌, ◌++◌, map, Option, Some, None, slice_get, refl, sym, ap, subst, arith, if◌then◌else◌}
-use Rattle.std.specs.Prelude.{codes, filter}
+use Rattle.std.proofs.Common.{◌≡◌, ◌∙◌, ℕ, zero, suc, ◌+◌, ◌<◌, ◌≤◌, ◌||◌, Bool, true, false, eqb, List, [], ◌∷◌, ◌++◌, map, Option, Some, None, slice_get, refl, sym, ap, subst, arith, if◌then◌else◌}
+use Rattle.std.specs.Prelude.{codes}
 use Rattle.std.specs.List.{flat_map, AllZip}
 use Rattle.std.specs.Option.{option_and_then}
 use Rattle.std.specs.Str.{bytes_eq}
 use Rattle.std.proofs.lemmas.Bool.{eq-eqb, eqb-true, false≢true}
 use Rattle.std.proofs.lemmas.Slice.Eq.{bytes_eq-Decides}
-use Rattle.conf_text.specs.Trees.{Heading, Setting, Tree, tree, Trees, no_trees, more_trees, trees}
-use Rattle.relay_faults.specs.Elements.{heading_of, settings_of, children_of, tree_list, is_named}
+use Rattle.conf_text.specs.Trees.{Heading, Setting, Tree, tree, Trees, no_trees, more_trees}
+use Rattle.relay_faults.specs.Elements.{heading_of, children_of, tree_list, is_named}
 use Rattle.relay_faults.specs.declared.form.OutputType.{OutputType}
 use Rattle.relay_faults.specs.declared.form.OutputType.TheVariants as outputs
 use Rattle.relay_conf.specs.declared.output.Output.{Output}
@@ -17,7 +17,7 @@ use Rattle.relay_conf.specs.declared.relay.Relay.{Relay}
 use Rattle.relay_conf.specs.declared.relay.Scope.{Scope}
 use Rattle.relay_conf.specs.Buffers.{buffer_number, output_in_relay, HaveOwnBuffers}
 use Rattle.relay_conf.specs.Meaning.{OutputMeaning, to_nowhere, to_scope, to_relays, to_sink, output_by, output_of, kind_of, is_buffered, has_buffer, one_if, is_copy, outputs_of, numbered, tree_buffers, trees_buffers}
-use Rattle.relay_conf.specs.Relays.{IsMatchOf, AreMatchesOf, IsScopeOf, AreScopesOf, IsRelayOf}
+use Rattle.relay_conf.specs.Relays.{IsMatchOf, IsScopeOf, IsRelayOf}
 use Rattle.relay_conf.specs.Views.{output_view}
 
 -- one where the buffer is this one, else none

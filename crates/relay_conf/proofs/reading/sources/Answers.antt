@@ -1,6 +1,6 @@
 use Rattle.std.proofs.Common.{◌∙◌, ◌+◌, sym, map, drop}
 use Rattle.std.specs.Prelude.{codes}
-use Rattle.std.proofs.lemmas.List.{map-append}
+use Rattle.std.proofs.lemmas.List.{map-append, append-nil, drop_all}
 use Rattle.conf_text.specs.Views.{tree_of}
 use Rattle.relay_faults.specs.Elements.{is_named}
 use Rattle.relay_conf.specs.Meaning.{source_of}
@@ -22,3 +22,8 @@ loop-element-preserved g c =
       | else-is_named w ↦ rw w.found-is
           (one_passed (source_of (map tree_of xs)) (is_named (codes "source")) (tree_of c.element-item.result) (map tree_of (drop (k + 1) xs)) (map source_view c.loop-element.found.items) _ (sym c.is_named.ensures ∙ w.if-is_named.false) so_far)
     ]
+
+pub returns : goal.returns
+returns g c =
+    let none = drop_all c.loop-element.element-index c.args.elements.now c.loop-element-test.false in
+    sym (append-nil (map source_view c.loop-element.found.items)) ∙ (rw none at c.loop-element.invariant)

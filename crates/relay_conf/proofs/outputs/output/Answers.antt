@@ -1,0 +1,24 @@
+use Rattle.std.proofs.Common.{◌≡◌, ◌∙◌, Some, sym, ap, refl}
+use Rattle.conf_text.specs.Views.{tree_of}
+use Rattle.relay_faults.specs.Elements.{settings_of}
+use Rattle.relay_conf.specs.Meaning.{kind_of}
+use Rattle.relay_faults.specs.declared.form.OutputType.TheVariants as outputs
+use Rattle.relay_conf.proofs.outputs.output.Goals as goal
+
+pub returns-in-Some-Relabel : goal.returns-in-Some-Relabel
+returns-in-Some-Relabel g c =
+    let t = tree_of c.args.element.now in
+    let kind : kind_of (settings_of t) ≡ Some outputs.Relabel = sym (c.kind_of.ensures ∙ ap kind_of c.pairs_of-pairs.ensures) ∙ (c.in-Some-Relabel.is ∙ ap (λ (k : outputs.the_data). Some k) c.in-Some-Relabel.field-0-is) in
+    rw (kind, c.target.ensures, c.value_of.ensures, c.pairs_of-pairs.ensures, c.line_of-line.ensures) refl
+
+pub returns-in_ok-file-in-Some-File : goal.returns-in_ok-file-in-Some-File
+returns-in_ok-file-in-Some-File g c =
+    let t = tree_of c.args.element.now in
+    let kind : kind_of (settings_of t) ≡ Some outputs.File = sym (c.kind_of.ensures ∙ ap kind_of c.pairs_of-pairs.ensures) ∙ (c.in-Some-File.is ∙ ap (λ (k : outputs.the_data). Some k) c.in-Some-File.field-0-is) in
+    rw (kind, c.in_ok-file-in-Some-File.ensures, c.line_of-line.ensures) refl
+
+pub returns-in_ok-forward-in-Some-Forward : goal.returns-in_ok-forward-in-Some-Forward
+returns-in_ok-forward-in-Some-Forward g c =
+    let t = tree_of c.args.element.now in
+    let kind : kind_of (settings_of t) ≡ Some outputs.Forward = sym (c.kind_of.ensures ∙ ap kind_of c.pairs_of-pairs.ensures) ∙ (c.in-Some-Forward.is ∙ ap (λ (k : outputs.the_data). Some k) c.in-Some-Forward.field-0-is) in
+    rw (kind, c.in_ok-forward-in-Some-Forward.ensures, c.line_of-line.ensures) refl
