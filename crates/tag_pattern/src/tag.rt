@@ -90,11 +90,9 @@ impl<A: Allocator> Tag<A> {
         if length > MOST_TAG_BYTES {
             return Err(TagError::TagTooLong);
         }
-        let mut bytes = Vec::with_capacity(alloc, length)?;
-        bytes.extend_from_slice(front)?;
-        bytes.extend_from_slice(b".")?;
-        bytes.extend_from_slice(&self.bytes)?;
-        Ok(Tag { bytes })
+        Ok(Tag {
+            bytes: joined(alloc, front, &self.bytes, length)?,
+        })
     }
 
     /// The tag's bytes, at most 1,024.
@@ -104,4 +102,20 @@ impl<A: Allocator> Tag<A> {
     {
         &self.bytes
     }
+}
+
+// The two with a dot between, in memory of its own with room for so many bytes.
+fn joined<A: Allocator>(
+    alloc: A,
+    front: &[u8],
+    back: &[u8],
+    room: usize,
+) -> Result<Vec<u8, A>, AllocError>
+    ensures { IfOk result (λ bytes. bytes.items ≡ prefixed_tag front.now back.now) }
+{
+    let mut bytes = Vec::with_capacity(alloc, room)?;
+    bytes.extend_from_slice(front)?;
+    bytes.extend_from_slice(b".")?;
+    bytes.extend_from_slice(back)?;
+    Ok(bytes)
 }
