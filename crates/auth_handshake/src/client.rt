@@ -54,13 +54,9 @@ impl<A: Allocator> Client<A> {
         ensures { IfOk result (λ client.
             client ≡ record { host = host.now; key = key.now; salt = salt; nonce = None }) }
     {
-        let mut own_host = Vec::new(alloc);
-        own_host.extend_from_slice(host)?;
-        let mut own_key = Vec::new(alloc);
-        own_key.extend_from_slice(key)?;
         Ok(Client {
-            host: own_host,
-            key: own_key,
+            host: Vec::from_slice(alloc, host)?,
+            key: Vec::from_slice(alloc, key)?,
             salt,
             nonce: None,
         })
@@ -88,8 +84,7 @@ impl<A: Allocator> Client<A> {
         let Some(nonce) = helo_nonce(item) else {
             return Err(HeloError::Fault(HandshakeFault::NotHelo));
         };
-        let mut kept = Vec::new(*self.host.allocator());
-        kept.extend_from_slice(nonce)?;
+        let kept = Vec::from_slice(*self.host.allocator(), nonce)?;
         let digest = digest_hex(&self.salt, &self.host, nonce, &self.key);
         put_ping(out, &self.host, &self.salt, &digest)?;
         self.nonce = Some(kept);

@@ -46,13 +46,9 @@ impl<A: Allocator> Server<A> {
         ensures { IfOk result (λ server.
             server ≡ record { host = host.now; key = key.now; nonce = nonce }) }
     {
-        let mut own_host = Vec::new(alloc);
-        own_host.extend_from_slice(host)?;
-        let mut own_key = Vec::new(alloc);
-        own_key.extend_from_slice(key)?;
         Ok(Server {
-            host: own_host,
-            key: own_key,
+            host: Vec::from_slice(alloc, host)?,
+            key: Vec::from_slice(alloc, key)?,
             nonce,
         })
     }
