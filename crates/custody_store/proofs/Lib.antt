@@ -1,4 +1,5 @@
 pub mod Covering
+pub mod Changes
 pub mod ChunksAt
 pub mod Members
 pub mod PlaceLists

@@ -1,4 +1,5 @@
-use Rattle.std.proofs.Common.{List, ℕ, length, refl, ap, ◌∙◌, arith}
+use Rattle.std.proofs.lemmas.List.{length-map}
+use Rattle.std.proofs.Common.{refl, List, ℕ, length, refl, ap, ◌∙◌, arith}
 use Rattle.std.specs.Option.{option_and_then}
 use Rattle.std.proofs.lemmas.Result.{err_from_is_err_and}
 use Rattle.step_lines.specs.Texts.{texts_of}
@@ -41,3 +42,15 @@ returns-clause-ok g c =
     rw (← c.self.view_is)
     (contents_from-set s.generation s.chunks.items c.args.serial c.index_mut.result.now _ c.index_mut.ensures.value (longer (texts_of c.args.entries.now)) s.sink.items s.answered.items within
     (more ∙ ap (λ (entries : List (List ℕ)). option_and_then (longer entries) (slot_from s.generation c.index_mut.result.now)) c.in_ok-copies.ensures))
+
+pub index_mut-requires : goal.index_mut-requires
+index_mut-requires g c =
+    let s = c.self.inside in
+    let n = s.chunks.ok.0 in
+    let within = simp length-map at (rw (← c.self.view_is) at c.requires) in
+    omega (arith, n, within)
+
+pub returns-in_err-copies-clause-err : goal.returns-in_err-copies-clause-err
+returns-in_err-copies-clause-err g c =
+    let p = err_from_is_err_and c.from_residual.result c.from_residual.ensures.1 in
+    rw p.1 refl

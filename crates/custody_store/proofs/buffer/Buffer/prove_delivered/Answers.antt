@@ -27,3 +27,10 @@ returns g c =
     rw (← c.self.view_is)
     (contents_from-set now s.chunks.items c.args.serial old c.prove_delivered.new.slot c.index_mut.ensures.value with_evidence s.sink.items s.answered.items within
     (ap (slot_from now) c.prove_delivered.ensures ∙ slot_from-evident now old))
+
+pub index_mut-requires : goal.index_mut-requires
+index_mut-requires g c =
+    let s = c.self.inside in
+    let n = s.chunks.ok.0 in
+    let within = simp length-map at (claimed_within (map (slot_from s.generation) s.chunks.items) c.args.serial (rw (← c.self.view_is) at c.requires)) in
+    omega (arith, n, within)

@@ -26,3 +26,14 @@ returns-else-serial-len-clause-ok g c =
     let past : length old.chunks ≤ c.args.serial = rw (← c.self.view_is) (simp length-map (omega arith)) in
     on_ok_weaker c.add_chunk.result (λ h. h ∙ ap (λ (chunks : List (Option Chunk)). record old { chunks = chunks })
     (ap (λ b. cond b (changed old.chunks c.args.serial (longer texts)) (old.chunks ++ Some (new_chunk c.args.tag.now texts) ∷ [])) (sym (le-ltb c.args.serial (length old.chunks) past)))) c.add_chunk.ensures.ok
+
+pub returns-then-serial-len-clause-err : goal.returns-then-serial-len-clause-err
+returns-then-serial-len-clause-err g c = c.grow.ensures.err
+
+pub returns-else-serial-len-clause-err : goal.returns-else-serial-len-clause-err
+returns-else-serial-len-clause-err g c = c.add_chunk.ensures.err
+
+pub grow-requires : goal.grow-requires
+grow-requires g c =
+    let n = c.self.inside.chunks.ok.0 in
+    rw (← c.self.view_is) (simp length-map (omega (arith, n)))
