@@ -5,6 +5,21 @@ use Rattle.loss_rules.proofs.News.{place_within, source_of, not_new, port_not_ne
 use Rattle.loss_rules.proofs.Seeks.{not_true}
 use Rattle.loss_rules.proofs.addresses.source_is_new.Goals as goal
 
+pub index-source-requires : goal.index-source-requires
+index-source-requires g c =
+    let size : length c.relays.result.now ≡ length c.args.net.now.relays = ap length c.relays.ensures in
+    let within : c.args.place < length c.args.net.now.relays = place_within c.args.net.now c.args.place c.args.number c.requires.0 c.requires.1 in
+    let node_is : slice_get c.args.net.now.relays c.args.place ≡ Some c.index-relays-place.result = rw (← c.relays.ensures) (slice_get_read c.relays.result.now _ c.args.place c.index-relays-place.result refl (omega arith) c.index-relays-place.is) in
+    let wanted : slice_get c.index-relays-place.result.relay.sources.items c.args.number ≡ Some c.requires.0 = source_of c.args.net.now c.args.place c.args.number c.index-relays-place.result c.requires.0 node_is c.requires.1 in
+    let inside : c.args.number < length c.index-relays-place.result.relay.sources.items = slice_get_within c.index-relays-place.result.relay.sources.items c.args.number c.requires.0 wanted in
+    let counted = c.index-relays-place.result.relay.sources.ok.0 in
+    omega (arith, counted, inside)
+
+pub is_taken_before-requires : goal.is_taken_before-requires
+is_taken_before-requires g c =
+    let within : c.args.place < length c.args.net.now.relays = place_within c.args.net.now c.args.place c.args.number c.requires.0 c.requires.1 in
+    rw c.relays-2.ensures (omega arith)
+
 pub is_port_before-requires : goal.is_port_before-requires
 is_port_before-requires g c =
     let size : length c.relays.result.now ≡ length c.args.net.now.relays = ap length c.relays.ensures in

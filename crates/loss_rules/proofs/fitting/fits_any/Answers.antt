@@ -1,0 +1,13 @@
+use Rattle.std.proofs.Common.{refl}
+use Rattle.tag_pattern.specs.Patterns.{Fits}
+use Rattle.loss_rules.proofs.Seeks.{not_true, found_any, none_more, no_any}
+use Rattle.loss_rules.proofs.fitting.fits_any.Goals as goal
+
+pub returns-then-fits : goal.returns-then-fits
+returns-then-fits g c = found_any (Fits c.args.pattern.now) c.args.others.now c.loop-other.other-index c.other-item.result c.loop-other-test.true c.other-item.is (c.if-fits.ensures.fits.0 refl)
+
+pub loop-other-preserved : goal.loop-other-preserved
+loop-other-preserved g c = none_more (Fits c.args.pattern.now) c.args.others.now c.loop-other.other-index c.other-item.result c.loop-other-test.true c.other-item.is c.loop-other.invariant (λ fits. not_true (c.if-fits.ensures.fits.1 fits))
+
+pub returns : goal.returns
+returns g c = no_any (Fits c.args.pattern.now) c.args.others.now c.loop-other.other-index c.loop-other-test.false c.loop-other.invariant
