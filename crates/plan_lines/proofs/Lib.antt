@@ -1,8 +1,15 @@
+pub mod AddsOrRefused
 pub mod Counting
 pub mod Found
 pub mod LinesRead
 pub mod Numbering
+pub mod OneAddition
+pub mod OnePlan
+pub mod OneRefusal
+pub mod OneRelay
 pub mod OwnBuffers
+pub mod SamePlans
 pub mod Saying
+pub mod Seen
 pub mod Texts
 pub mod Words

@@ -5,3 +5,5 @@ pub mod Parts
 pub mod Faults
 pub mod Printed
 pub mod Drafts
+pub mod Meanings
+pub mod Laws

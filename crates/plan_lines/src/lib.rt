@@ -4,6 +4,7 @@
 mod draft;
 mod error;
 mod form;
+mod laws;
 mod names;
 mod parts;
 mod plan;
@@ -12,6 +13,7 @@ mod relays;
 pub use draft::scope_of;
 pub use error::PlanError;
 pub use form::relay_number;
+pub use laws::{has_one_fault, is_plan_or_fault, says_one_plan};
 pub use loss_rules::{Label, Reach, RelayLine};
 pub use names::conf_names;
 pub use parts::PlanParts;
