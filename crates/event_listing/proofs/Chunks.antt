@@ -81,7 +81,7 @@ its_chunk chosen given tag spots serial places known old new result same there c
 
 -- ---- each chunk is found under its serial
 
-abbrev IsFound : List Numbered → Numbered → Type 0
+abbrev pub IsFound : List Numbered → Numbered → Type 0
 IsFound chunks numbered = lookup (is_at (nat_cmp numbered.0)) chunks ≡ Some numbered.1
 
 -- the entries of this serial are those of the chunk
@@ -99,7 +99,7 @@ found_behind x chunks (y ∷ some) most is = (
   found_behind x chunks some most.1 is.1,
 )
 
-each_found : (slots : Slots) → IsStrictlySortedBy nat_cmp (keys_of slots) → AllByRecursion (IsFound (chunks_in slots)) (chunks_in slots)
+pub each_found : (slots : Slots) → IsStrictlySortedBy nat_cmp (keys_of slots) → AllByRecursion (IsFound (chunks_in slots)) (chunks_in slots)
 unfolding IsStrictlySortedBy
 each_found [] sorted = tt
 each_found (x ∷ slots) sorted = (
@@ -107,7 +107,7 @@ each_found (x ∷ slots) sorted = (
   found_behind (x.0, x.1.chunk) (chunks_in slots) (chunks_in slots) (rising x.0 slots sorted.0) (each_found slots sorted.1),
 )
 
-entries_found : (s : State) (some : List Numbered) → AllByRecursion (IsFound s.chunks) some → AllByRecursion (HasEntries s) some
+pub entries_found : (s : State) (some : List Numbered) → AllByRecursion (IsFound s.chunks) some → AllByRecursion (HasEntries s) some
 entries_found s [] is = tt
 entries_found s (x ∷ some) is = (ap (λ (o : Option Chunk). option_map_or (λ chunk. concat chunk.entries) o []) is.0, entries_found s some is.1)
 

@@ -1,4 +1,4 @@
-mod Chunks
+pub mod Chunks
 mod Entries
 mod Held
 pub mod Items

@@ -49,6 +49,16 @@ pub record PrintsPass (known : Option (List ℕ)) (chosen : Chosen) (name : List
   pub ends : MatchResult result (λ next. IfSome known (λ bytes. IsPass chosen bytes at next behind text)) (λ status. IfSome known (λ bytes. PrintsSome Items chosen (drop at bytes) text))
   pub noted : MatchResult result (λ next. IsPassNoted growth name next behind notes) (λ status. Unit {0})
 
+-- a sink's file that is printed in passes: its name, and up to which place it was printed
+pub record Followed : Type 0 where
+  pub name : List ℕ
+  pub at : ℕ
+
+-- what a pass answers, which ended at this place where it didn't fail
+abbrev pub ended_at : ℕ → Result (Unit {0}) Status → Result ℕ Status
+ended_at place (Ok _) = Ok place
+ended_at place (Err status) = Err status
+
 -- Two passes join, the second from where the first ended, over a file that grew in between:
 -- together they print what one pass prints over the file as it is then. So no event is passed over,
 -- and none comes twice.

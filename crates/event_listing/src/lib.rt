@@ -17,6 +17,6 @@ mod stop;
 
 pub use choice::Choice;
 pub use files::run_events;
-pub use follow::{Growth, passes_join, run_pass};
+pub use follow::{FollowedFile, Growth, passes_join};
 pub use output::Output;
 pub use sink::LONGEST_ITEM;

@@ -1,19 +1,14 @@
 -- The oldest event of live chunks, chunk by chunk.
-use Rattle.std.proofs.Common.{ℕ, ℤ, ◌≡◌, ◌+◌, ◌≤◌, Bool, cond, List, [], ◌∷◌, ◌++◌, map, length, Option, Some, None, refl, sym, ap, ap₂, ◌∙◌, subst, arith, inl, inr, append_assoc, append-nil}
+use Rattle.std.proofs.Common.{ℕ, ℤ, ◌≡◌, ◌+◌, List, [], ◌∷◌, ◌++◌, map, length, Option, Some, None, refl, sym, ap, ap₂, ◌∙◌, subst, arith, inl, inr, append_assoc, append-nil}
 use Rattle.std.specs.Prelude.{IfSome}
-use Rattle.std.specs.Option.{option_map_or}
 use Rattle.std.specs.List.{AllByRecursion, concat, flat_map}
 use Rattle.std.specs.List.Sorted.{IsStrictlySortedBy}
-use Rattle.std.specs.Map.{keys_of, lookup}
+use Rattle.std.specs.Map.{keys_of}
 use Rattle.std.specs.Ordering.{nat_cmp}
-use Rattle.std.specs.BTreeMap.{is_at}
-use Rattle.std.specs.declared.cmp.Ordering.TheVariants.{Less}
 use Rattle.std.proofs.lemmas.List.{length-append}
 use Rattle.buffer_state.specs.Slots.{Slot, Slots, chunks_in}
-use Rattle.buffer_state.specs.State.{Chunk, Numbered, State}
-use Rattle.buffer_state.proofs.Rooms.{less as less_of}
-use Rattle.buffer_state.proofs.Serials.{at_itself, at_below}
-use Rattle.chunk_journal.specs.Places.{Spots, ArePlaced, entries_at, places_at}
+use Rattle.buffer_state.specs.State.{Chunk, State}
+use Rattle.chunk_journal.specs.Places.{Spots, ArePlaced, places_at}
 use Rattle.chunk_journal.specs.declared.places.Extent.{Extent}
 use Rattle.event_modes.specs.Rows.{IsStored}
 use Rattle.msgpack_bytes.specs.Laws.{HasOneFront}
@@ -22,6 +17,7 @@ use Rattle.journal_reading.proofs.Left.{left_front}
 use Rattle.sink_series.specs.Events.{Event, under}
 use Rattle.event_listing.specs.Forms.{Under, spelled_run, IsIn}
 use Rattle.event_listing.specs.Live.{chunk_events, live_events}
+use Rattle.event_listing.proofs.Chunks.{IsFound, HasEntries, each_found, entries_found}
 use Rattle.event_listing.proofs.Items.{spelled_some}
 use Rattle.folder_counts.specs.Instants.{HasEventAt, IsNotBefore, IsOldest}
 use Rattle.folder_counts.specs.Tallies.{earlier, AreOldestIn, IsOldestIn}
@@ -79,38 +75,6 @@ pub known_read : (known : Option (List ℕ)) (places : Spots) (serial : ℕ) (th
     → IfSome (known_at known there 0) (λ bytes. IsOldestIn bytes found) → IfSome (known_at known (places_at places serial) 0) (λ bytes. AreOldestIn bytes nanos)
 known_read known places serial there found nanos same is read =
     subst (λ f. IfSome (known_at known (places_at places serial) 0) (λ bytes. IsOldestIn bytes f)) is (subst (λ z. IfSome (known_at known z 0) (λ bytes. IsOldestIn bytes found)) same read)
-
--- ---- each chunk is found under its serial
-
-abbrev IsFound : List Numbered → Numbered → Type 0
-IsFound chunks numbered = lookup (is_at (nat_cmp numbered.0)) chunks ≡ Some numbered.1
-
--- the entries of this serial are those of the chunk
-abbrev pub HasEntries : State → Numbered → Type 0
-HasEntries s numbered = entries_at s numbered.0 ≡ concat numbered.1.entries
-
-rising : (x : ℕ) (slots : Slots) → AllByRecursion (λ y. nat_cmp x y ≡ Less) (keys_of slots) → AllByRecursion (λ numbered. x + 1 ≤ numbered.0) (chunks_in slots)
-rising x [] less = tt
-rising x (slot ∷ slots) less = (omega (arith, less_of x slot.0 less.0), rising x slots less.1)
-
-found_behind : (x : Numbered) (chunks some : List Numbered) → AllByRecursion (λ numbered. x.0 + 1 ≤ numbered.0) some → AllByRecursion (IsFound chunks) some → AllByRecursion (IsFound (x ∷ chunks)) some
-found_behind x chunks [] most is = tt
-found_behind x chunks (y ∷ some) most is = (
-  ap (λ (b : Bool). cond b (Some x.1) (lookup (is_at (nat_cmp y.0)) chunks)) (at_below y.0 x.0 (let le = most.0 in omega (arith, le))) ∙ is.0,
-  found_behind x chunks some most.1 is.1,
-)
-
-each_found : (slots : Slots) → IsStrictlySortedBy nat_cmp (keys_of slots) → AllByRecursion (IsFound (chunks_in slots)) (chunks_in slots)
-unfolding IsStrictlySortedBy
-each_found [] sorted = tt
-each_found (x ∷ slots) sorted = (
-  ap (λ (b : Bool). cond b (Some x.1.chunk) (lookup (is_at (nat_cmp x.0)) (chunks_in slots))) (at_itself x.0),
-  found_behind (x.0, x.1.chunk) (chunks_in slots) (chunks_in slots) (rising x.0 slots sorted.0) (each_found slots sorted.1),
-)
-
-entries_found : (s : State) (some : List Numbered) → AllByRecursion (IsFound s.chunks) some → AllByRecursion (HasEntries s) some
-entries_found s [] is = tt
-entries_found s (x ∷ some) is = (ap (λ (o : Option Chunk). option_map_or (λ chunk. concat chunk.entries) o []) is.0, entries_found s some is.1)
 
 -- ---- chunks, one behind another
 

@@ -1,5 +1,5 @@
 -- The path of a buffer is text.
-use Rattle.std.proofs.Common.{ℕ, zero, suc, ◌≡◌, ◌<◌, ◌&&◌, ◌||◌, ◌==◌, Bool, true, false, not, List, [], ◌∷◌, refl, arith}
+use Rattle.std.proofs.Common.{ℕ, zero, suc, ◌≡◌, ◌<◌, ◌&&◌, Bool, true, false, List, [], ◌∷◌, refl, arith}
 use Rattle.std.specs.List.{list_all}
 use Rattle.std.specs.Str.{IsAscii, IsUtf8}
 use Rattle.std.proofs.lemmas.Bool.Decides.{nat_tests}

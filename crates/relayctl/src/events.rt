@@ -252,7 +252,7 @@ fn follow_files<'a, W: Write>(
 ) -> Result<Status, Fault<'a>> {
     let mut sinks = Vec::new(rt.alloc());
     for path in paths {
-        if !add_sink(&mut sinks, path)? {
+        if !add_sink(rt, &mut sinks, path)? {
             return Err(Fault::Follow(path));
         }
     }

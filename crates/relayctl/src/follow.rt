@@ -1,6 +1,6 @@
 //! Sinks that are followed: what was written to them since is printed, again and again.
 
-use event_listing::{Choice, Growth, Output, run_pass};
+use event_listing::{Choice, FollowedFile, Growth, Output};
 use folder_listing::{DataFile, DataFolder, Kind};
 use program_text::{ReadFault, Status};
 use std::alloc::{AllocError, Allocator, Global};
@@ -18,19 +18,15 @@ pub struct FollowedSink<'a> {
     path: &'a str,
     // the number of the file that is read
     number: u32,
-    // up to which place it was
-    at: u64,
+    file: FollowedFile<Global>,
 }
 
 impl<'a> FollowedSink<'a> {
-    // The sink of this file, from the file's front on; none where the path is none of such a file.
-    fn of(path: &'a str) -> Option<FollowedSink<'a>> {
-        let (path, number) = numbered(path)?;
-        Some(FollowedSink {
-            path,
-            number,
-            at: 0,
-        })
+    // The sink with this path, from the front of its file of this number on.
+    fn begin(rt: &HostRuntime, path: &'a str, number: u32) -> Result<FollowedSink<'a>, AllocError> {
+        let name = format!(in rt.alloc(); "{path}.{number:010}.sink")?;
+        let file = FollowedFile::new(name);
+        Ok(FollowedSink { path, number, file })
     }
 
     // Prints what was written since, in the files that are there. It answers the status where
@@ -50,49 +46,18 @@ impl<'a> FollowedSink<'a> {
             } else {
                 Growth::Open
             };
-            if let Err(status) = self.pass(rt, choice, growth, out)? {
+            let files = DataFolder::new(rt, "");
+            let notes = &mut rt.stderr();
+            if let Err(status) = self
+                .file
+                .pass(rt.alloc(), choice, growth, &files, out, notes)
+            {
                 return Ok(Some(status));
             }
-            match next {
-                Some(number) => {
-                    self.number = number;
-                    self.at = 0;
-                }
-                None => break,
-            }
+            let Some(number) = next else { break };
+            *self = FollowedSink::begin(rt, self.path, number)?;
         }
         Ok(None)
-    }
-
-    // Prints what was written to the file since.
-    fn pass<W: Write>(
-        &mut self,
-        rt: &HostRuntime,
-        choice: &Choice<Global>,
-        growth: Growth,
-        out: &mut Output<W, Global>,
-    ) -> Result<Result<(), Status>, AllocError> {
-        let path = self.path;
-        let number = self.number;
-        let name = format!(in rt.alloc(); "{path}.{number:010}.sink")?;
-        let files = DataFolder::new(rt, "");
-        let notes = &mut rt.stderr();
-        match run_pass(
-            rt.alloc(),
-            choice,
-            name.as_str(),
-            self.at,
-            growth,
-            &files,
-            out,
-            notes,
-        ) {
-            Ok(next) => {
-                self.at = next;
-                Ok(Ok(()))
-            }
-            Err(status) => Ok(Err(status)),
-        }
     }
 
     // The number of the sink's next file, if there is one.
@@ -110,17 +75,23 @@ impl<'a> FollowedSink<'a> {
 
 /// Adds the sink of the file at this path, whose files are read from this one on, or from the first
 /// where several of them are named. It answers whether the path is that of a sink's file.
-pub fn add_sink<'a>(sinks: &mut Vec<FollowedSink<'a>>, path: &'a str) -> Result<bool, AllocError> {
-    let Some(sink) = FollowedSink::of(path) else {
+pub fn add_sink<'a>(
+    rt: &HostRuntime,
+    sinks: &mut Vec<FollowedSink<'a>>,
+    path: &'a str,
+) -> Result<bool, AllocError> {
+    let Some((path, number)) = numbered(path) else {
         return Ok(false);
     };
     for other in sinks.iter_mut() {
-        if other.path == sink.path {
-            other.number = other.number.min(sink.number);
+        if other.path == path {
+            if number < other.number {
+                *other = FollowedSink::begin(rt, path, number)?;
+            }
             return Ok(true);
         }
     }
-    sinks.push(sink)?;
+    sinks.push(FollowedSink::begin(rt, path, number)?)?;
     Ok(true)
 }
 

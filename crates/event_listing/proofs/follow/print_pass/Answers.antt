@@ -3,7 +3,7 @@ use Rattle.journal_reading.specs.Placed.{known_from}
 use Rattle.event_listing.specs.Forms.{Items}
 use Rattle.event_listing.specs.Reading.{PrintsFile}
 use Rattle.event_listing.proofs.Passes.{pass_ended, pass_stopped, pass_unread}
-use Rattle.event_listing.proofs.follow.run_pass.Goals as goal
+use Rattle.event_listing.proofs.follow.print_pass.Goals as goal
 
 pub returns-in-Ok : goal.returns-in-Ok
 returns-in-Ok g c =
