@@ -34,11 +34,18 @@ impl<A: Allocator> Model for Delivery<A> {
 
     ghost Value = { OpenDelivery };
 
-    ghost view = { λ d. record { number = d.number; message = meaning d.message; tag = tag_or (meaning d.message) (option_map (λ tag. tag.items) d.tag); leaves = d.leaves.items; receipts = d.receipts.items } };
+    ghost view = { λ d. record {
+      number = d.number;
+      message = meaning d.message;
+      tag = tag_or (meaning d.message) (option_map (λ tag. tag.items) d.tag);
+      leaves = d.leaves.items;
+      receipts = d.receipts.items;
+    } };
 
     // The receipts are of this delivery, each of another leaf, so that each leaf's receipt and part
     // have room.
-    ghost invariant = { λ d. ∥ IsHeld d.number d.leaves.items d.receipts.items ∥₁ × (vec_len d.receipts ≤ vec_len d.leaves) × (vec_len d.leaves ≤ vec_capacity d.receipts)
+    ghost invariant = { λ d. ∥ IsHeld d.number d.leaves.items d.receipts.items ∥₁
+        × (vec_len d.receipts ≤ vec_len d.leaves) × (vec_len d.leaves ≤ vec_capacity d.receipts)
         × (vec_len d.leaves ≤ vec_capacity d.parts) × (d.parts.items ≡ []) };
 }
 
@@ -61,8 +68,17 @@ impl<A: Allocator + Copy> Delivery<A> {
         message: Message<A>,
         leaves: Vec<Leaf, A>,
     ) -> Result<Delivery<A>, AllocFailed<Unbegun<A>>>
-        ensures opens { IfOk result (λ d. d ≡ record { number = number; message = meaning message; tag = (meaning message).tag; leaves = leaves.items; receipts = [] }) }
-        ensures back { IfErr result (λ failed. failed.value ≡ record { number = number; message = message; leaves = leaves }) }
+        ensures opens { IfOk result
+            (λ d. d ≡ record {
+              number = number;
+              message = meaning message;
+              tag = (meaning message).tag;
+              leaves = leaves.items;
+              receipts = [];
+            }) }
+        ensures back { IfErr result
+            (λ failed. failed.value
+            ≡ record { number = number; message = message; leaves = leaves }) }
     {
         begin_under(alloc, number, message, None, leaves)
     }
@@ -78,8 +94,17 @@ impl<A: Allocator + Copy> Delivery<A> {
         tag: &[u8],
         leaves: Vec<Leaf, A>,
     ) -> Result<Delivery<A>, AllocFailed<Unbegun<A>>>
-        ensures opens { IfOk result (λ d. d ≡ record { number = number; message = meaning message; tag = tag.now; leaves = leaves.items; receipts = [] }) }
-        ensures back { IfErr result (λ failed. failed.value ≡ record { number = number; message = message; leaves = leaves }) }
+        ensures opens { IfOk result
+            (λ d. d ≡ record {
+              number = number;
+              message = meaning message;
+              tag = tag.now;
+              leaves = leaves.items;
+              receipts = [];
+            }) }
+        ensures back { IfErr result
+            (λ failed. failed.value
+            ≡ record { number = number; message = message; leaves = leaves }) }
     {
         let Ok(tag) = Vec::from_slice(alloc, tag) else {
             let value = Unbegun {
@@ -101,8 +126,16 @@ fn begin_under<A: Allocator + Copy>(
     tag: Option<Vec<u8, A>>,
     leaves: Vec<Leaf, A>,
 ) -> Result<Delivery<A>, AllocFailed<Unbegun<A>>>
-    ensures opens { IfOk result (λ d. d ≡ record { number = number; message = meaning message; tag = tag_or (meaning message) (option_map (λ tag. tag.items) tag); leaves = leaves.items; receipts = [] }) }
-    ensures back { IfErr result (λ failed. failed.value ≡ record { number = number; message = message; leaves = leaves }) }
+    ensures opens { IfOk result
+        (λ d. d ≡ record {
+          number = number;
+          message = meaning message;
+          tag = tag_or (meaning message) (option_map (λ tag. tag.items) tag);
+          leaves = leaves.items;
+          receipts = [];
+        }) }
+    ensures back { IfErr result
+        (λ failed. failed.value ≡ record { number = number; message = message; leaves = leaves }) }
 {
     let Ok((receipts, parts)) = room_for(alloc, leaves.len()) else {
         let value = Unbegun {
@@ -134,9 +167,13 @@ impl<A: Allocator> Delivery<A> {
         receipt: Receipt<A>,
     ) -> Result<Delivery<A>, (BookFault, Delivery<A>, Receipt<A>)>
         ensures when { IsOk result ↔ (IsFor self receipt × ¬ IsAdded self receipt) }
-        ensures added { IfOk result (λ delivery. delivery ≡ record self { receipts = self.receipts ++ receipt ∷ [] }) }
-        ensures stranger { IfErr result (λ refused. (refused.0 ≡ BookFault.Stranger) ↔ (¬ IsFor self receipt)) }
-        ensures double { IfErr result (λ refused. (refused.0 ≡ BookFault.Double) ↔ (IsFor self receipt × IsAdded self receipt)) }
+        ensures added { IfOk result
+            (λ delivery. delivery ≡ record self { receipts = self.receipts ++ receipt ∷ [] }) }
+        ensures stranger { IfErr result
+            (λ refused. (refused.0 ≡ BookFault.Stranger) ↔ (¬ IsFor self receipt)) }
+        ensures double { IfErr result
+            (λ refused. (refused.0 ≡ BookFault.Double)
+            ↔ (IsFor self receipt × IsAdded self receipt)) }
         ensures back { IfErr result (λ refused. (refused.1 ≡ self) × (refused.2 ≡ receipt)) }
     {
         if !self.is_for(&receipt) {
@@ -162,9 +199,12 @@ impl<A: Allocator> Delivery<A> {
         requires empty { reserved.old.filled ≡ None }
         requires made { reserved.old.asked ≡ asked_of self.message }
         ensures when { IsOk result ↔ HasEachReceipt self }
-        ensures stub { IfOk result (λ stub. (stub.delivery ≡ self.number) × (stub.parts ≡ map part_of self.receipts)) }
-        ensures answer { OnOk result (reserved.new ≡ record reserved.old { filled = Some (answer_of self) }) }
-        ensures missing { IfErr result (λ refused. (refused.0 ≡ BookFault.Missing) × (refused.1 ≡ self)) }
+        ensures stub { IfOk result
+            (λ stub. (stub.delivery ≡ self.number) × (stub.parts ≡ map part_of self.receipts)) }
+        ensures answer { OnOk result
+            (reserved.new ≡ record reserved.old { filled = Some (answer_of self) }) }
+        ensures missing { IfErr result
+            (λ refused. (refused.0 ≡ BookFault.Missing) × (refused.1 ≡ self)) }
         ensures kept { OnErr result (reserved.new ≡ reserved.old) }
     {
         if !self.has_each_receipt() {
@@ -258,7 +298,9 @@ fn room_for<A: Allocator + Copy>(
     alloc: A,
     count: usize,
 ) -> Result<(Vec<Receipt<A>, A>, Vec<Part, A>), AllocError>
-    ensures { IfOk result (λ lists. (lists.0.items ≡ []) × (lists.1.items ≡ []) × (count ≤ vec_capacity lists.0) × (count ≤ vec_capacity lists.1)) }
+    ensures { IfOk result
+        (λ lists. (lists.0.items ≡ []) × (lists.1.items ≡ []) × (count ≤ vec_capacity lists.0)
+        × (count ≤ vec_capacity lists.1)) }
 {
     let parts = Vec::with_capacity(alloc, count)?;
     // What may hold receipts can't be dropped, so it comes last.

@@ -77,7 +77,8 @@ impl<D: Dir, A: Allocator + Copy> LockedBuffer<D, A> {
         ensures own { IsRedeemable terms.now.leaf self.old.waiting pending
             → (other : ℕ) → waiting_at self.new.waiting other
             ≡ cond (is_at (nat_cmp pending.place) other) None (waiting_at self.old.waiting other) }
-        ensures stranger { (IsRedeemable terms.now.leaf self.old.waiting pending → ⊥) → self.new ≡ self.old }
+        ensures stranger { (IsRedeemable terms.now.leaf self.old.waiting pending → ⊥)
+            → self.new ≡ self.old }
         ensures rest { self.new ≡ record self.old { waiting = self.new.waiting } }
     {
         if pending.leaf == terms.leaf {
@@ -90,9 +91,11 @@ impl<D: Dir, A: Allocator + Copy> LockedBuffer<D, A> {
 
     /// Queues the staged chunk of this serial, and syncs the journal. See `Booked::enqueue`.
     pub(crate) fn enqueue(&mut self, serial: u64) -> Result<(), BufferFault>
-        ensures ok { OnOk result (self.new.buffer.chunks ≡ queued_last serial self.old.buffer.chunks) }
+        ensures ok { OnOk result
+            (self.new.buffer.chunks ≡ queued_last serial self.old.buffer.chunks) }
         ensures err { OnErr result (self.new.buffer.chunks ≡ self.old.buffer.chunks) }
-        ensures book { self.new ≡ record self.old { buffer = self.new.buffer; synced = self.new.synced } }
+        ensures book { self.new
+            ≡ record self.old { buffer = self.new.buffer; synced = self.new.synced } }
         ensures syncs { Syncs self.old self.new }
     {
         self.booked.enqueue(serial)
@@ -105,11 +108,14 @@ impl<D: Dir, A: Allocator + Copy> LockedBuffer<D, A> {
         terms: &Terms<A>,
         serial: u64,
     ) -> Result<Unstaged, BufferFault>
-        ensures shown { IfOk result (λ shown. shown ≡ record { leaf = terms.now.leaf; serial = serial }) }
-        ensures done { OnOk result ((self.new.buffer.chunks ≡ queued_last serial self.old.buffer.chunks)
+        ensures shown { IfOk result
+            (λ shown. shown ≡ record { leaf = terms.now.leaf; serial = serial }) }
+        ensures done { OnOk result
+            ((self.new.buffer.chunks ≡ queued_last serial self.old.buffer.chunks)
             ⊎ ((IsAt Staged self.old.buffer.chunks serial → ⊥) × (self.new.buffer.chunks ≡ self.old.buffer.chunks))) }
         ensures err { OnErr result (self.new.buffer.chunks ≡ self.old.buffer.chunks) }
-        ensures book { self.new ≡ record self.old { buffer = self.new.buffer; synced = self.new.synced } }
+        ensures book { self.new
+            ≡ record self.old { buffer = self.new.buffer; synced = self.new.synced } }
         ensures syncs { Syncs self.old self.new }
     {
         match self.booked.enqueue(serial) {
@@ -125,10 +131,13 @@ impl<D: Dir, A: Allocator + Copy> LockedBuffer<D, A> {
     /// See `Booked::renew`.
     pub(crate) fn renew(&mut self) -> Result<(), BufferFault>
         ensures chunks { self.new.buffer.chunks ≡ self.old.buffer.chunks }
-        ensures book { self.new ≡ record self.old { buffer = self.new.buffer; synced = self.new.synced } }
+        ensures book { self.new
+            ≡ record self.old { buffer = self.new.buffer; synced = self.new.synced } }
         ensures syncs { Syncs self.old self.new }
-        ensures idle { self.old.buffer.failed ≡ false → (WantsRenewal self.old.buffer → ⊥) → (result ≡ Ok tt) × (self.new ≡ self.old) }
-        ensures number { WantsRenewal self.old.buffer → OnOk result (self.new.buffer.journal.number ≡ self.old.buffer.journal.number + 1) }
+        ensures idle { self.old.buffer.failed ≡ false → (WantsRenewal self.old.buffer → ⊥)
+            → (result ≡ Ok tt) × (self.new ≡ self.old) }
+        ensures number { WantsRenewal self.old.buffer
+            → OnOk result (self.new.buffer.journal.number ≡ self.old.buffer.journal.number + 1) }
     {
         self.booked.renew()
     }
@@ -157,10 +166,16 @@ impl<D: Dir, A: Allocator + Copy> LockedBuffer<D, A> {
     /// Claims the first of the queue, if anything is queued. The error is want of memory, and
     /// changes nothing.
     pub(crate) fn claim(&mut self, terms: &Terms<A>) -> Result<Option<Claim<A>>, AllocError>
-        ensures first { IfOk result (λ claim. option_map (λ c. c.serial) claim ≡ first_of self.old.buffer.chunks.queue) }
+        ensures first { IfOk result
+            (λ claim. option_map (λ c. c.serial) claim ≡ first_of self.old.buffer.chunks.queue) }
         ensures leaf { IfOk result (λ claim. IfSome claim (λ c. c.leaf ≡ terms.now.leaf)) }
-        ensures copied { IfOk result (λ claim. IfSome claim (λ c. IsCopied c self.old.buffer.chunks)) }
-        ensures state { OnOk result (self.new ≡ record self.old { buffer = record self.old.buffer { chunks = claimed self.old.buffer.chunks } }) }
+        ensures copied { IfOk result
+            (λ claim. IfSome claim (λ c. IsCopied c self.old.buffer.chunks)) }
+        ensures state { OnOk result
+            (self.new ≡ record self.old {
+              buffer = record
+                  self.old.buffer { chunks = claimed self.old.buffer.chunks };
+            }) }
         ensures err { OnErr result (self.new ≡ self.old) }
     {
         self.booked.claim(terms.leaf)
@@ -172,11 +187,14 @@ impl<D: Dir, A: Allocator + Copy> LockedBuffer<D, A> {
         terms: &Terms<A>,
         claim: &Claim<A>,
     ) -> Result<Entries<A>, BufferFault>
-        ensures own { OnOk result ((claim.now.leaf ≡ terms.now.leaf) × IsCopied claim.now self.old.buffer.chunks) }
+        ensures own { OnOk result
+            ((claim.now.leaf ≡ terms.now.leaf) × IsCopied claim.now self.old.buffer.chunks) }
         ensures entries { BeganWell D.is_honest D.history self.old.buffer
-            → IfOk result (λ entries. IsSomeAnd (chunk_at self.old.buffer.chunks claim.now.serial) (λ chunk. entries ≡ chunk.entries)) }
+            → IfOk result (λ entries. IsSomeAnd (chunk_at self.old.buffer.chunks claim.now.serial)
+            (λ chunk. entries ≡ chunk.entries)) }
         ensures counted { IfOk result (λ entries. length entries ≡ claim.now.count) }
-        ensures rest { self.new ≡ record self.old { buffer = record self.old.buffer { dir = self.new.buffer.dir } } }
+        ensures rest { self.new
+            ≡ record self.old { buffer = record self.old.buffer { dir = self.new.buffer.dir } } }
     {
         self.booked.body(terms.leaf, claim)
     }
@@ -187,8 +205,13 @@ impl<D: Dir, A: Allocator + Copy> LockedBuffer<D, A> {
         requires own { claim.leaf ≡ terms.now.leaf }
         ensures shown { result ≡ claim }
         ensures back { IsAt Claimed self.old.buffer.chunks claim.serial
-            → self.new ≡ record self.old { buffer = record self.old.buffer { chunks = queued_last claim.serial self.old.buffer.chunks } } }
-        ensures other { (IsAt Claimed self.old.buffer.chunks claim.serial → ⊥) → self.new ≡ self.old }
+            → self.new ≡ record
+            self.old {
+              buffer = record
+                  self.old.buffer { chunks = queued_last claim.serial self.old.buffer.chunks };
+            } }
+        ensures other { (IsAt Claimed self.old.buffer.chunks claim.serial → ⊥)
+            → self.new ≡ self.old }
         ensures ended { IsAt Claimed self.new.buffer.chunks claim.serial → ⊥ }
     {
         let of = Snapshot::of(&claim);
@@ -207,7 +230,8 @@ impl<D: Dir, A: Allocator + Copy> LockedBuffer<D, A> {
         ensures meant { OnOk result (IsFor terms.now.leaf terms.now.takes claim evidence) }
         ensures like { OnOk result (ShowsLike self.old.buffer.chunks claim.serial evidence) }
         ensures serves { CanCompare D.is_honest D.history self.old.buffer evidence
-            → OnOk result (Serves terms.now.leaf terms.now.takes self.old.buffer.chunks claim evidence) }
+            → OnOk result (Serves terms.now.leaf terms.now.takes self.old.buffer.chunks claim
+            evidence) }
         ensures removes { OnOk result (Removes claim.serial self.old self.new) }
         ensures back { IfErr result (λ refused. (refused.1 ≡ claim) × (refused.2 ≡ evidence)) }
         ensures same { OnErr result (Unchanged self.old self.new) }
@@ -218,7 +242,8 @@ impl<D: Dir, A: Allocator + Copy> LockedBuffer<D, A> {
     /// Lets the queued chunk of least serial go where chunks may be dropped, notes that it is
     /// removed, and gives its serial. See `Booked::drop_oldest`.
     pub(crate) fn drop_oldest(&mut self, terms: &Terms<A>) -> Result<u64, BufferFault>
-        ensures oldest { IfOk result (λ serial. to_drop terms.now.takes self.old.buffer.chunks ≡ Some serial) }
+        ensures oldest { IfOk result
+            (λ serial. to_drop terms.now.takes self.old.buffer.chunks ≡ Some serial) }
         ensures removes { IfOk result (λ serial. Removes serial self.old self.new) }
         ensures same { OnErr result (Unchanged self.old self.new) }
     {
@@ -228,8 +253,10 @@ impl<D: Dir, A: Allocator + Copy> LockedBuffer<D, A> {
     /// Closes the lines that the stub's parts of this buffer name. See `Booked::settle`.
     pub(crate) fn settle(&mut self, terms: &Terms<A>, stub: &Stub<A>) -> Result<(), BookFault>
         ensures ok { OnOk result (Settles terms.now.leaf self.old.pages stub.now) }
-        ensures closed { OnOk result (Closes (lines_of terms.now.leaf stub.now.parts) self.old.pages self.new.pages) }
-        ensures stranger { (result ≡ Err BookFault.Stranger) ↔ (¬ AreInBook terms.now.leaf self.old.pages stub.now) }
+        ensures closed { OnOk result
+            (Closes (lines_of terms.now.leaf stub.now.parts) self.old.pages self.new.pages) }
+        ensures stranger { (result ≡ Err BookFault.Stranger)
+            ↔ (¬ AreInBook terms.now.leaf self.old.pages stub.now) }
         ensures same { OnErr result (self.new ≡ self.old) }
         ensures rest { self.new ≡ record self.old { pages = self.new.pages } }
     {

@@ -51,7 +51,9 @@ impl<A: Allocator> Model for Reserved<A> {
 impl<A: Allocator + Copy> Reserved<A> {
     /// Room for the answer to this message, empty. The error is want of memory.
     pub fn for_message(alloc: A, message: &Message<A>) -> Result<Self, AllocError>
-        ensures { IfOk result (λ reserved. reserved ≡ record { asked = asked_of (meaning message.now); filled = None }) }
+        ensures { IfOk result
+            (λ reserved. reserved
+            ≡ record { asked = asked_of (meaning message.now); filled = None }) }
     {
         let tag = Vec::from_slice(alloc, &message.tag)?;
         let ack = match &message.ack {
@@ -106,7 +108,15 @@ impl<A: Allocator> Reserved<A> {
     /// Writes the answer to a message that these buffers store under this tag.
     pub(crate) fn fill(&mut self, tag: Vec<u8, A>, leaves: Vec<Leaf, A>)
         requires { self.old.filled ≡ None }
-        ensures { self.new ≡ record self.old { filled = Some (record { bytes = answer_to self.old.asked.ack; tag = tag.items; leaves = leaves.items }) } }
+        ensures { self.new ≡ record
+            self.old {
+              filled = Some
+                  (record {
+                    bytes = answer_to self.old.asked.ack;
+                    tag = tag.items;
+                    leaves = leaves.items;
+                  });
+            } }
     {
         if let Some(item) = &self.ack {
             // There is room.

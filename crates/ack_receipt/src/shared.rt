@@ -127,7 +127,8 @@ impl<D: Dir, A: Allocator + Copy> SharedBuffer<D, A> {
         rt: &R,
         pendings: Vec<Pending<A>, A>,
     ) -> Result<Vec<Receipt<A>, A>, (RedeemFault, Vec<Pending<A>, A>)>
-        ensures ok { IfOk result (λ receipts. AreReceiptsOf self.now.leaf pendings.items receipts.items) }
+        ensures ok { IfOk result
+            (λ receipts. AreReceiptsOf self.now.leaf pendings.items receipts.items) }
         ensures back { IfErr result (λ refused. refused.1 ≡ pendings) }
         ensures only { IfErr result (λ refused. IsUnredeemed refused.0) }
     {

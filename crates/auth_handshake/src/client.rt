@@ -101,7 +101,8 @@ impl<A: Allocator> Client<A> {
         // What is answered holds of the item.
         ensures right { IsVerdict self.now item.now result }
         // Nothing else does.
-        ensures only { (other : Result Unit HandshakeFault) → IsVerdict self.now item.now other → other ≡ result }
+        ensures only { (other : Result Unit HandshakeFault) → IsVerdict self.now item.now other
+            → other ≡ result }
     {
         let Some(pong) = pong_of(item) else {
             return Err(HandshakeFault::NotPong);

@@ -86,9 +86,11 @@ pub fn pong_of(item: &[u8]) -> Option<PongItem<'_>>
 
 // The contents of the three texts that the bytes begin with, and what is behind them.
 fn three_texts(bytes: &[u8]) -> Option<(&[u8], &[u8], &[u8], &[u8])>
-    ensures right { IfSome result (λ found. AreTexts bytes.now found.0.now found.1.now found.2.now found.3.now) }
+    ensures right { IfSome result
+        (λ found. AreTexts bytes.now found.0.now found.1.now found.2.now found.3.now) }
     ensures only { (x y z back : List ℕ) → AreTexts bytes.now x y z back
-        → IsSomeAnd result (λ found. (found.0.now ≡ x) × (found.1.now ≡ y) × (found.2.now ≡ z) × (found.3.now ≡ back)) }
+        → IsSomeAnd result (λ found. (found.0.now ≡ x) × (found.1.now ≡ y) × (found.2.now ≡ z)
+        × (found.3.now ≡ back)) }
 {
     let Some((first, rest)) = next_text(bytes) else {
         return None;

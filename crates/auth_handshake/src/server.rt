@@ -73,13 +73,15 @@ impl<A: Allocator> Server<A> {
     /// The error is want of memory, and leaves `out` as it was.
     pub fn ping<B: Allocator>(&self, item: &[u8], out: &mut Vec<u8, B>) -> Result<Ping, AllocError>
         // What is answered holds of the item, and the PONG is appended.
-        ensures right { IfOk result (λ answer. (pong : List ℕ) × IsAnswer self.now item.now answer pong
+        ensures right { IfOk result
+            (λ answer. (pong : List ℕ) × IsAnswer self.now item.now answer pong
             × (out.new.items ≡ out.old.items ++ pong)) }
         // Nothing else does.
         ensures only { IfOk result (λ answer. (other : Ping) (pong : List ℕ)
             → IsAnswer self.now item.now other pong → other ≡ answer) }
         ensures err { OnErr result (out.new.items ≡ out.old.items) }
-        ensures full { OnErr result ((answer : Ping) × (pong : List ℕ) × IsAnswer self.now item.now answer pong
+        ensures full { OnErr result
+            ((answer : Ping) × (pong : List ℕ) × IsAnswer self.now item.now answer pong
             × (vec_capacity out.old < vec_len out.old + length pong)) }
     {
         let Some(ping) = ping_of(item) else {

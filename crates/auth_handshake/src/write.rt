@@ -28,7 +28,8 @@ fn put_field<A: Allocator>(out: &mut Vec<u8, A>, field: Field<'_>) -> Result<(),
     requires { IsShort field }
     ensures ok { OnOk result (out.new.items ≡ out.old.items ++ field_bytes field.entry) }
     ensures err { OnErr result (out.new.items ≡ out.old.items) }
-    ensures full { OnErr result (vec_capacity out.old < vec_len out.old + length (field_bytes field.entry)) }
+    ensures full { OnErr result
+        (vec_capacity out.old < vec_len out.old + length (field_bytes field.entry)) }
     ensures kept { vec_capacity out.old ≤ vec_capacity out.new }
 {
     match field {
@@ -64,7 +65,8 @@ pub fn put_helo<A: Allocator>(out: &mut Vec<u8, A>, nonce: &[u8]) -> Result<(), 
     requires { length nonce.now < 2 ^ 32 }
     ensures ok { OnOk result (out.new.items ≡ out.old.items ++ helo_bytes nonce.now) }
     ensures err { OnErr result (out.new.items ≡ out.old.items) }
-    ensures full { OnErr result (vec_capacity out.old < vec_len out.old + length (helo_bytes nonce.now)) }
+    ensures full { OnErr result
+        (vec_capacity out.old < vec_len out.old + length (helo_bytes nonce.now)) }
 {
     let fields = [
         Field::Array(2),
@@ -90,7 +92,8 @@ pub fn put_ping<'a, A: Allocator>(
     requires host { length host.now < 2 ^ 32 }
     requires salt { length salt.now < 2 ^ 32 }
     requires digest { length digest.now < 2 ^ 32 }
-    ensures ok { OnOk result (out.new.items ≡ out.old.items ++ ping_bytes host.now salt.now digest.now) }
+    ensures ok { OnOk result
+        (out.new.items ≡ out.old.items ++ ping_bytes host.now salt.now digest.now) }
     ensures err { OnErr result (out.new.items ≡ out.old.items) }
     ensures full { OnErr result (vec_capacity out.old
         < vec_len out.old + length (ping_bytes host.now salt.now digest.now)) }
@@ -136,7 +139,8 @@ pub fn put_refusal<A: Allocator>(out: &mut Vec<u8, A>, reason: &[u8]) -> Result<
     requires { length reason.now < 2 ^ 32 }
     ensures ok { OnOk result (out.new.items ≡ out.old.items ++ refusal_bytes reason.now) }
     ensures err { OnErr result (out.new.items ≡ out.old.items) }
-    ensures full { OnErr result (vec_capacity out.old < vec_len out.old + length (refusal_bytes reason.now)) }
+    ensures full { OnErr result
+        (vec_capacity out.old < vec_len out.old + length (refusal_bytes reason.now)) }
 {
     let fields = [
         Field::Array(5),

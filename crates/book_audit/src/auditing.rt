@@ -28,11 +28,15 @@ pub fn audit<A: Allocator + Copy, B: Allocator>(
     stubs: &[Stub<B>],
 ) -> Result<(), AuditError>
     ensures ok { OnOk result (Accounts leaf pages.now stubs.now) }
-    ensures stranger { IsErrOf result (AuditError.Fault BookFault.Stranger) ↔ HasStranger leaf pages.now stubs.now }
+    ensures stranger { IsErrOf result (AuditError.Fault BookFault.Stranger)
+        ↔ HasStranger leaf pages.now stubs.now }
     ensures double { IsErrOf result (AuditError.Fault BookFault.Double)
-        → All (AreInBook leaf pages.now) stubs.now × IsAgain pages.now (lines_named leaf stubs.now) }
+        → All (AreInBook leaf pages.now) stubs.now
+        × IsAgain pages.now (lines_named leaf stubs.now) }
     ensures missing { IsErrOf result (AuditError.Fault BookFault.Missing)
-        → All (AreInBook leaf pages.now) stubs.now × AreOpenOnce pages.now (lines_named leaf stubs.now) × IsLeftOut pages.now (lines_named leaf stubs.now) }
+        → All (AreInBook leaf pages.now) stubs.now
+        × AreOpenOnce pages.now (lines_named leaf stubs.now)
+        × IsLeftOut pages.now (lines_named leaf stubs.now) }
     ensures memory { IsErrOf result AuditError.Memory → All (AreInBook leaf pages.now) stubs.now }
 {
     if !knows_all(pages, leaf, stubs) {
@@ -54,7 +58,8 @@ pub(crate) fn knows_all<A: Allocator + Copy, B: Allocator>(
     leaf: Leaf,
     stubs: &[Stub<B>],
 ) -> bool
-    ensures { MatchBool result (All (AreInBook leaf pages.now) stubs.now) (HasStranger leaf pages.now stubs.now) }
+    ensures { MatchBool result (All (AreInBook leaf pages.now) stubs.now)
+        (HasStranger leaf pages.now stubs.now) }
 {
     stubs.iter().all(|stub| knows(pages, leaf, stub))
 }
@@ -115,7 +120,10 @@ impl<A: Allocator + Copy> Named<A> {
         stubs: &[Stub<B>],
     ) -> Result<bool, AllocError>
         requires { AreNamed pages.now [] self.old.lines }
-        ensures { IfOk result (λ added. MatchBool added (AreNamed pages.now (lines_named leaf stubs.now) self.new.lines) (IsAgain pages.now (lines_named leaf stubs.now))) }
+        ensures { IfOk result
+            (λ added. MatchBool added
+            (AreNamed pages.now (lines_named leaf stubs.now) self.new.lines)
+            (IsAgain pages.now (lines_named leaf stubs.now))) }
     {
         for stub in stubs {
             if !self.add_parts(pages, leaf, &stub.parts)? {
@@ -132,7 +140,9 @@ impl<A: Allocator + Copy> Named<A> {
         parts: &[Part],
     ) -> Result<bool, AllocError>
         ensures { (named : List ℕ) → AreNamed pages.now named self.old.lines
-            → IfOk result (λ added. MatchBool added (AreNamed pages.now (named ++ lines_of leaf parts.now) self.new.lines) (IsAgain pages.now (named ++ lines_of leaf parts.now))) }
+            → IfOk result (λ added. MatchBool added
+            (AreNamed pages.now (named ++ lines_of leaf parts.now) self.new.lines)
+            (IsAgain pages.now (named ++ lines_of leaf parts.now))) }
     {
         for part in parts {
             if part.is_of(leaf) && !self.add(pages, part.line)? {
@@ -145,7 +155,9 @@ impl<A: Allocator + Copy> Named<A> {
     // Adds the line; whether it is open, and wasn't named.
     fn add(&mut self, pages: &OpenLines<A>, line: u64) -> Result<bool, AllocError>
         ensures { (named : List ℕ) → AreNamed pages.now named self.old.lines
-            → IfOk result (λ added. MatchBool added (AreNamed pages.now (named ++ line ∷ []) self.new.lines) (IsAgain pages.now (named ++ line ∷ []))) }
+            → IfOk result (λ added. MatchBool added
+            (AreNamed pages.now (named ++ line ∷ []) self.new.lines)
+            (IsAgain pages.now (named ++ line ∷ []))) }
     {
         if pages.get(line).is_none() {
             return Ok(false);

@@ -97,8 +97,10 @@ impl<A: Allocator + Copy> OpenLines<A> {
     pub fn settle<B: Allocator>(&mut self, leaf: Leaf, stub: &Stub<B>) -> Result<(), BookFault>
         ensures ok { OnOk result (Settles leaf self.old stub.now) }
         ensures closed { OnOk result (Closes (lines_of leaf stub.now.parts) self.old self.new) }
-        ensures stranger { (result ≡ Err BookFault.Stranger) ↔ (¬ AreInBook leaf self.old stub.now) }
-        ensures double { result ≡ Err BookFault.Double → AreInBook leaf self.old stub.now × IsAgain self.old (lines_of leaf stub.now.parts) }
+        ensures stranger { (result ≡ Err BookFault.Stranger)
+            ↔ (¬ AreInBook leaf self.old stub.now) }
+        ensures double { result ≡ Err BookFault.Double
+            → AreInBook leaf self.old stub.now × IsAgain self.old (lines_of leaf stub.now.parts) }
         ensures only { result ≢ Err BookFault.Missing }
         ensures same { OnErr result (self.new ≡ self.old) }
         ensures room { self.old.room ≤ self.new.room }
@@ -115,7 +117,8 @@ impl<A: Allocator + Copy> OpenLines<A> {
 
     // Whether each line that parts of the buffer name is open, and named once.
     fn are_open_once(&self, leaf: Leaf, parts: &[Part]) -> bool
-        ensures { MatchBool result (AreOpenOnce self.now (lines_of leaf parts.now)) (IsAgain self.now (lines_of leaf parts.now)) }
+        ensures { MatchBool result (AreOpenOnce self.now (lines_of leaf parts.now))
+            (IsAgain self.now (lines_of leaf parts.now)) }
     {
         let mut rest = parts;
         while let Some((part, behind)) = rest.split_first() {
@@ -130,7 +133,8 @@ impl<A: Allocator + Copy> OpenLines<A> {
     // Whether the line that a part of the buffer names is open, and isn't named by the parts behind
     // it.
     fn is_first(&self, leaf: Leaf, part: &Part, behind: &[Part]) -> bool
-        ensures { MatchBool result (AddsOne self.now leaf part.now behind.now) (IsAgain self.now (lines_of leaf (part.now ∷ behind.now))) }
+        ensures { MatchBool result (AddsOne self.now leaf part.now behind.now)
+            (IsAgain self.now (lines_of leaf (part.now ∷ behind.now))) }
     {
         if !part.is_of(leaf) {
             return true;
@@ -155,7 +159,8 @@ impl<A: Allocator + Copy> OpenLines<A> {
 
     // Whether each open line is among those that are named.
     pub(crate) fn are_all_among(&self, named: &Named<A>) -> bool
-        ensures { MatchBool result (All (λ line. contains nat_cmp named.now.lines line ≡ true) (keys_of self.now.lines))
+        ensures { MatchBool result
+            (All (λ line. contains nat_cmp named.now.lines line ≡ true) (keys_of self.now.lines))
             (Any (λ line. contains nat_cmp named.now.lines line ≡ false) (keys_of self.now.lines)) }
     {
         self.lines.keys().all(|number| named.has(*number))
@@ -164,7 +169,8 @@ impl<A: Allocator + Copy> OpenLines<A> {
 
 // Whether a part of the buffer names this line.
 fn names(leaf: Leaf, parts: &[Part], line: u64) -> bool
-    ensures { IsTrue result ↔ Any (λ part. (is_of leaf part ≡ true) × (part.line ≡ line)) parts.now }
+    ensures { IsTrue result
+        ↔ Any (λ part. (is_of leaf part ≡ true) × (part.line ≡ line)) parts.now }
 {
     parts
         .iter()

@@ -50,9 +50,12 @@ impl<D: Dir, A: Allocator> Model for Booked<D, A> {
 
     ghost Value = { Book D };
 
-    ghost view = { λ b. book_of b.buffer b.past.first b.past.appends b.past.lines b.lines b.waiting.entries b.past.synced b.past.removed };
+    ghost view = { λ b. book_of b.buffer b.past.first b.past.appends b.past.lines b.lines
+        b.waiting.entries b.past.synced b.past.removed };
 
-    ghost invariant = { λ b. (b.count ≡ length b.past.appends) × (b.synced ≡ b.past.synced) × IsSound (book_of b.buffer b.past.first b.past.appends b.past.lines b.lines b.waiting.entries b.past.synced b.past.removed) };
+    ghost invariant = { λ b. (b.count ≡ length b.past.appends) × (b.synced ≡ b.past.synced)
+        × IsSound (book_of b.buffer b.past.first b.past.appends b.past.lines b.lines
+        b.waiting.entries b.past.synced b.past.removed) };
 }
 
 impl<D: Dir, A: Allocator + Copy> Booked<D, A> {
@@ -129,12 +132,15 @@ impl<D: Dir, A: Allocator + Copy> Booked<D, A> {
     /// The first of `Failed`, `Gone`, `LastSerial`, `Memory` and `Fault` that applies. None changes
     /// the chunks.
     pub fn enqueue(&mut self, serial: u64) -> Result<(), BufferFault>
-        ensures ok { OnOk result (self.new.buffer.chunks ≡ queued_last serial self.old.buffer.chunks) }
+        ensures ok { OnOk result
+            (self.new.buffer.chunks ≡ queued_last serial self.old.buffer.chunks) }
         ensures err { OnErr result (self.new.buffer.chunks ≡ self.old.buffer.chunks) }
-        ensures book { self.new ≡ record self.old { buffer = self.new.buffer; synced = self.new.synced } }
+        ensures book { self.new
+            ≡ record self.old { buffer = self.new.buffer; synced = self.new.synced } }
         ensures syncs { Syncs self.old self.new }
         ensures count { OnErr result (self.new.synced ≡ self.old.synced) }
-        ensures gone { (result ≡ Err BufferFault.Gone) ↔ ((self.old.buffer.failed ≡ false) × (IsAt Staged self.old.buffer.chunks serial → ⊥)) }
+        ensures gone { (result ≡ Err BufferFault.Gone)
+            ↔ ((self.old.buffer.failed ≡ false) × (IsAt Staged self.old.buffer.chunks serial → ⊥)) }
         ensures only { self.old.buffer.failed ≡ false → IsAt Staged self.old.buffer.chunks serial
             → OnErr result ((result ≡ Err BufferFault.Memory) ⊎ (result ≡ Err BufferFault.Fault)) }
         ensures steady { Steady self.old.buffer self.new.buffer result }
@@ -153,14 +159,20 @@ impl<D: Dir, A: Allocator + Copy> Booked<D, A> {
     /// were told. A failed buffer answers `Failed` also where nothing is to be done.
     pub fn renew(&mut self) -> Result<(), BufferFault>
         ensures chunks { self.new.buffer.chunks ≡ self.old.buffer.chunks }
-        ensures book { self.new ≡ record self.old { buffer = self.new.buffer; synced = self.new.synced } }
+        ensures book { self.new
+            ≡ record self.old { buffer = self.new.buffer; synced = self.new.synced } }
         ensures syncs { Syncs self.old self.new }
         ensures count { OnErr result (self.new.synced ≡ self.old.synced) }
-        ensures idle { self.old.buffer.failed ≡ false → (WantsRenewal self.old.buffer → ⊥) → (result ≡ Ok tt) × (self.new ≡ self.old) }
-        ensures number { WantsRenewal self.old.buffer → OnOk result (self.new.buffer.journal.number ≡ self.old.buffer.journal.number + 1) }
-        ensures only { OnErr result ((result ≡ Err BufferFault.Failed) ⊎ ((result ≡ Err BufferFault.LastSerial) ⊎ ((result ≡ Err BufferFault.Memory)
+        ensures idle { self.old.buffer.failed ≡ false → (WantsRenewal self.old.buffer → ⊥)
+            → (result ≡ Ok tt) × (self.new ≡ self.old) }
+        ensures number { WantsRenewal self.old.buffer
+            → OnOk result (self.new.buffer.journal.number ≡ self.old.buffer.journal.number + 1) }
+        ensures only { OnErr result
+            ((result ≡ Err BufferFault.Failed)
+            ⊎ ((result ≡ Err BufferFault.LastSerial) ⊎ ((result ≡ Err BufferFault.Memory)
             ⊎ ((result ≡ Err BufferFault.Fault) ⊎ (result ≡ Err BufferFault.Damaged))))) }
-        ensures undamaged { BeganWell D.is_honest D.history self.old.buffer → result ≢ Err BufferFault.Damaged }
+        ensures undamaged { BeganWell D.is_honest D.history self.old.buffer
+            → result ≢ Err BufferFault.Damaged }
         ensures steady { Steady self.old.buffer self.new.buffer result }
     {
         if self.buffer.has_failed() {
@@ -183,9 +195,13 @@ impl<D: Dir, A: Allocator + Copy> Booked<D, A> {
     /// twice.
     pub fn settle<B: Allocator>(&mut self, leaf: Leaf, stub: &Stub<B>) -> Result<(), BookFault>
         ensures ok { OnOk result (Settles leaf self.old.pages stub.now) }
-        ensures closed { OnOk result (Closes (lines_of leaf stub.now.parts) self.old.pages self.new.pages) }
-        ensures stranger { (result ≡ Err BookFault.Stranger) ↔ (¬ AreInBook leaf self.old.pages stub.now) }
-        ensures double { result ≡ Err BookFault.Double → AreInBook leaf self.old.pages stub.now × IsAgain self.old.pages (lines_of leaf stub.now.parts) }
+        ensures closed { OnOk result
+            (Closes (lines_of leaf stub.now.parts) self.old.pages self.new.pages) }
+        ensures stranger { (result ≡ Err BookFault.Stranger)
+            ↔ (¬ AreInBook leaf self.old.pages stub.now) }
+        ensures double { result ≡ Err BookFault.Double
+            → AreInBook leaf self.old.pages stub.now
+            × IsAgain self.old.pages (lines_of leaf stub.now.parts) }
         ensures only { result ≢ Err BookFault.Missing }
         ensures same { OnErr result (self.new ≡ self.old) }
         ensures rest { self.new ≡ record self.old { pages = self.new.pages } }
@@ -202,12 +218,17 @@ impl<D: Dir, A: Allocator + Copy> Booked<D, A> {
         stubs: &[Stub<B>],
     ) -> Result<(), AuditError>
         ensures ok { OnOk result (Accounts leaf self.now.pages stubs.now) }
-        ensures stranger { IsErrOf result (AuditError.Fault BookFault.Stranger) ↔ HasStranger leaf self.now.pages stubs.now }
+        ensures stranger { IsErrOf result (AuditError.Fault BookFault.Stranger)
+            ↔ HasStranger leaf self.now.pages stubs.now }
         ensures double { IsErrOf result (AuditError.Fault BookFault.Double)
-            → All (AreInBook leaf self.now.pages) stubs.now × IsAgain self.now.pages (lines_named leaf stubs.now) }
+            → All (AreInBook leaf self.now.pages) stubs.now
+            × IsAgain self.now.pages (lines_named leaf stubs.now) }
         ensures missing { IsErrOf result (AuditError.Fault BookFault.Missing)
-            → All (AreInBook leaf self.now.pages) stubs.now × AreOpenOnce self.now.pages (lines_named leaf stubs.now) × IsLeftOut self.now.pages (lines_named leaf stubs.now) }
-        ensures memory { IsErrOf result AuditError.Memory → All (AreInBook leaf self.now.pages) stubs.now }
+            → All (AreInBook leaf self.now.pages) stubs.now
+            × AreOpenOnce self.now.pages (lines_named leaf stubs.now)
+            × IsLeftOut self.now.pages (lines_named leaf stubs.now) }
+        ensures memory { IsErrOf result AuditError.Memory
+            → All (AreInBook leaf self.now.pages) stubs.now }
     {
         audit(alloc, leaf, &self.lines, stubs)
     }

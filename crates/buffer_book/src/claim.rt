@@ -22,7 +22,12 @@ impl<A: Allocator> Model for Claim<A> {
 
     ghost Value = { Claimed };
 
-    ghost view = { λ c. record { leaf = c.leaf; serial = c.serial; tag = c.tag.items; count = c.count } };
+    ghost view = { λ c. record {
+      leaf = c.leaf;
+      serial = c.serial;
+      tag = c.tag.items;
+      count = c.count;
+    } };
 }
 
 impl<A: Allocator> Claim<A> {
@@ -85,7 +90,8 @@ impl<A: Allocator + Copy> Claim<A> {
         tag: &[u8],
         count: usize,
     ) -> Result<Claim<A>, AllocError>
-        ensures { IfOk result (λ c. c ≡ record { leaf = leaf; serial = serial; tag = tag.now; count = count }) }
+        ensures { IfOk result
+            (λ c. c ≡ record { leaf = leaf; serial = serial; tag = tag.now; count = count }) }
     {
         let tag = Vec::from_slice(alloc, tag)?;
         Ok(Claim {

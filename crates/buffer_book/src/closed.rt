@@ -52,13 +52,17 @@ impl<D: Dir, A: Allocator + Copy> Closed<D, A> {
     /// `Missing` where an open line isn't named.
     pub fn audit<B: Allocator>(&self, alloc: A, stubs: &[Stub<B>]) -> Result<(), AuditError>
         ensures ok { OnOk result (Accounts self.now.leaf self.now.book.pages stubs.now) }
-        ensures stranger { IsErrOf result (AuditError.Fault BookFault.Stranger) ↔ HasStranger self.now.leaf self.now.book.pages stubs.now }
+        ensures stranger { IsErrOf result (AuditError.Fault BookFault.Stranger)
+            ↔ HasStranger self.now.leaf self.now.book.pages stubs.now }
         ensures double { IsErrOf result (AuditError.Fault BookFault.Double)
-            → All (AreInBook self.now.leaf self.now.book.pages) stubs.now × IsAgain self.now.book.pages (lines_named self.now.leaf stubs.now) }
+            → All (AreInBook self.now.leaf self.now.book.pages) stubs.now
+            × IsAgain self.now.book.pages (lines_named self.now.leaf stubs.now) }
         ensures missing { IsErrOf result (AuditError.Fault BookFault.Missing)
-            → All (AreInBook self.now.leaf self.now.book.pages) stubs.now × AreOpenOnce self.now.book.pages (lines_named self.now.leaf stubs.now)
+            → All (AreInBook self.now.leaf self.now.book.pages) stubs.now
+            × AreOpenOnce self.now.book.pages (lines_named self.now.leaf stubs.now)
             × IsLeftOut self.now.book.pages (lines_named self.now.leaf stubs.now) }
-        ensures memory { IsErrOf result AuditError.Memory → All (AreInBook self.now.leaf self.now.book.pages) stubs.now }
+        ensures memory { IsErrOf result AuditError.Memory
+            → All (AreInBook self.now.leaf self.now.book.pages) stubs.now }
     {
         self.booked.audit(alloc, self.leaf, stubs)
     }

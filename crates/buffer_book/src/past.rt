@@ -84,28 +84,38 @@ impl<D: Dir, A: Allocator> Past<D, A> {
 
     /// The book of this buffer begins.
     pub(crate) fn new(buffer: &Buffer<D, A>) -> Self
-        ensures { result ≡ record { times = 0; first = counts_of buffer.now.chunks; appends = []; lines = []; removed = []; synced = 0 } }
+        ensures { result ≡ record {
+          times = 0;
+          first = counts_of buffer.now.chunks;
+          appends = [];
+          lines = [];
+          removed = [];
+          synced = 0;
+        } }
     {
         Past::ending(Link::Began(Snapshot::of(buffer)))
     }
 
     /// This was appended too.
     pub(crate) fn then_append(&self, line: &Line) -> Self
-        ensures { result ≡ record self.now { times = suc self.now.times; appends = self.now.appends ++ line.now ∷ [] } }
+        ensures { result ≡ record
+            self.now { times = suc self.now.times; appends = self.now.appends ++ line.now ∷ [] } }
     {
         Past::ending(Link::Appended(Snapshot::of(&self.chain), Snapshot::of(line)))
     }
 
     /// An append got a receipt too.
     pub(crate) fn then_line(&self, written: &Written) -> Self
-        ensures { result ≡ record self.now { times = suc self.now.times; lines = self.now.lines ++ written.now ∷ [] } }
+        ensures { result ≡ record
+            self.now { times = suc self.now.times; lines = self.now.lines ++ written.now ∷ [] } }
     {
         Past::ending(Link::Wrote(Snapshot::of(&self.chain), Snapshot::of(written)))
     }
 
     /// The chunk of this serial was removed too.
     pub(crate) fn then_removed(&self, serial: &u64) -> Self
-        ensures { result ≡ record self.now { times = suc self.now.times; removed = self.now.removed ++ serial.now ∷ [] } }
+        ensures { result ≡ record
+            self.now { times = suc self.now.times; removed = self.now.removed ++ serial.now ∷ [] } }
     {
         Past::ending(Link::Removed(Snapshot::of(&self.chain), Snapshot::of(serial)))
     }
@@ -113,7 +123,8 @@ impl<D: Dir, A: Allocator> Past<D, A> {
     /// All that was appended is synced: this is the buffer of the book, at this moment.
     pub(crate) fn then_synced(&self, buffer: &Buffer<D, A>) -> Self
         requires { buffer.now.staged ≡ false }
-        ensures { result ≡ record self.now { times = suc self.now.times; synced = length self.now.appends } }
+        ensures { result ≡ record
+            self.now { times = suc self.now.times; synced = length self.now.appends } }
     {
         Past::ending(Link::Synced(Snapshot::of(&self.chain), Snapshot::of(buffer)))
     }

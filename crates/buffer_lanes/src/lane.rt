@@ -53,7 +53,13 @@ impl<D: Dir, A: Allocator> Model for Lane<D, A> {
 impl<D: Dir + Drop, A: Allocator + Copy> Lane<D, A> {
     /// Nothing was appended yet.
     pub fn new(alloc: A, buffer: Arc<SharedBuffer<D, A>, A>, schedule: Schedule<A>) -> Self
-        ensures { result ≡ record { terms = arc_value buffer; plan = schedule; waiting = []; receipts = []; later = false } }
+        ensures { result ≡ record {
+          terms = arc_value buffer;
+          plan = schedule;
+          waiting = [];
+          receipts = [];
+          later = false;
+        } }
     {
         Lane {
             buffer,
@@ -135,7 +141,8 @@ impl<D: Dir + Drop, A: Allocator + Copy> Lane<D, A> {
         ensures later { self.new.later ≡ self.old.later }
         ensures staged { IfOk result (λ serial. IsNoted serial now self.old.plan self.new.plan) }
         ensures err { OnErr result (self.new.plan.chunks ≡ self.old.plan.chunks) }
-        ensures appended { IfOk result (λ serial. IsAppended delivery.now.number serial self.old.waiting self.new.waiting) }
+        ensures appended { IfOk result
+            (λ serial. IsAppended delivery.now.number serial self.old.waiting self.new.waiting) }
         ensures none { OnErr result (self.new.waiting ≡ self.old.waiting) }
         ensures receipts { self.new.receipts ≡ self.old.receipts }
     {

@@ -50,7 +50,17 @@ impl<D: Dir, A: Allocator> Model for Lanes<D, A> {
 impl<D: Dir + Drop, A: Allocator + Copy> Lanes<D, A> {
     /// No buffers yet, and room for so many. The error is want of memory.
     pub fn with_capacity(alloc: A, count: usize) -> Result<Self, AllocError>
-        ensures none { IfOk result (λ lanes. lanes ≡ record { terms = []; plans = []; waiting = []; later = []; room = lanes.room; fault = None; time = 0; short = false }) }
+        ensures none { IfOk result
+            (λ lanes. lanes ≡ record {
+              terms = [];
+              plans = [];
+              waiting = [];
+              later = [];
+              room = lanes.room;
+              fault = None;
+              time = 0;
+              short = false;
+            }) }
         ensures room { IfOk result (λ lanes. count ≤ lanes.room) }
     {
         let lanes = Vec::with_capacity(alloc, count)?;
@@ -155,7 +165,8 @@ impl<D: Dir + Drop, A: Allocator + Copy> Lanes<D, A> {
         ensures later { self.new.later ≡ self.old.later }
         ensures appended { IsTrue result → (buffer : BufferNo) → Contains buffers.now buffer
             → EndsWith delivery.now.number (listed_at self.new.waiting buffer) }
-        ensures each { IsTrue result → AreAppended delivery.now.number buffers.now self.old.waiting self.new.waiting }
+        ensures each { IsTrue result
+            → AreAppended delivery.now.number buffers.now self.old.waiting self.new.waiting }
         ensures undone { IsFalse result → self.new.waiting ≡ self.old.waiting }
     {
         // With one buffer the append itself asks.
@@ -192,7 +203,8 @@ impl<D: Dir + Drop, A: Allocator + Copy> Lanes<D, A> {
         ensures later { self.new.later ≡ self.old.later }
         ensures appended { IsTrue result → (buffer : BufferNo) → Contains buffers.now buffer
             → EndsWith delivery.now.number (listed_at self.new.waiting buffer) }
-        ensures each { IsTrue result → AreAppended delivery.now.number buffers.now self.old.waiting self.new.waiting }
+        ensures each { IsTrue result
+            → AreAppended delivery.now.number buffers.now self.old.waiting self.new.waiting }
         ensures undone { IsFalse result → self.new.waiting ≡ self.old.waiting }
         // Behind an append of the delivery come others of it alone.
         ensures last { (buffer : BufferNo)
@@ -222,9 +234,12 @@ impl<D: Dir + Drop, A: Allocator + Copy> Lanes<D, A> {
         requires { 0 < length delivery.now.message.entries }
         ensures kept { KeepsLanes self.old self.new }
         ensures later { self.new.later ≡ self.old.later }
-        ensures appended { IfOk result (λ serial. IsAppendedAt buffer delivery.now.number serial self.old.waiting self.new.waiting) }
+        ensures appended { IfOk result
+            (λ serial. IsAppendedAt buffer delivery.now.number serial self.old.waiting
+            self.new.waiting) }
         ensures none { OnErr result (self.new.waiting ≡ self.old.waiting) }
-        ensures noted { IfOk result (λ serial. IsNotedAt buffer.0 serial self.old.time self.old.plans self.new.plans) }
+        ensures noted { IfOk result
+            (λ serial. IsNotedAt buffer.0 serial self.old.time self.old.plans self.new.plans) }
         ensures time { self.new.time ≡ self.old.time }
         ensures short { self.new.short ≡ self.old.short }
         ensures fault { self.new.fault ≡ fault_after self.old.fault result }
@@ -239,7 +254,11 @@ impl<D: Dir + Drop, A: Allocator + Copy> Lanes<D, A> {
 
     // The last append to this one gets no receipt.
     fn undo_at<R: Wait>(&mut self, rt: &R, buffer: BufferNo)
-        ensures { self.new ≡ record self.old { waiting = slice_set self.old.waiting buffer.0 (undone (listed_at self.old.waiting buffer)) } }
+        ensures { self.new ≡ record
+            self.old {
+              waiting = slice_set self.old.waiting buffer.0
+                  (undone (listed_at self.old.waiting buffer));
+            } }
     {
         let Some(lane) = self.lanes.get_mut(buffer.0) else {
             return;
@@ -252,7 +271,12 @@ impl<D: Dir + Drop, A: Allocator + Copy> Lanes<D, A> {
     pub fn queue_due<R: Wait>(&mut self, rt: &R)
         ensures kept { KeepsLanes self.old self.new }
         ensures queued { AreQueued self.new }
-        ensures rest { self.new ≡ record self.old { plans = self.new.plans; fault = self.new.fault; short = self.new.short } }
+        ensures rest { self.new
+            ≡ record self.old {
+              plans = self.new.plans;
+              fault = self.new.fault;
+              short = self.new.short;
+            } }
     {
         self.is_short = false;
         for at in 0..self.lanes.len() {
@@ -266,7 +290,11 @@ impl<D: Dir + Drop, A: Allocator + Copy> Lanes<D, A> {
         ensures kept { KeepsLanes self.old self.new }
         ensures none { OnOk result (IsNoneDueAt at self.old.time self.new.plans) }
         ensures others { IsOneElse at self.old.plans self.new.plans }
-        ensures rest { self.new ≡ record self.old { plans = self.new.plans; fault = fault_after self.old.fault result } }
+        ensures rest { self.new
+            ≡ record self.old {
+              plans = self.new.plans;
+              fault = fault_after self.old.fault result;
+            } }
     {
         let now = self.time;
         let Some(lane) = self.lanes.get_mut(at) else {
@@ -294,8 +322,10 @@ impl<D: Dir + Drop, A: Allocator + Copy> Lanes<D, A> {
         ensures time { (self.new.time ≡ self.old.time) × (self.new.short ≡ self.old.short) }
         // Where appends get no receipts, the fault is told.
         ensures told { OnErr result (IsSome self.new.fault) }
-        ensures redeemed { (buffer : BufferNo) → buffer.0 ≡ at → AreRedeemedAt buffer self.old self.new }
-        ensures others { (buffer : BufferNo) → buffer.0 ≢ at → IsUntouched buffer self.old self.new }
+        ensures redeemed { (buffer : BufferNo) → buffer.0 ≡ at
+            → AreRedeemedAt buffer self.old self.new }
+        ensures others { (buffer : BufferNo) → buffer.0 ≢ at
+            → IsUntouched buffer self.old self.new }
         ensures fault { self.new.fault ≡ fault_after self.old.fault result }
     {
         let Some(lane) = self.lanes.get_mut(at) else {

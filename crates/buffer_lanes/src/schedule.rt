@@ -35,7 +35,12 @@ impl<A: Allocator> Model for Schedule<A> {
 
     ghost Value = { Plan };
 
-    ghost view = { λ s. record { mode = s.mode; interval = s.interval; chunks = s.chunks.items; room = deque_capacity s.chunks - deque_len s.chunks } };
+    ghost view = { λ s. record {
+      mode = s.mode;
+      interval = s.interval;
+      chunks = s.chunks.items;
+      room = deque_capacity s.chunks - deque_len s.chunks;
+    } };
 }
 
 impl<A: Allocator + Copy> Schedule<A> {
@@ -95,7 +100,8 @@ impl<A: Allocator> Schedule<A> {
     pub fn note(&mut self, serial: u64, now: u64)
         requires { 0 < self.old.room }
         ensures chunks { self.new.chunks ≡ noted serial now self.old.chunks }
-        ensures rest { self.new ≡ record self.old { chunks = self.new.chunks; room = self.new.room } }
+        ensures rest { self.new
+            ≡ record self.old { chunks = self.new.chunks; room = self.new.room } }
     {
         let known = match self.chunks.back() {
             Some(last) => serial <= last.serial,
@@ -137,9 +143,11 @@ impl<A: Allocator> Schedule<A> {
 
     /// The first chunk is this one, which is staged no more.
     pub fn forget_first(&mut self, unstaged: Unstaged)
-        requires { IsSomeAnd (slice_get self.old.chunks 0) (λ first. first.serial ≡ unstaged.serial) }
+        requires { IsSomeAnd (slice_get self.old.chunks 0)
+            (λ first. first.serial ≡ unstaged.serial) }
         ensures chunks { self.new.chunks ≡ drop 1 self.old.chunks }
-        ensures rest { self.new ≡ record self.old { chunks = self.new.chunks; room = self.new.room } }
+        ensures rest { self.new
+            ≡ record self.old { chunks = self.new.chunks; room = self.new.room } }
     {
         let _ = (self.chunks.pop_front(), unstaged);
     }

@@ -67,7 +67,8 @@ impl<A: Allocator> Handed<A> {
 
     // The delivery with this receipt behind its others; where it takes none of it, both come back.
     pub(crate) fn added_to(self, delivery: Delivery<A>) -> Result<Delivery<A>, (Delivery<A>, Self)>
-        ensures added { IfOk result (λ with. with ≡ record delivery { receipts = delivery.receipts ++ self ∷ [] }) }
+        ensures added { IfOk result
+            (λ with. with ≡ record delivery { receipts = delivery.receipts ++ self ∷ [] }) }
         ensures back { IfErr result (λ refused. (refused.0 ≡ delivery) × (refused.1 ≡ self)) }
     {
         let Handed(receipt) = self;

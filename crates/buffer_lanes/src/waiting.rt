@@ -28,7 +28,11 @@ impl<A: Allocator> Model for Waiting<A> {
 
     ghost Value = { Waits };
 
-    ghost view = { λ w. record { awaited = w.gathered.awaited; receipts = w.gathered.receipts; buffers = w.buffers.items } };
+    ghost view = { λ w. record {
+      awaited = w.gathered.awaited;
+      receipts = w.gathered.receipts;
+      buffers = w.buffers.items;
+    } };
 }
 
 /// What became of a delivery.
@@ -56,14 +60,23 @@ impl<A: Allocator + Copy> Waiting<A> {
         requires empty { reserved.filled ≡ None }
         requires made { reserved.asked ≡ asked_of delivery.message }
         requires entries { HasEntries delivery buffers.items }
-        requires same { map (λ leaf. leaf.buffer) delivery.leaves ≡ map (λ buffer. buffer.0) buffers.items }
+        requires same { map (λ leaf. leaf.buffer) delivery.leaves
+            ≡ map (λ buffer. buffer.0) buffers.items }
         ensures kept { KeepsLanes lanes.old lanes.new }
         ensures time { lanes.new.time ≡ lanes.old.time }
-        ensures waits { IfOk result (λ waiting. waiting ≡ record { awaited = awaited_by delivery; receipts = delivery.receipts; buffers = buffers.items }) }
-        ensures appended { IfOk result (λ waiting. (buffer : BufferNo) → Contains buffers.items buffer
+        ensures waits { IfOk result
+            (λ waiting. waiting
+            ≡ record {
+              awaited = awaited_by delivery;
+              receipts = delivery.receipts;
+              buffers = buffers.items;
+            }) }
+        ensures appended { IfOk result
+            (λ waiting. (buffer : BufferNo) → Contains buffers.items buffer
             → EndsWith delivery.number (listed_at lanes.new.waiting buffer)) }
         // One append of it waits in each of these buffers, and none in another.
-        ensures each { IfOk result (λ _. AreAppended delivery.number buffers.items lanes.old.waiting lanes.new.waiting) }
+        ensures each { IfOk result
+            (λ _. AreAppended delivery.number buffers.items lanes.old.waiting lanes.new.waiting) }
         ensures undone { IfErr result (λ _. lanes.new.waiting ≡ lanes.old.waiting) }
         ensures left { IfErr result (λ left. left ≡ left_of delivery.number delivery.receipts) }
         ensures later { lanes.new.later ≡ lanes.old.later }
@@ -139,10 +152,14 @@ impl<A: Allocator> Model for Gathered<A> {
 
     ghost Value = { Gathers };
 
-    ghost view = { λ g. record { awaited = awaited_by g.delivery; receipts = g.delivery.receipts } };
+    ghost view = { λ g. record {
+      awaited = awaited_by g.delivery;
+      receipts = g.delivery.receipts;
+    } };
 
     // The room is empty, and for the answer to the delivery's message.
-    ghost invariant = { λ g. (g.reserved.filled ≡ None) × (g.reserved.asked ≡ asked_of g.delivery.message) };
+    ghost invariant = { λ g. (g.reserved.filled ≡ None)
+        × (g.reserved.asked ≡ asked_of g.delivery.message) };
 }
 
 impl<A: Allocator + Copy> Gathered<A> {
@@ -171,7 +188,8 @@ impl<A: Allocator + Copy> Gathered<A> {
     // With one receipt more; one that isn't the delivery's is handed back.
     fn with(self, receipt: Handed<A>) -> Result<Self, (Self, Handed<A>)>
         ensures ok { IfOk result (λ gathered. gathered.awaited ≡ self.awaited) }
-        ensures receipts { IfOk result (λ gathered. gathered.receipts ≡ self.receipts ++ receipt ∷ []) }
+        ensures receipts { IfOk result
+            (λ gathered. gathered.receipts ≡ self.receipts ++ receipt ∷ []) }
         ensures err { IfErr result (λ refused. (refused.0 ≡ self) × (refused.1 ≡ receipt)) }
     {
         let Gathered { delivery, reserved } = self;

@@ -39,7 +39,13 @@ impl<A: Allocator> Model for Chunk<A> {
 
     ghost Value = { Slot };
 
-    ghost view = { λ c. record { chunk = record { tag = c.tag.items; entries = c.content; stage = c.stage } } };
+    ghost view = { λ c. record {
+      chunk = record {
+        tag = c.tag.items;
+        entries = c.content;
+        stage = c.stage;
+      };
+    } };
 
     ghost invariant = { λ c. AreKept c.count c.size c.content };
 }

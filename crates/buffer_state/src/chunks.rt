@@ -79,7 +79,8 @@ impl<A: Allocator + Copy> Chunks<A> {
     /// The live chunks, by rising serial.
     pub fn live(&self) -> &BTreeMap<u64, Chunk<A>, A>
         ensures chunks { chunks_in result.now.entries ≡ self.now.chunks }
-        ensures small { All (λ slot. slot_size slot ≤ greatest_size) (values_of result.now.entries) }
+        ensures small { All
+            (λ slot. slot_size slot ≤ greatest_size) (values_of result.now.entries) }
         ensures rising { IsStrictlySortedBy nat_cmp (keys_of result.now.entries) }
         ensures below { AreBelow self.now.next (keys_of result.now.entries) }
     {
@@ -217,7 +218,9 @@ impl<A: Allocator + Copy> Chunks<A> {
         requires staged { IsAt Staged self.old serial }
         requires newest { serial + 1 ≡ self.old.next }
         ensures gone { self.new ≡ taken_back serial self.old }
-        ensures before { (before : State) (tag : List ℕ) (entries : List (List ℕ)) → before.next ≡ serial → self.old ≡ appended serial tag entries before → self.new ≡ before }
+        ensures before { (before : State) (tag : List ℕ) (entries : List (List ℕ))
+            → before.next ≡ serial → self.old ≡ appended serial tag entries before
+            → self.new ≡ before }
     {
         self.table.remove(serial);
         self.next = serial;
@@ -295,7 +298,8 @@ impl<A: Allocator + Copy> Chunks<A> {
         requires small { size ≤ greatest_size }
         ensures place { result ≡ place_within limit self.now tag.now size }
         ensures near { result ≤ self.now.next }
-        ensures here { (IsStagedOf self.now result tag.now × (size_at self.now result + size ≤ greatest_size)) ⊎ (result ≡ self.now.next) }
+        ensures here { (IsStagedOf self.now result tag.now
+            × (size_at self.now result + size ≤ greatest_size)) ⊎ (result ≡ self.now.next) }
     {
         let Some(serial) = self.table.newest(tag) else {
             return self.next;
@@ -339,7 +343,10 @@ impl<A: Allocator> Model for Ready<A> {
 
     ghost use Rattle.buffer_state.specs.Views.{state_of, IsReady};
 
-    ghost view = { λ r. record { state = state_of r.table r.queue.items r.next; serial = r.serial } };
+    ghost view = { λ r. record {
+      state = state_of r.table r.queue.items r.next;
+      serial = r.serial;
+    } };
 
     ghost invariant = { λ r. IsReady r.table r.waiting r.queue r.next r.serial };
 }
@@ -397,13 +404,17 @@ fn make_room<A: Allocator + Copy>(
     queue: &mut VecDeque<u64, A>,
     serial: u64,
 ) -> Result<(), AllocError>
-    ensures waits { OnOk result ((other : ℕ) → contains nat_cmp waiting.new other ≡ cond (is_at (nat_cmp serial) other) true (contains nat_cmp waiting.old other)) }
-    ensures listed { IsStrictlySortedBy nat_cmp waiting.old.keys → IsStrictlySortedBy nat_cmp waiting.new.keys }
+    ensures waits { OnOk result
+        ((other : ℕ) → contains nat_cmp waiting.new other
+        ≡ cond (is_at (nat_cmp serial) other) true (contains nat_cmp waiting.old other)) }
+    ensures listed { IsStrictlySortedBy nat_cmp waiting.old.keys
+        → IsStrictlySortedBy nat_cmp waiting.new.keys }
     ensures refused { OnErr result (waiting.new.keys ≡ waiting.old.keys) }
     ensures items { queue.new.items ≡ queue.old.items }
     ensures len { deque_len queue.new ≡ deque_len queue.old }
     ensures kept { deque_capacity queue.old ≤ deque_capacity queue.new }
-    ensures room { OnOk result (deque_len queue.new + length waiting.old.keys + 1 ≤ deque_capacity queue.new) }
+    ensures room { OnOk result
+        (deque_len queue.new + length waiting.old.keys + 1 ≤ deque_capacity queue.new) }
 {
     queue.reserve(waiting.len() + 1)?;
     let _ = waiting.insert(serial)?;
@@ -421,9 +432,15 @@ fn is_queued<A: Allocator + Copy>(table: &Table<A>, serial: u64) -> bool
 
 // Takes the first queued serial out, and those of chunks that are gone before it.
 fn pop_queued<A: Allocator + Copy>(table: &Table<A>, queue: &mut VecDeque<u64, A>) -> Option<u64>
-    ensures none { IfNone result ((queue.new.items ≡ []) × (filter (passes_at is_queued table.now) queue.old.items ≡ []) × (deque_len queue.new ≤ deque_len queue.old)) }
-    ensures first { IfSome result (λ serial. (passes_at is_queued table.now serial ≡ true) × IsEndOf (serial ∷ queue.new.items) queue.old.items
-        × (filter (passes_at is_queued table.now) queue.old.items ≡ filter (passes_at is_queued table.now) (serial ∷ queue.new.items)) × (deque_len queue.new + 1 ≤ deque_len queue.old)) }
+    ensures none { IfNone result
+        ((queue.new.items ≡ []) × (filter (passes_at is_queued table.now) queue.old.items ≡ [])
+        × (deque_len queue.new ≤ deque_len queue.old)) }
+    ensures first { IfSome result
+        (λ serial. (passes_at is_queued table.now serial ≡ true)
+        × IsEndOf (serial ∷ queue.new.items) queue.old.items
+        × (filter (passes_at is_queued table.now) queue.old.items
+        ≡ filter (passes_at is_queued table.now) (serial ∷ queue.new.items))
+        × (deque_len queue.new + 1 ≤ deque_len queue.old)) }
     ensures capacity { deque_capacity queue.new ≡ deque_capacity queue.old }
 {
     while let Some(serial) = queue.pop_front() {
@@ -449,7 +466,8 @@ fn next_queued<A: Allocator + Copy>(table: &Table<A>, queue: &VecDeque<u64, A>) 
 // Takes serials of chunks that are gone from the front.
 fn trim<A: Allocator + Copy>(table: &Table<A>, queue: &mut VecDeque<u64, A>)
     ensures end { IsEndOf queue.new.items queue.old.items }
-    ensures same { filter (passes_at is_queued table.now) queue.new.items ≡ filter (passes_at is_queued table.now) queue.old.items }
+    ensures same { filter (passes_at is_queued table.now) queue.new.items
+        ≡ filter (passes_at is_queued table.now) queue.old.items }
     ensures len { deque_len queue.new ≤ deque_len queue.old }
     ensures capacity { deque_capacity queue.new ≡ deque_capacity queue.old }
 {
@@ -477,7 +495,8 @@ fn refill<A: Allocator + Copy>(
     queue: &mut VecDeque<u64, A>,
 )
     requires room { deque_len queue.old + length waiting.now.keys ≤ deque_capacity queue.old }
-    ensures items { queue.new.items ≡ queue.old.items ++ filter (passes_at is_queued table.now) waiting.now.keys }
+    ensures items { queue.new.items
+        ≡ queue.old.items ++ filter (passes_at is_queued table.now) waiting.now.keys }
     ensures len { deque_len queue.new ≤ deque_len queue.old + length waiting.now.keys }
     ensures capacity { deque_capacity queue.new ≡ deque_capacity queue.old }
 {

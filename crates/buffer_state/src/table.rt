@@ -116,7 +116,8 @@ impl<A: Allocator + Copy> Table<A> {
 
     /// Adds entries to a chunk.
     pub fn grow(&mut self, serial: u64, entries: &Entries<A>)
-        requires small { IsSomeAnd (slot_at self.old serial) (λ slot. slot_size slot + size entries.now ≤ greatest_size) }
+        requires small { IsSomeAnd (slot_at self.old serial)
+            (λ slot. slot_size slot + size entries.now ≤ greatest_size) }
         ensures { self.new ≡ changed_at serial (grown entries.now) self.old }
     {
         let Some(chunk) = self.chunks.get_mut(&serial) else {

@@ -38,8 +38,12 @@ impl<A: Allocator + Copy> TagIndex<A> {
     /// Adds a serial behind those of the tag. An `Err` changes nothing.
     pub fn add(&mut self, alloc: A, tag: &[u8], serial: u64) -> Result<(), AllocError>
         requires last { AreBelow serial (serials_at self.old tag.now) }
-        ensures ok { OnOk result ((other : List ℕ) → serials_at self.new other ≡ cond (bytes_eq other tag.now) (serials_at self.old other ++ serial ∷ []) (serials_at self.old other)) }
-        ensures err { OnErr result ((other : List ℕ) → serials_at self.new other ≡ serials_at self.old other) }
+        ensures ok { OnOk result
+            ((other : List ℕ) → serials_at self.new other
+            ≡ cond (bytes_eq other tag.now) (serials_at self.old other ++ serial ∷ [])
+            (serials_at self.old other)) }
+        ensures err { OnErr result
+            ((other : List ℕ) → serials_at self.new other ≡ serials_at self.old other) }
     {
         if let Some(serials) = self.sets.get_mut(tag) {
             let _ = serials.insert(serial)?;
@@ -54,7 +58,10 @@ impl<A: Allocator + Copy> TagIndex<A> {
 
     /// Takes out a serial of the tag.
     pub fn remove(&mut self, tag: &[u8], serial: u64)
-        ensures { (other : List ℕ) → serials_at self.new other ≡ cond (bytes_eq other tag.now) (without serial (serials_at self.old other)) (serials_at self.old other) }
+        ensures { (other : List ℕ)
+            → serials_at self.new other
+            ≡ cond (bytes_eq other tag.now) (without serial (serials_at self.old other))
+            (serials_at self.old other) }
     {
         let Some(serials) = self.sets.get_mut(tag) else {
             return;

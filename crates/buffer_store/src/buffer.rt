@@ -68,13 +68,20 @@ impl<D: Dir, A: Allocator + Copy> Buffer<D, A> {
     /// bytes that were told. Each leaves the buffer as it was.
     pub fn body(&mut self, serial: u64) -> Result<Entries<A>, BufferFault>
         ensures entries { BeganWell D.is_honest D.history self.old
-            → IfOk result (λ entries. IsSomeAnd (chunk_at self.old.chunks serial) (λ chunk. entries ≡ chunk.entries)) }
+            → IfOk result (λ entries. IsSomeAnd (chunk_at self.old.chunks serial)
+            (λ chunk. entries ≡ chunk.entries)) }
         // Over whatever folder there are as many as were told.
-        ensures counted { IfOk result (λ entries. IsSomeAnd (chunk_at self.old.chunks serial) (λ chunk. length entries ≡ length chunk.entries)) }
+        ensures counted { IfOk result
+            (λ entries. IsSomeAnd (chunk_at self.old.chunks serial)
+            (λ chunk. length entries ≡ length chunk.entries)) }
         ensures failed { (result ≡ Err BufferFault.Failed) ↔ (self.old.failed ≡ true) }
-        ensures gone { (result ≡ Err BufferFault.Gone) ↔ ((self.old.failed ≡ false) × (chunk_at self.old.chunks serial ≡ None)) }
-        ensures undamaged { BeganWell D.is_honest D.history self.old → result ≢ Err BufferFault.Damaged }
-        ensures only { OnErr result ((result ≡ Err BufferFault.Failed) ⊎ ((result ≡ Err BufferFault.Gone) ⊎ ((result ≡ Err BufferFault.Memory)
+        ensures gone { (result ≡ Err BufferFault.Gone)
+            ↔ ((self.old.failed ≡ false) × (chunk_at self.old.chunks serial ≡ None)) }
+        ensures undamaged { BeganWell D.is_honest D.history self.old
+            → result ≢ Err BufferFault.Damaged }
+        ensures only { OnErr result
+            ((result ≡ Err BufferFault.Failed)
+            ⊎ ((result ≡ Err BufferFault.Gone) ⊎ ((result ≡ Err BufferFault.Memory)
             ⊎ ((result ≡ Err BufferFault.Fault) ⊎ (result ≡ Err BufferFault.Damaged))))) }
         ensures reads { OnlyReads D.is_honest D.history D.fault_count self.old self.new result }
     {
@@ -104,7 +111,8 @@ impl<D: Dir, A: Allocator + Copy> Buffer<D, A> {
 
     /// What the type keeps of the disk. The call does nothing: it stands for a theorem.
     pub fn stays_durable(&self)
-        ensures { BeganWell D.is_honest D.history self.now → IsDurable D.is_honest D.history self.now }
+        ensures { BeganWell D.is_honest D.history self.now
+            → IsDurable D.is_honest D.history self.now }
     {
         let _ = &self.log;
     }
@@ -122,17 +130,20 @@ impl<D: Dir, A: Allocator + Copy> Buffer<D, A> {
     ///
     /// The first of `Failed`, `TooLarge`, `Full` and `LastSerial` that applies.
     pub fn plan<B: Allocator>(&self, tag: &[u8], entries: &Entries<B>) -> Result<u64, BufferFault>
-        ensures place { IfOk result (λ serial. planned self.now.limits self.now.chunks tag.now entries.now ≡ Ok serial) }
+        ensures place { IfOk result
+            (λ serial. planned self.now.limits self.now.chunks tag.now entries.now ≡ Ok serial) }
         ensures can { IfOk result (λ serial. CanAppend self.now.chunks serial tag.now entries.now) }
         ensures near { IfOk result (λ serial. serial ≤ self.now.chunks.next) }
         ensures free { OnOk result (chunk_at self.now.chunks self.now.chunks.next ≡ None) }
         ensures going { OnOk result (self.now.failed ≡ false) }
         ensures failed { (result ≡ Err BufferFault.Failed) ↔ (self.now.failed ≡ true) }
         ensures refused { self.now.failed ≡ false → (fault : AppendFault)
-            → planned self.now.limits self.now.chunks tag.now entries.now ≡ Err fault → result ≡ Err (of_plan fault) }
+            → planned self.now.limits self.now.chunks tag.now entries.now ≡ Err fault
+            → result ≡ Err (of_plan fault) }
         ensures only { result ≢ Err BufferFault.Fault }
         ensures accepted { self.now.failed ≡ false → (serial : ℕ)
-            → planned self.now.limits self.now.chunks tag.now entries.now ≡ Ok serial → result ≡ Ok serial }
+            → planned self.now.limits self.now.chunks tag.now entries.now ≡ Ok serial
+            → result ≡ Ok serial }
     {
         if self.log.has_failed() {
             return Err(BufferFault::Failed);
@@ -151,10 +162,12 @@ impl<D: Dir, A: Allocator + Copy> Buffer<D, A> {
         // A claim isn't told: the journal counts the chunk as queued.
         ensures counts { reopened self.new.chunks ≡ reopened self.old.chunks }
         // That the chunk is queued was synced.
-        ensures lasts { BeganWell D.is_honest D.history self.old → IfSome result (LastsNow D.history self.new) }
+        ensures lasts { BeganWell D.is_honest D.history self.old
+            → IfSome result (LastsNow D.history self.new) }
         // So it is from now on: each later call keeps it, at each of its moments.
         ensures endures { BeganWell D.is_honest D.history self.old
-            → IfSome result (λ serial. IfSome (chunk_at self.new.chunks serial) (Endures D.history self.new serial)) }
+            → IfSome result (λ serial. IfSome (chunk_at self.new.chunks serial)
+            (Endures D.history self.new serial)) }
         ensures claims { KeepsClaims D.history self.old self.new }
     {
         self.chunks.claim()
@@ -191,10 +204,13 @@ fn entries_of<A: Allocator>(
     chunk: &Chunk<A>,
     bytes: &[u8],
 ) -> Result<Entries<A>, BufferFault>
-    ensures entries { bytes.now ≡ concat chunk.now.chunk.entries → IfOk result (λ entries. entries ≡ chunk.now.chunk.entries) }
+    ensures entries { bytes.now ≡ concat chunk.now.chunk.entries
+        → IfOk result (λ entries. entries ≡ chunk.now.chunk.entries) }
     ensures counted { IfOk result (λ entries. length entries ≡ length chunk.now.chunk.entries) }
-    ensures undamaged { bytes.now ≡ concat chunk.now.chunk.entries → result ≢ Err BufferFault.Damaged }
-    ensures only { OnErr result ((result ≡ Err BufferFault.Memory) ⊎ (result ≡ Err BufferFault.Damaged)) }
+    ensures undamaged { bytes.now ≡ concat chunk.now.chunk.entries
+        → result ≢ Err BufferFault.Damaged }
+    ensures only { OnErr result
+        ((result ≡ Err BufferFault.Memory) ⊎ (result ≡ Err BufferFault.Damaged)) }
 {
     // Called for its law alone.
     chunk.stays_stored();

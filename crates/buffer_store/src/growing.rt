@@ -36,7 +36,8 @@ pub(crate) fn add_entries<D: Dir, A: Allocator + Copy>(
     requires tag { length tag.now ≤ longest_tag }
     ensures ok { OnOk result (chunks.new ≡ appended serial tag.now entries.now chunks.old) }
     ensures err { OnErr result (chunks.new ≡ chunks.old) }
-    ensures wrote { Writes D.is_honest D.history D.fault_count log.old log.new (Append serial tag.now entries.now) synced result }
+    ensures wrote { Writes D.is_honest D.history D.fault_count log.old log.new
+        (Append serial tag.now entries.now) synced result }
 {
     if serial == chunks.next() {
         add_chunk(chunks, log, serial, tag, entries, synced)
@@ -61,7 +62,8 @@ fn add_chunk<D: Dir, A: Allocator + Copy>(
     requires tag { length tag.now ≤ longest_tag }
     ensures ok { OnOk result (chunks.new ≡ appended serial tag.now entries.now chunks.old) }
     ensures err { OnErr result (chunks.new ≡ chunks.old) }
-    ensures wrote { Writes D.is_honest D.history D.fault_count log.old log.new (Append serial tag.now entries.now) synced result }
+    ensures wrote { Writes D.is_honest D.history D.fault_count log.old log.new
+        (Append serial tag.now entries.now) synced result }
 {
     chunks.append(serial, tag, entries)?;
     let item = Record::Append {
@@ -91,7 +93,8 @@ fn grow_chunk<D: Dir, A: Allocator + Copy>(
     requires tag { length tag.now ≤ longest_tag }
     ensures ok { OnOk result (chunks.new ≡ appended serial tag.now entries.now chunks.old) }
     ensures err { OnErr result (chunks.new ≡ chunks.old) }
-    ensures wrote { Writes D.is_honest D.history D.fault_count log.old log.new (Append serial tag.now entries.now) synced result }
+    ensures wrote { Writes D.is_honest D.history D.fault_count log.old log.new
+        (Append serial tag.now entries.now) synced result }
 {
     let item = Record::Append {
         serial,
@@ -114,7 +117,8 @@ pub(crate) fn queue_chunk<D: Dir, A: Allocator + Copy>(
     requires staged { IsAt Staged chunks.old serial }
     ensures ok { OnOk result (chunks.new ≡ queued_last serial chunks.old) }
     ensures err { OnErr result (chunks.new ≡ chunks.old) }
-    ensures wrote { Writes D.is_honest D.history D.fault_count log.old log.new (Queue serial) true result }
+    ensures wrote { Writes D.is_honest D.history D.fault_count log.old log.new
+        (Queue serial) true result }
 {
     let item: Record<'_, A> = Record::Queue { serial };
     let ready = make_ready(alloc, chunks, serial)?;
@@ -136,7 +140,8 @@ pub(crate) fn remove_chunk<D: Dir, A: Allocator + Copy>(
     requires going { log.old.failed ≡ false }
     ensures ok { OnOk result (chunks.new ≡ removed serial chunks.old) }
     ensures err { OnErr result (chunks.new ≡ chunks.old) }
-    ensures wrote { Writes D.is_honest D.history D.fault_count log.old log.new (Purge serial) false result }
+    ensures wrote { Writes D.is_honest D.history D.fault_count log.old log.new
+        (Purge serial) false result }
 {
     let item: Record<'_, A> = Record::Purge { serial };
     log.write(&item, false)?;

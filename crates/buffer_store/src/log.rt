@@ -33,9 +33,22 @@ impl<D: Dir, A: Allocator> Model for Log<D, A> {
 
     ghost Value = { Logged D };
 
-    ghost view = { λ l. record { dir = l.dir; journal = l.journal; failed = l.failed; staged = l.staged; start = l.start.value } };
+    ghost view = { λ l. record {
+      dir = l.dir;
+      journal = l.journal;
+      failed = l.failed;
+      staged = l.staged;
+      start = l.start.value;
+    } };
 
-    ghost invariant = { λ l. IsGoing D.opened (record { dir = l.dir; journal = l.journal; failed = l.failed; staged = l.staged; start = l.start.value }) };
+    ghost invariant = { λ l. IsGoing D.opened
+        (record {
+          dir = l.dir;
+          journal = l.journal;
+          failed = l.failed;
+          staged = l.staged;
+          start = l.start.value;
+        }) };
 }
 
 impl<D: Dir, A: Allocator> Log<D, A> {
@@ -95,7 +108,8 @@ impl<D: Dir, A: Allocator + Copy> Log<D, A> {
         requires going { self.old.failed ≡ false }
         requires tag { HasShortTag (record_of item.now) }
         requires short { length (body_of (record_of item.now)) ≤ longest_body }
-        ensures { Writes D.is_honest D.history D.fault_count self.old self.new (record_of item.now) synced result }
+        ensures { Writes D.is_honest D.history D.fault_count self.old self.new
+            (record_of item.now) synced result }
     {
         self.journal.ready(&mut self.dir, item)?;
         if self.journal.put(&mut self.dir).is_err() {

@@ -40,14 +40,18 @@ impl<D: Dir, A: Allocator + Copy> Buffer<D, A> {
         ensures opens { D.is_honest dir → IfOk result (λ buffer. OpensNext path.now
             (now (D.history dir)) (now (D.history buffer.dir)) buffer.journal buffer.chunks) }
         // No chunk is claimed, and the queue goes by rising serial.
-        ensures fresh { IfOk result (λ buffer. IsFresh path.now (D.opened buffer.dir) buffer.journal buffer.chunks) }
+        ensures fresh { IfOk result
+            (λ buffer. IsFresh path.now (D.opened buffer.dir) buffer.journal buffer.chunks) }
         ensures set { IfOk result (IsSet dir settings) }
         ensures refused { IfErr result (λ refused. RefusesOpening (D.is_honest dir) path.now
-            (D.fault_count dir) (D.fault_count refused.1) (now (D.history dir)) (now (D.history refused.1)) refused.0) }
+            (D.fault_count dir) (D.fault_count refused.1) (now (D.history dir))
+            (now (D.history refused.1)) refused.0) }
         // A stop at any moment of the call, whatever it answers, leaves a folder that opens to
         // what one before the call could open to.
-        ensures leaves { D.is_honest dir → LeavesFolder D.is_honest D.history path.now dir (left_of result) }
-        ensures cause { HasReason (D.fault_count dir) (D.fault_count (left_of result)) (answer_of result) BufferFault.Fault }
+        ensures leaves { D.is_honest dir
+            → LeavesFolder D.is_honest D.history path.now dir (left_of result) }
+        ensures cause { HasReason (D.fault_count dir) (D.fault_count (left_of result))
+            (answer_of result) BufferFault.Fault }
     {
         let mut dir = dir;
         let start = Snapshot::of(&dir);
@@ -74,7 +78,16 @@ fn opened<D: Dir, A: Allocator + Copy>(
     requires honest { D.is_honest start.value → D.is_honest dir }
     requires holds { D.is_honest start.value → HasNoGap journal.path (now (D.history start.value))
         → Holds journal chunks (now (D.history dir)) (new_generation chunks) }
-    ensures { result ≡ record { dir = dir; journal = journal; chunks = chunks; limits = settings.limits; renewed_past = settings.renewed_past; failed = false; staged = false; start = start.value } }
+    ensures { result ≡ record {
+      dir = dir;
+      journal = journal;
+      chunks = chunks;
+      limits = settings.limits;
+      renewed_past = settings.renewed_past;
+      failed = false;
+      staged = false;
+      start = start.value;
+    } }
 {
     let log = Log {
         dir,

@@ -33,16 +33,21 @@ impl<D: Dir, A: Allocator + Copy> Buffer<D, A> {
     pub fn stage(&mut self, tag: &[u8], entries: &Entries<A>) -> Result<Appended, BufferFault>
         requires some { 0 < length entries.now }
         requires tag { length tag.now ≤ longest_tag }
-        ensures place { IfOk result (λ put. planned self.old.limits self.old.chunks tag.now entries.now ≡ Ok put.serial) }
-        ensures ok { IfOk result (λ put. self.new.chunks ≡ appended put.serial tag.now entries.now self.old.chunks) }
+        ensures place { IfOk result
+            (λ put. planned self.old.limits self.old.chunks tag.now entries.now ≡ Ok put.serial) }
+        ensures ok { IfOk result
+            (λ put. self.new.chunks ≡ appended put.serial tag.now entries.now self.old.chunks) }
         ensures refused { self.old.failed ≡ false → (fault : AppendFault)
-            → planned self.old.limits self.old.chunks tag.now entries.now ≡ Err fault → result ≡ Err (of_plan fault) }
-        ensures accepted { self.old.failed ≡ false → (serial : ℕ) → planned self.old.limits self.old.chunks tag.now entries.now ≡ Ok serial
+            → planned self.old.limits self.old.chunks tag.now entries.now ≡ Err fault
+            → result ≡ Err (of_plan fault) }
+        ensures accepted { self.old.failed ≡ false → (serial : ℕ)
+            → planned self.old.limits self.old.chunks tag.now entries.now ≡ Ok serial
             → OnErr result ((result ≡ Err BufferFault.Memory) ⊎ (result ≡ Err BufferFault.Fault)) }
         ensures staged { OnOk result (self.new.staged ≡ true) }
         ensures rest { StaysWithin D.is_honest D.history D.fault_count self.old self.new result }
         ensures begins { D.is_honest self.old.dir → Begins D.history self.old self.new
-            (Some (Append (place_of self.old.limits self.old.chunks tag.now entries.now) tag.now entries.now)) (λ t. t) result }
+            (Some (Append (place_of self.old.limits self.old.chunks tag.now entries.now) tag.now
+            entries.now)) (λ t. t) result }
     {
         self.add(tag, entries, false)
     }
@@ -51,16 +56,21 @@ impl<D: Dir, A: Allocator + Copy> Buffer<D, A> {
     pub fn append(&mut self, tag: &[u8], entries: &Entries<A>) -> Result<Appended, BufferFault>
         requires some { 0 < length entries.now }
         requires tag { length tag.now ≤ longest_tag }
-        ensures place { IfOk result (λ put. planned self.old.limits self.old.chunks tag.now entries.now ≡ Ok put.serial) }
-        ensures ok { IfOk result (λ put. self.new.chunks ≡ appended put.serial tag.now entries.now self.old.chunks) }
+        ensures place { IfOk result
+            (λ put. planned self.old.limits self.old.chunks tag.now entries.now ≡ Ok put.serial) }
+        ensures ok { IfOk result
+            (λ put. self.new.chunks ≡ appended put.serial tag.now entries.now self.old.chunks) }
         ensures refused { self.old.failed ≡ false → (fault : AppendFault)
-            → planned self.old.limits self.old.chunks tag.now entries.now ≡ Err fault → result ≡ Err (of_plan fault) }
-        ensures accepted { self.old.failed ≡ false → (serial : ℕ) → planned self.old.limits self.old.chunks tag.now entries.now ≡ Ok serial
+            → planned self.old.limits self.old.chunks tag.now entries.now ≡ Err fault
+            → result ≡ Err (of_plan fault) }
+        ensures accepted { self.old.failed ≡ false → (serial : ℕ)
+            → planned self.old.limits self.old.chunks tag.now entries.now ≡ Ok serial
             → OnErr result ((result ≡ Err BufferFault.Memory) ⊎ (result ≡ Err BufferFault.Fault)) }
         ensures staged { OnOk result (self.new.staged ≡ false) }
         ensures rest { StaysWithin D.is_honest D.history D.fault_count self.old self.new result }
         ensures begins { D.is_honest self.old.dir → Begins D.history self.old self.new
-            (Some (Append (place_of self.old.limits self.old.chunks tag.now entries.now) tag.now entries.now)) all_durable result }
+            (Some (Append (place_of self.old.limits self.old.chunks tag.now entries.now) tag.now
+            entries.now)) all_durable result }
     {
         self.add(tag, entries, true)
     }
@@ -74,16 +84,21 @@ impl<D: Dir, A: Allocator + Copy> Buffer<D, A> {
     ) -> Result<Appended, BufferFault>
         requires some { 0 < length entries.now }
         requires tag { length tag.now ≤ longest_tag }
-        ensures place { IfOk result (λ put. planned self.old.limits self.old.chunks tag.now entries.now ≡ Ok put.serial) }
-        ensures ok { IfOk result (λ put. self.new.chunks ≡ appended put.serial tag.now entries.now self.old.chunks) }
+        ensures place { IfOk result
+            (λ put. planned self.old.limits self.old.chunks tag.now entries.now ≡ Ok put.serial) }
+        ensures ok { IfOk result
+            (λ put. self.new.chunks ≡ appended put.serial tag.now entries.now self.old.chunks) }
         ensures refused { self.old.failed ≡ false → (fault : AppendFault)
-            → planned self.old.limits self.old.chunks tag.now entries.now ≡ Err fault → result ≡ Err (of_plan fault) }
-        ensures accepted { self.old.failed ≡ false → (serial : ℕ) → planned self.old.limits self.old.chunks tag.now entries.now ≡ Ok serial
+            → planned self.old.limits self.old.chunks tag.now entries.now ≡ Err fault
+            → result ≡ Err (of_plan fault) }
+        ensures accepted { self.old.failed ≡ false → (serial : ℕ)
+            → planned self.old.limits self.old.chunks tag.now entries.now ≡ Ok serial
             → OnErr result ((result ≡ Err BufferFault.Memory) ⊎ (result ≡ Err BufferFault.Fault)) }
         ensures staged { OnOk result (self.new.staged ≡ not synced) }
         ensures rest { StaysWithin D.is_honest D.history D.fault_count self.old self.new result }
         ensures begins { D.is_honest self.old.dir → Begins D.history self.old self.new
-            (Some (Append (place_of self.old.limits self.old.chunks tag.now entries.now) tag.now entries.now)) (durable_if synced) result }
+            (Some (Append (place_of self.old.limits self.old.chunks tag.now entries.now) tag.now
+            entries.now)) (durable_if synced) result }
     {
         let serial = self.plan(tag, entries)?;
         add_entries(
@@ -104,11 +119,14 @@ impl<D: Dir, A: Allocator + Copy> Buffer<D, A> {
     /// appends are there or not when the buffer is opened again.
     pub fn sync(&mut self) -> Result<(), BufferFault>
         ensures chunks { self.new.chunks ≡ self.old.chunks }
-        ensures quiet { self.old.failed ≡ false → self.old.staged ≡ false → (result ≡ Ok tt) × (self.new ≡ self.old) }
-        ensures only { OnErr result ((result ≡ Err BufferFault.Failed) ⊎ (result ≡ Err BufferFault.Fault)) }
+        ensures quiet { self.old.failed ≡ false → self.old.staged ≡ false
+            → (result ≡ Ok tt) × (self.new ≡ self.old) }
+        ensures only { OnErr result
+            ((result ≡ Err BufferFault.Failed) ⊎ (result ≡ Err BufferFault.Fault)) }
         ensures staged { OnOk result (self.new.staged ≡ false) }
         ensures rest { StaysWithin D.is_honest D.history D.fault_count self.old self.new result }
-        ensures begins { D.is_honest self.old.dir → Begins D.history self.old self.new None (durable_if self.old.staged) result }
+        ensures begins { D.is_honest self.old.dir
+            → Begins D.history self.old self.new None (durable_if self.old.staged) result }
     {
         if self.log.has_failed() {
             return Err(BufferFault::Failed);
@@ -125,12 +143,14 @@ impl<D: Dir, A: Allocator + Copy> Buffer<D, A> {
     /// after `Fault` the chunk is queued or not when the buffer is opened again.
     pub fn enqueue(&mut self, serial: u64) -> Result<(), BufferFault>
         ensures ok { OnOk result (self.new.chunks ≡ queued_last serial self.old.chunks) }
-        ensures gone { (result ≡ Err BufferFault.Gone) ↔ ((self.old.failed ≡ false) × (IsAt Staged self.old.chunks serial → ⊥)) }
+        ensures gone { (result ≡ Err BufferFault.Gone)
+            ↔ ((self.old.failed ≡ false) × (IsAt Staged self.old.chunks serial → ⊥)) }
         ensures only { self.old.failed ≡ false → IsAt Staged self.old.chunks serial
             → OnErr result ((result ≡ Err BufferFault.Memory) ⊎ (result ≡ Err BufferFault.Fault)) }
         ensures staged { OnOk result (self.new.staged ≡ false) }
         ensures rest { StaysWithin D.is_honest D.history D.fault_count self.old self.new result }
-        ensures begins { D.is_honest self.old.dir → Begins D.history self.old self.new (Some (Queue serial)) all_durable result }
+        ensures begins { D.is_honest self.old.dir
+            → Begins D.history self.old self.new (Some (Queue serial)) all_durable result }
     {
         if self.log.has_failed() {
             return Err(BufferFault::Failed);
@@ -147,12 +167,14 @@ impl<D: Dir, A: Allocator + Copy> Buffer<D, A> {
     /// The first of `Failed`, `Gone`, `Memory` and `Fault` that applies. None changes the chunks.
     pub fn purge(&mut self, serial: u64) -> Result<(), BufferFault>
         ensures ok { OnOk result (self.new.chunks ≡ removed serial self.old.chunks) }
-        ensures gone { (result ≡ Err BufferFault.Gone) ↔ ((self.old.failed ≡ false) × (IsAt Claimed self.old.chunks serial → ⊥)) }
+        ensures gone { (result ≡ Err BufferFault.Gone)
+            ↔ ((self.old.failed ≡ false) × (IsAt Claimed self.old.chunks serial → ⊥)) }
         ensures only { self.old.failed ≡ false → IsAt Claimed self.old.chunks serial
             → OnErr result ((result ≡ Err BufferFault.Memory) ⊎ (result ≡ Err BufferFault.Fault)) }
         ensures staged { self.new.staged ≡ self.old.staged }
         ensures rest { StaysWithin D.is_honest D.history D.fault_count self.old self.new result }
-        ensures begins { D.is_honest self.old.dir → Begins D.history self.old self.new (Some (Purge serial)) (λ t. t) result }
+        ensures begins { D.is_honest self.old.dir
+            → Begins D.history self.old self.new (Some (Purge serial)) (λ t. t) result }
     {
         if self.log.has_failed() {
             return Err(BufferFault::Failed);
@@ -171,15 +193,18 @@ impl<D: Dir, A: Allocator + Copy> Buffer<D, A> {
     pub fn drop_oldest(&mut self) -> Result<u64, BufferFault>
         ensures oldest { IfOk result (λ serial. oldest self.old.chunks ≡ Some serial) }
         ensures ok { IfOk result (λ serial. self.new.chunks ≡ removed serial self.old.chunks) }
-        ensures gone { (result ≡ Err BufferFault.Gone) ↔ ((self.old.failed ≡ false) × (oldest self.old.chunks ≡ None)) }
+        ensures gone { (result ≡ Err BufferFault.Gone)
+            ↔ ((self.old.failed ≡ false) × (oldest self.old.chunks ≡ None)) }
         ensures only { self.old.failed ≡ false → (serial : ℕ) → oldest self.old.chunks ≡ Some serial
             → OnErr result ((result ≡ Err BufferFault.Memory) ⊎ (result ≡ Err BufferFault.Fault)) }
         ensures staged { self.new.staged ≡ self.old.staged }
         ensures rest { StaysWithin D.is_honest D.history D.fault_count self.old self.new result }
-        ensures begins { D.is_honest self.old.dir → (serial : ℕ) → oldest self.old.chunks ≡ Some serial
+        ensures begins { D.is_honest self.old.dir → (serial : ℕ)
+            → oldest self.old.chunks ≡ Some serial
             → Begins D.history self.old self.new (Some (Purge serial)) (λ t. t) result }
         // Where nothing is queued, no step is begun.
-        ensures empty { oldest self.old.chunks ≡ None → Begins D.history self.old self.new None (λ t. t) result }
+        ensures empty { oldest self.old.chunks ≡ None
+            → Begins D.history self.old self.new None (λ t. t) result }
     {
         if self.log.has_failed() {
             return Err(BufferFault::Failed);

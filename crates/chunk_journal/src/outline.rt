@@ -51,7 +51,13 @@ impl<A: Allocator> Model for Outline<A> {
 
     ghost Value = { Heard };
 
-    ghost view = { λ o. record { place = place_of o.draft; spots = o.places; rest = drop o.start o.held.items; fed = o.fed; is_damaged = o.is_damaged } };
+    ghost view = { λ o. record {
+      place = place_of o.draft;
+      spots = o.places;
+      rest = drop o.start o.held.items;
+      fed = o.fed;
+      is_damaged = o.is_damaged;
+    } };
 
     ghost invariant = { λ o. (o.start ≤ vec_len o.held) × (vec_len o.held ≤ o.start + o.fed) };
 }
@@ -90,9 +96,12 @@ impl<A: Allocator + Copy> Outline<A> {
     /// journal's beginning. Neither takes the piece, so that it can be fed again.
     pub fn feed(&mut self, piece: &[u8]) -> Result<(), ReplayError>
         requires few { self.old.fed + length piece.now < 2 ^ 64 }
-        ensures ok { OnOk result ((seen : List ℕ) → IsAfter self.old seen → IsAfter self.new (seen ++ piece.now)) }
-        ensures err { OnErr result ((seen : List ℕ) → IsAfter self.old seen → IsAfter self.new seen) }
-        ensures damaged { (seen : List ℕ) → IsAfter self.old seen → result ≡ Err BadRecord → IsDamaged seen }
+        ensures ok { OnOk result
+            ((seen : List ℕ) → IsAfter self.old seen → IsAfter self.new (seen ++ piece.now)) }
+        ensures err { OnErr result
+            ((seen : List ℕ) → IsAfter self.old seen → IsAfter self.new seen) }
+        ensures damaged { (seen : List ℕ) → IsAfter self.old seen → result ≡ Err BadRecord
+            → IsDamaged seen }
         ensures found { result ≡ Err BadRecord → HasFound self.new }
         ensures stays { HasFound self.old → result ≡ Err BadRecord }
         ensures only { OnErr result ((result ≡ Err Memory) ⊎ (result ≡ Err BadRecord)) }
@@ -109,10 +118,15 @@ impl<A: Allocator + Copy> Outline<A> {
     /// `BadRecord` where it is damaged, `NotSealed` where its whole records end before a Seal, and
     /// else only want of memory, as `feed`. Each hands the outline back.
     pub fn finish(self) -> Result<Outlined<A>, (ReplayError, Outline<A>)>
-        ensures ok { (seen : List ℕ) → IsAfter self seen → IfOk result (λ outlined. IsOutlined seen outlined.chunks outlined.places outlined.used) }
-        ensures not_sealed { (seen : List ℕ) → IsAfter self seen → IfErr result (λ refused. refused.0 ≡ NotSealed → EndsUnsealed seen) }
-        ensures damaged { (seen : List ℕ) → IsAfter self seen → IfErr result (λ refused. refused.0 ≡ BadRecord → IsDamaged seen) }
-        ensures back { (seen : List ℕ) → IsAfter self seen → IfErr result (λ refused. IsAfter refused.1 seen) }
+        ensures ok { (seen : List ℕ) → IsAfter self seen
+            → IfOk result (λ outlined. IsOutlined seen outlined.chunks outlined.places
+            outlined.used) }
+        ensures not_sealed { (seen : List ℕ) → IsAfter self seen
+            → IfErr result (λ refused. refused.0 ≡ NotSealed → EndsUnsealed seen) }
+        ensures damaged { (seen : List ℕ) → IsAfter self seen
+            → IfErr result (λ refused. refused.0 ≡ BadRecord → IsDamaged seen) }
+        ensures back { (seen : List ℕ) → IsAfter self seen
+            → IfErr result (λ refused. IsAfter refused.1 seen) }
         ensures found { IfErr result (λ refused. refused.0 ≡ BadRecord → HasFound refused.1) }
     {
         let mut outline = self;
@@ -130,7 +144,13 @@ impl<A: Allocator + Copy> Outline<A> {
 
     // Lets the queue go by rising serial.
     fn settle(&mut self) -> Result<(), AllocError>
-        ensures ok { OnOk result (self.new ≡ record self.old { place = record { is_sealed = self.old.place.is_sealed; state = settled self.old.place.state } }) }
+        ensures ok { OnOk result
+            (self.new ≡ record self.old {
+              place = record {
+                is_sealed = self.old.place.is_sealed;
+                state = settled self.old.place.state;
+              };
+            }) }
         ensures err { OnErr result (self.new ≡ self.old) }
     {
         self.draft.chunks.settle()
@@ -186,7 +206,8 @@ impl<A: Allocator + Copy> Outline<A> {
         ensures after { (seen : List ℕ) → IsAfter self.old seen → IsAfter self.new seen }
         ensures torn { result ≡ Ok false → IsTorn (self.new.rest) }
         ensures going { OnOk result (HasFound self.new → ⊥) }
-        ensures shorter { IfOk result (λ read. read ≡ true → length (self.new.rest) < length (self.old.rest)) }
+        ensures shorter { IfOk result
+            (λ read. read ≡ true → length (self.new.rest) < length (self.old.rest)) }
         ensures found { result ≡ Err BadRecord → HasFound self.new }
         ensures only { OnErr result ((result ≡ Err Memory) ⊎ (result ≡ Err BadRecord)) }
         ensures same { self.new.fed ≡ self.old.fed }
@@ -218,7 +239,11 @@ impl<A: Allocator + Copy> Outline<A> {
     // Takes a piece behind what is held.
     fn hold(&mut self, piece: &[u8]) -> Result<(), AllocError>
         requires few { self.old.fed + length piece.now < 2 ^ 64 }
-        ensures ok { OnOk result (self.new ≡ record self.old { rest = self.old.rest ++ piece.now; fed = self.old.fed + length piece.now }) }
+        ensures ok { OnOk result
+            (self.new ≡ record self.old {
+              rest = self.old.rest ++ piece.now;
+              fed = self.old.fed + length piece.now;
+            }) }
         ensures err { OnErr result (self.new ≡ self.old) }
     {
         if self.start > 0 {
@@ -244,7 +269,9 @@ fn take_record<A: Allocator + Copy>(
     end: u64,
 ) -> Result<bool, AllocError>
     requires { entries_size (parsed_of parsed) ≤ end }
-    ensures ok { IfOk result (TakesAt (place_of draft.old) places.old (parsed_of parsed.entry) end (place_of draft.new) places.new) }
+    ensures ok { IfOk result
+        (TakesAt (place_of draft.old) places.old (parsed_of parsed.entry) end
+        (place_of draft.new) places.new) }
     ensures place { OnErr result (place_of draft.new ≡ place_of draft.old) }
     ensures places { OnErr result (SamePlaces places.old places.new) }
 {

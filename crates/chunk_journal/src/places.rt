@@ -87,7 +87,10 @@ impl<A: Allocator> Model for Extents<A> {
 
     ghost Value = { Spot };
 
-    ghost view = { λ e. record { extents = e.items.items; room = vec_capacity e.items - vec_len e.items } };
+    ghost view = { λ e. record {
+      extents = e.items.items;
+      room = vec_capacity e.items - vec_len e.items;
+    } };
 }
 
 impl<A: Allocator> Extents<A> {

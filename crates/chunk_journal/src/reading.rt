@@ -84,8 +84,10 @@ fn frame_at(bytes: &[u8]) -> Frame<'_>
 // The record that is spelled by exactly these bytes behind its length, if one is.
 fn parse<A: Allocator>(alloc: A, body: &[u8]) -> Result<Option<Parsed<'_, A>>, AllocError>
     requires { length body.now ≤ longest_body }
-    ensures found { IfOk result (λ read. IfSome read (λ p. HasFields (parsed_of p) × (body.now ≡ body_of (parsed_of p)))) }
-    ensures only { (item : Record) → HasFields item → body.now ≡ body_of item → IfOk result (λ read. option_map parsed_of read ≡ Some item) }
+    ensures found { IfOk result
+        (λ read. IfSome read (λ p. HasFields (parsed_of p) × (body.now ≡ body_of (parsed_of p)))) }
+    ensures only { (item : Record) → HasFields item → body.now ≡ body_of item
+        → IfOk result (λ read. option_map parsed_of read ≡ Some item) }
 {
     let [kind, fields @ ..] = body else {
         return Ok(None);
@@ -108,7 +110,8 @@ fn parse<A: Allocator>(alloc: A, body: &[u8]) -> Result<Option<Parsed<'_, A>>, A
 fn append<A: Allocator>(alloc: A, fields: &[u8]) -> Result<Option<Parsed<'_, A>>, AllocError>
     requires { length fields.now ≤ longest_body }
     ensures found { IfOk result (λ read. IfSome read (λ p. IsAppendOf (parsed_of p) fields.now)) }
-    ensures only { (item : Record) → IsAppendOf item fields.now → IfOk result (λ read. option_map parsed_of read ≡ Some item) }
+    ensures only { (item : Record) → IsAppendOf item fields.now
+        → IfOk result (λ read. option_map parsed_of read ≡ Some item) }
 {
     let Some(parts) = split_fields(fields) else {
         return Ok(None);

@@ -106,7 +106,8 @@ fn take_record<A: Allocator + Copy>(
     draft: &mut Draft<A>,
     parsed: Parsed<'_, A>,
 ) -> Result<bool, AllocError>
-    ensures { IfOk result (Takes (place_of draft.old) (parsed_of parsed.entry) (place_of draft.new)) }
+    ensures { IfOk result
+        (Takes (place_of draft.old) (parsed_of parsed.entry) (place_of draft.new)) }
 {
     match parsed {
         Parsed::Seal { next } => Ok(take_seal(draft, next)),
@@ -140,7 +141,8 @@ pub fn take_append<A: Allocator + Copy>(
     tag: &[u8],
     entries: &Entries<A>,
 ) -> Result<bool, AllocError>
-    ensures ok { IfOk result (Takes (place_of draft.old) (Append serial tag.now entries.now) (place_of draft.new)) }
+    ensures ok { IfOk result
+        (Takes (place_of draft.old) (Append serial tag.now entries.now) (place_of draft.new)) }
     ensures err { OnErr result (draft.new ≡ draft.old) }
 {
     let next = draft.chunks.next();

@@ -50,7 +50,8 @@ pub fn put_record<A: Allocator, B: Allocator>(
 fn put_numbered<A: Allocator>(out: &mut Vec<u8, A>, kind: u8, number: u64) -> Result<(), AllocError>
     ensures ok { OnOk result (out.new.items ≡ out.old.items ++ framed (numbered kind number)) }
     ensures err { OnErr result (out.new.items ≡ out.old.items) }
-    ensures full { OnErr result (vec_capacity out.old < vec_len out.old + length (framed (numbered kind number))) }
+    ensures full { OnErr result
+        (vec_capacity out.old < vec_len out.old + length (framed (numbered kind number))) }
     ensures kept { vec_capacity out.old ≤ vec_capacity out.new }
     ensures fits { number < 2 ^ 64 }
 {
@@ -66,7 +67,8 @@ fn put_append<A: Allocator, B: Allocator>(
 ) -> Result<(), AllocError>
     requires tag { length tag.now ≤ longest_tag }
     requires short { length (body_of (Append serial tag.now entries.now)) ≤ longest_body }
-    ensures ok { OnOk result (out.new.items ≡ out.old.items ++ record_bytes (Append serial tag.now entries.now)) }
+    ensures ok { OnOk result
+        (out.new.items ≡ out.old.items ++ record_bytes (Append serial tag.now entries.now)) }
     ensures err { OnErr result (out.new.items ≡ out.old.items) }
     ensures full { OnErr result (vec_capacity out.old
         < vec_len out.old + length (record_bytes (Append serial tag.now entries.now))) }
@@ -95,7 +97,8 @@ pub fn put_append_head<A: Allocator>(
     requires tag { length tag.now ≤ longest_tag }
     requires short { append_fixed + length tag.now + size ≤ longest_body }
     requires count { count ≤ size }
-    ensures ok { OnOk result (out.new.items ≡ out.old.items ++ append_head serial tag.now count size) }
+    ensures ok { OnOk result
+        (out.new.items ≡ out.old.items ++ append_head serial tag.now count size) }
     ensures err { OnErr result (out.new.items ≡ out.old.items) }
     ensures full { OnErr result (vec_capacity out.old
         < vec_len out.old + length (append_head serial tag.now count size)) }

@@ -231,7 +231,8 @@ fn is_entry_accepted<A: Allocator, B: Allocator>(entry: &Entry<A>, accepted: &[S
 
 // Whether each of the wanted names is among these.
 fn are_named<A: Allocator, B: Allocator>(names: &[String<B>], wanted: &[Vec<u8, A>]) -> bool
-    ensures { result ≡ list_all (λ name. is_among (map string_bytes names.now) name.items) wanted.now }
+    ensures { result ≡ list_all
+        (λ name. is_among (map string_bytes names.now) name.items) wanted.now }
 {
     for name in wanted {
         if !is_named(names, name) {

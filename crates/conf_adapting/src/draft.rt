@@ -19,7 +19,9 @@ pub fn adapt<A: Allocator + Copy>(
     alloc: A,
     elements: &[Element<A>],
 ) -> Result<Adapted<A>, AllocError>
-    ensures { IfOk result (λ adapted. all_stand_for adapted.entries.items ≡ items_of (trees (map tree_of elements.now))) }
+    ensures { IfOk result
+        (λ adapted. all_stand_for adapted.entries.items
+        ≡ items_of (trees (map tree_of elements.now))) }
 {
     let mut draft = Draft {
         entries: Vec::new(alloc),
@@ -48,7 +50,9 @@ struct Draft<'a, A: Allocator> {
 impl<A: Allocator + Copy> Draft<'_, A> {
     // Adds a section with all that is in it.
     fn put_element(&mut self, spot: Spot, element: &Element<A>) -> Result<(), AllocError>
-        ensures { OnOk result (all_stand_for self.new.entries.items ≡ all_stand_for self.old.entries.items ++ items_in (tree_of element.now)) }
+        ensures { OnOk result
+            (all_stand_for self.new.entries.items
+            ≡ all_stand_for self.old.entries.items ++ items_in (tree_of element.now)) }
     {
         let inside = self.open(spot, element)?;
         self.put_pairs(inside, pairs_of(element))?;
@@ -60,7 +64,10 @@ impl<A: Allocator + Copy> Draft<'_, A> {
 
     // Adds the opening of a section, and says what may stand in it.
     fn open(&mut self, spot: Spot, element: &Element<A>) -> Result<Spot, AllocError>
-        ensures { OnOk result (all_stand_for self.new.entries.items ≡ all_stand_for self.old.entries.items ++ section_item (heading_of (tree_of element.now)) ∷ []) }
+        ensures { OnOk result
+            (all_stand_for self.new.entries.items
+            ≡ all_stand_for self.old.entries.items ++ section_item
+            (heading_of (tree_of element.now)) ∷ []) }
     {
         let (inside, row) = self.maker.section(spot, element)?;
         self.entries.push(Entry::Of(row))?;
@@ -69,7 +76,9 @@ impl<A: Allocator + Copy> Draft<'_, A> {
 
     // Adds the parameters of a section.
     fn put_pairs(&mut self, spot: Spot, pairs: &[Pair<A>]) -> Result<(), AllocError>
-        ensures { OnOk result (all_stand_for self.new.entries.items ≡ all_stand_for self.old.entries.items ++ map parameter_item (map setting pairs.now)) }
+        ensures { OnOk result
+            (all_stand_for self.new.entries.items
+            ≡ all_stand_for self.old.entries.items ++ map parameter_item (map setting pairs.now)) }
     {
         for pair in pairs {
             let row = self.maker.parameter(spot, pair)?;
@@ -80,7 +89,8 @@ impl<A: Allocator + Copy> Draft<'_, A> {
 
     // Adds the end of a section.
     fn close(&mut self, inside: Spot, element: &Element<A>) -> Result<(), AllocError>
-        ensures { OnOk result (all_stand_for self.new.entries.items ≡ all_stand_for self.old.entries.items) }
+        ensures { OnOk result
+            (all_stand_for self.new.entries.items ≡ all_stand_for self.old.entries.items) }
     {
         let text = self.maker.end(inside, element.name.as_bytes())?;
         let line = line_of(element);

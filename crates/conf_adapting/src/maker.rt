@@ -51,7 +51,8 @@ impl<'a, A: Allocator + Copy> Maker<'a, A> {
         spot: Spot,
         element: &Element<A>,
     ) -> Result<(Spot, Row<A>), AllocError>
-        ensures { IfOk result (λ made. item_of made.1 ≡ section_item (heading_of (tree_of element.now))) }
+        ensures { IfOk result
+            (λ made. item_of made.1 ≡ section_item (heading_of (tree_of element.now))) }
     {
         let alloc = self.values.alloc;
         let subject = heading(alloc, element)?;
@@ -257,7 +258,8 @@ impl<'a, A: Allocator + Copy> Maker<'a, A> {
 
 // `<name argument>` of a section.
 fn heading<A: Allocator + Copy>(alloc: A, element: &Element<A>) -> Result<Vec<u8, A>, AllocError>
-    ensures { IfOk result (λ text. text.items ≡ (section_item (heading_of (tree_of element.now))).subject) }
+    ensures { IfOk result
+        (λ text. text.items ≡ (section_item (heading_of (tree_of element.now))).subject) }
 {
     let mut text = Vec::new(alloc);
     put_heading(

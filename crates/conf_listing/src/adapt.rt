@@ -21,7 +21,8 @@ pub fn run_adapt<A: Allocator + Copy, B: Allocator, R: CountedRead, W: Write>(
     accepted: &[String<B>],
     out: &mut W,
 ) -> Status
-    ensures { PrintsAdapted A (R.remaining conf.old) (map string_bytes accepted.now) (W.contents out.old) (W.contents out.new) result }
+    ensures { PrintsAdapted A (R.remaining conf.old) (map string_bytes accepted.now)
+        (W.contents out.old) (W.contents out.new) result }
 {
     match adapt_read(alloc, conf, accepted) {
         Ok(said) => put_last(out, &said.lines, said.status),
@@ -42,7 +43,9 @@ fn adapt_read<A: Allocator + Copy, B: Allocator, R: CountedRead>(
     conf: &mut R,
     accepted: &[String<B>],
 ) -> Result<Said<A>, ConfStop>
-    ensures said { IfOk result (λ said. IsAnswer A (R.remaining conf.old) (map string_bytes accepted.now) said.lines.items said.status) }
+    ensures said { IfOk result
+        (λ said. IsAnswer A (R.remaining conf.old)
+        (map string_bytes accepted.now) said.lines.items said.status) }
     ensures stop { IfErr result (IsStop A (R.remaining conf.old) (map string_bytes accepted.now)) }
 {
     let text = read_whole(alloc, conf)?;

@@ -48,7 +48,9 @@ pub fn adapt_confs<A: Allocator + Copy, B: Allocator>(
     accepted: &[String<B>],
 ) -> Result<AdaptedConfs<A>, AllocError>
     requires { length names.now ≡ length confs.now }
-    ensures { IfOk result (AreAdaptedConfs A (map (λ name. name.now) names.now) (texts_of confs.now) (map string_bytes accepted.now)) }
+    ensures { IfOk result
+        (AreAdaptedConfs A (map (λ name. name.now) names.now) (texts_of confs.now)
+        (map string_bytes accepted.now)) }
 {
     let outcomes = adapt_each(alloc, confs, accepted)?;
     match texts_in(alloc, names, &outcomes)? {
@@ -63,7 +65,9 @@ fn adapt_each<A: Allocator + Copy, B: Allocator>(
     confs: &[Vec<u8, A>],
     accepted: &[String<B>],
 ) -> Result<Vec<AdaptedConf<A>, A>, AllocError>
-    ensures { IfOk result (λ outcomes. AreOutcomes A (texts_of confs.now) (map string_bytes accepted.now) outcomes.items) }
+    ensures { IfOk result
+        (λ outcomes. AreOutcomes A (texts_of confs.now)
+        (map string_bytes accepted.now) outcomes.items) }
 {
     let mut outcomes = Vec::new(alloc);
     for conf in confs {
@@ -79,8 +83,10 @@ fn texts_in<A: Allocator + Copy>(
     outcomes: &[AdaptedConf<A>],
 ) -> Result<Option<ConfTexts<A>>, AllocError>
     requires { length names.now ≡ length outcomes.now }
-    ensures texts { IfOk result (λ found. IfSome found (λ found. AreTextsOf outcomes.now (texts_of found.texts.items))) }
-    ensures stopped { IfOk result (λ found. IfNone found (list_any is_stopped outcomes.now ≡ true)) }
+    ensures texts { IfOk result
+        (λ found. IfSome found (λ found. AreTextsOf outcomes.now (texts_of found.texts.items))) }
+    ensures stopped { IfOk result
+        (λ found. IfNone found (list_any is_stopped outcomes.now ≡ true)) }
 {
     let mut texts = Vec::new(alloc);
     let mut noted = Vec::new(alloc);
@@ -104,7 +110,9 @@ fn stopped<A: Allocator + Copy, B: Allocator>(
     accepted: &[String<B>],
 ) -> Result<StoppedConfs<A>, AllocError>
     requires { length names.now ≡ length outcomes.now }
-    ensures { IfOk result (λ found. AreStopped (map (λ name. name.now) names.now) outcomes.now found.lines.items found.has_fault) }
+    ensures { IfOk result
+        (λ found. AreStopped
+        (map (λ name. name.now) names.now) outcomes.now found.lines.items found.has_fault) }
 {
     let mut lines = Vec::new(alloc);
     let mut accepting = Vec::new(alloc);

@@ -16,7 +16,8 @@ pub fn quoted<A: Allocator>(
     text: &str,
 ) -> Result<Option<(String<A>, &str)>, AllocError>
     requires { mark < 128 }
-    ensures { IfOk result (λ found. option_map (λ x. (string_bytes x.0, x.1.now)) found ≡ quoted mark text.now) }
+    ensures { IfOk result
+        (λ found. option_map (λ x. (string_bytes x.0, x.1.now)) found ≡ quoted mark text.now) }
 {
     let mut value = String::new(alloc);
     let mut rest = text;
@@ -38,7 +39,8 @@ pub fn quoted<A: Allocator>(
 fn split_plain(mark: u8, text: &str) -> (&str, &str)
     requires { mark < 128 }
     ensures reads { quoted mark text.now ≡ with_front result.0.now (quoted mark result.1.now) }
-    ensures special { 0 < length result.1.now → is_special mark (slice_index result.1.now 0) ≡ true }
+    ensures special { 0 < length result.1.now
+        → is_special mark (slice_index result.1.now 0) ≡ true }
     ensures rest { length result.1.now ≤ length text.now }
 {
     text.split_at(plain_len(mark, text.as_bytes()))

@@ -24,11 +24,13 @@ pub fn read<A: Allocator + Copy>(alloc: A, text: &[u8]) -> Result<Vec<Element<A>
     // What is read is a configuration of these elements.
     ensures found { IfOk result (λ v. IsConfiguration text.now (map tree_of v.items)) }
     // A configuration of some elements is read to them, unless memory runs out.
-    ensures only { (elements : List Tree) → IsConfiguration text.now elements → Gives (λ v. map tree_of v.items) result (Ok elements) }
+    ensures only { (elements : List Tree) → IsConfiguration text.now elements
+        → Gives (λ v. map tree_of v.items) result (Ok elements) }
     // What is refused has that fault, or memory ran out.
     ensures refused { IfErr result (λ e. IsRefusal text.now e) }
     // A text that has a fault is refused with it, unless memory runs out.
-    ensures fault { (f : ConfFault) → HasFault text.now f.kind f.line → Gives (λ v. map tree_of v.items) result (Err f) }
+    ensures fault { (f : ConfFault) → HasFault text.now f.kind f.line
+        → Gives (λ v. map tree_of v.items) result (Err f) }
 {
     parsed(alloc, text)
 }

@@ -38,7 +38,8 @@ impl<A: Allocator + Copy> Reader<A> {
 
     /// Takes the next line. After an error what was read is of no use.
     pub fn take(&mut self, alloc: A, number: usize, line: &str) -> Result<(), ConfError>
-        ensures { Gives (λ _. stack_of self.new) result (step number (line_form line.now) (stack_of self.old)) }
+        ensures { Gives (λ _. stack_of self.new) result
+            (step number (line_form line.now) (stack_of self.old)) }
     {
         match line_form(alloc, line)? {
             Form::Ignored => Ok(()),
@@ -73,7 +74,8 @@ impl<A: Allocator + Copy> Reader<A> {
 
     #[tactic(auto, unfolding(crate::specs::Reading::open_one))]
     fn open(&mut self, alloc: A, line: usize, name: &str, argument: &str) -> Result<(), ConfError>
-        ensures { Gives (λ _. stack_of self.new) result (open_one line name.now argument.now (stack_of self.old)) }
+        ensures { Gives (λ _. stack_of self.new) result
+            (open_one line name.now argument.now (stack_of self.old)) }
     {
         if self.outer.len() >= MOST_OPEN {
             return Err(ConfError::Fault(ConfFault {
@@ -89,7 +91,8 @@ impl<A: Allocator + Copy> Reader<A> {
 
     #[tactic(auto, unfolding(crate::specs::Reading::close_one))]
     fn close(&mut self, line: usize, name: &str) -> Result<(), ConfError>
-        ensures { Gives (λ _. stack_of self.new) result (close_one line name.now (stack_of self.old)) }
+        ensures { Gives (λ _. stack_of self.new) result
+            (close_one line name.now (stack_of self.old)) }
     {
         let Some(parent) = self.outer.pop() else {
             return Err(ConfError::Fault(ConfFault {
@@ -109,7 +112,9 @@ impl<A: Allocator + Copy> Reader<A> {
     }
 
     fn set(&mut self, alloc: A, line: usize, name: &str, value: String<A>) -> Result<(), ConfError>
-        ensures { Gives (λ _. stack_of self.new) result (Ok (stack (with_setting (stack_of self.old).innermost (set_to name.now (string_bytes value) line)) (stack_of self.old).outer)) }
+        ensures { Gives (λ _. stack_of self.new) result
+            (Ok (stack (with_setting (stack_of self.old).innermost
+            (set_to name.now (string_bytes value) line)) (stack_of self.old).outer)) }
     {
         let name = String::from_str(alloc, name)?;
         self.innermost.add_pair(Pair { name, value, line })?;
@@ -143,7 +148,8 @@ impl<A: Allocator + Copy> Section<A> {
 
     // The elements of what stands outside every section: its parameters make a first one.
     fn into_elements(self, alloc: A) -> Result<Vec<Element<A>, A>, ConfError>
-        ensures { let f = frame_of self in Gives (λ v. map tree_of v.items) result (Ok (first_and f.heading f.settings f.elements)) }
+        ensures { let f = frame_of self in Gives
+            (λ v. map tree_of v.items) result (Ok (first_and f.heading f.settings f.elements)) }
     {
         if self.pairs.is_empty() {
             return Ok(self.children);
@@ -196,7 +202,8 @@ impl<A: Allocator> Section<A> {
 
     // One more parameter. An error is that memory ran out.
     fn add_pair(&mut self, pair: Pair<A>) -> Result<(), ConfError>
-        ensures { Gives (λ _. frame_of self.new) result (Ok (with_setting (frame_of self.old) (setting pair))) }
+        ensures { Gives (λ _. frame_of self.new) result
+            (Ok (with_setting (frame_of self.old) (setting pair))) }
     {
         self.pairs.push(pair)?;
         Ok(())
@@ -204,7 +211,8 @@ impl<A: Allocator> Section<A> {
 
     // One more element. An error is that memory ran out.
     fn add_child(&mut self, child: Element<A>) -> Result<(), ConfError>
-        ensures { Gives (λ _. frame_of self.new) result (Ok (with_element (frame_of self.old) (tree_of child))) }
+        ensures { Gives (λ _. frame_of self.new) result
+            (Ok (with_element (frame_of self.old) (tree_of child))) }
     {
         self.children.push(child)?;
         Ok(())

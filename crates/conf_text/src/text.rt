@@ -18,7 +18,8 @@ pub fn begins(text: &str, byte: u8) -> bool
 /// Whether the text ends with this byte.
 pub fn ends_in(text: &str, byte: u8) -> bool
     ensures value { result ≡ ends_in byte text.now }
-    ensures last { IsTrue result → (0 < length text.now) × (slice_index text.now (length text.now - 1) ≡ byte) }
+    ensures last { IsTrue result
+        → (0 < length text.now) × (slice_index text.now (length text.now - 1) ≡ byte) }
 {
     let bytes = text.as_bytes();
     !bytes.is_empty() && bytes[bytes.len() - 1] == byte

@@ -16,7 +16,9 @@ pub fn is_kept_as<A: Allocator + Copy>(
     duty: Duty,
     number: usize,
 ) -> Result<bool, AllocError>
-    ensures { IfOk result (λ yes. IsTrue yes ↔ IsSomeAnd (slice_get (world_of world.now).acknowledged number) (IsKeptAs duty (net_of world.now) (world_of world.now))) }
+    ensures { IfOk result
+        (λ yes. IsTrue yes ↔ IsSomeAnd (slice_get (world_of world.now).acknowledged number)
+        (IsKeptAs duty (net_of world.now) (world_of world.now))) }
 {
     match duty {
         Duty::Any => Ok(world.kept(number)?.unwrap_or(false)),

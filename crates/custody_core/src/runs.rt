@@ -37,9 +37,16 @@ pub fn run<'n, A: Allocator + Copy>(
     ensures net { IfOk result (λ w. net_of w ≡ net.now) }
     ensures taken { IfOk result (λ w. Steps net.now initial_world steps.now (world_of w)) }
     ensures refused { IfErr result (λ e. IsRefusedAt net.now steps.now e.0 e.1) }
-    ensures labelled_nothing_is_lost { (labels : List (Label A)) (reaches : List (Reach A)) → BuffersAreDistinct net.now → AreKeepingRulesKept net.now labels reaches → IfOk result (λ w. NothingIsLost net.now (world_of w)) }
-    ensures held_onward { (labels : List (Label A)) (reaches : List (Reach A)) → BuffersAreDistinct net.now → AreKeepingRulesKept net.now labels reaches → IfOk result (λ w. AreHeldOnward net.now steps.now (world_of w)) }
-    ensures each_branch_keeps { (labels : List (Label A)) (reaches : List (Reach A)) → BuffersAreDistinct net.now → AreKeepingRulesKept net.now labels reaches → EachOutputKeeps net.now reaches → IfOk result (λ w. EachBranchKeeps net.now (world_of w)) }
+    ensures labelled_nothing_is_lost { (labels : List (Label A)) (reaches : List (Reach A))
+        → BuffersAreDistinct net.now → AreKeepingRulesKept net.now labels reaches
+        → IfOk result (λ w. NothingIsLost net.now (world_of w)) }
+    ensures held_onward { (labels : List (Label A)) (reaches : List (Reach A))
+        → BuffersAreDistinct net.now → AreKeepingRulesKept net.now labels reaches
+        → IfOk result (λ w. AreHeldOnward net.now steps.now (world_of w)) }
+    ensures each_branch_keeps { (labels : List (Label A)) (reaches : List (Reach A))
+        → BuffersAreDistinct net.now → AreKeepingRulesKept net.now labels reaches
+        → EachOutputKeeps net.now reaches
+        → IfOk result (λ w. EachBranchKeeps net.now (world_of w)) }
     ensures nothing_is_made_up { IfOk result (λ w. NothingIsMadeUp net.now (world_of w)) }
 {
     let mut world = World::new(alloc, net);

@@ -21,7 +21,9 @@ impl<'n, A: Allocator + Copy> World<'n, A> {
     pub(crate) fn set_stage(&mut self, found: Found, stage: Stage) -> Result<(), AllocError>
         requires live { IsSome (chunk_of (world_of self.old) found) }
         ensures net { net_of self.new ≡ net_of self.old }
-        ensures ok { OnOk result (world_of self.new ≡ with_found (world_of self.old) found (λ chunk. Some (record chunk { stage = stage }))) }
+        ensures ok { OnOk result
+            (world_of self.new ≡ with_found (world_of self.old) found
+            (λ chunk. Some (record chunk { stage = stage }))) }
         ensures err { OnErr result (world_of self.new ≡ world_of self.old) }
     {
         self.places
@@ -30,9 +32,12 @@ impl<'n, A: Allocator + Copy> World<'n, A> {
 
     // Gives the claimed chunk evidence that it is delivered.
     pub(crate) fn prove_delivered(&mut self, found: Found)
-        requires claimed { IsSomeAnd (chunk_of (world_of self.old) found) (λ chunk. chunk.stage ≡ Stage.Claimed) }
+        requires claimed { IsSomeAnd (chunk_of (world_of self.old) found)
+            (λ chunk. chunk.stage ≡ Stage.Claimed) }
         ensures net { net_of self.new ≡ net_of self.old }
-        ensures world { world_of self.new ≡ with_found (world_of self.old) found (λ chunk. Some (record chunk { evidence = true })) }
+        ensures world { world_of self.new
+            ≡ with_found (world_of self.old) found
+            (λ chunk. Some (record chunk { evidence = true })) }
     {
         self.places
             .prove_delivered(found.place, found.buffer, found.serial);
@@ -51,9 +56,11 @@ impl<'n, A: Allocator + Copy> World<'n, A> {
     // nothing.
     pub(crate) fn store_first(&mut self, found: Found, count: usize) -> Result<(), AllocError>
         requires live { IsSome (chunk_of (world_of self.old) found) }
-        requires has { ForSome (chunk_of (world_of self.old) found) (λ chunk. count ≤ length chunk.entries) }
+        requires has { ForSome (chunk_of (world_of self.old) found)
+            (λ chunk. count ≤ length chunk.entries) }
         ensures net { net_of self.new ≡ net_of self.old }
-        ensures ok { OnOk result (world_of self.new ≡ stored_found (world_of self.old) found (take count)) }
+        ensures ok { OnOk result
+            (world_of self.new ≡ stored_found (world_of self.old) found (take count)) }
         ensures err { OnErr result (world_of self.new ≡ world_of self.old) }
     {
         self.places
@@ -62,7 +69,8 @@ impl<'n, A: Allocator + Copy> World<'n, A> {
 
     // Whether an acknowledgement was ever given to the chunk's id.
     pub(crate) fn is_answered(&self, found: Found) -> bool
-        ensures { IsTrue result ↔ IsAnswered (world_of self.now) found.place found.buffer found.serial }
+        ensures { IsTrue result
+            ↔ IsAnswered (world_of self.now) found.place found.buffer found.serial }
     {
         self.places
             .is_answered(found.place, found.buffer, found.serial)
@@ -72,7 +80,9 @@ impl<'n, A: Allocator + Copy> World<'n, A> {
     pub(crate) fn remove_oldest(&mut self, place: usize, buffer: usize) -> bool
         ensures net { net_of self.new ≡ net_of self.old }
         ensures one { IsTrue result ↔ HasQueued ((world_of self.old).buffers place buffer) }
-        ensures world { world_of self.new ≡ cond result (with_buffer (world_of self.old) place buffer without_oldest) (world_of self.old) }
+        ensures world { world_of self.new
+            ≡ cond result (with_buffer (world_of self.old) place buffer without_oldest)
+            (world_of self.old) }
     {
         let Some(serial) = self.places.oldest(place, buffer) else {
             return false;
@@ -84,7 +94,8 @@ impl<'n, A: Allocator + Copy> World<'n, A> {
     // The message is acknowledged to its sender, and where that is a chunk, to its id. An `Err`
     // changes nothing.
     pub(crate) fn mark_answered(&mut self, message: usize, sender: Sender) -> Result<(), AllocError>
-        requires { IsSomeAnd (slice_get (world_of self.old).messages message) (λ m. m.sender ≡ sender) }
+        requires { IsSomeAnd (slice_get (world_of self.old).messages message)
+            (λ m. m.sender ≡ sender) }
         ensures net { net_of self.new ≡ net_of self.old }
         ensures ok { OnOk result (world_of self.new ≡ with_answered (world_of self.old) message) }
         ensures err { OnErr result (world_of self.new ≡ world_of self.old) }
@@ -107,9 +118,12 @@ impl<'n, A: Allocator + Copy> World<'n, A> {
     // A relay acknowledges the message to its sender: where that is a client, its events are
     // acknowledged, once each. An `Err` changes nothing.
     pub(crate) fn answer(&mut self, message: usize, sender: Sender) -> Result<(), AllocError>
-        requires { IsSomeAnd (slice_get (world_of self.old).messages message) (λ m. m.sender ≡ sender) }
+        requires { IsSomeAnd (slice_get (world_of self.old).messages message)
+            (λ m. m.sender ≡ sender) }
         ensures net { net_of self.new ≡ net_of self.old }
-        ensures ok { OnOk result (IfSome (slice_get (world_of self.old).messages message) (λ m. world_of self.new ≡ answered (world_of self.old) message m)) }
+        ensures ok { OnOk result
+            (IfSome (slice_get (world_of self.old).messages message)
+            (λ m. world_of self.new ≡ answered (world_of self.old) message m)) }
         ensures err { OnErr result (world_of self.new ≡ world_of self.old) }
     {
         match sender {

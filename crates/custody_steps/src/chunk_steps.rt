@@ -19,8 +19,13 @@ impl<'n, A: Allocator + Copy> World<'n, A> {
 
     // The live chunk of this name, if it is at this stage.
     fn at_stage(&self, name: &ChunkName, stage: Stage) -> Result<Found, StepFault>
-        ensures found { IfOk result (λ found. IsFound (net_of self.now) (world_of self.now) name.now found × (found.look.stage ≡ stage)) }
-        ensures refused { IfErr result (Refuses (IsSome (chunk_named (net_of self.now) (world_of self.now) name.now)) (IsSomeAnd (chunk_named (net_of self.now) (world_of self.now) name.now) (λ chunk. chunk.stage ≡ stage))) }
+        ensures found { IfOk result
+            (λ found. IsFound (net_of self.now) (world_of self.now) name.now found
+            × (found.look.stage ≡ stage)) }
+        ensures refused { IfErr result
+            (Refuses (IsSome (chunk_named (net_of self.now) (world_of self.now) name.now))
+            (IsSomeAnd (chunk_named (net_of self.now) (world_of self.now) name.now)
+            (λ chunk. chunk.stage ≡ stage))) }
     {
         let Some(found) = self.find(name) else {
             return Err(StepFault::NoSuch);
@@ -39,7 +44,13 @@ impl<'n, A: Allocator + Copy> World<'n, A> {
         to: Stage,
     ) -> Result<(), StepFault>
         ensures net { net_of self.new ≡ net_of self.old }
-        ensures answer { Answer (IsSome (chunk_named (net_of self.old) (world_of self.old) name.now)) (OfChunk (net_of self.old) (world_of self.old) name.now from (λ _. Unit {0})) (OfChunk (net_of self.old) (world_of self.old) name.now from (λ _. Unit {0})) (world_of self.old) (world_of self.new) (with_named (net_of self.old) (world_of self.old) name.now (λ chunk. Some (record chunk { stage = to }))) result }
+        ensures answer { Answer
+            (IsSome (chunk_named (net_of self.old) (world_of self.old) name.now))
+            (OfChunk (net_of self.old) (world_of self.old) name.now from (λ _. Unit {0}))
+            (OfChunk (net_of self.old) (world_of self.old) name.now from (λ _. Unit {0}))
+            (world_of self.old) (world_of self.new)
+            (with_named (net_of self.old) (world_of self.old) name.now
+            (λ chunk. Some (record chunk { stage = to }))) result }
     {
         let found = self.at_stage(name, from)?;
         self.set_stage(found, to)?;
@@ -49,7 +60,8 @@ impl<'n, A: Allocator + Copy> World<'n, A> {
     // Whether the chunk's output sends to further relays, and asks them for acknowledgements or
     // doesn't, as is said.
     fn is_forwarded(&self, found: Found, asks: bool) -> bool
-        ensures { IsTrue result ↔ IsSomeAnd (output_at (net_of self.now) found.place found.buffer) (Forwards asks) }
+        ensures { IsTrue result
+            ↔ IsSomeAnd (output_at (net_of self.now) found.place found.buffer) (Forwards asks) }
     {
         match self.net.output(found.place, found.buffer) {
             Some(output) => forwards(output, asks),
@@ -59,7 +71,8 @@ impl<'n, A: Allocator + Copy> World<'n, A> {
 
     // Whether the chunk's output stores into a sink.
     fn is_stored(&self, found: Found) -> bool
-        ensures { IsTrue result ↔ IsSomeAnd (output_at (net_of self.now) found.place found.buffer) Stores }
+        ensures { IsTrue result
+            ↔ IsSomeAnd (output_at (net_of self.now) found.place found.buffer) Stores }
     {
         match self.net.output(found.place, found.buffer) {
             Some(output) => stores(output),
@@ -69,7 +82,8 @@ impl<'n, A: Allocator + Copy> World<'n, A> {
 
     // Whether the chunk's output gives a chunk up in the end.
     fn is_given_up(&self, found: Found) -> bool
-        ensures { IsTrue result ↔ IsSomeAnd (output_at (net_of self.now) found.place found.buffer) GivesUp }
+        ensures { IsTrue result
+            ↔ IsSomeAnd (output_at (net_of self.now) found.place found.buffer) GivesUp }
     {
         match self.net.output(found.place, found.buffer) {
             Some(output) => gives_up(output),
@@ -80,7 +94,8 @@ impl<'n, A: Allocator + Copy> World<'n, A> {
     // An acknowledgement of the claimed chunk was given, which is evidence.
     pub(crate) fn seen(&mut self, name: &ChunkName) -> Result<(), StepFault>
         ensures net { net_of self.new ≡ net_of self.old }
-        ensures answer { Answers (net_of self.old) (world_of self.old) (Step.Seen name.now) (world_of self.new) result }
+        ensures answer { Answers (net_of self.old) (world_of self.old) (Step.Seen name.now)
+            (world_of self.new) result }
     {
         let found = self.at_stage(name, Stage::Claimed)?;
         if !self.is_forwarded(found, true) || !self.is_answered(found) {
@@ -93,7 +108,8 @@ impl<'n, A: Allocator + Copy> World<'n, A> {
     // A claimed chunk is stored in the sink whole, which is evidence.
     pub(crate) fn write(&mut self, name: &ChunkName) -> Result<(), StepFault>
         ensures net { net_of self.new ≡ net_of self.old }
-        ensures answer { Answers (net_of self.old) (world_of self.old) (Step.Write name.now) (world_of self.new) result }
+        ensures answer { Answers (net_of self.old) (world_of self.old) (Step.Write name.now)
+            (world_of self.new) result }
     {
         let found = self.at_stage(name, Stage::Claimed)?;
         if !self.is_stored(found) {
@@ -107,7 +123,8 @@ impl<'n, A: Allocator + Copy> World<'n, A> {
     // The first entries of a claimed chunk are stored in the sink.
     pub(crate) fn part(&mut self, name: &ChunkName, count: u64) -> Result<(), StepFault>
         ensures net { net_of self.new ≡ net_of self.old }
-        ensures answer { Answers (net_of self.old) (world_of self.old) (Step.Part name.now count) (world_of self.new) result }
+        ensures answer { Answers (net_of self.old) (world_of self.old) (Step.Part name.now count)
+            (world_of self.new) result }
     {
         let found = self.at_stage(name, Stage::Claimed)?;
         let count = count as usize;
@@ -121,7 +138,8 @@ impl<'n, A: Allocator + Copy> World<'n, A> {
     // A chunk that is certainly delivered goes.
     pub(crate) fn purge(&mut self, name: &ChunkName) -> Result<(), StepFault>
         ensures net { net_of self.new ≡ net_of self.old }
-        ensures answer { Answers (net_of self.old) (world_of self.old) (Step.Purge name.now) (world_of self.new) result }
+        ensures answer { Answers (net_of self.old) (world_of self.old) (Step.Purge name.now)
+            (world_of self.new) result }
     {
         let found = self.at_stage(name, Stage::Claimed)?;
         if !found.look.evidence {
@@ -134,7 +152,8 @@ impl<'n, A: Allocator + Copy> World<'n, A> {
     // A chunk that was forwarded goes, where no acknowledgement is asked for.
     pub(crate) fn done(&mut self, name: &ChunkName) -> Result<(), StepFault>
         ensures net { net_of self.new ≡ net_of self.old }
-        ensures answer { Answers (net_of self.old) (world_of self.old) (Step.Done name.now) (world_of self.new) result }
+        ensures answer { Answers (net_of self.old) (world_of self.old) (Step.Done name.now)
+            (world_of self.new) result }
     {
         let found = self.at_stage(name, Stage::Claimed)?;
         if !self.is_forwarded(found, false) || !found.look.forwarded {
@@ -147,7 +166,8 @@ impl<'n, A: Allocator + Copy> World<'n, A> {
     // A chunk goes that its output gives up.
     pub(crate) fn discard(&mut self, name: &ChunkName) -> Result<(), StepFault>
         ensures net { net_of self.new ≡ net_of self.old }
-        ensures answer { Answers (net_of self.old) (world_of self.old) (Step.Discard name.now) (world_of self.new) result }
+        ensures answer { Answers (net_of self.old) (world_of self.old) (Step.Discard name.now)
+            (world_of self.new) result }
     {
         let found = self.at_stage(name, Stage::Claimed)?;
         if !self.is_given_up(found) {
@@ -160,7 +180,8 @@ impl<'n, A: Allocator + Copy> World<'n, A> {
     // The oldest queued chunk goes from a buffer that lets it go.
     pub(crate) fn drop_oldest(&mut self, relay: u64, buffer: u64) -> Result<(), StepFault>
         ensures net { net_of self.new ≡ net_of self.old }
-        ensures answer { Answers (net_of self.old) (world_of self.old) (Step.Oldest relay buffer) (world_of self.new) result }
+        ensures answer { Answers (net_of self.old) (world_of self.old) (Step.Oldest relay buffer)
+            (world_of self.new) result }
     {
         let Some(place) = self.net.place(relay) else {
             return Err(StepFault::NoSuch);
@@ -178,7 +199,8 @@ impl<'n, A: Allocator + Copy> World<'n, A> {
     // A relay stops and starts again.
     pub(crate) fn restart(&mut self, relay: u64) -> Result<(), StepFault>
         ensures net { net_of self.new ≡ net_of self.old }
-        ensures answer { Answers (net_of self.old) (world_of self.old) (Step.Restart relay) (world_of self.new) result }
+        ensures answer { Answers (net_of self.old) (world_of self.old) (Step.Restart relay)
+            (world_of self.new) result }
     {
         let Some(place) = self.net.place(relay) else {
             return Err(StepFault::NoSuch);

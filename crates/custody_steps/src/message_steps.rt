@@ -34,7 +34,8 @@ impl<'n, A: Allocator + Copy> World<'n, A> {
         entries: &Vec<Vec<u8, A>, A>,
     ) -> Result<(), StepFault>
         ensures net { net_of self.new ≡ net_of self.old }
-        ensures answer { Answers (net_of self.old) (world_of self.old) (Step.Send client tag.now entries.now) (world_of self.new) result }
+        ensures answer { Answers (net_of self.old) (world_of self.old)
+            (Step.Send client tag.now entries.now) (world_of self.new) result }
     {
         let number = client as usize;
         let (Some(found), Some(host)) = (self.net.client(number), self.net.client_host(number))
@@ -61,7 +62,8 @@ impl<'n, A: Allocator + Copy> World<'n, A> {
     // The tag that the message's events bear where it comes in.
     fn entered_tag(&self, message: &Message<A>) -> Result<Tag<A>, TagError>
         ensures tag { IfOk result (λ tag. tag ≡ tag_of (net_of self.now) message.now) }
-        ensures too_long { (result ≡ Err TagError.TagTooLong) ↔ (most_tag_bytes < length (tag_of (net_of self.now) message.now)) }
+        ensures too_long { (result ≡ Err TagError.TagTooLong)
+            ↔ (most_tag_bytes < length (tag_of (net_of self.now) message.now)) }
     {
         let address = message.address();
         match self.net.prefix(address.host(), address.port()) {
@@ -72,7 +74,8 @@ impl<'n, A: Allocator + Copy> World<'n, A> {
 
     // Whether the way of the message that comes in there, under this tag, is a loop.
     fn has_loop(&self, at: Entrance, tag: &Tag<A>, message: &Message<A>) -> Result<bool, AllocError>
-        ensures { IfOk result (λ yes. IsTrue yes ↔ HasLoop (net_of self.now) at tag.now message.now.entries) }
+        ensures { IfOk result
+            (λ yes. IsTrue yes ↔ HasLoop (net_of self.now) at tag.now message.now.entries) }
     {
         if message.entries().is_empty() {
             return Ok(false);
@@ -90,8 +93,13 @@ impl<'n, A: Allocator + Copy> World<'n, A> {
         message: &Message<A>,
         buffer: usize,
     ) -> Result<bool, AllocError>
-        requires { ¬ HasLoop (net_of self.now) delivery.now.delivery.entrance delivery.now.delivery.tag message.now.entries }
-        ensures { IfOk result (λ yes. IsTrue yes ↔ HasLeaf (net_of self.now) delivery.now.delivery.entrance delivery.now.delivery.tag message.now.entries buffer) }
+        requires { ¬ HasLoop
+            (net_of self.now) delivery.now.delivery.entrance delivery.now.delivery.tag
+            message.now.entries }
+        ensures { IfOk result
+            (λ yes. IsTrue yes ↔ HasLeaf
+            (net_of self.now) delivery.now.delivery.entrance delivery.now.delivery.tag
+            message.now.entries buffer) }
     {
         if message.entries().is_empty() {
             return Ok(false);
@@ -104,8 +112,14 @@ impl<'n, A: Allocator + Copy> World<'n, A> {
 
     // Whether the delivery was appended to each leaf of its message, if the way of that ends.
     fn is_whole(&self, delivery: &Delivery<A>, message: &Message<A>) -> Result<bool, AllocError>
-        requires { ¬ HasLoop (net_of self.now) delivery.now.delivery.entrance delivery.now.delivery.tag message.now.entries }
-        ensures { IfOk result (λ yes. IsTrue yes ↔ ((buffer : ℕ) → HasLeaf (net_of self.now) delivery.now.delivery.entrance delivery.now.delivery.tag message.now.entries buffer → Contains delivery.now.delivery.appended buffer)) }
+        requires { ¬ HasLoop
+            (net_of self.now) delivery.now.delivery.entrance delivery.now.delivery.tag
+            message.now.entries }
+        ensures { IfOk result
+            (λ yes. IsTrue yes ↔
+            ((buffer : ℕ) → HasLeaf
+            (net_of self.now) delivery.now.delivery.entrance delivery.now.delivery.tag
+            message.now.entries buffer → Contains delivery.now.delivery.appended buffer)) }
     {
         if message.entries().is_empty() {
             return Ok(true);
@@ -118,7 +132,8 @@ impl<'n, A: Allocator + Copy> World<'n, A> {
 
     // Whether the delivery of this number is open.
     fn is_open(&self, number: usize, delivery: &Delivery<A>) -> bool
-        ensures { result ≡ (open_after (closed_at self.now.places) number delivery.now.delivery).is_open }
+        ensures { result ≡ (open_after
+            (closed_at self.now.places) number delivery.now.delivery).is_open }
     {
         delivery.is_open() && self.places.closed(delivery.entrance().relay) <= number
     }
@@ -126,7 +141,8 @@ impl<'n, A: Allocator + Copy> World<'n, A> {
     // The relay takes a message whose tag, as it is prefixed there, is one, and whose way ends.
     pub(crate) fn begin(&mut self, message: u64) -> Result<(), StepFault>
         ensures net { net_of self.new ≡ net_of self.old }
-        ensures answer { Answers (net_of self.old) (world_of self.old) (Step.Begin message) (world_of self.new) result }
+        ensures answer { Answers (net_of self.old) (world_of self.old) (Step.Begin message)
+            (world_of self.new) result }
     {
         let number = message as usize;
         let Some(found) = self.book.message(number) else {
@@ -149,8 +165,13 @@ impl<'n, A: Allocator + Copy> World<'n, A> {
 
     // Whether the delivery may be appended to the buffer at this serial.
     fn can_append(&self, number: usize, buffer: usize, serial: usize) -> Result<bool, AllocError>
-        ensures ok { IfOk result (λ yes. IsTrue yes ↔ OfDelivery (world_of self.now) number (λ d m. CanAppend (net_of self.now) (world_of self.now) d m buffer serial)) }
-        ensures err { OnErr result (OfDelivery (world_of self.now) number (λ d m. (d.is_open ≡ true) × (¬ Contains d.appended buffer) × CanTake ((world_of self.now).buffers d.entrance.relay buffer) d.tag serial)) }
+        ensures ok { IfOk result
+            (λ yes. IsTrue yes ↔ OfDelivery (world_of self.now) number
+            (λ d m. CanAppend (net_of self.now) (world_of self.now) d m buffer serial)) }
+        ensures err { OnErr result
+            (OfDelivery (world_of self.now) number
+            (λ d m. (d.is_open ≡ true) × (¬ Contains d.appended buffer)
+            × CanTake ((world_of self.now).buffers d.entrance.relay buffer) d.tag serial)) }
     {
         let Some(found) = self.book.delivery(number) else {
             return Ok(false);
@@ -179,7 +200,8 @@ impl<'n, A: Allocator + Copy> World<'n, A> {
         serial: u64,
     ) -> Result<(), StepFault>
         ensures net { net_of self.new ≡ net_of self.old }
-        ensures answer { Answers (net_of self.old) (world_of self.old) (Step.Append delivery buffer serial) (world_of self.new) result }
+        ensures answer { Answers (net_of self.old) (world_of self.old)
+            (Step.Append delivery buffer serial) (world_of self.new) result }
     {
         let (number, buffer, serial) = (delivery as usize, buffer as usize, serial as usize);
         let Some(found) = self.book.delivery(number) else {
@@ -197,9 +219,11 @@ impl<'n, A: Allocator + Copy> World<'n, A> {
 
     // Appends a delivery that may be appended. An `Err` changes nothing.
     fn take_in(&mut self, number: usize, buffer: usize, serial: usize) -> Result<(), AllocError>
-        requires { OfDelivery (world_of self.old) number (λ d m. CanAppend (net_of self.old) (world_of self.old) d m buffer serial) }
+        requires { OfDelivery (world_of self.old) number
+            (λ d m. CanAppend (net_of self.old) (world_of self.old) d m buffer serial) }
         ensures net { net_of self.new ≡ net_of self.old }
-        ensures ok { OnOk result (world_of self.new ≡ with_appended (world_of self.old) number buffer serial) }
+        ensures ok { OnOk result
+            (world_of self.new ≡ with_appended (world_of self.old) number buffer serial) }
         ensures err { OnErr result (world_of self.new ≡ world_of self.old) }
     {
         self.book.make_room(number)?;
@@ -219,8 +243,11 @@ impl<'n, A: Allocator + Copy> World<'n, A> {
 
     // Whether the delivery may be acknowledged.
     fn can_acknowledge(&self, number: usize) -> Result<bool, AllocError>
-        ensures ok { IfOk result (λ yes. IsTrue yes ↔ OfDelivery (world_of self.now) number (CanAcknowledge (net_of self.now))) }
-        ensures err { OnErr result (OfDelivery (world_of self.now) number (λ d m. d.is_open ≡ true)) }
+        ensures ok { IfOk result
+            (λ yes. IsTrue yes ↔ OfDelivery (world_of self.now) number
+            (CanAcknowledge (net_of self.now))) }
+        ensures err { OnErr result
+            (OfDelivery (world_of self.now) number (λ d m. d.is_open ≡ true)) }
     {
         let Some(found) = self.book.delivery(number) else {
             return Ok(false);
@@ -237,7 +264,8 @@ impl<'n, A: Allocator + Copy> World<'n, A> {
     // A delivery is acknowledged, and ends.
     pub(crate) fn acknowledge(&mut self, delivery: u64) -> Result<(), StepFault>
         ensures net { net_of self.new ≡ net_of self.old }
-        ensures answer { Answers (net_of self.old) (world_of self.old) (Step.Ack delivery) (world_of self.new) result }
+        ensures answer { Answers (net_of self.old) (world_of self.old) (Step.Ack delivery)
+            (world_of self.new) result }
     {
         let number = delivery as usize;
         let Some(found) = self.book.delivery(number) else {
@@ -259,7 +287,8 @@ impl<'n, A: Allocator + Copy> World<'n, A> {
     // A delivery ends without an acknowledgement.
     pub(crate) fn abandon(&mut self, delivery: u64) -> Result<(), StepFault>
         ensures net { net_of self.new ≡ net_of self.old }
-        ensures answer { Answers (net_of self.old) (world_of self.old) (Step.Abandon delivery) (world_of self.new) result }
+        ensures answer { Answers (net_of self.old) (world_of self.old) (Step.Abandon delivery)
+            (world_of self.new) result }
     {
         let number = delivery as usize;
         let Some(found) = self.book.delivery(number) else {
@@ -275,7 +304,8 @@ impl<'n, A: Allocator + Copy> World<'n, A> {
     // Somebody outside of the network acknowledges a message.
     pub(crate) fn foreign(&mut self, message: u64) -> Result<(), StepFault>
         ensures net { net_of self.new ≡ net_of self.old }
-        ensures answer { Answers (net_of self.old) (world_of self.old) (Step.Foreign message) (world_of self.new) result }
+        ensures answer { Answers (net_of self.old) (world_of self.old) (Step.Foreign message)
+            (world_of self.new) result }
     {
         let number = message as usize;
         let Some(found) = self.book.message(number) else {
@@ -292,7 +322,8 @@ impl<'n, A: Allocator + Copy> World<'n, A> {
     // A claimed chunk is sent to a server of its output.
     pub(crate) fn forward(&mut self, name: &ChunkName, server: u64) -> Result<(), StepFault>
         ensures net { net_of self.new ≡ net_of self.old }
-        ensures answer { Answers (net_of self.old) (world_of self.old) (Step.Forward name.now server) (world_of self.new) result }
+        ensures answer { Answers (net_of self.old) (world_of self.old)
+            (Step.Forward name.now server) (world_of self.new) result }
     {
         let Some(found) = self.find(name) else {
             return Err(StepFault::NoSuch);
@@ -310,16 +341,21 @@ impl<'n, A: Allocator + Copy> World<'n, A> {
 
     // The server of this number of the chunk's output.
     fn server(&self, found: Found, number: usize) -> Option<&Server<A>>
-        ensures { option_copied result ≡ option_and_then (λ o. slice_get (servers_of o) number) (output_at (net_of self.now) found.place found.buffer) }
+        ensures { option_copied result
+            ≡ option_and_then (λ o. slice_get (servers_of o) number)
+            (output_at (net_of self.now) found.place found.buffer) }
     {
         server(self.net.output(found.place, found.buffer)?, number)
     }
 
     // Sends a copy of the claimed chunk to this address. An `Err` changes nothing.
     fn send_on(&mut self, found: Found, address: Address<A>) -> Result<(), AllocError>
-        requires { IsSomeAnd (chunk_of (world_of self.old) found) (λ chunk. chunk.stage ≡ Stage.Claimed) }
+        requires { IsSomeAnd (chunk_of (world_of self.old) found)
+            (λ chunk. chunk.stage ≡ Stage.Claimed) }
         ensures net { net_of self.new ≡ net_of self.old }
-        ensures ok { OnOk result (IfSome (chunk_of (world_of self.old) found) (λ chunk. world_of self.new ≡ sent_on (world_of self.old) found address chunk)) }
+        ensures ok { OnOk result
+            (IfSome (chunk_of (world_of self.old) found)
+            (λ chunk. world_of self.new ≡ sent_on (world_of self.old) found address chunk)) }
         ensures err { OnErr result (world_of self.new ≡ world_of self.old) }
     {
         let Found {

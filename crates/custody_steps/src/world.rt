@@ -27,7 +27,8 @@ pub struct World<'n, A: Allocator> {
     // where entries lay when that was collected; it may be out of date
     spots: Spots<A>,
     pub(crate) book: Book<A>,
-    ghost answers: { (p b s : ℕ) → flag_at (contents_at places p b).answered s ≡ list_any (is_answer p b s) book.messages },
+    ghost answers: { (p b s : ℕ)
+        → flag_at (contents_at places p b).answered s ≡ list_any (is_answer p b s) book.messages },
     ghost closed: { (p : ℕ) → closed_at places p ≤ length book.deliveries },
     ghost sent: { AreOfMessages book.messages book.deliveries },
     ghost ending: { HaveNoLoops net.now book.messages book.deliveries },
@@ -68,7 +69,8 @@ impl<'n, A: Allocator + Copy> World<'n, A> {
 
     /// Whether the event is in a live chunk of some buffer or in a sink. It looks at each of them.
     pub fn held(&self, tag: &[u8], entry: &[u8]) -> bool
-        ensures { IsTrue result ↔ Held (world_of self.now) (record { tag = tag.now; entry = entry.now }) }
+        ensures { IsTrue result
+            ↔ Held (world_of self.now) (record { tag = tag.now; entry = entry.now }) }
     {
         self.places.hold(tag, entry)
     }
@@ -90,14 +92,16 @@ impl<'n, A: Allocator + Copy> World<'n, A> {
     /// It looks where the event's entry lay when that was collected, and follows the event's ways;
     /// where the event isn't there, it looks at all that is held.
     pub fn kept(&self, number: usize) -> Result<Option<bool>, AllocError>
-        ensures { IfOk result (λ answer. IsKeptAnswer (net_of self.now) (world_of self.now) number answer) }
+        ensures { IfOk result
+            (λ answer. IsKeptAnswer (net_of self.now) (world_of self.now) number answer) }
     {
         self.kept_so(false, number)
     }
 
     // The same, or along each branch of its way.
     fn kept_so(&self, every: bool, number: usize) -> Result<Option<bool>, AllocError>
-        ensures { IfOk result (λ answer. IsKeptSoAnswer every (net_of self.now) (world_of self.now) number answer) }
+        ensures { IfOk result
+            (λ answer. IsKeptSoAnswer every (net_of self.now) (world_of self.now) number answer) }
     {
         let Some(told) = self.book.acknowledged().get(number) else {
             return Ok(None);
@@ -120,7 +124,9 @@ impl<'n, A: Allocator + Copy> World<'n, A> {
         port: u16,
         event: &Event<A>,
     ) -> Result<bool, AllocError>
-        ensures { IfOk result (λ yes. IsTrue yes ↔ KeepsSo every (net_of self.now) (world_of self.now) (record { host = host.now; port = port }) (event_of event.now)) }
+        ensures { IfOk result
+            (λ yes. IsTrue yes ↔ KeepsSo every (net_of self.now) (world_of self.now)
+            (record { host = host.now; port = port }) (event_of event.now)) }
     {
         if every {
             self.is_kept_each(host, port, event)
@@ -132,7 +138,9 @@ impl<'n, A: Allocator + Copy> World<'n, A> {
     // Whether the event is held under a tag that it may bear, if a message with it was sent to this
     // host and port.
     fn is_kept(&self, host: &[u8], port: u16, event: &Event<A>) -> Result<bool, AllocError>
-        ensures { IfOk result (λ yes. IsTrue yes ↔ HeldAs (net_of self.now) (world_of self.now) (record { host = host.now; port = port }) (event_of event.now)) }
+        ensures { IfOk result
+            (λ yes. IsTrue yes ↔ HeldAs (net_of self.now) (world_of self.now)
+            (record { host = host.now; port = port }) (event_of event.now)) }
     {
         if self.is_found(host, port, event)? {
             return Ok(true);
@@ -142,7 +150,9 @@ impl<'n, A: Allocator + Copy> World<'n, A> {
 
     // The same, where all that is held is looked at.
     fn is_kept_anywhere(&self, host: &[u8], port: u16, event: &Event<A>) -> Result<bool, AllocError>
-        ensures { IfOk result (λ yes. IsTrue yes ↔ HeldAs (net_of self.now) (world_of self.now) (record { host = host.now; port = port }) (event_of event.now)) }
+        ensures { IfOk result
+            (λ yes. IsTrue yes ↔ HeldAs (net_of self.now) (world_of self.now)
+            (record { host = host.now; port = port }) (event_of event.now)) }
     {
         let tags = self.places.tags()?;
         for tag in &tags {
@@ -156,7 +166,9 @@ impl<'n, A: Allocator + Copy> World<'n, A> {
     // Whether the event is held at a spot where its entry lay, under a tag that it may bear, if a
     // message with it was sent to this host and port. Where it isn't, it may be held elsewhere.
     fn is_found(&self, host: &[u8], port: u16, event: &Event<A>) -> Result<bool, AllocError>
-        ensures { IfOk result (λ yes. IsTrue yes → HeldAs (net_of self.now) (world_of self.now) (record { host = host.now; port = port }) (event_of event.now)) }
+        ensures { IfOk result
+            (λ yes. IsTrue yes → HeldAs (net_of self.now) (world_of self.now)
+            (record { host = host.now; port = port }) (event_of event.now)) }
     {
         for spot in self.spots.of_entry(event.entry.as_slice()) {
             if self.is_found_at(*spot, host, port, event)? {
@@ -174,7 +186,9 @@ impl<'n, A: Allocator + Copy> World<'n, A> {
         port: u16,
         event: &Event<A>,
     ) -> Result<bool, AllocError>
-        ensures { IfOk result (λ yes. IsTrue yes → HeldAs (net_of self.now) (world_of self.now) (record { host = host.now; port = port }) (event_of event.now)) }
+        ensures { IfOk result
+            (λ yes. IsTrue yes → HeldAs (net_of self.now) (world_of self.now)
+            (record { host = host.now; port = port }) (event_of event.now)) }
     {
         let Some(tag) = self.places.tag_at(spot, event.entry.as_slice()) else {
             return Ok(false);
@@ -191,7 +205,11 @@ impl<'n, A: Allocator + Copy> World<'n, A> {
         event: &Event<A>,
         tag: &[u8],
     ) -> Result<bool, AllocError>
-        ensures { IfOk result (λ yes. IsTrue yes ↔ (IsRoutedTag (net_of self.now) (record { host = host.now; port = port }) event.now.tag.items tag.now × Held (world_of self.now) (record { tag = tag.now; entry = event.now.entry.items }))) }
+        ensures { IfOk result
+            (λ yes. IsTrue yes ↔
+            (IsRoutedTag (net_of self.now)
+            (record { host = host.now; port = port }) event.now.tag.items tag.now
+            × Held (world_of self.now) (record { tag = tag.now; entry = event.now.entry.items }))) }
     {
         if !self.places.hold(tag, event.entry.as_slice()) {
             return Ok(false);
@@ -205,7 +223,8 @@ impl<'n, A: Allocator + Copy> World<'n, A> {
     /// of the plan where it is kept so. `None` where no event has this number.
     /// It goes through all messages that were sent once for each that is found to be kept.
     pub fn kept_every(&self, number: usize) -> Result<Option<bool>, AllocError>
-        ensures { IfOk result (λ answer. IsKeptEveryAnswer (net_of self.now) (world_of self.now) number answer) }
+        ensures { IfOk result
+            (λ answer. IsKeptEveryAnswer (net_of self.now) (world_of self.now) number answer) }
     {
         self.kept_so(true, number)
     }
@@ -213,7 +232,10 @@ impl<'n, A: Allocator + Copy> World<'n, A> {
     // Whether the event is kept along each branch of its way, if a message with it was sent to this
     // host and port.
     fn is_kept_each(&self, host: &[u8], port: u16, event: &Event<A>) -> Result<bool, AllocError>
-        ensures { IfOk result (λ yes. IsTrue yes ↔ EachKeeps (net_of self.now) (world_of self.now).buffers (world_of self.now).messages (record { host = host.now; port = port }) event.now.tag.items event.now.entry.items) }
+        ensures { IfOk result
+            (λ yes. IsTrue yes ↔ EachKeeps (net_of self.now) (world_of self.now).buffers
+            (world_of self.now).messages
+            (record { host = host.now; port = port }) event.now.tag.items event.now.entry.items) }
     {
         each_branch_keeps(
             self.alloc,
@@ -230,7 +252,8 @@ impl<'n, A: Allocator + Copy> World<'n, A> {
     /// What is in the sink of this output, by the number of its relay and its buffer; nothing where
     /// there is none.
     pub fn sink(&self, relay: u64, buffer: u64) -> &[Event<A>]
-        ensures { stored_events result.now ≡ sink_named (net_of self.now) (world_of self.now) relay buffer }
+        ensures { stored_events result.now
+            ≡ sink_named (net_of self.now) (world_of self.now) relay buffer }
     {
         match self.net.place(relay) {
             Some(place) => self.places.sink(place, buffer as usize),
@@ -241,7 +264,8 @@ impl<'n, A: Allocator + Copy> World<'n, A> {
     // The live chunk of this name.
     pub(crate) fn find(&self, name: &ChunkName) -> Option<Found>
         ensures found { IfSome result (IsFound (net_of self.now) (world_of self.now) name.now) }
-        ensures none { IfNone result (chunk_named (net_of self.now) (world_of self.now) name.now ≡ None) }
+        ensures none { IfNone result
+            (chunk_named (net_of self.now) (world_of self.now) name.now ≡ None) }
     {
         let place = self.net.place(name.relay)?;
         let buffer = name.buffer as usize;
@@ -258,7 +282,8 @@ impl<'n, A: Allocator + Copy> World<'n, A> {
     // Takes a step, or says why not.
     fn take(&mut self, step: &Step<A>) -> Result<(), StepFault>
         ensures net { net_of self.new ≡ net_of self.old }
-        ensures answer { Answers (net_of self.old) (world_of self.old) step.now (world_of self.new) result }
+        ensures answer { Answers (net_of self.old) (world_of self.old) step.now
+            (world_of self.new) result }
     {
         match step {
             Step::Send {
@@ -299,7 +324,10 @@ impl<'n, A: Allocator + Copy> World<'n, A> {
     /// that `oldest` passes, each once between restarts.
     pub fn step(&mut self, step: &Step<A>) -> Result<(), StepFault>
         ensures net { net_of self.new ≡ net_of self.old }
-        ensures ok { OnOk result (Names (net_of self.old) (world_of self.old) step.now × Allowed (net_of self.old) (world_of self.old) step.now × (world_of self.new ≡ effect (net_of self.old) (world_of self.old) step.now)) }
+        ensures ok { OnOk result
+            (Names (net_of self.old) (world_of self.old) step.now
+            × Allowed (net_of self.old) (world_of self.old) step.now
+            × (world_of self.new ≡ effect (net_of self.old) (world_of self.old) step.now)) }
         ensures refused { IfErr result (IsRefused (net_of self.old) (world_of self.old) step.now) }
         ensures unchanged { OnErr result (world_of self.new ≡ world_of self.old) }
     {

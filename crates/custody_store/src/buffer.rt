@@ -80,7 +80,8 @@ impl<A: Allocator + Copy> Buffer<A> {
 
     /// Whether the event is in a live chunk or in the sink. It looks at each of them.
     pub fn holds(&self, tag: &[u8], entry: &[u8]) -> bool
-        ensures { IsTrue result ↔ Holds (buffer_of self.now) (record { tag = tag.now; entry = entry.now }) }
+        ensures { IsTrue result
+            ↔ Holds (buffer_of self.now) (record { tag = tag.now; entry = entry.now }) }
     {
         chunk::have_entry(self.chunks.as_slice(), tag, entry)
             || has_event(self.sink.as_slice(), tag, entry)
@@ -89,7 +90,8 @@ impl<A: Allocator + Copy> Buffer<A> {
     /// The tag under which the entry is in the live chunk of this serial, or without one in the
     /// sink, at this place in that; if it is there.
     pub(crate) fn tag_at(&self, serial: Option<usize>, index: usize, entry: &[u8]) -> Option<&[u8]>
-        ensures { IfSome result (λ tag. Holds (buffer_of self.now) (record { tag = tag.now; entry = entry.now })) }
+        ensures { IfSome result
+            (λ tag. Holds (buffer_of self.now) (record { tag = tag.now; entry = entry.now })) }
     {
         match serial {
             Some(serial) => chunk::tag_in(self.chunks.get(serial)?, index, entry),
@@ -125,7 +127,9 @@ impl<A: Allocator + Copy> Buffer<A> {
 
     /// Adds the tags under which it or its sink holds something.
     pub(crate) fn add_tags(&self, tags: &mut Vec<Vec<u8, A>, A>) -> Result<(), AllocError>
-        ensures { OnOk result (Covers (HoldsUnder (buffer_of self.now)) (texts_of tags.old.items) (texts_of tags.new.items)) }
+        ensures { OnOk result
+            (Covers (HoldsUnder (buffer_of self.now)) (texts_of tags.old.items)
+            (texts_of tags.new.items)) }
     {
         add_chunk_tags(tags, self.chunks.as_slice())?;
         add_event_tags(tags, self.sink.as_slice())
@@ -155,7 +159,9 @@ impl<A: Allocator + Copy> Buffer<A> {
 
     /// A copy of the live chunk of this serial, if there is one.
     pub fn copied(&self, serial: usize) -> Result<Option<Copied<A>>, AllocError>
-        ensures { IfOk result (λ copied. option_map copied_parts copied ≡ option_map parts_of (chunk_at self.now.chunks serial)) }
+        ensures { IfOk result
+            (λ copied. option_map copied_parts copied
+            ≡ option_map parts_of (chunk_at self.now.chunks serial)) }
     {
         match self.chunks.get(serial) {
             Some(slot) => chunk::copy_of(*self.chunks.allocator(), slot),
@@ -166,7 +172,11 @@ impl<A: Allocator + Copy> Buffer<A> {
     /// Puts the live chunk of this serial into this stage. An `Err` changes nothing.
     pub fn restage(&mut self, serial: usize, stage: Stage) -> Result<(), AllocError>
         requires { serial < length self.old.chunks }
-        ensures ok { OnOk result (self.new ≡ record self.old { chunks = changed self.old.chunks serial (λ chunk. Some (record chunk { stage = stage })) }) }
+        ensures ok { OnOk result
+            (self.new ≡ record self.old {
+              chunks = changed self.old.chunks serial
+                  (λ chunk. Some (record chunk { stage = stage }));
+            }) }
         ensures err { OnErr result (self.new ≡ self.old) }
     {
         self.claims.push(())?;
@@ -178,16 +188,26 @@ impl<A: Allocator + Copy> Buffer<A> {
 
     /// Gives the claimed chunk of this serial evidence that it is delivered.
     pub fn prove_delivered(&mut self, serial: usize)
-        requires { IsSomeAnd (chunk_at self.old.chunks serial) (λ chunk. chunk.stage ≡ Stage.Claimed) }
-        ensures { self.new ≡ record self.old { chunks = changed self.old.chunks serial (λ chunk. Some (record chunk { evidence = true })) } }
+        requires { IsSomeAnd (chunk_at self.old.chunks serial)
+            (λ chunk. chunk.stage ≡ Stage.Claimed) }
+        ensures { self.new ≡ record
+            self.old {
+              chunks = changed self.old.chunks serial
+                  (λ chunk. Some (record chunk { evidence = true }));
+            } }
     {
         chunk::prove_delivered(&mut self.chunks[serial], self.generation);
     }
 
     /// Marks the claimed chunk of this serial as forwarded.
     pub fn mark_forwarded(&mut self, serial: usize)
-        requires { IsSomeAnd (chunk_at self.old.chunks serial) (λ chunk. chunk.stage ≡ Stage.Claimed) }
-        ensures { self.new ≡ record self.old { chunks = changed self.old.chunks serial (λ chunk. Some (record chunk { forwarded = true })) } }
+        requires { IsSomeAnd (chunk_at self.old.chunks serial)
+            (λ chunk. chunk.stage ≡ Stage.Claimed) }
+        ensures { self.new ≡ record
+            self.old {
+              chunks = changed self.old.chunks serial
+                  (λ chunk. Some (record chunk { forwarded = true }));
+            } }
     {
         chunk::mark_forwarded(&mut self.chunks[serial], self.generation);
     }
@@ -195,7 +215,8 @@ impl<A: Allocator + Copy> Buffer<A> {
     /// Lets the live chunk of this serial go.
     pub fn remove(&mut self, serial: usize)
         requires { serial < length self.old.chunks }
-        ensures { self.new ≡ record self.old { chunks = changed self.old.chunks serial (λ chunk. None) } }
+        ensures { self.new ≡ record
+            self.old { chunks = changed self.old.chunks serial (λ chunk. None) } }
     {
         chunk::remove(&mut self.chunks[serial]);
     }
@@ -203,8 +224,14 @@ impl<A: Allocator + Copy> Buffer<A> {
     /// Stores the first entries of a chunk, so many of them, in the sink. An `Err` changes nothing.
     pub fn store_first(&mut self, serial: usize, count: usize) -> Result<(), AllocError>
         requires there { serial < length self.old.chunks }
-        requires has { ForSome (chunk_at self.old.chunks serial) (λ chunk. count ≤ length chunk.entries) }
-        ensures ok { OnOk result (self.new ≡ record self.old { sink = self.old.sink ++ option_map_or (λ chunk. events_of chunk.tag (take count chunk.entries)) (chunk_at self.old.chunks serial) [] }) }
+        requires has { ForSome (chunk_at self.old.chunks serial)
+            (λ chunk. count ≤ length chunk.entries) }
+        ensures ok { OnOk result
+            (self.new ≡ record self.old {
+              sink = self.old.sink ++ option_map_or
+                  (λ chunk. events_of chunk.tag (take count chunk.entries))
+                  (chunk_at self.old.chunks serial) [];
+            }) }
         ensures err { OnErr result (self.new ≡ self.old) }
     {
         let alloc = *self.sink.allocator();
@@ -216,7 +243,11 @@ impl<A: Allocator + Copy> Buffer<A> {
     // Adds entries to the live chunk of this serial. An `Err` changes nothing.
     fn grow(&mut self, serial: usize, entries: &[Vec<u8, A>]) -> Result<(), AllocError>
         requires { serial < length self.old.chunks }
-        ensures ok { OnOk result (self.new ≡ record self.old { chunks = changed self.old.chunks serial (λ chunk. Some (record chunk { entries = chunk.entries ++ texts_of entries.now })) }) }
+        ensures ok { OnOk result
+            (self.new ≡ record self.old {
+              chunks = changed self.old.chunks serial
+                  (λ chunk. Some (record chunk { entries = chunk.entries ++ texts_of entries.now }));
+            }) }
         ensures err { OnErr result (self.new ≡ self.old) }
     {
         let alloc = *self.chunks.allocator();
@@ -227,7 +258,17 @@ impl<A: Allocator + Copy> Buffer<A> {
 
     // Puts entries into a new chunk, with the next serial. An `Err` changes nothing.
     fn add_chunk(&mut self, tag: &Tag<A>, entries: &[Vec<u8, A>]) -> Result<(), AllocError>
-        ensures ok { OnOk result (self.new ≡ record self.old { chunks = self.old.chunks ++ Some (record { tag = tag.now; entries = texts_of entries.now; stage = Stage.Staged; evidence = false; forwarded = false }) ∷ [] }) }
+        ensures ok { OnOk result
+            (self.new ≡ record self.old {
+              chunks = self.old.chunks ++ Some
+                  (record {
+                    tag = tag.now;
+                    entries = texts_of entries.now;
+                    stage = Stage.Staged;
+                    evidence = false;
+                    forwarded = false;
+                  }) ∷ [];
+            }) }
         ensures err { OnErr result (self.new ≡ self.old) }
     {
         let alloc = *self.chunks.allocator();
@@ -250,7 +291,11 @@ impl<A: Allocator + Copy> Buffer<A> {
         entries: &[Vec<u8, A>],
     ) -> Result<(), AllocError>
         requires { CanTake (buffer_of self.old) tag.now serial }
-        ensures ok { OnOk result (self.new ≡ record self.old { chunks = taken_in self.old.chunks serial tag.now (texts_of entries.now) }) }
+        ensures ok { OnOk result
+            (self.new ≡ record self.old {
+              chunks = taken_in self.old.chunks serial tag.now
+                  (texts_of entries.now);
+            }) }
         ensures err { OnErr result (self.new ≡ self.old) }
     {
         if serial < self.chunks.len() {
@@ -265,8 +310,12 @@ impl<A: Allocator + Copy> Buffer<A> {
     /// again.
     pub fn oldest(&mut self) -> Option<usize>
         ensures same { self.new ≡ self.old }
-        ensures some { IfSome result (λ serial. (serial < length self.old.chunks) × (is_queued (chunk_at self.old.chunks serial) ≡ true) × (none_queued_below serial (chunk_at self.old.chunks) ≡ true)) }
-        ensures none { IfNone result ((serial : ℕ) → is_queued (chunk_at self.old.chunks serial) ≡ false) }
+        ensures some { IfSome result
+            (λ serial. (serial < length self.old.chunks)
+            × (is_queued (chunk_at self.old.chunks serial) ≡ true)
+            × (none_queued_below serial (chunk_at self.old.chunks) ≡ true)) }
+        ensures none { IfNone result
+            ((serial : ℕ) → is_queued (chunk_at self.old.chunks serial) ≡ false) }
     {
         while self.least < self.chunks.len() {
             if chunk::waits(&self.chunks[self.least], self.generation) {
@@ -282,7 +331,8 @@ impl<A: Allocator + Copy> Buffer<A> {
         ensures chunks { self.new.chunks ≡ self.old.chunks }
         ensures sink { self.new.sink ≡ self.old.sink }
         ensures ok { OnOk result (IsAnsweredToo self.old.answered serial self.new.answered) }
-        ensures err { OnErr result ((s : ℕ) → flag_at self.new.answered s ≡ flag_at self.old.answered s) }
+        ensures err { OnErr result
+            ((s : ℕ) → flag_at self.new.answered s ≡ flag_at self.old.answered s) }
     {
         while self.answered.len() <= serial {
             self.answered.push(false)?;
@@ -294,7 +344,8 @@ impl<A: Allocator + Copy> Buffer<A> {
     /// The relay stops and starts again: claimed chunks are queued, evidence and that a chunk was
     /// forwarded are forgotten. Chunks in memory are lost, and their serials begin anew.
     pub fn restart(&mut self, in_memory: bool)
-        ensures { self.new ≡ record self.old { chunks = restarted_chunks in_memory self.old.chunks } }
+        ensures { self.new ≡ record
+            self.old { chunks = restarted_chunks in_memory self.old.chunks } }
     {
         if in_memory {
             self.lose_chunks()

@@ -122,7 +122,9 @@ pub(crate) fn prove_delivered<A: Allocator>(slot: &mut Option<Chunk<A>>, now: us
 
 /// Whether there is a staged chunk of this tag, in this generation.
 pub(crate) fn is_staged_of<A: Allocator>(slot: &Option<Chunk<A>>, tag: &[u8], now: usize) -> bool
-    ensures { IsTrue result ↔ IsSomeAnd (slot_from now slot.now) (λ chunk. (chunk.stage ≡ Stage.Staged) × (chunk.tag ≡ tag.now)) }
+    ensures { IsTrue result
+        ↔ IsSomeAnd (slot_from now slot.now)
+        (λ chunk. (chunk.stage ≡ Stage.Staged) × (chunk.tag ≡ tag.now)) }
 {
     match slot {
         Some(chunk) => stage_at(chunk.stage, now) == Stage::Staged && chunk.tag.as_bytes() == tag,
@@ -142,7 +144,9 @@ pub(crate) fn waits<A: Allocator>(slot: &Option<Chunk<A>>, now: usize) -> bool
 
 /// Whether the chunk, if there is one, has the entry under this tag.
 pub(crate) fn has_entry<A: Allocator>(slot: &Option<Chunk<A>>, tag: &[u8], entry: &[u8]) -> bool
-    ensures { (now : ℕ) → IsTrue result ↔ IsSomeAnd (slot_from now slot.now) (λ chunk. IsInChunk chunk (record { tag = tag.now; entry = entry.now })) }
+    ensures { (now : ℕ) → IsTrue result
+        ↔ IsSomeAnd (slot_from now slot.now)
+        (λ chunk. IsInChunk chunk (record { tag = tag.now; entry = entry.now })) }
 {
     match slot {
         Some(chunk) => chunk.tag.as_bytes() == tag && has_text(chunk.entries.as_slice(), entry),
@@ -156,7 +160,9 @@ pub(crate) fn have_entry<A: Allocator>(
     tag: &[u8],
     entry: &[u8],
 ) -> bool
-    ensures { (now : ℕ) → IsTrue result ↔ ((serial : ℕ) × IsSomeAnd (chunk_at (map (slot_from now) chunks.now) serial) (λ chunk. IsInChunk chunk (record { tag = tag.now; entry = entry.now }))) }
+    ensures { (now : ℕ) → IsTrue result
+        ↔ ((serial : ℕ) × IsSomeAnd (chunk_at (map (slot_from now) chunks.now) serial)
+        (λ chunk. IsInChunk chunk (record { tag = tag.now; entry = entry.now }))) }
 {
     for slot in chunks {
         if has_entry(slot, tag, entry) {
@@ -172,7 +178,9 @@ pub(crate) fn tag_in<'a, A: Allocator>(
     index: usize,
     entry: &[u8],
 ) -> Option<&'a [u8]>
-    ensures { IfSome result (λ tag. (now : ℕ) → IsSomeAnd (slot_from now slot.now) (λ chunk. IsInChunk chunk (record { tag = tag.now; entry = entry.now }))) }
+    ensures { IfSome result
+        (λ tag. (now : ℕ) → IsSomeAnd (slot_from now slot.now)
+        (λ chunk. IsInChunk chunk (record { tag = tag.now; entry = entry.now }))) }
 {
     let Some(chunk) = slot else {
         return None;
@@ -213,7 +221,9 @@ pub(crate) fn copy_of<A: Allocator + Copy>(
     alloc: A,
     slot: &Option<Chunk<A>>,
 ) -> Result<Option<Copied<A>>, AllocError>
-    ensures { IfOk result (λ copied. (now : ℕ) → option_map copied_parts copied ≡ option_map parts_of (slot_from now slot.now)) }
+    ensures { IfOk result
+        (λ copied. (now : ℕ)
+        → option_map copied_parts copied ≡ option_map parts_of (slot_from now slot.now)) }
 {
     match slot {
         Some(chunk) => Ok(Some(Copied {
@@ -229,7 +239,9 @@ pub(crate) fn extend<A: Allocator>(
     slot: &mut Option<Chunk<A>>,
     entries: &mut Vec<Vec<u8, A>, A>,
 ) -> Result<(), AllocError>
-    ensures ok { OnOk result ((now : ℕ) → slot_from now slot.new ≡ option_and_then (longer (texts_of entries.old.items)) (slot_from now slot.old)) }
+    ensures ok { OnOk result
+        ((now : ℕ) → slot_from now slot.new
+        ≡ option_and_then (longer (texts_of entries.old.items)) (slot_from now slot.old)) }
     ensures marks { (count : ℕ) → IsSlotBelow count slot.old → IsSlotBelow count slot.new }
     ensures err { OnErr result ((now : ℕ) → slot_from now slot.new ≡ slot_from now slot.old) }
 {

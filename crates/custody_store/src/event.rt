@@ -37,7 +37,8 @@ pub fn copy_events<A: Allocator + Copy>(
     tag: &[u8],
     texts: &[Vec<u8, A>],
 ) -> Result<Vec<Event<A>, A>, AllocError>
-    ensures { IfOk result (λ events. stored_events events.items ≡ events_of tag.now (texts_of texts.now)) }
+    ensures { IfOk result
+        (λ events. stored_events events.items ≡ events_of tag.now (texts_of texts.now)) }
 {
     let mut events = Vec::new(alloc);
     for text in texts {
@@ -64,7 +65,8 @@ pub fn has_text<A: Allocator>(texts: &[Vec<u8, A>], text: &[u8]) -> bool
 
 /// Whether the entry is among the events under this tag.
 pub(crate) fn has_event<A: Allocator>(events: &[Event<A>], tag: &[u8], entry: &[u8]) -> bool
-    ensures { IsTrue result ↔ Contains (stored_events events.now) (record { tag = tag.now; entry = entry.now }) }
+    ensures { IsTrue result
+        ↔ Contains (stored_events events.now) (record { tag = tag.now; entry = entry.now }) }
 {
     for event in events {
         if is_event(event, tag, entry) {
@@ -80,7 +82,8 @@ pub(crate) fn tag_among<'a, A: Allocator>(
     index: usize,
     entry: &[u8],
 ) -> Option<&'a [u8]>
-    ensures { IfSome result (λ tag. Contains (stored_events events.now) (record { tag = tag.now; entry = entry.now })) }
+    ensures { IfSome result
+        (λ tag. Contains (stored_events events.now) (record { tag = tag.now; entry = entry.now })) }
 {
     let event = events.get(index)?;
     if event.entry.as_slice() == entry {

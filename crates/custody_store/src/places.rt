@@ -46,7 +46,8 @@ impl<A: Allocator + Copy> Places<A> {
 
     // The buffer, if there is one yet.
     fn buffer(&self, place: usize, buffer: usize) -> Option<&Buffer<A>>
-        ensures some { IfSome result (λ b. IsThere self.now place buffer × (contents_at self.now place buffer ≡ b.now)) }
+        ensures some { IfSome result
+            (λ b. IsThere self.now place buffer × (contents_at self.now place buffer ≡ b.now)) }
         ensures none { IfNone result (contents_at self.now place buffer ≡ empty_contents) }
     {
         match self.list.get(place) {
@@ -57,7 +58,8 @@ impl<A: Allocator + Copy> Places<A> {
 
     /// The live chunk of this serial, as far as it is asked for.
     pub fn look(&self, place: usize, buffer: usize, serial: usize) -> Option<Look>
-        ensures look { result ≡ option_map look_of (chunk_at (contents_at self.now place buffer).chunks serial) }
+        ensures look { result
+            ≡ option_map look_of (chunk_at (contents_at self.now place buffer).chunks serial) }
         ensures there { IfSome result (λ _. IsThere self.now place buffer) }
     {
         match self.buffer(place, buffer) {
@@ -68,7 +70,8 @@ impl<A: Allocator + Copy> Places<A> {
 
     /// Whether an event of this tag may be appended at this serial.
     pub fn takes(&self, place: usize, buffer: usize, serial: usize, tag: &[u8]) -> bool
-        ensures { IsTrue result ↔ CanTake (buffer_of (contents_at self.now place buffer)) tag.now serial }
+        ensures { IsTrue result
+            ↔ CanTake (buffer_of (contents_at self.now place buffer)) tag.now serial }
     {
         match self.buffer(place, buffer) {
             Some(found) => found.takes(serial, tag),
@@ -93,7 +96,9 @@ impl<A: Allocator + Copy> Places<A> {
         buffer: usize,
         serial: usize,
     ) -> Result<Option<Copied<A>>, AllocError>
-        ensures { IfOk result (λ copied. option_map copied_parts copied ≡ option_map parts_of (chunk_at (contents_at self.now place buffer).chunks serial)) }
+        ensures { IfOk result
+            (λ copied. option_map copied_parts copied
+            ≡ option_map parts_of (chunk_at (contents_at self.now place buffer).chunks serial)) }
     {
         match self.buffer(place, buffer) {
             Some(found) => found.copied(serial),
@@ -113,7 +118,8 @@ impl<A: Allocator + Copy> Places<A> {
 
     /// Whether the event is in a live chunk of some buffer or in a sink. It looks at each of them.
     pub fn hold(&self, tag: &[u8], entry: &[u8]) -> bool
-        ensures { IsTrue result ↔ HoldAnywhere self.now (record { tag = tag.now; entry = entry.now }) }
+        ensures { IsTrue result
+            ↔ HoldAnywhere self.now (record { tag = tag.now; entry = entry.now }) }
     {
         hold_any(self.list.as_slice(), tag, entry)
     }
@@ -121,7 +127,9 @@ impl<A: Allocator + Copy> Places<A> {
     /// Whether the event is in a live chunk of this buffer, or in the sink of its output. It looks
     /// at each of them.
     pub fn holds(&self, place: usize, buffer: usize, tag: &[u8], entry: &[u8]) -> bool
-        ensures { IsTrue result ↔ Holds (buffer_of (contents_at self.now place buffer)) (record { tag = tag.now; entry = entry.now }) }
+        ensures { IsTrue result
+            ↔ Holds (buffer_of (contents_at self.now place buffer))
+            (record { tag = tag.now; entry = entry.now }) }
     {
         match self.buffer(place, buffer) {
             Some(found) => found.holds(tag, entry),
@@ -142,7 +150,8 @@ impl<A: Allocator + Copy> Places<A> {
 
     /// The tag under which the entry is held at this spot, if it is held there.
     pub fn tag_at(&self, spot: Spot, entry: &[u8]) -> Option<&[u8]>
-        ensures { IfSome result (λ tag. HoldAnywhere self.now (record { tag = tag.now; entry = entry.now })) }
+        ensures { IfSome result
+            (λ tag. HoldAnywhere self.now (record { tag = tag.now; entry = entry.now })) }
     {
         let found = self.buffer(spot.place, spot.buffer)?;
         found.tag_at(spot.serial, spot.index, entry)
@@ -151,7 +160,9 @@ impl<A: Allocator + Copy> Places<A> {
     /// All tags under which something is held in a live chunk of some buffer or in a sink, and
     /// maybe others, each once.
     pub fn tags(&self) -> Result<Vec<Vec<u8, A>, A>, AllocError>
-        ensures { IfOk result (λ tags. (event : Event) → HoldAnywhere self.now event → Contains (texts_of tags.items) event.tag) }
+        ensures { IfOk result
+            (λ tags. (event : Event) → HoldAnywhere self.now event
+            → Contains (texts_of tags.items) event.tag) }
     {
         let mut tags = Vec::new(*self.list.allocator());
         add_place_tags(&mut tags, self.list.as_slice())?;
@@ -178,7 +189,13 @@ impl<A: Allocator + Copy> Places<A> {
     ) -> Result<(), AllocError>
         requires there { IsThere self.old place buffer }
         requires serial { serial < length (contents_at self.old place buffer).chunks }
-        ensures ok { OnOk result (IsChangedAt self.old self.new place buffer (record (contents_at self.old place buffer) { chunks = changed (contents_at self.old place buffer).chunks serial (λ chunk. Some (record chunk { stage = stage })) })) }
+        ensures ok { OnOk result
+            (IsChangedAt self.old self.new place buffer
+            (record (contents_at self.old place buffer) {
+              chunks = changed
+                  (contents_at self.old place buffer).chunks serial
+                  (λ chunk. Some (record chunk { stage = stage }));
+            })) }
         ensures err { OnErr result (AreSame self.old self.new) }
     {
         let there = &mut self.list[place];
@@ -189,8 +206,14 @@ impl<A: Allocator + Copy> Places<A> {
     /// Gives the claimed chunk of this serial evidence that it is delivered.
     pub fn prove_delivered(&mut self, place: usize, buffer: usize, serial: usize)
         requires there { IsThere self.old place buffer }
-        requires claimed { IsSomeAnd (chunk_at (contents_at self.old place buffer).chunks serial) (λ chunk. chunk.stage ≡ Stage.Claimed) }
-        ensures { IsChangedAt self.old self.new place buffer (record (contents_at self.old place buffer) { chunks = changed (contents_at self.old place buffer).chunks serial (λ chunk. Some (record chunk { evidence = true })) }) }
+        requires claimed { IsSomeAnd (chunk_at (contents_at self.old place buffer).chunks serial)
+            (λ chunk. chunk.stage ≡ Stage.Claimed) }
+        ensures { IsChangedAt self.old self.new place buffer
+            (record (contents_at self.old place buffer) {
+              chunks = changed
+                  (contents_at self.old place buffer).chunks serial
+                  (λ chunk. Some (record chunk { evidence = true }));
+            }) }
     {
         let there = &mut self.list[place];
         let found = &mut there.buffers[buffer];
@@ -200,8 +223,14 @@ impl<A: Allocator + Copy> Places<A> {
     /// Marks the claimed chunk of this serial as forwarded.
     pub fn mark_forwarded(&mut self, place: usize, buffer: usize, serial: usize)
         requires there { IsThere self.old place buffer }
-        requires claimed { IsSomeAnd (chunk_at (contents_at self.old place buffer).chunks serial) (λ chunk. chunk.stage ≡ Stage.Claimed) }
-        ensures { IsChangedAt self.old self.new place buffer (record (contents_at self.old place buffer) { chunks = changed (contents_at self.old place buffer).chunks serial (λ chunk. Some (record chunk { forwarded = true })) }) }
+        requires claimed { IsSomeAnd (chunk_at (contents_at self.old place buffer).chunks serial)
+            (λ chunk. chunk.stage ≡ Stage.Claimed) }
+        ensures { IsChangedAt self.old self.new place buffer
+            (record (contents_at self.old place buffer) {
+              chunks = changed
+                  (contents_at self.old place buffer).chunks serial
+                  (λ chunk. Some (record chunk { forwarded = true }));
+            }) }
     {
         let there = &mut self.list[place];
         let found = &mut there.buffers[buffer];
@@ -212,7 +241,11 @@ impl<A: Allocator + Copy> Places<A> {
     pub fn remove(&mut self, place: usize, buffer: usize, serial: usize)
         requires there { IsThere self.old place buffer }
         requires serial { serial < length (contents_at self.old place buffer).chunks }
-        ensures { IsChangedAt self.old self.new place buffer (record (contents_at self.old place buffer) { chunks = changed (contents_at self.old place buffer).chunks serial (λ chunk. None) }) }
+        ensures { IsChangedAt self.old self.new place buffer
+            (record (contents_at self.old place buffer) {
+              chunks = changed
+                  (contents_at self.old place buffer).chunks serial (λ chunk. None);
+            }) }
     {
         let there = &mut self.list[place];
         let found = &mut there.buffers[buffer];
@@ -229,8 +262,16 @@ impl<A: Allocator + Copy> Places<A> {
     ) -> Result<(), AllocError>
         requires there { IsThere self.old place buffer }
         requires serial { serial < length (contents_at self.old place buffer).chunks }
-        requires has { ForSome (chunk_at (contents_at self.old place buffer).chunks serial) (λ chunk. count ≤ length chunk.entries) }
-        ensures ok { OnOk result (IsChangedAt self.old self.new place buffer (record (contents_at self.old place buffer) { sink = (contents_at self.old place buffer).sink ++ option_map_or (λ chunk. events_of chunk.tag (take count chunk.entries)) (chunk_at (contents_at self.old place buffer).chunks serial) [] })) }
+        requires has { ForSome (chunk_at (contents_at self.old place buffer).chunks serial)
+            (λ chunk. count ≤ length chunk.entries) }
+        ensures ok { OnOk result
+            (IsChangedAt self.old self.new place buffer
+            (record (contents_at self.old place buffer) {
+              sink =
+                  (contents_at self.old place buffer).sink ++ option_map_or
+                  (λ chunk. events_of chunk.tag (take count chunk.entries))
+                  (chunk_at (contents_at self.old place buffer).chunks serial) [];
+            })) }
         ensures err { OnErr result (AreSame self.old self.new) }
     {
         let there = &mut self.list[place];
@@ -274,7 +315,12 @@ impl<A: Allocator + Copy> Places<A> {
     ) -> Result<(), AllocError>
         requires there { IsThere self.old place buffer }
         requires takes { CanTake (buffer_of (contents_at self.old place buffer)) tag.now serial }
-        ensures ok { OnOk result (IsChangedAt self.old self.new place buffer (record (contents_at self.old place buffer) { chunks = taken_in (contents_at self.old place buffer).chunks serial tag.now (texts_of entries.now) })) }
+        ensures ok { OnOk result
+            (IsChangedAt self.old self.new place buffer
+            (record (contents_at self.old place buffer) {
+              chunks = taken_in
+                  (contents_at self.old place buffer).chunks serial tag.now (texts_of entries.now);
+            })) }
         ensures err { OnErr result (AreSame self.old self.new) }
     {
         let there = &mut self.list[place];
@@ -286,8 +332,14 @@ impl<A: Allocator + Copy> Places<A> {
     pub fn oldest(&mut self, place: usize, buffer: usize) -> Option<usize>
         ensures same { AreSame self.old self.new }
         ensures there { IfSome result (λ _. IsThere self.new place buffer) }
-        ensures some { IfSome result (λ serial. (serial < length (contents_at self.old place buffer).chunks) × (is_queued (chunk_at (contents_at self.old place buffer).chunks serial) ≡ true) × (none_queued_below serial (chunk_at (contents_at self.old place buffer).chunks) ≡ true)) }
-        ensures none { IfNone result ((serial : ℕ) → is_queued (chunk_at (contents_at self.old place buffer).chunks serial) ≡ false) }
+        ensures some { IfSome result
+            (λ serial. (serial < length (contents_at self.old place buffer).chunks)
+            × (is_queued (chunk_at (contents_at self.old place buffer).chunks serial) ≡ true)
+            × (none_queued_below serial (chunk_at (contents_at self.old place buffer).chunks)
+            ≡ true)) }
+        ensures none { IfNone result
+            ((serial : ℕ) → is_queued (chunk_at (contents_at self.old place buffer).chunks serial)
+            ≡ false) }
     {
         if self.buffer(place, buffer).is_none() {
             return None;
@@ -300,11 +352,18 @@ impl<A: Allocator + Copy> Places<A> {
     /// An acknowledgement is given to this id. An `Err` changes nothing.
     pub fn answer(&mut self, place: usize, buffer: usize, serial: usize) -> Result<(), AllocError>
         requires there { IsThere self.old place buffer }
-        ensures others { IsChangedAt self.old self.new place buffer (contents_at self.new place buffer) }
-        ensures chunks { (contents_at self.new place buffer).chunks ≡ (contents_at self.old place buffer).chunks }
-        ensures sink { (contents_at self.new place buffer).sink ≡ (contents_at self.old place buffer).sink }
-        ensures ok { OnOk result (IsAnsweredToo (contents_at self.old place buffer).answered serial (contents_at self.new place buffer).answered) }
-        ensures err { OnErr result ((s : ℕ) → flag_at (contents_at self.new place buffer).answered s ≡ flag_at (contents_at self.old place buffer).answered s) }
+        ensures others { IsChangedAt self.old self.new place buffer
+            (contents_at self.new place buffer) }
+        ensures chunks { (contents_at self.new place buffer).chunks
+            ≡ (contents_at self.old place buffer).chunks }
+        ensures sink { (contents_at self.new place buffer).sink
+            ≡ (contents_at self.old place buffer).sink }
+        ensures ok { OnOk result
+            (IsAnsweredToo (contents_at self.old place buffer).answered serial
+            (contents_at self.new place buffer).answered) }
+        ensures err { OnErr result
+            ((s : ℕ) → flag_at (contents_at self.new place buffer).answered s
+            ≡ flag_at (contents_at self.old place buffer).answered s) }
     {
         let there = &mut self.list[place];
         let found = &mut there.buffers[buffer];
@@ -326,7 +385,11 @@ impl<A: Allocator + Copy> Places<A> {
     pub fn restart(&mut self, place: usize, buffer: usize, in_memory: bool)
         requires there { IsThere self.old place buffer }
         ensures room { (b : ℕ) → IsThere self.old place b → IsThere self.new place b }
-        ensures changed { IsChangedAt self.old self.new place buffer (record (contents_at self.old place buffer) { chunks = restarted_chunks in_memory (contents_at self.old place buffer).chunks }) }
+        ensures changed { IsChangedAt self.old self.new place buffer
+            (record (contents_at self.old place buffer) {
+              chunks = restarted_chunks in_memory
+                  (contents_at self.old place buffer).chunks;
+            }) }
     {
         let there = &mut self.list[place];
         let found = &mut there.buffers[buffer];
@@ -337,7 +400,8 @@ impl<A: Allocator + Copy> Places<A> {
     /// changes nothing.
     pub fn close(&mut self, place: usize, number: usize) -> Result<(), AllocError>
         ensures contents { (p b : ℕ) → contents_at self.new p b ≡ contents_at self.old p b }
-        ensures ok { OnOk result ((p : ℕ) → closed_at self.new p ≡ cond (p == place) number (closed_at self.old p)) }
+        ensures ok { OnOk result
+            ((p : ℕ) → closed_at self.new p ≡ cond (p == place) number (closed_at self.old p)) }
         ensures err { OnErr result ((p : ℕ) → closed_at self.new p ≡ closed_at self.old p) }
     {
         self.make_place(place)?;
@@ -349,7 +413,10 @@ impl<A: Allocator + Copy> Places<A> {
 
 // Whether the event is in a live chunk of some buffer or in a sink.
 fn hold_any<A: Allocator + Copy>(list: &[Place<A>], tag: &[u8], entry: &[u8]) -> bool
-    ensures { IsTrue result ↔ ((p : ℕ) × (b : ℕ) × Holds (buffer_of (contents_in list.now p b)) (record { tag = tag.now; entry = entry.now })) }
+    ensures { IsTrue result
+        ↔ ((p : ℕ) × (b : ℕ)
+        × Holds (buffer_of (contents_in list.now p b))
+        (record { tag = tag.now; entry = entry.now })) }
 {
     for there in list {
         if holds_any(there.buffers.as_slice(), tag, entry) {
@@ -361,7 +428,9 @@ fn hold_any<A: Allocator + Copy>(list: &[Place<A>], tag: &[u8], entry: &[u8]) ->
 
 // Whether the event is in a live chunk of one of the buffers or in its sink.
 fn holds_any<A: Allocator + Copy>(buffers: &[Buffer<A>], tag: &[u8], entry: &[u8]) -> bool
-    ensures { IsTrue result ↔ ((b : ℕ) × Holds (buffer_of (contents_of buffers.now b)) (record { tag = tag.now; entry = entry.now })) }
+    ensures { IsTrue result
+        ↔ ((b : ℕ) × Holds (buffer_of (contents_of buffers.now b))
+        (record { tag = tag.now; entry = entry.now })) }
 {
     for buffer in buffers {
         if buffer.holds(tag, entry) {
@@ -374,7 +443,8 @@ fn holds_any<A: Allocator + Copy>(buffers: &[Buffer<A>], tag: &[u8], entry: &[u8
 // Makes room for the buffer. An `Err` changes nothing either.
 fn widen<A: Allocator + Copy>(place: &mut Place<A>, buffer: usize) -> Result<(), AllocError>
     ensures there { OnOk result (buffer < length place.new.buffers.items) }
-    ensures contents { (b : ℕ) → contents_of place.new.buffers.items b ≡ contents_of place.old.buffers.items b }
+    ensures contents { (b : ℕ)
+        → contents_of place.new.buffers.items b ≡ contents_of place.old.buffers.items b }
     ensures closed { place.new.closed ≡ place.old.closed }
 {
     let alloc = *place.buffers.allocator();

@@ -13,7 +13,8 @@ use std::alloc::{AllocError, Allocator};
 
 // Adds the tag, unless it is there.
 fn add_tag<A: Allocator + Copy>(tags: &mut Vec<Vec<u8, A>, A>, tag: &[u8]) -> Result<(), AllocError>
-    ensures { OnOk result (Covers (λ t. t ≡ tag.now) (texts_of tags.old.items) (texts_of tags.new.items)) }
+    ensures { OnOk result
+        (Covers (λ t. t ≡ tag.now) (texts_of tags.old.items) (texts_of tags.new.items)) }
 {
     if has_text(tags.as_slice(), tag) {
         return Ok(());
@@ -28,7 +29,9 @@ pub(crate) fn add_chunk_tags<A: Allocator + Copy>(
     tags: &mut Vec<Vec<u8, A>, A>,
     chunks: &[Option<Chunk<A>>],
 ) -> Result<(), AllocError>
-    ensures { OnOk result (Covers (OfOne IsTagOfSlot chunks.now) (texts_of tags.old.items) (texts_of tags.new.items)) }
+    ensures { OnOk result
+        (Covers (OfOne IsTagOfSlot chunks.now) (texts_of tags.old.items)
+        (texts_of tags.new.items)) }
 {
     for slot in chunks {
         add_slot_tag(tags, slot)?;
@@ -41,7 +44,8 @@ fn add_slot_tag<A: Allocator + Copy>(
     tags: &mut Vec<Vec<u8, A>, A>,
     slot: &Option<Chunk<A>>,
 ) -> Result<(), AllocError>
-    ensures { OnOk result (Covers (IsTagOfSlot slot.now) (texts_of tags.old.items) (texts_of tags.new.items)) }
+    ensures { OnOk result
+        (Covers (IsTagOfSlot slot.now) (texts_of tags.old.items) (texts_of tags.new.items)) }
 {
     match slot {
         Some(chunk) => add_tag(tags, chunk.tag.as_bytes()),
@@ -54,7 +58,9 @@ pub(crate) fn add_event_tags<A: Allocator + Copy>(
     tags: &mut Vec<Vec<u8, A>, A>,
     events: &[Event<A>],
 ) -> Result<(), AllocError>
-    ensures { OnOk result (Covers (OfOne (λ event t. event.tag.items ≡ t) events.now) (texts_of tags.old.items) (texts_of tags.new.items)) }
+    ensures { OnOk result
+        (Covers (OfOne (λ event t. event.tag.items ≡ t) events.now) (texts_of tags.old.items)
+        (texts_of tags.new.items)) }
 {
     for event in events {
         add_tag(tags, event.tag.as_slice())?;
@@ -67,7 +73,10 @@ pub(crate) fn add_place_tags<A: Allocator + Copy>(
     tags: &mut Vec<Vec<u8, A>, A>,
     places: &[Place<A>],
 ) -> Result<(), AllocError>
-    ensures { OnOk result (Covers (OfOne (λ place t. OfOne (λ buffer u. HoldsUnder (buffer_of buffer) u) place.buffers.items t) places.now) (texts_of tags.old.items) (texts_of tags.new.items)) }
+    ensures { OnOk result
+        (Covers (OfOne (λ place t. OfOne
+        (λ buffer u. HoldsUnder (buffer_of buffer) u) place.buffers.items t) places.now)
+        (texts_of tags.old.items) (texts_of tags.new.items)) }
 {
     for place in places {
         add_buffer_tags(tags, place.buffers.as_slice())?;
@@ -80,7 +89,9 @@ fn add_buffer_tags<A: Allocator + Copy>(
     tags: &mut Vec<Vec<u8, A>, A>,
     buffers: &[Buffer<A>],
 ) -> Result<(), AllocError>
-    ensures { OnOk result (Covers (OfOne (λ buffer t. HoldsUnder (buffer_of buffer) t) buffers.now) (texts_of tags.old.items) (texts_of tags.new.items)) }
+    ensures { OnOk result
+        (Covers (OfOne (λ buffer t. HoldsUnder (buffer_of buffer) t) buffers.now)
+        (texts_of tags.old.items) (texts_of tags.new.items)) }
 {
     for buffer in buffers {
         buffer.add_tags(tags)?;

@@ -33,7 +33,8 @@ pub fn with_drops<A: Allocator + Copy>(
     ensures unchanged { IfOk result (λ after. drops.now ≡ [] → plan_of after ≡ plan_of parts) }
     ensures whole { IfOk result (λ after. IsWhole (plan_of after)) }
     // Where paths were distinct in each relay, they are.
-    ensures paths { IfOk result (λ after. PathsAreDistinct (plan_of parts).net → PathsAreDistinct (plan_of after).net) }
+    ensures paths { IfOk result
+        (λ after. PathsAreDistinct (plan_of parts).net → PathsAreDistinct (plan_of after).net) }
     ensures refused { IfErr result (IsRefused (plan_of parts).net drops.now) }
 {
     let mut changed = parts;

@@ -44,8 +44,11 @@ impl<'t> DropName<'t> {
     /// is at most 4,294,967,295, and the scope is `.` or a label's name.
     pub fn read(text: &'t str) -> Result<DropName<'t>, NameError>
         ensures name { IfOk result (λ name. IsName text.now name.relay name.scope.now name.index) }
-        ensures only { IfOk result (λ name. (relay : ℕ) (scope : List ℕ) (index : ℕ) → IsName text.now relay scope index → (relay ≡ name.relay) × (scope ≡ name.scope.now) × (index ≡ name.index)) }
-        ensures none { IfErr result (λ _. (relay : ℕ) (scope : List ℕ) (index : ℕ) → ¬ IsName text.now relay scope index) }
+        ensures only { IfOk result
+            (λ name. (relay : ℕ) (scope : List ℕ) (index : ℕ) → IsName text.now relay scope index
+            → (relay ≡ name.relay) × (scope ≡ name.scope.now) × (index ≡ name.index)) }
+        ensures none { IfErr result
+            (λ _. (relay : ℕ) (scope : List ℕ) (index : ℕ) → ¬ IsName text.now relay scope index) }
     {
         match cut(text) {
             None => Err(NameError),
@@ -64,8 +67,11 @@ struct Fields<'t> {
 
 // The name whose fields these are.
 fn named<'t>(relay: &str, scope: &'t str, index: &str) -> Result<DropName<'t>, NameError>
-    ensures name { IfOk result (λ name. AreWords relay.now scope.now index.now name.relay name.scope.now name.index) }
-    ensures none { IfErr result (λ _. (number : ℕ) (word : List ℕ) (place : ℕ) → ¬ AreWords relay.now scope.now index.now number word place) }
+    ensures name { IfOk result
+        (λ name. AreWords relay.now scope.now index.now name.relay name.scope.now name.index) }
+    ensures none { IfErr result
+        (λ _. (number : ℕ) (word : List ℕ) (place : ℕ)
+        → ¬ AreWords relay.now scope.now index.now number word place) }
 {
     let Some(relay) = relay_numeral(relay) else {
         return Err(NameError);
@@ -85,8 +91,12 @@ fn named<'t>(relay: &str, scope: &'t str, index: &str) -> Result<DropName<'t>, N
 
 // The text in front of the first colon, that up to the second, and that behind it.
 fn cut<'t>(text: &'t str) -> Option<Fields<'t>>
-    ensures text { IfSome result (λ fields. text.now ≡ joined fields.relay.now fields.scope.now fields.index.now) }
-    ensures only { (relay scope index : List ℕ) → AreFields text.now relay scope index → MatchOption result ⊥ (λ fields. (fields.relay.now ≡ relay) × (fields.scope.now ≡ scope) × (fields.index.now ≡ index)) }
+    ensures text { IfSome result
+        (λ fields. text.now ≡ joined fields.relay.now fields.scope.now fields.index.now) }
+    ensures only { (relay scope index : List ℕ) → AreFields text.now relay scope index
+        → MatchOption result ⊥
+        (λ fields. (fields.relay.now ≡ relay) × (fields.scope.now ≡ scope)
+        × (fields.index.now ≡ index)) }
 {
     match split_first(text) {
         None => None,
@@ -111,7 +121,8 @@ struct Halves<'t> {
 // The text in front of the first colon, and that behind it.
 fn split_first<'t>(text: &'t str) -> Option<Halves<'t>>
     ensures text { IfSome result (λ found. text.now ≡ found.front.now ++ 58 ∷ found.back.now) }
-    ensures only { (front back : List ℕ) → text.now ≡ front ++ 58 ∷ back → HasNoColon front → MatchOption result ⊥ (λ found. (found.front.now ≡ front) × (found.back.now ≡ back)) }
+    ensures only { (front back : List ℕ) → text.now ≡ front ++ 58 ∷ back → HasNoColon front
+        → MatchOption result ⊥ (λ found. (found.front.now ≡ front) × (found.back.now ≡ back)) }
 {
     match text.split_once(':') {
         None => None,

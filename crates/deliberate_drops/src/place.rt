@@ -46,8 +46,10 @@ pub fn place_of<A: Allocator>(
     name: &DropName<'_>,
     at: usize,
 ) -> Result<MatchPlace, DropError>
-    ensures meant { (clients : List (Client A)) → IfOk result (IsMeant (network relays.now clients) name.now) }
-    ensures refused { (clients : List (Client A)) → IfErr result (IsRefusedAt (network relays.now clients) name.now at) }
+    ensures meant { (clients : List (Client A))
+        → IfOk result (IsMeant (network relays.now clients) name.now) }
+    ensures refused { (clients : List (Client A))
+        → IfErr result (IsRefusedAt (network relays.now clients) name.now at) }
 {
     let Some(place) = relay_place(relays, name.relay) else {
         return Err(DropError::NoRelay(at));

@@ -17,7 +17,8 @@ pub(crate) fn put_outputs<A: Allocator>(
     requires relay { at.place < vec_len relays.old }
     requires scope { HasScope at.scope (slice_get relays.old.items at.place) }
     requires rule { HasMatchIn at.scope at.rule (slice_get relays.old.items at.place) }
-    ensures { ChangesAt (PutsInNode at.scope at.rule outputs.items) at.place relays.old.items relays.new.items }
+    ensures { ChangesAt
+        (PutsInNode at.scope at.rule outputs.items) at.place relays.old.items relays.new.items }
 {
     put_in_scopes(
         &mut relays[at.place].relay.scopes,

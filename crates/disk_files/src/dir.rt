@@ -123,7 +123,8 @@ pub trait Dir {
     /// it and was removed. After another error the file may be there all the same, but for
     /// `Memory`, which changes nothing.
     fn create(&mut self, name: &[u8], room: usize) -> Result<FileNo, DirError>
-        ensures device { CallsDevice is_honest history fails_after fault_count self.old self.new result }
+        ensures device { CallsDevice is_honest history fails_after fault_count self.old self.new
+            result }
         ensures ok { is_honest self.old
             → OnOk result (Makes name.now (now (history self.old)) (now (history self.new))) }
         ensures err { is_honest self.old
@@ -144,8 +145,10 @@ pub trait Dir {
     /// Opens a file that is there. `NoSuchFile`: no file reads under this name. No error changes
     /// the disk.
     fn open(&mut self, name: &[u8]) -> Result<FileNo, DirError>
-        ensures device { CallsDevice is_honest history fails_after fault_count self.old self.new result }
-        ensures same { is_honest self.old → SameDisk (now (history self.new)) (now (history self.old)) }
+        ensures device { CallsDevice is_honest history fails_after fault_count self.old self.new
+            result }
+        ensures same { is_honest self.old
+            → SameDisk (now (history self.new)) (now (history self.old)) }
         ensures ok { is_honest self.old
             → OnOk result (IsSome (reads (now (history self.old)) name.now)) }
         ensures opened { IfOk result (λ file. opened self.new file ≡ Some name.now) }
@@ -166,12 +169,15 @@ pub trait Dir {
         ensures opened { (other : FileNo) → opened self.new other ≡ opened self.old other }
         ensures other_room { (other : FileNo)
             → bytes_left self.old other ≤ bytes_left self.new other }
-        ensures fault { is_honest self.old → (k : ℕ) → fails_after self.new k ≡ fails_after self.old k };
+        ensures fault { is_honest self.old → (k : ℕ)
+            → fails_after self.new k ≡ fails_after self.old k };
 
     /// The names of the files that are there, each once, in no certain order.
     fn list<B: Allocator + Copy>(&mut self, alloc: B) -> Result<Vec<FileName<B>, B>, DirError>
-        ensures device { CallsDevice is_honest history fails_after fault_count self.old self.new result }
-        ensures same { is_honest self.old → SameDisk (now (history self.new)) (now (history self.old)) }
+        ensures device { CallsDevice is_honest history fails_after fault_count self.old self.new
+            result }
+        ensures same { is_honest self.old
+            → SameDisk (now (history self.new)) (now (history self.old)) }
         ensures names { is_honest self.old
             → IfOk result (λ names. (name : List ℕ)
             → (Contains names.items name ↔ IsSome (reads (now (history self.old)) name))) }
@@ -179,18 +185,22 @@ pub trait Dir {
         ensures opened { (other : FileNo) → opened self.new other ≡ opened self.old other }
         ensures other_room { (other : FileNo)
             → bytes_left self.old other ≤ bytes_left self.new other }
-        ensures only { OnErr result ((result ≡ Err DirError.Memory) ⊎ (result ≡ Err DirError.Fault)) };
+        ensures only { OnErr result
+            ((result ≡ Err DirError.Memory) ⊎ (result ≡ Err DirError.Fault)) };
 
     /// Adds bytes at an open file's end. After a `Fault` a beginning of them may be there.
     fn append(&mut self, file: FileNo, bytes: &[u8], writing: Writing) -> Result<(), DirError>
         requires open { IsSome (opened self.old file) }
         requires room { length bytes.now ≤ bytes_left self.old file }
-        ensures device { CallsDevice is_honest history fails_after fault_count self.old self.new result }
+        ensures device { CallsDevice is_honest history fails_after fault_count self.old self.new
+            result }
         ensures ok { is_honest self.old → (name : List ℕ) → opened self.old file ≡ Some name
-            → OnOk result (Changes name (with_bytes bytes.now) (now (history self.old)) (now (history self.new))) }
+            → OnOk result (Changes name (with_bytes bytes.now) (now (history self.old))
+            (now (history self.new))) }
         ensures err { is_honest self.old → (name : List ℕ) → opened self.old file ≡ Some name
             → OnErr result ((n : ℕ)
-            × Changes name (with_bytes (take n bytes.now)) (now (history self.old)) (now (history self.new))) }
+            × Changes name (with_bytes (take n bytes.now)) (now (history self.old))
+            (now (history self.new))) }
         ensures opened { (other : FileNo) → opened self.new other ≡ opened self.old other }
         ensures room_left { bytes_left self.old file ≤ bytes_left self.new file + length bytes.now }
         ensures other_room { (other : FileNo) → other ≢ file
@@ -201,7 +211,8 @@ pub trait Dir {
     /// nothing.
     fn sync(&mut self, file: FileNo) -> Result<(), DirError>
         requires { IsSome (opened self.old file) }
-        ensures device { CallsDevice is_honest history fails_after fault_count self.old self.new result }
+        ensures device { CallsDevice is_honest history fails_after fault_count self.old self.new
+            result }
         ensures ok { is_honest self.old → (name : List ℕ) → opened self.old file ≡ Some name
             → OnOk result (Changes name flushed (now (history self.old)) (now (history self.new))) }
         ensures err { is_honest self.old
@@ -215,8 +226,10 @@ pub trait Dir {
     /// bytes these are. After a `Fault` nothing is known of what `into` holds.
     fn read_at(&mut self, file: FileNo, at: usize, into: &mut [u8]) -> Result<usize, DirError>
         requires { IsSome (opened self.old file) }
-        ensures device { CallsDevice is_honest history fails_after fault_count self.old self.new result }
-        ensures same { is_honest self.old → SameDisk (now (history self.new)) (now (history self.old)) }
+        ensures device { CallsDevice is_honest history fails_after fault_count self.old self.new
+            result }
+        ensures same { is_honest self.old
+            → SameDisk (now (history self.new)) (now (history self.old)) }
         ensures count { is_honest self.old → (name bytes : List ℕ)
             → opened self.old file ≡ Some name → reads (now (history self.old)) name ≡ Some bytes
             → IfOk result (λ n. n ≡ min (length into.old) (length bytes - at)) }
@@ -232,8 +245,10 @@ pub trait Dir {
     /// The length of an open file, in bytes.
     fn length(&mut self, file: FileNo) -> Result<usize, DirError>
         requires { IsSome (opened self.old file) }
-        ensures device { CallsDevice is_honest history fails_after fault_count self.old self.new result }
-        ensures same { is_honest self.old → SameDisk (now (history self.new)) (now (history self.old)) }
+        ensures device { CallsDevice is_honest history fails_after fault_count self.old self.new
+            result }
+        ensures same { is_honest self.old
+            → SameDisk (now (history self.new)) (now (history self.old)) }
         ensures length { is_honest self.old → (name bytes : List ℕ)
             → opened self.old file ≡ Some name → reads (now (history self.old)) name ≡ Some bytes
             → IfOk result (λ n. n ≡ length bytes) }
@@ -258,9 +273,11 @@ pub trait Dir {
     /// Removes an open file, and closes it. After a `Fault` it may have been removed.
     fn remove(&mut self, file: FileNo) -> Result<(), DirError>
         requires { IsSome (opened self.old file) }
-        ensures device { CallsDevice is_honest history fails_after fault_count self.old self.new result }
+        ensures device { CallsDevice is_honest history fails_after fault_count self.old self.new
+            result }
         ensures ok { is_honest self.old → (name : List ℕ) → opened self.old file ≡ Some name
-            → OnOk result (Changes name unlinked (now (history self.old)) (now (history self.new))) }
+            → OnOk result (Changes name unlinked (now (history self.old))
+            (now (history self.new))) }
         ensures err { is_honest self.old → (name : List ℕ) → opened self.old file ≡ Some name
             → OnErr result (SameDisk (now (history self.new)) (now (history self.old))
             ⊎ Changes name unlinked (now (history self.old)) (now (history self.new))) }
@@ -279,8 +296,10 @@ pub trait Dir {
     /// Whether a file of this name was removed, so that none can be made under it again. The device
     /// isn't touched. A folder of the system makes a removed name again, and answers no.
     fn was_removed(&self, name: &[u8]) -> bool
-        ensures { is_honest self.now → (IsTrue result ↔ WasRemoved (now (history self.now)) name.now) };
+        ensures { is_honest self.now
+            → (IsTrue result ↔ WasRemoved (now (history self.now)) name.now) };
 
     /// The folder as it reads is one that a stop may leave.
-    ghost reads_stay: { (d : Self) → is_honest d → StopLeaves (now (history d)) (reads (now (history d))) };
+    ghost reads_stay: { (d : Self) → is_honest d
+        → StopLeaves (now (history d)) (reads (now (history d))) };
 }

@@ -31,8 +31,10 @@ impl<D: Dir> Fuse<D> {
     /// Passes so many calls on, and fails all later ones.
     pub fn after(inner: D, passes: u64) -> Fuse<D>
         ensures inner { inner_of result ≡ inner }
-        ensures failing { ⟦<Fuse<D> as Dir>⟧.fails_after result ≡ all_after passes (D.fails_after inner) }
-        ensures faults { ⟦<Fuse<D> as Dir>⟧.fault_count result ≡ min (D.fault_count inner) (2 ^ 64 - 1) }
+        ensures failing { ⟦<Fuse<D> as Dir>⟧.fails_after result
+            ≡ all_after passes (D.fails_after inner) }
+        ensures faults { ⟦<Fuse<D> as Dir>⟧.fault_count result
+            ≡ min (D.fault_count inner) (2 ^ 64 - 1) }
     {
         Fuse {
             inner,
@@ -45,8 +47,10 @@ impl<D: Dir> Fuse<D> {
     /// Passes so many calls on, fails one, and passes all later ones.
     pub fn once(inner: D, passes: u64) -> Fuse<D>
         ensures inner { inner_of result ≡ inner }
-        ensures failing { ⟦<Fuse<D> as Dir>⟧.fails_after result ≡ one_after passes (D.fails_after inner) }
-        ensures faults { ⟦<Fuse<D> as Dir>⟧.fault_count result ≡ min (D.fault_count inner) (2 ^ 64 - 1) }
+        ensures failing { ⟦<Fuse<D> as Dir>⟧.fails_after result
+            ≡ one_after passes (D.fails_after inner) }
+        ensures faults { ⟦<Fuse<D> as Dir>⟧.fault_count result
+            ≡ min (D.fault_count inner) (2 ^ 64 - 1) }
     {
         Fuse {
             inner,

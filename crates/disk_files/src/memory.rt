@@ -53,7 +53,8 @@ impl<A: Allocator + Copy> MemoryDir<A> {
         ensures left { IsHonest self
             → SameDisk (disk result) (after_stop (left_of keep (last_written self) (disk self))) }
         ensures outcome { IsHonest self → StopLeaves (disk self) (reads (disk result)) }
-        ensures settled { IsHonest self → SameDisk (disk result) (after_stop (reads (disk result))) }
+        ensures settled { IsHonest self
+            → SameDisk (disk result) (after_stop (reads (disk result))) }
         ensures closed { (file : FileNo) → ⟦<MemoryDir<A> as Dir>⟧.opened result file ≡ None }
     {
         let mut dir = self;
@@ -65,7 +66,8 @@ impl<A: Allocator + Copy> MemoryDir<A> {
     fn lose(&mut self, keep: Keep)
         ensures sound { IsSound self.old.files.items → IsSound self.new.files.items }
         ensures left { IsSound self.old.files.items → SameDisk (disk_of self.new.files.items)
-            (after_stop (left_of keep (name_at self.old.files.items self.old.last) (disk_of self.old.files.items))) }
+            (after_stop (left_of keep (name_at self.old.files.items self.old.last)
+            (disk_of self.old.files.items))) }
         ensures closed { (j : ℕ) → is_open_of (slice_get self.new.files.items j) ≡ false }
         ensures past { self.new.past ≡ [] }
         ensures last { self.new.last ≡ None }
@@ -84,7 +86,8 @@ impl<A: Allocator + Copy> MemoryDir<A> {
     fn restart(&mut self, least: bool)
         ensures sound { IsSound self.old.files.items → IsSound self.new.files.items }
         ensures left { IsSound self.old.files.items → (name : List ℕ)
-            → disk_of self.new.files.items name ≡ left_state least (disk_of self.old.files.items name) }
+            → disk_of self.new.files.items name
+            ≡ left_state least (disk_of self.old.files.items name) }
         ensures closed { (j : ℕ) → is_open_of (slice_get self.new.files.items j) ≡ false }
         ensures past { self.new.past ≡ [] }
         ensures last { self.new.last ≡ None }

@@ -195,7 +195,8 @@ pub fn place_of<A: Allocator>(files: &Vec<MemoryFile<A>, A>, name: &[u8]) -> Opt
 /// The place of the file that reads under this name.
 pub fn place_there<A: Allocator>(files: &Vec<MemoryFile<A>, A>, name: &[u8]) -> Option<usize>
     ensures found { IfSome result (λ at. name_of (slice_get files.now.items at) ≡ Some name.now) }
-    ensures none { IsSound files.now.items → IfNone result (read_of (disk_of files.now.items name.now) ≡ None) }
+    ensures none { IsSound files.now.items
+        → IfNone result (read_of (disk_of files.now.items name.now) ≡ None) }
 {
     let at = place_of(files, name)?;
     if files[at].is_there() { Some(at) } else { None }
@@ -203,7 +204,8 @@ pub fn place_there<A: Allocator>(files: &Vec<MemoryFile<A>, A>, name: &[u8]) -> 
 
 /// Whether the file of this name was removed.
 pub fn was_removed_in<A: Allocator>(files: &Vec<MemoryFile<A>, A>, name: &[u8]) -> bool
-    ensures { IsSound files.now.items → (IsTrue result ↔ WasRemoved (disk_of files.now.items) name.now) }
+    ensures { IsSound files.now.items
+        → (IsTrue result ↔ WasRemoved (disk_of files.now.items) name.now) }
 {
     match place_of(files, name) {
         Some(at) => !files[at].is_there(),
@@ -264,7 +266,8 @@ pub fn cut_at<A: Allocator>(files: &mut Vec<MemoryFile<A>, A>, at: usize, n: usi
 /// no fewer than are synced.
 pub fn cut_last<A: Allocator>(files: &mut Vec<MemoryFile<A>, A>, last: Option<usize>, n: usize)
     ensures sound { IsSound files.old.items → IsSound files.new.items }
-    ensures left { IsSound files.old.items → (name : List ℕ) → left_state false (disk_of files.new.items name)
+    ensures left { IsSound files.old.items → (name : List ℕ)
+        → left_state false (disk_of files.new.items name)
         ≡ after_stop (left_of (Last n) (name_at files.old.items last) (disk_of files.old.items)) name }
 {
     let Some(at) = last else {

@@ -55,7 +55,8 @@ where
     pub fn make(rt: R, alloc: A, path: &str) -> Result<RealDir<R, A>, (DirError, R)>
         ensures count { IfOk result (λ d. ⟦<RealDir<R, A> as Dir>⟧.fault_count d ≡ 0) }
         ensures value_returned { IfErr result (λ refused. refused.1 ≡ rt) }
-        ensures only { IfErr result (λ refused. (refused.0 ≡ DirError.Memory) ⊎ (refused.0 ≡ DirError.Fault)) }
+        ensures only { IfErr result
+            (λ refused. (refused.0 ≡ DirError.Memory) ⊎ (refused.0 ≡ DirError.Fault)) }
     {
         let Ok(kept) = String::from_str(alloc, path) else {
             return Err((DirError::Memory, rt));
@@ -127,9 +128,12 @@ where
         refusal: DirError,
     ) -> Result<FileNo, DirError>
         requires { refusal ≢ DirError.Memory }
-        ensures opened { IfOk result (λ file. open_name (slice_get self.new.files.items file.0) ≡ Some name.now) }
-        ensures others { (other : FileNo) → IsSome (open_name (slice_get self.old.files.items other.0))
-            → open_name (slice_get self.new.files.items other.0) ≡ open_name (slice_get self.old.files.items other.0) }
+        ensures opened { IfOk result
+            (λ file. open_name (slice_get self.new.files.items file.0) ≡ Some name.now) }
+        ensures others { (other : FileNo)
+            → IsSome (open_name (slice_get self.old.files.items other.0))
+            → open_name (slice_get self.new.files.items other.0)
+            ≡ open_name (slice_get self.old.files.items other.0) }
         ensures cause { HasCause self.old.faults self.new.faults result }
         ensures only { OnErr result ((result ≡ Err DirError.Memory)
             ⊎ ((result ≡ Err DirError.Fault) ⊎ (result ≡ Err refusal))) }
@@ -243,7 +247,9 @@ where
     // Holds bytes back for the file at a place, behind those that are held for it. `false` where
     // they are too many, or there is no memory for them: then they aren't held.
     fn hold(&mut self, at: usize, bytes: &[u8]) -> Result<bool, DirError>
-        ensures files { (j : ℕ) → open_name (slice_get self.new.files.items j) ≡ open_name (slice_get self.old.files.items j) }
+        ensures files { (j : ℕ)
+            → open_name (slice_get self.new.files.items j)
+            ≡ open_name (slice_get self.old.files.items j) }
         ensures cause { HasCause self.old.faults self.new.faults result }
         ensures only { OnErr result (result ≡ Err DirError.Fault) }
     {
@@ -257,7 +263,9 @@ where
     // Writes what is held back. After a `Fault` a beginning of it may be written, and none of it is
     // held.
     fn write_held(&mut self) -> Result<(), DirError>
-        ensures files { (j : ℕ) → open_name (slice_get self.new.files.items j) ≡ open_name (slice_get self.old.files.items j) }
+        ensures files { (j : ℕ)
+            → open_name (slice_get self.new.files.items j)
+            ≡ open_name (slice_get self.old.files.items j) }
         ensures cause { HasCause self.old.faults self.new.faults result }
         ensures only { OnErr result (result ≡ Err DirError.Fault) }
     {
@@ -267,7 +275,9 @@ where
 
     // Hands what is held back to the system, and holds none of it any more.
     fn hand_over(&mut self) -> io::Result<()>
-        ensures files { (j : ℕ) → open_name (slice_get self.new.files.items j) ≡ open_name (slice_get self.old.files.items j) }
+        ensures files { (j : ℕ)
+            → open_name (slice_get self.new.files.items j)
+            ≡ open_name (slice_get self.old.files.items j) }
         ensures faults { self.new.faults ≡ self.old.faults }
     {
         if self.held.is_empty() {
@@ -281,7 +291,9 @@ where
     // Adds bytes at the end of the open file at a place.
     fn add_at(&mut self, at: usize, bytes: &[u8], writing: Writing) -> Result<(), DirError>
         requires { IsSome (open_name (slice_get self.old.files.items at)) }
-        ensures files { (j : ℕ) → open_name (slice_get self.new.files.items j) ≡ open_name (slice_get self.old.files.items j) }
+        ensures files { (j : ℕ)
+            → open_name (slice_get self.new.files.items j)
+            ≡ open_name (slice_get self.old.files.items j) }
         ensures cause { HasCause self.old.faults self.new.faults result }
         ensures only { OnErr result (result ≡ Err DirError.Fault) }
     {
@@ -294,7 +306,9 @@ where
     // The same, write-back.
     fn add_back(&mut self, at: usize, bytes: &[u8]) -> Result<(), DirError>
         requires { IsSome (open_name (slice_get self.old.files.items at)) }
-        ensures files { (j : ℕ) → open_name (slice_get self.new.files.items j) ≡ open_name (slice_get self.old.files.items j) }
+        ensures files { (j : ℕ)
+            → open_name (slice_get self.new.files.items j)
+            ≡ open_name (slice_get self.old.files.items j) }
         ensures cause { HasCause self.old.faults self.new.faults result }
         ensures only { OnErr result (result ≡ Err DirError.Fault) }
     {
@@ -308,7 +322,9 @@ where
     // The same, write-through: with what is held back, where something is.
     fn add_through(&mut self, at: usize, bytes: &[u8]) -> Result<(), DirError>
         requires { IsSome (open_name (slice_get self.old.files.items at)) }
-        ensures files { (j : ℕ) → open_name (slice_get self.new.files.items j) ≡ open_name (slice_get self.old.files.items j) }
+        ensures files { (j : ℕ)
+            → open_name (slice_get self.new.files.items j)
+            ≡ open_name (slice_get self.old.files.items j) }
         ensures cause { HasCause self.old.faults self.new.faults result }
         ensures only { OnErr result (result ≡ Err DirError.Fault) }
     {
@@ -321,7 +337,9 @@ where
 
     // Writes what is held back, if that is much.
     fn write_full(&mut self) -> Result<(), DirError>
-        ensures files { (j : ℕ) → open_name (slice_get self.new.files.items j) ≡ open_name (slice_get self.old.files.items j) }
+        ensures files { (j : ℕ)
+            → open_name (slice_get self.new.files.items j)
+            ≡ open_name (slice_get self.old.files.items j) }
         ensures cause { HasCause self.old.faults self.new.faults result }
         ensures only { OnErr result (result ≡ Err DirError.Fault) }
     {
@@ -335,7 +353,9 @@ where
     // Writes what is held back, and then bytes at the end of the open file at a place.
     fn write_on(&mut self, at: usize, bytes: &[u8]) -> Result<(), DirError>
         requires { IsSome (open_name (slice_get self.old.files.items at)) }
-        ensures files { (j : ℕ) → open_name (slice_get self.new.files.items j) ≡ open_name (slice_get self.old.files.items j) }
+        ensures files { (j : ℕ)
+            → open_name (slice_get self.new.files.items j)
+            ≡ open_name (slice_get self.old.files.items j) }
         ensures cause { HasCause self.old.faults self.new.faults result }
         ensures only { OnErr result (result ≡ Err DirError.Fault) }
     {
@@ -351,7 +371,9 @@ where
     // Writes what is held back, and syncs the bytes of the open file at a place.
     fn sync_written(&mut self, at: usize) -> Result<(), DirError>
         requires { IsSome (open_name (slice_get self.old.files.items at)) }
-        ensures files { (j : ℕ) → open_name (slice_get self.new.files.items j) ≡ open_name (slice_get self.old.files.items j) }
+        ensures files { (j : ℕ)
+            → open_name (slice_get self.new.files.items j)
+            ≡ open_name (slice_get self.old.files.items j) }
         ensures cause { HasCause self.old.faults self.new.faults result }
         ensures only { OnErr result (result ≡ Err DirError.Fault) }
     {
@@ -380,7 +402,9 @@ where
     // Syncs the folder, unless it was since the file at a place was made or opened.
     fn settle(&mut self, at: usize) -> Result<(), DirError>
         requires { IsSome (open_name (slice_get self.old.files.items at)) }
-        ensures files { (j : ℕ) → open_name (slice_get self.new.files.items j) ≡ open_name (slice_get self.old.files.items j) }
+        ensures files { (j : ℕ)
+            → open_name (slice_get self.new.files.items j)
+            ≡ open_name (slice_get self.old.files.items j) }
         ensures cause { HasCause self.old.faults self.new.faults result }
         ensures only { OnErr result (result ≡ Err DirError.Fault) }
     {
@@ -394,7 +418,9 @@ where
     // Writes what is held back, and removes the open file at a place, which stays open.
     fn remove_path(&mut self, at: usize) -> Result<(), DirError>
         requires { IsSome (open_name (slice_get self.old.files.items at)) }
-        ensures files { (j : ℕ) → open_name (slice_get self.new.files.items j) ≡ open_name (slice_get self.old.files.items j) }
+        ensures files { (j : ℕ)
+            → open_name (slice_get self.new.files.items j)
+            ≡ open_name (slice_get self.old.files.items j) }
         ensures cause { HasCause self.old.faults self.new.faults result }
         ensures only { OnErr result (result ≡ Err DirError.Fault) }
     {
@@ -464,7 +490,8 @@ fn free_place<F: Drop, A: Allocator>(
     files: &mut Vec<Option<OpenFile<F, A>>, A>,
 ) -> Result<usize, AllocError>
     ensures free { IfOk result (λ at. slice_get files.new.items at ≡ Some None) }
-    ensures same { (j : ℕ) → open_name (slice_get files.new.items j) ≡ open_name (slice_get files.old.items j) }
+    ensures same { (j : ℕ)
+        → open_name (slice_get files.new.items j) ≡ open_name (slice_get files.old.items j) }
 {
     match first_free(files) {
         Some(at) => Ok(at),
@@ -490,7 +517,8 @@ fn add_place<F: Drop, A: Allocator>(
     files: &mut Vec<Option<OpenFile<F, A>>, A>,
 ) -> Result<usize, AllocError>
     ensures free { IfOk result (λ at. slice_get files.new.items at ≡ Some None) }
-    ensures same { (j : ℕ) → open_name (slice_get files.new.items j) ≡ open_name (slice_get files.old.items j) }
+    ensures same { (j : ℕ)
+        → open_name (slice_get files.new.items j) ≡ open_name (slice_get files.old.items j) }
 {
     let at = files.len();
     files.push(None)?;
@@ -543,7 +571,8 @@ fn write_at<F: Write, A: Allocator>(
     bytes: &[u8],
 ) -> io::Result<()>
     requires { IsSome (open_name (slice_get files.old.items at)) }
-    ensures { (j : ℕ) → open_name (slice_get files.new.items j) ≡ open_name (slice_get files.old.items j) }
+    ensures { (j : ℕ) → open_name (slice_get files.new.items j)
+        ≡ open_name (slice_get files.old.items j) }
 {
     match &mut files[at] {
         Some(open) => open.file.write_all(bytes),
@@ -557,7 +586,8 @@ fn write_there<F: Write, A: Allocator>(
     at: usize,
     bytes: &[u8],
 ) -> io::Result<()>
-    ensures { (j : ℕ) → open_name (slice_get files.new.items j) ≡ open_name (slice_get files.old.items j) }
+    ensures { (j : ℕ) → open_name (slice_get files.new.items j)
+        ≡ open_name (slice_get files.old.items j) }
 {
     if at >= files.len() {
         return Ok(());
@@ -571,7 +601,8 @@ fn write_there<F: Write, A: Allocator>(
 // Notes that the folder was synced since the file at a place was made or opened.
 fn settle_at<F, A: Allocator>(files: &mut Vec<Option<OpenFile<F, A>>, A>, at: usize)
     requires { IsSome (open_name (slice_get files.old.items at)) }
-    ensures { (j : ℕ) → open_name (slice_get files.new.items j) ≡ open_name (slice_get files.old.items j) }
+    ensures { (j : ℕ) → open_name (slice_get files.new.items j)
+        ≡ open_name (slice_get files.old.items j) }
 {
     match &mut files[at] {
         Some(open) => open.is_settled = true,
@@ -583,7 +614,8 @@ fn settle_at<F, A: Allocator>(files: &mut Vec<Option<OpenFile<F, A>>, A>, at: us
 fn close_at<F: Drop, A: Allocator>(files: &mut Vec<Option<OpenFile<F, A>>, A>, at: usize)
     requires { IsSome (open_name (slice_get files.old.items at)) }
     ensures closed { open_name (slice_get files.new.items at) ≡ None }
-    ensures others { (j : ℕ) → j ≢ at → open_name (slice_get files.new.items j) ≡ open_name (slice_get files.old.items j) }
+    ensures others { (j : ℕ) → j ≢ at
+        → open_name (slice_get files.new.items j) ≡ open_name (slice_get files.old.items j) }
 {
     files[at] = None;
 }

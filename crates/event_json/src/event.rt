@@ -24,7 +24,9 @@ pub fn put_event<A: Allocator + Copy>(
     entry: &[u8],
 ) -> Result<Vec<u8, A>, AllocError>
     requires { IsStored entry.now }
-    ensures { IfOk result (λ all. (line : List ℕ) × IsEventLine tag.now entry.now line × (all.items ≡ lines.items ++ line)) }
+    ensures { IfOk result
+        (λ all. (line : List ℕ) × IsEventLine tag.now entry.now line
+        × (all.items ≡ lines.items ++ line)) }
 {
     let mut writer = Writer::new(lines);
     put_members(alloc, &mut writer, tag, entry)?;

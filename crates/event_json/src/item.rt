@@ -73,7 +73,9 @@ fn put_array<A: Allocator + Copy>(
     count: usize,
 ) -> Result<(), AllocError>
     requires { AreItems count items.now }
-    ensures { OnOk result (Adds (IsArrayOf (IsJsonWithin (length items.now)) (items_of count items.now)) writer.old writer.new) }
+    ensures { OnOk result
+        (Adds (IsArrayOf (IsJsonWithin (length items.now)) (items_of count items.now)) writer.old
+        writer.new) }
 {
     writer.begin_array()?;
     let mut rest = items;
@@ -97,7 +99,9 @@ fn put_map<A: Allocator + Copy>(
 ) -> Result<(), AllocError>
     requires few { 2 * count < 18446744073709551616 }
     requires items { AreItems (2 * count) pairs.now }
-    ensures { OnOk result (Adds (IsMapOf (IsJsonWithin (length pairs.now)) (pairs_of count pairs.now)) writer.old writer.new) }
+    ensures { OnOk result
+        (Adds (IsMapOf (IsJsonWithin (length pairs.now)) (pairs_of count pairs.now)) writer.old
+        writer.new) }
 {
     if have_names(pairs, count) {
         put_object(alloc, writer, pairs, count)
@@ -117,7 +121,9 @@ fn put_object<A: Allocator + Copy>(
     requires few { 2 * count < 18446744073709551616 }
     requires items { AreItems (2 * count) pairs.now }
     requires named { AllByRecursion IsNamed (pairs_of count pairs.now) }
-    ensures { OnOk result (Adds (IsObjectOf (IsJsonWithin (length pairs.now)) (pairs_of count pairs.now)) writer.old writer.new) }
+    ensures { OnOk result
+        (Adds (IsObjectOf (IsJsonWithin (length pairs.now)) (pairs_of count pairs.now)) writer.old
+        writer.new) }
 {
     writer.begin_object()?;
     let mut rest = pairs;
@@ -145,7 +151,9 @@ fn put_pairs<A: Allocator + Copy>(
 ) -> Result<(), AllocError>
     requires few { 2 * count < 18446744073709551616 }
     requires items { AreItems (2 * count) pairs.now }
-    ensures { OnOk result (Adds (IsPairsOf (IsJsonWithin (length pairs.now)) (pairs_of count pairs.now)) writer.old writer.new) }
+    ensures { OnOk result
+        (Adds (IsPairsOf (IsJsonWithin (length pairs.now)) (pairs_of count pairs.now)) writer.old
+        writer.new) }
 {
     writer.begin_object()?;
     writer.key("$map")?;
@@ -172,7 +180,9 @@ fn put_pair<A: Allocator + Copy>(
 ) -> Result<(), AllocError>
     requires key { IsItemWithin key.now }
     requires value { IsItemWithin value.now }
-    ensures { OnOk result (Adds (IsPairOf (IsJsonWithin (length key.now)) (IsJsonWithin (length value.now)) key.now value.now) writer.old writer.new) }
+    ensures { OnOk result
+        (Adds (IsPairOf (IsJsonWithin (length key.now))
+        (IsJsonWithin (length value.now)) key.now value.now) writer.old writer.new) }
 {
     writer.begin_array()?;
     put_item(alloc, writer, key)?;

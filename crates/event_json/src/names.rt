@@ -33,7 +33,8 @@ pub(crate) fn have_names(pairs: &[u8], count: usize) -> bool
 /// The name that a key can be.
 pub(crate) fn name_of(key: &[u8]) -> Option<&str>
     requires { IsItemWithin key.now }
-    ensures { MatchOption result ((name : List ℕ) → IsName key.now name → ⊥) (λ name. IsName key.now name.now) }
+    ensures { MatchOption result ((name : List ℕ) → IsName key.now name → ⊥)
+        (λ name. IsName key.now name.now) }
 {
     match head(key, 0) {
         None => None,
@@ -46,7 +47,8 @@ pub(crate) fn name_of(key: &[u8]) -> Option<&str>
 
 // The text that the content of a str is, unless it begins with a dollar sign.
 fn unmarked(content: &[u8]) -> Option<&str>
-    ensures { MatchOption result (IsUnmarked content.now → ⊥) (λ name. IsUnmarked content.now × (name.now ≡ content.now)) }
+    ensures { MatchOption result (IsUnmarked content.now → ⊥)
+        (λ name. IsUnmarked content.now × (name.now ≡ content.now)) }
 {
     match content {
         [b'$', ..] => None,

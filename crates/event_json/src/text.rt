@@ -30,7 +30,8 @@ pub(crate) fn put_bytes<A: Allocator + Copy>(
     name: &str,
     content: &[u8],
 ) -> Result<(), AllocError>
-    ensures { OnOk result (Appends writer.old writer.new (marked name.now (base64_tokens content.now))) }
+    ensures { OnOk result
+        (Appends writer.old writer.new (marked name.now (base64_tokens content.now))) }
 {
     writer.begin_object()?;
     writer.key(name)?;

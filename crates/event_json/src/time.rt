@@ -98,7 +98,8 @@ fn event_nanoseconds(content: &[u8]) -> i128
 
 // The content of an EventTime.
 fn event_time(time: &[u8]) -> Option<&[u8]>
-    ensures { MatchOption result (IsEventTime time.now → ⊥) (λ content. (is : IsEventTime time.now) × (is.content ≡ content.now)) }
+    ensures { MatchOption result (IsEventTime time.now → ⊥)
+        (λ content. (is : IsEventTime time.now) × (is.content ≡ content.now)) }
 {
     match eight_behind(time, &[0xd7, 0]) {
         Some(content) => Some(content),
@@ -108,7 +109,8 @@ fn event_time(time: &[u8]) -> Option<&[u8]>
 
 // What is behind these bytes, with which others begin, where it has eight bytes.
 fn eight_behind<'a>(bytes: &'a [u8], front: &[u8]) -> Option<&'a [u8]>
-    ensures { MatchOption result ((content : List ℕ) → length content ≡ 8 → bytes.now ≢ front.now ++ content)
+    ensures { MatchOption result
+        ((content : List ℕ) → length content ≡ 8 → bytes.now ≢ front.now ++ content)
         (λ content. (length content.now ≡ 8) × (bytes.now ≡ front.now ++ content.now)) }
 {
     match bytes.strip_prefix(front) {
@@ -162,7 +164,8 @@ fn put_instant<A: Allocator>(
     instant: Timestamp,
     places: u8,
 ) -> Result<(), AllocError>
-    ensures { OnOk result (Adds (IsStringOf (IsInstant places instant.nanosecond)) writer.old writer.new) }
+    ensures { OnOk result
+        (Adds (IsStringOf (IsInstant places instant.nanosecond)) writer.old writer.new) }
 {
     let printer = DateTimePrinter::new().precision(Some(places));
     let text = printer.timestamp_text(instant.to_plain());

@@ -53,7 +53,8 @@ pub(crate) fn first_item(bytes: &[u8], count: usize) -> FirstItem<'_>
     requires items { AreItems count bytes.now }
     ensures item { IsItemWithin result.item.now }
     ensures whole { bytes.now ≡ result.item.now ++ result.rest.now }
-    ensures first { items_of count bytes.now ≡ result.item.now ∷ items_of (count - 1) result.rest.now }
+    ensures first { items_of count bytes.now
+        ≡ result.item.now ∷ items_of (count - 1) result.rest.now }
     ensures left { AreItems (count - 1) result.rest.now }
 {
     match next_item(bytes) {
@@ -70,7 +71,9 @@ pub(crate) fn first_pair(bytes: &[u8], count: usize) -> FirstPair<'_>
     ensures key { IsItemWithin result.key.now }
     ensures value { IsItemWithin result.value.now }
     ensures whole { bytes.now ≡ result.key.now ++ (result.value.now ++ result.rest.now) }
-    ensures first { pairs_of count bytes.now ≡ record { key = result.key.now; value = result.value.now } ∷ pairs_of (count - 1) result.rest.now }
+    ensures first { pairs_of count bytes.now
+        ≡ record { key = result.key.now; value = result.value.now } ∷ pairs_of
+        (count - 1) result.rest.now }
     ensures left { AreItems (2 * (count - 1)) result.rest.now }
 {
     let first = first_item(bytes, 2 * count);

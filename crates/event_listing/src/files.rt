@@ -51,7 +51,8 @@ pub fn run_events<
     out: &mut Output<W, A>,
     notes: &mut V,
 ) -> Status
-    ensures { PrintsEvents (O.text_of files.now) choice.now (map named_of listed.now) (out.old, out.new) (V.contents notes.old, V.contents notes.new) result }
+    ensures { PrintsEvents (O.text_of files.now) choice.now (map named_of listed.now)
+        (out.old, out.new) (V.contents notes.old, V.contents notes.new) result }
 {
     let mut is_sound = true;
     for file in listed {
@@ -82,7 +83,8 @@ fn print_named<A: Allocator + Copy, B: Allocator, O: OpenPlaced, W: Write, V: Wr
     out: &mut Output<W, A>,
     notes: &mut V,
 ) -> Result<bool, Stop>
-    ensures { PrintsNamed kind (O.text_of files.now name.now) choice.now name.now (out.old, out.new) (V.contents notes.old, V.contents notes.new) result }
+    ensures { PrintsNamed kind (O.text_of files.now name.now) choice.now name.now
+        (out.old, out.new) (V.contents notes.old, V.contents notes.new) result }
 {
     match kind {
         Kind::Sink => print_sinks_file(alloc, choice, name, files, out, notes),
@@ -99,7 +101,8 @@ fn print_sinks_file<A: Allocator + Copy, B: Allocator, O: Open, W: Write, V: Wri
     out: &mut Output<W, A>,
     notes: &mut V,
 ) -> Result<bool, Stop>
-    ensures { PrintsNamed Sink (O.text_of files.now name.now) choice.now name.now (out.old, out.new) (V.contents notes.old, V.contents notes.new) result }
+    ensures { PrintsNamed Sink (O.text_of files.now name.now) choice.now name.now
+        (out.old, out.new) (V.contents notes.old, V.contents notes.new) result }
 {
     match print_file(alloc, choice, name, files, out) {
         Ok(end) => {
@@ -123,7 +126,8 @@ fn print_journals_file<A: Allocator + Copy, B: Allocator, O: OpenPlaced, W: Writ
     out: &mut Output<W, A>,
     notes: &mut V,
 ) -> Result<bool, Stop>
-    ensures { PrintsNamed Journal (O.text_of files.now name.now) choice.now name.now (out.old, out.new) (V.contents notes.old, V.contents notes.new) result }
+    ensures { PrintsNamed Journal (O.text_of files.now name.now) choice.now name.now
+        (out.old, out.new) (V.contents notes.old, V.contents notes.new) result }
 {
     match open_journal(alloc, choice, name, files, out) {
         Ok(end) => {

@@ -32,7 +32,9 @@ pub(crate) fn take_first<'a, A: Allocator + Copy, B: Allocator>(
     lines: Vec<u8, A>,
     bytes: &'a [u8],
 ) -> Result<Taken<'a, A>, AllocError>
-    ensures { IfOk result (λ taken. TakesFirst (form_of form.entry) choice.now bytes.now taken.behind lines.items taken.lines.items) }
+    ensures { IfOk result
+        (λ taken. TakesFirst
+        (form_of form.entry) choice.now bytes.now taken.behind lines.items taken.lines.items) }
 {
     match form {
         Form::Items => take_item(alloc, choice, lines, bytes),
@@ -47,7 +49,9 @@ fn take_item<'a, A: Allocator + Copy, B: Allocator>(
     lines: Vec<u8, A>,
     bytes: &'a [u8],
 ) -> Result<Taken<'a, A>, AllocError>
-    ensures { IfOk result (λ taken. TakesFirst Items choice.now bytes.now taken.behind lines.items taken.lines.items) }
+    ensures { IfOk result
+        (λ taken. TakesFirst Items choice.now bytes.now taken.behind lines.items
+        taken.lines.items) }
 {
     let Some(first) = next_event(alloc, bytes)? else {
         return Ok(Taken {
@@ -71,7 +75,9 @@ fn take_entry<'a, A: Allocator + Copy, B: Allocator>(
     lines: Vec<u8, A>,
     bytes: &'a [u8],
 ) -> Result<Taken<'a, A>, AllocError>
-    ensures { IfOk result (λ taken. TakesFirst (Under tag.now) choice.now bytes.now taken.behind lines.items taken.lines.items) }
+    ensures { IfOk result
+        (λ taken. TakesFirst
+        (Under tag.now) choice.now bytes.now taken.behind lines.items taken.lines.items) }
 {
     if tag.len() > LONGEST_TAG {
         return Ok(Taken {
@@ -122,7 +128,10 @@ fn put_chosen<A: Allocator + Copy, B: Allocator>(
 ) -> Result<Vec<u8, A>, AllocError>
     requires short { length tag.now ≤ longest_tag }
     requires stored { IsStored entry.now }
-    ensures { IfOk result (λ all. (text : List ℕ) × IsPrintedOf choice.now (record { tag = tag.now; entry = entry.now }) text × (all.items ≡ lines.items ++ text)) }
+    ensures { IfOk result
+        (λ all. (text : List ℕ)
+        × IsPrintedOf choice.now (record { tag = tag.now; entry = entry.now }) text
+        × (all.items ≡ lines.items ++ text)) }
 {
     let nanos = time_of(entry);
     if choice.takes(alloc, tag, nanos)? {

@@ -124,7 +124,8 @@ fn print_rest<A: Allocator + Copy, B: Allocator, O: OpenPlaced, W: Write>(
     files: &O,
     out: &mut Output<W, A>,
 ) -> Result<End, Stop>
-    ensures { PrintsFile Items choice.now (known_from (O.text_of files.now name.now) at) out.old out.new result }
+    ensures { PrintsFile Items choice.now
+        (known_from (O.text_of files.now name.now) at) out.old out.new result }
 {
     match files.open_placed(name) {
         Ok(file) => {

@@ -105,7 +105,8 @@ fn print_live<A: Allocator + Copy, B: Allocator, R: ReadAt, W: Write>(
     file: &R,
     out: &mut Output<W, A>,
 ) -> Result<(), Stop>
-    ensures { PrintsLive choice.now outlined.now.chunks outlined.now.places (R.bytes_of file.now) out.old out.new result }
+    ensures { PrintsLive choice.now outlined.now.chunks outlined.now.places
+        (R.bytes_of file.now) out.old out.new result }
 {
     match Vec::from_elem(alloc, 0, PIECE) {
         Ok(mut piece) => print_chunks(alloc, choice, outlined, &mut piece, file, out),
@@ -123,7 +124,8 @@ fn print_chunks<A: Allocator + Copy, B: Allocator, R: ReadAt, W: Write>(
     out: &mut Output<W, A>,
 ) -> Result<(), Stop>
     requires { 0 < length piece.old }
-    ensures { PrintsLive choice.now outlined.now.chunks outlined.now.places (R.bytes_of file.now) out.old out.new result }
+    ensures { PrintsLive choice.now outlined.now.chunks outlined.now.places
+        (R.bytes_of file.now) out.old out.new result }
 {
     // Called for its law alone, as `stays_stored` below.
     prefix_free();
@@ -150,7 +152,8 @@ fn print_chunk<A: Allocator + Copy, B: Allocator, R: ReadAt, W: Write>(
     out: &mut Output<W, A>,
 ) -> Result<(), Stop>
     requires { 0 < length piece.old }
-    ensures { PrintsChunk choice.now tag.now (known_at (R.bytes_of file.now) places.now 0) out.old out.new result }
+    ensures { PrintsChunk choice.now tag.now
+        (known_at (R.bytes_of file.now) places.now 0) out.old out.new result }
 {
     let mut entries = PlacesReader::new(file, places);
     match print_pieces(alloc, choice, Form::Under(tag), piece, &mut entries, out) {

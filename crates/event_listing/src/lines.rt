@@ -26,7 +26,9 @@ pub(crate) fn print_held<A: Allocator + Copy, B: Allocator>(
     form: Form<'_>,
     bytes: &[u8],
 ) -> Result<Printed<A>, AllocError>
-    ensures all { IfOk result (λ printed. PrintsAll (form_of form.entry) choice.now bytes.now printed.lines.items (drop printed.used bytes.now)) }
+    ensures all { IfOk result
+        (λ printed. PrintsAll (form_of form.entry) choice.now bytes.now printed.lines.items
+        (drop printed.used bytes.now)) }
     ensures lines { IfOk result (λ printed. EndsALine printed.lines.items) }
     ensures used { IfOk result (λ printed. printed.used ≤ length bytes.now) }
 {

@@ -16,7 +16,8 @@ use std::io::Write;
 /// Says what stands behind the events of the file of this name, if anything does. Where there is no
 /// memory for it, that is said.
 pub(crate) fn note_end<A: Allocator, V: Write>(alloc: A, name: &str, end: End, notes: &mut V)
-    ensures { (text unseen : List ℕ) × IsEndNote name.now end text × TakesPart (V.contents notes.old) (V.contents notes.new) text unseen }
+    ensures { (text unseen : List ℕ) × IsEndNote name.now end text
+        × TakesPart (V.contents notes.old) (V.contents notes.new) text unseen }
 {
     match end {
         End::Ended { behind: 0, .. } => (),
@@ -56,7 +57,8 @@ pub(crate) fn note_journal<A: Allocator, V: Write>(
     end: JournalEnd,
     notes: &mut V,
 )
-    ensures { (text unseen : List ℕ) × IsJournalNote name.now end text × TakesPart (V.contents notes.old) (V.contents notes.new) text unseen }
+    ensures { (text unseen : List ℕ) × IsJournalNote name.now end text
+        × TakesPart (V.contents notes.old) (V.contents notes.new) text unseen }
 {
     match end {
         JournalEnd::Sealed { behind: 0, .. } => (),
@@ -117,7 +119,9 @@ pub(crate) fn note_stop<V: Write>(stop: Stop, notes: &mut V) -> Status
 
 // Writes a line; where there was no memory for it, that is written.
 fn put_line<A: Allocator, V: Write>(line: Result<String<A>, AllocError>, notes: &mut V)
-    ensures { (text unseen : List ℕ) × MatchResult line (λ l. text ≡ string_bytes l) (λ _. text ≡ memory_line) × TakesPart (V.contents notes.old) (V.contents notes.new) text unseen }
+    ensures { (text unseen : List ℕ)
+        × MatchResult line (λ l. text ≡ string_bytes l) (λ _. text ≡ memory_line)
+        × TakesPart (V.contents notes.old) (V.contents notes.new) text unseen }
 {
     match line {
         Ok(line) => put_note(notes, line.as_bytes()),
@@ -127,7 +131,8 @@ fn put_line<A: Allocator, V: Write>(line: Result<String<A>, AllocError>, notes: 
 
 // Writes a line. There is nowhere to say that this fails.
 fn put_note<V: Write>(notes: &mut V, line: &[u8])
-    ensures { (unseen : List ℕ) × TakesPart (V.contents notes.old) (V.contents notes.new) line.now unseen }
+    ensures { (unseen : List ℕ)
+        × TakesPart (V.contents notes.old) (V.contents notes.new) line.now unseen }
 {
     let _ = put_all(notes, line);
 }

@@ -43,7 +43,8 @@ impl<W: Write, A: Allocator + Copy> Output<W, A> {
     pub fn unique(alloc: A, writer: W) -> Result<Output<W, A>, AllocError>
     where
         W: Drop,
-        ensures { IfOk result (λ output. output ≡ record { written = W.contents writer; recent = Some none_recent }) }
+        ensures { IfOk result
+            (λ output. output ≡ record { written = W.contents writer; recent = Some none_recent }) }
     {
         let recent = RecentLines::new(alloc)?;
         Ok(Output {

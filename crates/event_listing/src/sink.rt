@@ -64,7 +64,8 @@ pub(crate) fn print_pieces<A: Allocator + Copy, B: Allocator, R: CountedRead, W:
     out: &mut Output<W, A>,
 ) -> Result<End, Stop>
     requires { 0 < length piece.old }
-    ensures { PrintsFile (form_of form.entry) choice.now (R.remaining input.old) out.old out.new result }
+    ensures { PrintsFile (form_of form.entry) choice.now
+        (R.remaining input.old) out.old out.new result }
 {
     let mut held = Held::new(alloc);
     for _ in 0..MOST_READS {
@@ -121,7 +122,9 @@ impl<A: Allocator + Copy> Held<A> {
         piece: &[u8],
         out: &mut Output<W, A>,
     ) -> Result<(), Stop>
-        ensures { PrintsPiece (form_of form.entry) choice.now (self.old.at, self.old.bytes.items ++ piece.now) (self.new.at, self.new.bytes.items) out.old out.new result }
+        ensures { PrintsPiece (form_of form.entry) choice.now
+            (self.old.at, self.old.bytes.items ++ piece.now)
+            (self.new.at, self.new.bytes.items) out.old out.new result }
     {
         if let Err(AllocError) = self.bytes.extend_from_slice(piece) {
             return Err(Stop::Memory);

@@ -38,7 +38,8 @@ pub enum AckRead {
 pub fn put_ack<A: Allocator>(out: &mut Vec<u8, A>, item: &[u8]) -> Result<(), AllocError>
     ensures ok { OnOk result (out.new.items ≡ out.old.items ++ acknowledgement_of item.now) }
     ensures err { OnErr result (out.new.items ≡ out.old.items) }
-    ensures full { OnErr result (vec_capacity out.old < vec_len out.old + length (acknowledgement_of item.now)) }
+    ensures full { OnErr result
+        (vec_capacity out.old < vec_len out.old + length (acknowledgement_of item.now)) }
     // What is written acknowledges the chunk.
     ensures means { (content : List ℕ) → IsText item.now content → length item.now ≤ longest_chunk
         → IsAcknowledgement (acknowledgement_of item.now) content }

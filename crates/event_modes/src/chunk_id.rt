@@ -46,7 +46,8 @@ impl ChunkId {
 
     // Of the bytes that decoding has room for, the last two are spare.
     fn from_bytes(bytes: &[u8; 18]) -> ChunkId
-        ensures { (id : ChunkId) (spare : List ℕ) → HasSizes id → bytes.now ≡ chunk_bytes id ++ spare → result ≡ id }
+        ensures { (id : ChunkId) (spare : List ℕ) → HasSizes id
+            → bytes.now ≡ chunk_bytes id ++ spare → result ≡ id }
     {
         let [a, b, c, d, e, f, g, h, i, j, k, l, m, n, o, p, _, _] = *bytes;
         ChunkId {

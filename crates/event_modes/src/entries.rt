@@ -20,7 +20,8 @@ use std::alloc::Allocator;
 /// The events in their order, or the first fault in them.
 pub fn entries_of<A: Allocator>(alloc: A, carried: Carried<'_>) -> Result<Entries<A>, FeedError>
     requires { CanCarry (carrier_of carried) }
-    ensures { Finds (Carries (carrier_of carried.entry)) (CarriedFault (carrier_of carried.entry)) result }
+    ensures { Finds (Carries (carrier_of carried.entry))
+        (CarriedFault (carrier_of carried.entry)) result }
 {
     match carried {
         Carried::Single { time, fields } => single(alloc, time, fields),
@@ -31,7 +32,8 @@ pub fn entries_of<A: Allocator>(alloc: A, carried: Carried<'_>) -> Result<Entrie
 
 fn single<A: Allocator>(alloc: A, time: &[u8], fields: &[u8]) -> Result<Entries<A>, FeedError>
     requires { CanCarry (Single time.now fields.now) }
-    ensures { Finds (Carries (Single time.now fields.now)) (CarriedFault (Single time.now fields.now)) result }
+    ensures { Finds (Carries (Single time.now fields.now))
+        (CarriedFault (Single time.now fields.now)) result }
 {
     event_of(time, fields)?;
     let mut entries = Entries::new(alloc);
@@ -69,7 +71,8 @@ fn packed<A: Allocator>(alloc: A, content: &[u8]) -> Result<Entries<A>, FeedErro
 // Adds the event of an entry, as it is stored.
 fn add<A: Allocator>(entries: &mut Entries<A>, entry: &[u8]) -> Result<(), FeedError>
     requires { IsItemWithin entry.now }
-    ensures { Finds (λ _. IsAdded entry.now entries.old entries.new) (λ fault. EntryFault fault entry.now) result }
+    ensures { Finds (λ _. IsAdded entry.now entries.old entries.new)
+        (λ fault. EntryFault fault entry.now) result }
 {
     if is_usual_entry(entry) {
         entries.push_stored(entry)?;
@@ -82,7 +85,9 @@ fn add<A: Allocator>(entries: &mut Entries<A>, entry: &[u8]) -> Result<(), FeedE
 
 // The next of packed entries, and what is behind it. Nesting is counted anew for each.
 fn packed_entry(rest: &[u8]) -> Result<(&[u8], &[u8]), ModeFault>
-    ensures { MatchResult result (λ found. IsItemWithin found.0.now × (rest.now ≡ found.0.now ++ found.1.now)) (PackedEnd rest.now) }
+    ensures { MatchResult result
+        (λ found. IsItemWithin found.0.now × (rest.now ≡ found.0.now ++ found.1.now))
+        (PackedEnd rest.now) }
 {
     match scan(rest, 0) {
         Scan::End(end) => Ok(rest.split_at(end)),

@@ -23,8 +23,10 @@ pub struct Event<'a> {
 pub fn event_of<'a>(time: &'a [u8], fields: &'a [u8]) -> Result<Event<'a>, ModeFault>
     requires time { IsItemWithin time.now }
     requires fields { IsItemWithin fields.now }
-    ensures same { IfOk result (λ event. (event.time.now ≡ time.now) × (event.fields.now ≡ fields.now)) }
-    ensures event { MatchResult result (λ event. IsTime time.now × IsRecord fields.now) (EventFault time.now fields.now) }
+    ensures same { IfOk result
+        (λ event. (event.time.now ≡ time.now) × (event.fields.now ≡ fields.now)) }
+    ensures event { MatchResult result
+        (λ event. IsTime time.now × IsRecord fields.now) (EventFault time.now fields.now) }
 {
     if !is_time(time) {
         return Err(ModeFault::BadTime);
@@ -38,7 +40,9 @@ pub fn event_of<'a>(time: &'a [u8], fields: &'a [u8]) -> Result<Event<'a>, ModeF
 /// The event of an entry.
 pub fn entry_of(entry: &[u8]) -> Result<Event<'_>, ModeFault>
     requires { IsItemWithin entry.now }
-    ensures { MatchResult result (λ event. IsEntry entry.now (stored_entry event.time.now event.fields.now)) (λ fault. EntryFault fault entry.now) }
+    ensures { MatchResult result
+        (λ event. IsEntry entry.now (stored_entry event.time.now event.fields.now))
+        (λ fault. EntryFault fault entry.now) }
 {
     let Some((time, fields)) = pair_of(entry) else {
         return Err(ModeFault::BadEntry);
@@ -49,8 +53,10 @@ pub fn entry_of(entry: &[u8]) -> Result<Event<'_>, ModeFault>
 // The elements of an array of two.
 fn pair_of(entry: &[u8]) -> Option<(&[u8], &[u8])>
     requires { IsItemWithin entry.now }
-    ensures { MatchOption result ((time fields : List ℕ) → IsArray (time ∷ fields ∷ []) entry.now → ⊥)
-        (λ found. IsArray (found.0.now ∷ found.1.now ∷ []) entry.now × IsItemWithin found.0.now × IsItemWithin found.1.now) }
+    ensures { MatchOption result
+        ((time fields : List ℕ) → IsArray (time ∷ fields ∷ []) entry.now → ⊥)
+        (λ found. IsArray (found.0.now ∷ found.1.now ∷ []) entry.now × IsItemWithin found.0.now
+        × IsItemWithin found.1.now) }
 {
     let mut items = array_of(entry)?;
     let time = items.next()?;

@@ -34,7 +34,9 @@ impl<A: Allocator> Model for Feed<A> {
 
     ghost view = { λ f. record { held = drop f.start f.bytes.items; fault = f.fault } };
 
-    ghost invariant = { λ f. (f.start ≤ vec_len f.bytes) × IsRemembered (drop f.start f.bytes.items) f.fault × IsGiven f.ahead (drop f.start f.bytes.items) };
+    ghost invariant = { λ f. (f.start ≤ vec_len f.bytes)
+        × IsRemembered (drop f.start f.bytes.items) f.fault
+        × IsGiven f.ahead (drop f.start f.bytes.items) };
 }
 
 /// What a stream has next.
@@ -68,8 +70,10 @@ impl<A: Allocator + Copy> Feed<A> {
         ensures held { OnOk result (self.new.held ≡ self.old.held ++ piece.now) }
         ensures fault { OnOk result (self.new.fault ≡ self.old.fault) }
         ensures err { OnErr result (self.new ≡ self.old) }
-        ensures again { (f : ModeFault) → result ≡ Err (FeedError.Fault f) → self.old.fault ≡ Some f }
-        ensures refuses { (f : ModeFault) → self.old.fault ≡ Some f → result ≡ Err (FeedError.Fault f) }
+        ensures again { (f : ModeFault) → result ≡ Err (FeedError.Fault f)
+            → self.old.fault ≡ Some f }
+        ensures refuses { (f : ModeFault) → self.old.fault ≡ Some f
+            → result ≡ Err (FeedError.Fault f) }
     {
         if let Some(fault) = self.fault {
             return Err(FeedError::Fault(fault));

@@ -13,7 +13,8 @@ use msgpack_bytes::{Head, head};
 /// The items of an array.
 pub fn array_of(item: &[u8]) -> Option<Items<'_>>
     requires { IsItemWithin item.now }
-    ensures { MatchOption result ((items : List (List ℕ)) → IsArray items item.now → ⊥) (λ items. IsArray items item.now) }
+    ensures { MatchOption result ((items : List (List ℕ)) → IsArray items item.now → ⊥)
+        (λ items. IsArray items item.now) }
 {
     match head(item, 0)? {
         Head::Array { count, next } => Some(Items::new(item.split_at(next).1, count as usize)),
@@ -25,7 +26,8 @@ pub fn array_of(item: &[u8]) -> Option<Items<'_>>
 pub fn map_of(item: &[u8]) -> Option<Items<'_>>
     requires { IsItemWithin item.now }
     ensures { MatchOption result ((pairs : List Pair) → IsMap pairs item.now → ⊥)
-        (λ items. (pairs : List Pair) × IsMap pairs item.now × (items ≡ pair_items pairs) × ArePairs items) }
+        (λ items. (pairs : List Pair) × IsMap pairs item.now × (items ≡ pair_items pairs)
+        × ArePairs items) }
 {
     match head(item, 0)? {
         Head::Map { count, next } => Some(Items::new(item.split_at(next).1, 2 * count as usize)),

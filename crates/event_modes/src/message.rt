@@ -44,8 +44,10 @@ impl<A: Allocator> Entries<A> {
 
     /// The entries that these bytes are, if they are so many stored entries and nothing else.
     pub fn read(alloc: A, bytes: &[u8], count: usize) -> Result<Option<Self>, AllocError>
-        ensures found { IfOk result (λ read. IfSome read (λ entries. AreEntries entries count bytes.now)) }
-        ensures only { (entries : List (List ℕ)) → AreEntries entries count bytes.now → IfOk result (λ read. read ≡ Some entries) }
+        ensures found { IfOk result
+            (λ read. IfSome read (λ entries. AreEntries entries count bytes.now)) }
+        ensures only { (entries : List (List ℕ)) → AreEntries entries count bytes.now
+            → IfOk result (λ read. read ≡ Some entries) }
     {
         if !are_stored(bytes, count) {
             return Ok(None);

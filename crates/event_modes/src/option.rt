@@ -22,7 +22,9 @@ const LONGEST_CHUNK: usize = 1024;
 /// The item that the option asks to be acknowledged, after each of its pairs was examined.
 pub fn ack_of(option: Option<&[u8]>) -> Result<Option<&[u8]>, ModeFault>
     requires { IfSome option (λ bytes. IsItemWithin bytes.now) }
-    ensures { MatchResult result (λ ack. IsOption (bytes_of option.entry) (bytes_of ack)) (OptionFault (bytes_of option.entry)) }
+    ensures { MatchResult result
+        (λ ack. IsOption (bytes_of option.entry) (bytes_of ack))
+        (OptionFault (bytes_of option.entry)) }
 {
     let Some(option) = option else {
         return Ok(None);
@@ -50,7 +52,8 @@ pub fn ack_of(option: Option<&[u8]>) -> Result<Option<&[u8]>, ModeFault>
 fn examine(items: Items<'_>) -> Result<(), ModeFault>
     requires { ArePairs items }
     ensures { (pairs : List Pair) → items.entry ≡ pair_items pairs
-        → MatchResult result (λ _. AllByRecursion IsFit pairs) (λ fault. FirstBad IsFit (PairFault fault) pairs) }
+        → MatchResult result (λ _. AllByRecursion IsFit pairs)
+        (λ fault. FirstBad IsFit (PairFault fault) pairs) }
 {
     let mut items = items;
     while let Some(key) = items.next() {
@@ -65,7 +68,8 @@ fn examine(items: Items<'_>) -> Result<(), ModeFault>
 fn examine_pair(key: &[u8], value: &[u8]) -> Result<(), ModeFault>
     requires key { IsItemWithin key.now }
     requires value { IsItemWithin value.now }
-    ensures { MatchResult result (λ _. IsFit (pair_of key.now value.now)) (λ fault. PairFault fault (pair_of key.now value.now)) }
+    ensures { MatchResult result (λ _. IsFit (pair_of key.now value.now))
+        (λ fault. PairFault fault (pair_of key.now value.now)) }
 {
     if is_text(key, b"chunk") && !is_chunk(value) {
         return Err(ModeFault::BadOption);
@@ -101,7 +105,8 @@ pub struct LastValue<'a> {
 /// The value of the last key of this name.
 pub fn last_value<'a>(items: Items<'a>, name: &[u8]) -> Option<LastValue<'a>>
     requires { ArePairs items }
-    ensures { (pairs : List Pair) → items.entry ≡ pair_items pairs → MatchOption result (HasNoKey name.now pairs) (IsLast name.now pairs) }
+    ensures { (pairs : List Pair) → items.entry ≡ pair_items pairs
+        → MatchOption result (HasNoKey name.now pairs) (IsLast name.now pairs) }
 {
     let mut items = items;
     let mut last = None;

@@ -25,13 +25,16 @@ pub fn put_packed<A: Allocator, B: Allocator>(
 ) -> Result<(), AllocError>
     requires tag { length tag.now ≤ longest_tag }
     requires entries { length (concat entries.now) < 2 ^ 32 }
-    ensures ok { OnOk result (out.new.items ≡ out.old.items ++ packed_message tag.now entries.now (chunk_of chunk.entry)) }
+    ensures ok { OnOk result
+        (out.new.items ≡ out.old.items ++ packed_message tag.now entries.now
+        (chunk_of chunk.entry)) }
     ensures err { OnErr result (out.new.items ≡ out.old.items) }
     ensures full { OnErr result (vec_capacity out.old
         < vec_len out.old + length (packed_message tag.now entries.now (chunk_of chunk.entry))) }
     // What is written, within the limit of a message, is one, and says this.
     ensures means { length (packed_message tag.now entries.now (chunk_of chunk.entry)) ≤ longest
-        → IsMessage (packed_message tag.now entries.now (chunk_of chunk.entry)) (said tag.now entries.now (chunk_of chunk.entry)) }
+        → IsMessage (packed_message tag.now entries.now (chunk_of chunk.entry))
+        (said tag.now entries.now (chunk_of chunk.entry)) }
 {
     let before = out.len();
     let put = put_parts(out, tag, entries, chunk);
@@ -50,7 +53,9 @@ fn put_parts<A: Allocator, B: Allocator>(
 ) -> Result<(), AllocError>
     requires tag { length tag.now ≤ longest_tag }
     requires entries { length (concat entries.now) < 2 ^ 32 }
-    ensures ok { OnOk result (out.new.items ≡ out.old.items ++ packed_message tag.now entries.now (chunk_of chunk.entry)) }
+    ensures ok { OnOk result
+        (out.new.items ≡ out.old.items ++ packed_message tag.now entries.now
+        (chunk_of chunk.entry)) }
     ensures err { OnErr result (Extends out.old.items out.new.items) }
     ensures full { OnErr result (vec_capacity out.old
         < vec_len out.old + length (packed_message tag.now entries.now (chunk_of chunk.entry))) }
@@ -68,7 +73,8 @@ fn put_option<A: Allocator>(
     count: u64,
     chunk: Option<&ChunkId>,
 ) -> Result<(), AllocError>
-    ensures ok { OnOk result (out.new.items ≡ out.old.items ++ option_of count (chunk_of chunk.entry)) }
+    ensures ok { OnOk result
+        (out.new.items ≡ out.old.items ++ option_of count (chunk_of chunk.entry)) }
     ensures err { OnErr result (Extends out.old.items out.new.items) }
     ensures full { OnErr result (vec_capacity out.old
         < vec_len out.old + length (option_of count (chunk_of chunk.entry))) }
@@ -88,7 +94,8 @@ fn put_option<A: Allocator>(
 }
 
 fn put_size<A: Allocator>(out: &mut Vec<u8, A>, count: u64) -> Result<(), AllocError>
-    ensures ok { OnOk result (out.new.items ≡ out.old.items ++ (str_of (codes "size") ++ uint_of count)) }
+    ensures ok { OnOk result
+        (out.new.items ≡ out.old.items ++ (str_of (codes "size") ++ uint_of count)) }
     ensures err { OnErr result (Extends out.old.items out.new.items) }
     ensures full { OnErr result (vec_capacity out.old
         < vec_len out.old + length (str_of (codes "size") ++ uint_of count)) }

@@ -36,7 +36,8 @@ pub enum Elements<'a> {
 
 fn elements_of(item: &[u8]) -> Option<Elements<'_>>
     requires { IsItemWithin item.now }
-    ensures { MatchOption result ((items : List (List ℕ)) → IsArray items item.now → (length items < 2) ⊎ (4 < length items))
+    ensures { MatchOption result
+        ((items : List (List ℕ)) → IsArray items item.now → (length items < 2) ⊎ (4 < length items))
         (λ found. IsArray (elements_list found) item.now) }
 {
     let mut items = array_of(item)?;
@@ -70,7 +71,8 @@ fn elements_behind<'a>(first: &'a [u8], second: &'a [u8], items: Items<'a>) -> O
 // The second element alone decides the mode.
 fn bulk_of(second: &[u8]) -> Option<Carried<'_>>
     requires { IsItemWithin second.now }
-    ensures { MatchOption result (IsNoBulk second.now) (λ carried. IsBulk second.now (carrier_of carried)) }
+    ensures { MatchOption result (IsNoBulk second.now)
+        (λ carried. IsBulk second.now (carrier_of carried)) }
 {
     if array_of(second).is_some() {
         return Some(Carried::Forward(second));
@@ -81,7 +83,8 @@ fn bulk_of(second: &[u8]) -> Option<Carried<'_>>
 /// The places of the mode that the item is of, if it is of one.
 pub fn places_of(item: &[u8]) -> Option<Places<'_>>
     requires { IsItemWithin item.now }
-    ensures { MatchOption result ((frame : Frame) → IsFrame item.now frame → ⊥) (λ places. IsFrame item.now (frame_of places)) }
+    ensures { MatchOption result ((frame : Frame) → IsFrame item.now frame → ⊥)
+        (λ places. IsFrame item.now (frame_of places)) }
 {
     match elements_of(item)? {
         Elements::Two(tag, second) => {

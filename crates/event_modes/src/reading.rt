@@ -35,7 +35,8 @@ pub const LONGEST_TAG: usize = 1024;
 /// memory.
 pub fn read<A: Allocator + Copy>(alloc: A, bytes: &[u8]) -> Result<Read<A>, AllocError>
     ensures right { IfOk result (λ found. Answers bytes.now (answer_of found)) }
-    ensures only { (other : Answer) → Answers bytes.now other → IfOk result (λ found. other ≡ answer_of found) }
+    ensures only { (other : Answer) → Answers bytes.now other
+        → IfOk result (λ found. other ≡ answer_of found) }
 {
     read_scanned(alloc, bytes, scan(bytes, 0))
 }
@@ -99,7 +100,8 @@ fn message_of<A: Allocator + Copy>(alloc: A, item: &[u8]) -> Result<Message<A>, 
 // The same message, with the bytes that it keeps.
 fn copied<A: Allocator + Copy>(alloc: A, usual: Usual<'_>) -> Result<Message<A>, AllocError>
     requires { IsStored (entry_header ∷ usual.event.now) }
-    ensures { IfOk result (λ found. meaning found ≡ one_event usual.entry.tag.now usual.entry.event.now) }
+    ensures { IfOk result
+        (λ found. meaning found ≡ one_event usual.entry.tag.now usual.entry.event.now) }
 {
     Ok(Message {
         tag: Vec::from_slice(alloc, usual.tag)?,

@@ -68,7 +68,9 @@ fn short_str(bytes: &[u8]) -> Option<(&[u8], &[u8])>
 #[inline(always)]
 fn cut(bytes: &[u8], start: usize, size: usize) -> Option<(&[u8], &[u8])>
     requires { start ≤ length bytes.now }
-    ensures { IfSome result (λ found. (length found.0.now ≡ size) × (drop start bytes.now ≡ found.0.now ++ found.1.now)) }
+    ensures { IfSome result
+        (λ found. (length found.0.now ≡ size)
+        × (drop start bytes.now ≡ found.0.now ++ found.1.now)) }
 {
     let (_, rest) = bytes.split_at(start);
     if rest.len() < size {

@@ -32,7 +32,9 @@ pub fn add_pieces<A: Allocator, D: Dir>(
     requires open { IsSome (D.opened dir.old to) }
     requires room { total_room pieces.now ≤ D.bytes_left dir.old to }
     requires some { 0 < length buffer.old }
-    ensures { Adds D.is_honest D.history D.opened D.bytes_left D.fault_count from to (total_room pieces.now) (λ seen. AreWithin seen pieces.now) (λ seen. pieces_bytes seen pieces.now) dir.old dir.new result }
+    ensures { Adds D.is_honest D.history D.opened D.bytes_left D.fault_count from to
+        (total_room pieces.now) (λ seen. AreWithin seen pieces.now)
+        (λ seen. pieces_bytes seen pieces.now) dir.old dir.new result }
 {
     for piece in pieces {
         if let Err(fault) = add_piece(dir, from, to, piece, buffer) {
@@ -54,7 +56,9 @@ fn add_piece<A: Allocator, D: Dir>(
     requires open { IsSome (D.opened dir.old to) }
     requires room { piece_room piece.now ≤ D.bytes_left dir.old to }
     requires some { 0 < length buffer.old }
-    ensures adds { Adds D.is_honest D.history D.opened D.bytes_left D.fault_count from to (piece_room piece.now) (λ seen. CanTake seen piece.now.places.now) (λ seen. piece_bytes seen piece.now) dir.old dir.new result }
+    ensures adds { Adds D.is_honest D.history D.opened D.bytes_left D.fault_count from to
+        (piece_room piece.now) (λ seen. CanTake seen piece.now.places.now)
+        (λ seen. piece_bytes seen piece.now) dir.old dir.new result }
     ensures len { length buffer.new ≡ length buffer.old }
 {
     match add_told(dir, to, &piece.told) {
@@ -67,7 +71,9 @@ fn add_piece<A: Allocator, D: Dir>(
 fn add_told<D: Dir>(dir: &mut D, to: FileNo, bytes: &[u8]) -> Result<(), PieceError>
     requires open { IsSome (D.opened dir.old to) }
     requires room { length bytes.now ≤ D.bytes_left dir.old to }
-    ensures { (from : FileNo) → Adds D.is_honest D.history D.opened D.bytes_left D.fault_count from to (length bytes.now) HasAny (λ _. bytes.now) dir.old dir.new result }
+    ensures { (from : FileNo)
+        → Adds D.is_honest D.history D.opened D.bytes_left D.fault_count from to
+        (length bytes.now) HasAny (λ _. bytes.now) dir.old dir.new result }
 {
     match dir.append(to, bytes, Writing::Through) {
         Ok(()) => Ok(()),
@@ -87,7 +93,9 @@ fn copy_places<D: Dir>(
     requires open { IsSome (D.opened dir.old to) }
     requires room { places_room places.now ≤ D.bytes_left dir.old to }
     requires some { 0 < length buffer.old }
-    ensures adds { Adds D.is_honest D.history D.opened D.bytes_left D.fault_count from to (places_room places.now) (λ seen. CanTake seen places.now) (λ seen. bytes_at seen places.now) dir.old dir.new result }
+    ensures adds { Adds D.is_honest D.history D.opened D.bytes_left D.fault_count from to
+        (places_room places.now) (λ seen. CanTake seen places.now)
+        (λ seen. bytes_at seen places.now) dir.old dir.new result }
     ensures len { length buffer.new ≡ length buffer.old }
 {
     let mut count: usize = 0;
@@ -115,7 +123,9 @@ fn copy_run<D: Dir>(
     requires room { places_room run.places.now ≤ D.bytes_left dir.old to }
     requires some { 0 < length buffer.old }
     requires run { IsRun (length buffer.old / 2) run }
-    ensures adds { Adds D.is_honest D.history D.opened D.bytes_left D.fault_count from to (places_room run.entry.places.now) (λ seen. CanTake seen run.entry.places.now) (λ seen. bytes_at seen run.entry.places.now) dir.old dir.new result }
+    ensures adds { Adds D.is_honest D.history D.opened D.bytes_left D.fault_count from to
+        (places_room run.entry.places.now) (λ seen. CanTake seen run.entry.places.now)
+        (λ seen. bytes_at seen run.entry.places.now) dir.old dir.new result }
     ensures len { length buffer.new ≡ length buffer.old }
 {
     if run.places.len() == 1 {
@@ -139,7 +149,9 @@ fn copy_span<D: Dir>(
     requires room { places_room run.places.now ≤ D.bytes_left dir.old to }
     requires span { LieInSpan run.at run.span run.places.now }
     requires small { run.span ≤ length buffer.old / 2 }
-    ensures adds { Adds D.is_honest D.history D.opened D.bytes_left D.fault_count from to (places_room run.entry.places.now) (λ seen. CanTake seen run.entry.places.now) (λ seen. bytes_at seen run.entry.places.now) dir.old dir.new result }
+    ensures adds { Adds D.is_honest D.history D.opened D.bytes_left D.fault_count from to
+        (places_room run.entry.places.now) (λ seen. CanTake seen run.entry.places.now)
+        (λ seen. bytes_at seen run.entry.places.now) dir.old dir.new result }
     ensures len { length buffer.new ≡ length buffer.old }
 {
     let half = buffer.len() / 2;
@@ -166,7 +178,8 @@ fn copy<D: Dir>(
     requires open { IsSome (D.opened dir.old to) }
     requires room { count ≤ D.bytes_left dir.old to }
     requires some { 0 < length buffer.old }
-    ensures adds { Adds D.is_honest D.history D.opened D.bytes_left D.fault_count from to count (λ seen. HasPart seen at count) (λ seen. part_of seen at count) dir.old dir.new result }
+    ensures adds { Adds D.is_honest D.history D.opened D.bytes_left D.fault_count from to count
+        (λ seen. HasPart seen at count) (λ seen. part_of seen at count) dir.old dir.new result }
     ensures len { length buffer.new ≡ length buffer.old }
 {
     if at.checked_add(count).is_none() {
@@ -196,7 +209,9 @@ fn copy_part<D: Dir>(
     requires source { IsSome (D.opened dir.old from) }
     requires open { IsSome (D.opened dir.old to) }
     requires room { length part.old ≤ D.bytes_left dir.old to }
-    ensures adds { Adds D.is_honest D.history D.opened D.bytes_left D.fault_count from to (length part.old) (λ seen. HasPart seen at (length part.old)) (λ seen. part_of seen at (length part.old)) dir.old dir.new result }
+    ensures adds { Adds D.is_honest D.history D.opened D.bytes_left D.fault_count from to
+        (length part.old) (λ seen. HasPart seen at (length part.old))
+        (λ seen. part_of seen at (length part.old)) dir.old dir.new result }
     ensures len { length part.new ≡ length part.old }
 {
     match read_exact(dir, from, at, part) {

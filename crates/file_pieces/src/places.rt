@@ -29,7 +29,8 @@ pub fn read_places<D: Dir>(
     requires open { IsSome (D.opened dir.old file) }
     requires fits { length into.old ≡ places_room places.now }
     ensures reads { Reads D.is_honest D.history D.opened D.bytes_left D.fault_count file
-        (λ seen. CanTake seen places.now) (λ seen. into.new ≡ bytes_at seen places.now) dir.old dir.new result }
+        (λ seen. CanTake seen places.now)
+        (λ seen. into.new ≡ bytes_at seen places.now) dir.old dir.new result }
     ensures len { length into.new ≡ length into.old }
 {
     let mut count: usize = 0;
@@ -60,7 +61,10 @@ fn read_run<D: Dir>(
     requires run { IsRun (length window.old) run }
     requires fits { done + places_room run.places.now ≤ length into.old }
     ensures end { IfOk result (λ end. end ≡ done + places_room run.entry.places.now) }
-    ensures reads { Reads D.is_honest D.history D.opened D.bytes_left D.fault_count file (λ seen. CanTake seen run.entry.places.now) (λ seen. ReadsOn done (places_room run.entry.places.now) (bytes_at seen run.entry.places.now) into.old into.new) dir.old dir.new result }
+    ensures reads { Reads D.is_honest D.history D.opened D.bytes_left D.fault_count file
+        (λ seen. CanTake seen run.entry.places.now)
+        (λ seen. ReadsOn done (places_room run.entry.places.now)
+        (bytes_at seen run.entry.places.now) into.old into.new) dir.old dir.new result }
     ensures len { length into.new ≡ length into.old }
     ensures window_len { length window.new ≡ length window.old }
 {
@@ -81,7 +85,10 @@ fn read_place<D: Dir>(
     requires open { IsSome (D.opened dir.old file) }
     requires fits { done + place.length ≤ length into.old }
     ensures end { IfOk result (λ end. end ≡ done + place.length) }
-    ensures reads { Reads D.is_honest D.history D.opened D.bytes_left D.fault_count file (λ seen. HasPart seen place.at place.length) (λ seen. ReadsOn done place.length (bytes_from seen place) into.old into.new) dir.old dir.new result }
+    ensures reads { Reads D.is_honest D.history D.opened D.bytes_left D.fault_count file
+        (λ seen. HasPart seen place.at place.length)
+        (λ seen. ReadsOn done place.length (bytes_from seen place) into.old into.new) dir.old
+        dir.new result }
     ensures len { length into.new ≡ length into.old }
 {
     let count = place.length() as usize;
@@ -108,7 +115,10 @@ pub(crate) fn read_span<D: Dir>(
     requires small { run.span ≤ length window.old }
     requires fits { done + places_room run.places.now ≤ length into.old }
     ensures end { IfOk result (λ end. end ≡ done + places_room run.entry.places.now) }
-    ensures reads { Reads D.is_honest D.history D.opened D.bytes_left D.fault_count file (λ seen. CanTake seen run.entry.places.now) (λ seen. ReadsOn done (places_room run.entry.places.now) (bytes_at seen run.entry.places.now) into.old into.new) dir.old dir.new result }
+    ensures reads { Reads D.is_honest D.history D.opened D.bytes_left D.fault_count file
+        (λ seen. CanTake seen run.entry.places.now)
+        (λ seen. ReadsOn done (places_room run.entry.places.now)
+        (bytes_at seen run.entry.places.now) into.old into.new) dir.old dir.new result }
     ensures len { length into.new ≡ length into.old }
     ensures window_len { length window.new ≡ length window.old }
 {

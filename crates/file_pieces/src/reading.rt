@@ -22,10 +22,12 @@ pub fn read_exact<D: Dir>(
 ) -> Result<(), PieceError>
     requires { IsSome (D.opened dir.old file) }
     ensures reads { Reads D.is_honest D.history D.opened D.bytes_left D.fault_count file
-        (λ seen. HasPart seen at (length into.old)) (λ seen. into.new ≡ part_of seen at (length into.old)) dir.old dir.new result }
+        (λ seen. HasPart seen at (length into.old))
+        (λ seen. into.new ≡ part_of seen at (length into.old)) dir.old dir.new result }
     // What is answered was there.
     ensures there { D.is_honest dir.old → (name seen : List ℕ) → D.opened dir.old file ≡ Some name
-        → reads (now (D.history dir.old)) name ≡ Some seen → OnOk result (length into.old ≤ length seen - at) }
+        → reads (now (D.history dir.old)) name ≡ Some seen
+        → OnOk result (length into.old ≤ length seen - at) }
     ensures len { length into.new ≡ length into.old }
 {
     let read = dir.read_at(file, at as usize, into)?;

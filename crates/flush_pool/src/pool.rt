@@ -66,7 +66,8 @@ pub fn run_pool<
     retries: &Retries<A>,
     stop: &AtomicBool,
 ) -> Result<Worked, BufferFault>
-    ensures { HaveWorked G.lets C.gives (at buffer.now courier.now gate.now retries.now) threads result }
+    ensures { HaveWorked G.lets C.gives
+        (at buffer.now courier.now gate.now retries.now) threads result }
 {
     if threads == 0 {
         return Ok(Worked::new());
@@ -75,11 +76,15 @@ pub fn run_pool<
     let (one, others) = join(
         rt,
         || -> Result<Worked, BufferFault>
-            ensures { HasWorked G.lets C.gives (at buffer.entry.now courier.entry.now gate.entry.now retries.entry.now) result }
+            ensures { HasWorked G.lets C.gives
+                (at buffer.entry.now courier.entry.now gate.entry.now retries.entry.now) result }
         { work(rt, buffer, courier, gate, retries, stop) },
         || -> Result<Worked, BufferFault>
-            requires { IsSync R.row × IsSend D.row × IsSend A.row × IsSync A.row × IsSync C.row × IsSync G.row × Frees A.Allocator A.dealloc_token }
-            ensures { HaveWorked G.lets C.gives (at buffer.entry.now courier.entry.now gate.entry.now retries.entry.now) rest result }
+            requires { IsSync R.row × IsSend D.row × IsSend A.row × IsSync A.row × IsSync C.row
+                × IsSync G.row × Frees A.Allocator A.dealloc_token }
+            ensures { HaveWorked G.lets C.gives
+                (at buffer.entry.now courier.entry.now gate.entry.now retries.entry.now) rest
+                result }
         { run_pool(rt, rest, buffer, courier, gate, retries, stop) },
     );
     both_of(one, others)

@@ -57,10 +57,14 @@ impl<'a, R: Wait, D: Dir, A: Allocator, C: Courier<R, D, A>, G: Gate> Model
 
     ghost Value = { Place A C G };
 
-    ghost view = { λ s. record { post = at s.buffer.now s.courier.now s.gate.now s.retries.now; acts = s.diary } };
+    ghost view = { λ s. record {
+      post = at s.buffer.now s.courier.now s.gate.now s.retries.now;
+      acts = s.diary;
+    } };
 
     // Each act stands where it may, and its own courier, gate or retries answer for it.
-    ghost invariant = { λ s. AreLawful G.lets C.gives (at s.buffer.now s.courier.now s.gate.now s.retries.now) s.diary };
+    ghost invariant = { λ s. AreLawful G.lets C.gives
+        (at s.buffer.now s.courier.now s.gate.now s.retries.now) s.diary };
 }
 
 impl<'a, R: Wait, D: Dir, A: Allocator, C: Courier<R, D, A>, G: Gate> Drop
@@ -121,7 +125,8 @@ where
 
     // Writes down what it did just now, which may stand behind the rest.
     fn write(&mut self, deed: &Deed<A>)
-        requires may { May self.old.post.terms.leaf self.old.post.terms.takes self.old.acts (act_of deed.now) }
+        requires may { May self.old.post.terms.leaf self.old.post.terms.takes self.old.acts
+            (act_of deed.now) }
         requires vouched { IsVouched G.lets C.gives self.old.post (act_of deed.now) }
         ensures { self.new ≡ did (act_of deed.now) self.old }
     {

@@ -44,13 +44,23 @@ impl<'a> Model for Buffer<'a> {
 
     ghost Value = { BufferView };
 
-    ghost view = { λ b. record { path = b.path.now; file = b.file.now; number = b.number; found = b.found } };
+    ghost view = { λ b. record {
+      path = b.path.now;
+      file = b.file.now;
+      number = b.number;
+      found = b.found;
+    } };
 }
 
 impl<'a> Buffer<'a> {
     /// The buffer of this path, and what is found in the file of this name and number.
     pub(crate) fn new(path: &'a str, file: &'a str, number: u32, found: Found) -> Buffer<'a>
-        ensures { result ≡ record { path = path.now; file = file.now; number = number; found = found } }
+        ensures { result ≡ record {
+          path = path.now;
+          file = file.now;
+          number = number;
+          found = found;
+        } }
     {
         Buffer {
             path,

@@ -191,7 +191,8 @@ fn count_front<A: Allocator + Copy, S: Spelling>(
     before: Tally,
     bytes: &[u8],
 ) -> Result<Front, AllocError>
-    ensures all { IfOk result (λ front. Adds S.form before bytes.now front.tally (drop front.used bytes.now)) }
+    ensures all { IfOk result
+        (λ front. Adds S.form before bytes.now front.tally (drop front.used bytes.now)) }
     ensures used { IfOk result (λ front. front.used ≤ length bytes.now) }
 {
     let mut tally = before;

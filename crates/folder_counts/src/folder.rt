@@ -115,7 +115,8 @@ pub fn count_folder<'a, A: Allocator + Copy, B: Allocator, O: OpenPlaced>(
     listed: &'a [DataFile<B>],
     files: &O,
 ) -> Result<FolderCounts<'a, A>, AllocError>
-    ensures { IfOk result (λ folder. AreCounted (O.text_of files.now) (map named_of listed.now) folder) }
+    ensures { IfOk result
+        (λ folder. AreCounted (O.text_of files.now) (map named_of listed.now) folder) }
 {
     let mut folder = FolderCounts::new(alloc);
     for file in listed {

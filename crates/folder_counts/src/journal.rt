@@ -29,7 +29,8 @@ pub(crate) fn count_journal<A: Allocator + Copy, O: OpenPlaced>(
     name: &str,
     files: &O,
 ) -> Result<Found, AllocError>
-    ensures { IfOk result (λ found. IfSome (O.text_of files.now name.now) (λ bytes. IsInJournal bytes found)) }
+    ensures { IfOk result
+        (λ found. IfSome (O.text_of files.now name.now) (λ bytes. IsInJournal bytes found)) }
 {
     match files.open_placed(name) {
         Ok(file) => count_file(alloc, &file),
@@ -43,7 +44,8 @@ pub(crate) fn count_journal<A: Allocator + Copy, O: OpenPlaced>(
 // What is found in a journal, counted. It reads the file twice: what its live chunks are, and then
 // their entries at their places. The error is want of memory.
 fn count_file<A: Allocator + Copy, R: ReadAt>(alloc: A, file: &R) -> Result<Found, AllocError>
-    ensures { IfOk result (λ found. IfSome (R.bytes_of file.now) (λ bytes. IsInJournal bytes found)) }
+    ensures { IfOk result
+        (λ found. IfSome (R.bytes_of file.now) (λ bytes. IsInJournal bytes found)) }
 {
     let mut front = FrontReader::new(file);
     let found = found_by(alloc, Outline::new(alloc), &mut front)?;
@@ -97,7 +99,8 @@ fn oldest_live<A: Allocator + Copy, R: ReadAt>(
     file: &R,
 ) -> Result<Oldest, AllocError>
     ensures { IfOk result (λ oldest. IfSome (R.bytes_of file.now)
-        (λ bytes. ArePlaced bytes outlined.now.places outlined.now.chunks → IsOldestLive outlined.now.chunks oldest)) }
+        (λ bytes. ArePlaced bytes outlined.now.places outlined.now.chunks
+        → IsOldestLive outlined.now.chunks oldest)) }
 {
     // Called for its law alone, as `stays_stored` below.
     prefix_free();
@@ -120,7 +123,9 @@ fn oldest_at<A: Allocator + Copy, R: ReadAt>(
     places: &[Extent],
     file: &R,
 ) -> Result<Oldest, AllocError>
-    ensures { IfOk result (λ oldest. IfSome (known_at (R.bytes_of file.now) places.now 0) (λ bytes. IsOldestIn bytes oldest)) }
+    ensures { IfOk result
+        (λ oldest. IfSome (known_at (R.bytes_of file.now) places.now 0)
+        (λ bytes. IsOldestIn bytes oldest)) }
 {
     let mut entries = PlacesReader::new(file, places);
     let found = found_by(alloc, Held::new(alloc, Stored), &mut entries)?;

@@ -21,7 +21,8 @@ pub(crate) fn owner_of(kind: Kind, name: &str) -> (&str, u32)
 
 // The path and the number that make the name.
 fn numbered(kind: Kind, name: &str) -> Option<(&str, u32)>
-    ensures { MatchOption result (IsUnnumbered kind name.now) (λ owner. name.now ≡ numbered_name kind owner.0.now owner.1) }
+    ensures { MatchOption result (IsUnnumbered kind name.now)
+        (λ owner. name.now ≡ numbered_name kind owner.0.now owner.1) }
 {
     let ending = ending_of(kind);
     let Some(front) = name.len().checked_sub(ending.len() + 12) else {

@@ -40,7 +40,14 @@ impl<'t> Model for Output<'t> {
 
     ghost Value = { OutputView };
 
-    ghost view = { λ o. record { state = record { line = o.line; buffer = o.buffer.now; counts = o.counts }; last = o.last } };
+    ghost view = { λ o. record {
+      state = record {
+        line = o.line;
+        buffer = o.buffer.now;
+        counts = o.counts;
+      };
+      last = o.last;
+    } };
 }
 
 impl<'t> Output<'t> {

@@ -22,14 +22,24 @@ impl<'a> Model for Sink<'a> {
 
     ghost Value = { SinkView };
 
-    ghost view = { λ s. record { path = s.path.now; newest = s.newest.now; number = s.number; counts = s.counts } };
+    ghost view = { λ s. record {
+      path = s.path.now;
+      newest = s.newest.now;
+      number = s.number;
+      counts = s.counts;
+    } };
 }
 
 impl<'a> Sink<'a> {
     /// The sink of this path, of whose files this one, with this number, is the newest, and which
     /// count to this.
     pub(crate) fn new(path: &'a str, newest: &'a str, number: u32, counts: SinkCounts) -> Sink<'a>
-        ensures { result ≡ record { path = path.now; newest = newest.now; number = number; counts = counts } }
+        ensures { result ≡ record {
+          path = path.now;
+          newest = newest.now;
+          number = number;
+          counts = counts;
+        } }
     {
         Sink {
             path,

@@ -27,7 +27,9 @@ pub(crate) fn list_file<A: Allocator + Copy, B: Allocator, O: Open>(
     file: &DataFile<B>,
     files: &O,
 ) -> Result<FileLines<A>, AllocError>
-    ensures { IfOk result (λ listed. IsShown (O.text_of files.now) file.now.kind (string_bytes file.now.name) listed.lines.items listed.is_sound) }
+    ensures { IfOk result
+        (λ listed. IsShown (O.text_of files.now) file.now.kind
+        (string_bytes file.now.name) listed.lines.items listed.is_sound) }
 {
     list_named(alloc, file.kind, file.name.as_str(), files)
 }
@@ -39,7 +41,8 @@ fn list_named<A: Allocator + Copy, O: Open>(
     name: &str,
     files: &O,
 ) -> Result<FileLines<A>, AllocError>
-    ensures { IfOk result (λ listed. IsShown (O.text_of files.now) kind name.now listed.lines.items listed.is_sound) }
+    ensures { IfOk result
+        (λ listed. IsShown (O.text_of files.now) kind name.now listed.lines.items listed.is_sound) }
 {
     match read_named(alloc, name, files) {
         Ok(text) => list_text(alloc, kind, name, &text),
@@ -55,7 +58,9 @@ fn list_text<A: Allocator + Copy>(
     name: &str,
     bytes: &[u8],
 ) -> Result<FileLines<A>, AllocError>
-    ensures { IfOk result (λ listed. (finding : Finding) × IsIn kind bytes.now finding × IsShownAs kind name.now finding listed.lines.items listed.is_sound) }
+    ensures { IfOk result
+        (λ listed. (finding : Finding) × IsIn kind bytes.now finding
+        × IsShownAs kind name.now finding listed.lines.items listed.is_sound) }
 {
     match kind {
         Kind::Journal => list_journal(alloc, name, bytes),
@@ -69,7 +74,9 @@ fn list_journal<A: Allocator + Copy>(
     name: &str,
     bytes: &[u8],
 ) -> Result<FileLines<A>, AllocError>
-    ensures { IfOk result (λ listed. (finding : Finding) × IsMeaningOf bytes.now finding × IsShownAs Journal name.now finding listed.lines.items listed.is_sound) }
+    ensures { IfOk result
+        (λ listed. (finding : Finding) × IsMeaningOf bytes.now finding
+        × IsShownAs Journal name.now finding listed.lines.items listed.is_sound) }
 {
     let length = bytes.len();
     match replay(alloc, bytes) {
@@ -86,7 +93,9 @@ fn list_events<A: Allocator + Copy>(
     name: &str,
     bytes: &[u8],
 ) -> Result<FileLines<A>, AllocError>
-    ensures { IfOk result (λ listed. (finding : Finding) × IsContentOf bytes.now finding × IsShownAs Sink name.now finding listed.lines.items listed.is_sound) }
+    ensures { IfOk result
+        (λ listed. (finding : Finding) × IsContentOf bytes.now finding
+        × IsShownAs Sink name.now finding listed.lines.items listed.is_sound) }
 {
     let counted = count_events(alloc, bytes)?;
     event_line(alloc, name, counted)
@@ -98,7 +107,9 @@ fn event_line<A: Allocator + Copy>(
     name: &str,
     counted: EventCount,
 ) -> Result<FileLines<A>, AllocError>
-    ensures { IfOk result (λ listed. IsShownAs Sink name.now (Holds counted.events counted.torn) listed.lines.items listed.is_sound) }
+    ensures { IfOk result
+        (λ listed. IsShownAs Sink name.now
+        (Holds counted.events counted.torn) listed.lines.items listed.is_sound) }
 {
     let EventCount { events, torn } = counted;
     let line = format!(in alloc; "sink {name} events {events} torn {torn}\n")?;
@@ -114,7 +125,8 @@ fn unread_lines<A: Allocator + Copy>(
     kind: Kind,
     name: &str,
 ) -> Result<FileLines<A>, AllocError>
-    ensures { IfOk result (λ listed. IsShownAs kind name.now Unread listed.lines.items listed.is_sound) }
+    ensures { IfOk result
+        (λ listed. IsShownAs kind name.now Unread listed.lines.items listed.is_sound) }
 {
     let kind = kind_text(kind);
     let line = format!(in alloc; "{kind} {name} unread\n")?;
@@ -136,7 +148,8 @@ fn kind_text(kind: Kind) -> &'static str
 
 // The line of a journal that ends before a Seal.
 fn unsealed_lines<A: Allocator + Copy>(alloc: A, name: &str) -> Result<FileLines<A>, AllocError>
-    ensures { IfOk result (λ listed. IsShownAs Journal name.now Unsealed listed.lines.items listed.is_sound) }
+    ensures { IfOk result
+        (λ listed. IsShownAs Journal name.now Unsealed listed.lines.items listed.is_sound) }
 {
     let line = format!(in alloc; "journal {name} unsealed\n")?;
     Ok(FileLines {
@@ -147,7 +160,8 @@ fn unsealed_lines<A: Allocator + Copy>(alloc: A, name: &str) -> Result<FileLines
 
 // The line of a journal that is damaged.
 fn damaged_lines<A: Allocator + Copy>(alloc: A, name: &str) -> Result<FileLines<A>, AllocError>
-    ensures { IfOk result (λ listed. IsShownAs Journal name.now Damaged listed.lines.items listed.is_sound) }
+    ensures { IfOk result
+        (λ listed. IsShownAs Journal name.now Damaged listed.lines.items listed.is_sound) }
 {
     let line = format!(in alloc; "journal {name} damaged\n")?;
     Ok(FileLines {
@@ -163,7 +177,10 @@ fn list_chunks<A: Allocator + Copy>(
     length: usize,
     replayed: &Replayed<A>,
 ) -> Result<FileLines<A>, AllocError>
-    ensures { IfOk result (λ listed. IsShownAs Journal name.now (Means replayed.now.chunks (length - replayed.now.used)) listed.lines.items listed.is_sound) }
+    ensures { IfOk result
+        (λ listed. IsShownAs Journal name.now
+        (Means replayed.now.chunks (length - replayed.now.used)) listed.lines.items
+        listed.is_sound) }
 {
     let total = LiveChunks::of(&replayed.chunks).total();
     let torn = length.saturating_sub(replayed.used);
@@ -182,7 +199,9 @@ fn put_chunks<A: Allocator + Copy>(
     lines: &mut Vec<u8, A>,
     chunks: &Chunks<A>,
 ) -> Result<(), AllocError>
-    ensures { OnOk result (lines.new.items ≡ lines.old.items ++ flat_map chunk_line (map numbered_facts chunks.now.chunks)) }
+    ensures { OnOk result
+        (lines.new.items ≡ lines.old.items ++ flat_map chunk_line
+        (map numbered_facts chunks.now.chunks)) }
 {
     for facts in LiveChunks::of(chunks).iter() {
         put_chunk(alloc, lines, facts)?;

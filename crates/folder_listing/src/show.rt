@@ -18,7 +18,8 @@ pub fn run_show<A: Allocator + Copy, B: Allocator, O: Open, W: Write>(
     files: &O,
     out: &mut W,
 ) -> Status
-    ensures { PrintsShown (O.text_of files.now) (map named_of listed.now) (W.contents out.old) (W.contents out.new) result }
+    ensures { PrintsShown (O.text_of files.now) (map named_of listed.now) (W.contents out.old)
+        (W.contents out.new) result }
 {
     match list_files(alloc, listed, files) {
         Ok(all) => put_last(out, &all.lines, status_of(all.is_sound)),
@@ -32,7 +33,9 @@ fn list_files<A: Allocator + Copy, B: Allocator, O: Open>(
     listed: &[DataFile<B>],
     files: &O,
 ) -> Result<FileLines<A>, AllocError>
-    ensures { IfOk result (λ all. AreShown (O.text_of files.now) (map named_of listed.now) all.lines.items all.is_sound) }
+    ensures { IfOk result
+        (λ all. AreShown (O.text_of files.now)
+        (map named_of listed.now) all.lines.items all.is_sound) }
 {
     let mut lines = Vec::new(alloc);
     let mut is_sound = true;

@@ -47,7 +47,8 @@ impl<A: Allocator> Phase<A> {
 
     // A fault ends the session.
     fn end_if(&mut self, heard: &Heard<A>)
-        ensures ends { (greeted : Bool) → phase_of self.new greeted ≡ phase_if (said heard.now) (phase_of self.old greeted) }
+        ensures ends { (greeted : Bool)
+            → phase_of self.new greeted ≡ phase_if (said heard.now) (phase_of self.old greeted) }
         ensures nonce { (greeted : Bool) → HasNonce self.old greeted → HasNonce self.new greeted }
     {
         if let Heard::Fault(_) = heard {
@@ -74,7 +75,11 @@ impl<A: Allocator> Model for ClientSession<A> {
 
     ghost Value = { ClientState };
 
-    ghost view = { λ s. record { phase = phase_of s.phase s.greeted; held = s.held; outgoing = s.outgoing } };
+    ghost view = { λ s. record {
+      phase = phase_of s.phase s.greeted;
+      held = s.held;
+      outgoing = s.outgoing;
+    } };
 
     ghost invariant = { λ s. HasNonce s.phase s.greeted };
 }
@@ -147,7 +152,8 @@ impl<A: Allocator + Copy> ClientSession<A> {
     ///
     /// The error is want of memory, and changes nothing.
     pub fn feed(&mut self, piece: &[u8]) -> Result<Heard<A>, AllocError>
-        ensures reads { IfOk result (λ heard. ClientReads self.old piece.now (said heard) self.new) }
+        ensures reads { IfOk result
+            (λ heard. ClientReads self.old piece.now (said heard) self.new) }
         ensures err { OnErr result (self.new ≡ self.old) }
     {
         if let Phase::Closed = &self.phase {
@@ -169,7 +175,8 @@ impl<A: Allocator + Copy> ClientSession<A> {
     // What the bytes that are held say. The error is want of memory, and changes nothing.
     fn hear(&mut self) -> Result<Heard<A>, AllocError>
         requires { self.old.phase ≡ Ended → ⊥ }
-        ensures reads { IfOk result (λ heard. ReadsAll self.old.phase self.old (said heard) self.new) }
+        ensures reads { IfOk result
+            (λ heard. ReadsAll self.old.phase self.old (said heard) self.new) }
         ensures err { OnErr result (self.new ≡ self.old) }
     {
         match &self.phase {
@@ -183,7 +190,8 @@ impl<A: Allocator + Copy> ClientSession<A> {
     }
 
     fn hear_helo(&mut self) -> Result<Heard<A>, AllocError>
-        ensures reads { IfOk result (λ heard. (client : ClientEnd) → self.old.phase ≡ AwaitsHelo client
+        ensures reads { IfOk result
+            (λ heard. (client : ClientEnd) → self.old.phase ≡ AwaitsHelo client
             → ReadsHelo client self.old (said heard) self.new) }
         ensures err { OnErr result (self.new ≡ self.old) }
     {

@@ -26,7 +26,8 @@ pub fn take_helo<A: Allocator + Copy, B: Allocator>(
     outgoing: &mut Outbox<B>,
     bytes: &[u8],
 ) -> Result<First, AllocError>
-    ensures takes { IfOk result (λ first. TakesHelo client.old outgoing.old bytes.now first client.new outgoing.new) }
+    ensures takes { IfOk result
+        (λ first. TakesHelo client.old outgoing.old bytes.now first client.new outgoing.new) }
     ensures client { OnErr result (client.new ≡ client.old) }
     ensures outgoing { OnErr result (outgoing.new ≡ outgoing.old) }
 {

@@ -80,10 +80,12 @@ impl<A: Allocator> Outbox<A> {
     ) -> Result<(), HeloError>
         ensures ok { OnOk result ((nonce : List ℕ) × IsHelo item.now nonce
             × (client.new ≡ record client.old { nonce = Some nonce })
-            × (self.new ≡ self.old ++ ping_bytes client.old.host client.old.salt (client_digest client.old nonce))) }
+            × (self.new ≡ self.old ++ ping_bytes client.old.host client.old.salt
+            (client_digest client.old nonce))) }
         ensures not_helo { IsErrOf result (HeloError.Fault HandshakeFault.NotHelo)
             ↔ ((nonce : List ℕ) → IsHelo item.now nonce → ⊥) }
-        ensures only { IfErr result (λ e. (e ≡ HeloError.Fault HandshakeFault.NotHelo) ⊎ (e ≡ HeloError.Memory)) }
+        ensures only { IfErr result
+            (λ e. (e ≡ HeloError.Fault HandshakeFault.NotHelo) ⊎ (e ≡ HeloError.Memory)) }
         ensures client { OnErr result (client.new ≡ client.old) }
         ensures err { OnErr result (self.new ≡ self.old) }
     {

@@ -84,7 +84,8 @@ fn is_nil(item: &[u8]) -> bool
 
 // The evidence, if the item is the acknowledgement that is awaited.
 fn awaited_of<A: Allocator>(chunk: Option<ChunkId>, item: &[u8]) -> Option<Evidence<A>>
-    ensures { MatchOption result (IsAwaited chunk item.now → ⊥) (λ evidence. (id : ChunkId) × (chunk ≡ Some id)
+    ensures { MatchOption result (IsAwaited chunk item.now → ⊥)
+        (λ evidence. (id : ChunkId) × (chunk ≡ Some id)
         × (evidence ≡ Acknowledged id) × IsAcknowledgement item.now (chunk_text id)) }
 {
     match chunk {

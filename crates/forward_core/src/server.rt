@@ -137,9 +137,12 @@ impl<A: Allocator + Copy> ServerSession<A> {
             × ServerReads self.old.phase (self.old.held ++ piece.now) out
             × (self.new ≡ after self.old out) × (map wanted demands.items ≡ out.wants)) }
         // So each message can be answered.
-        ensures asked { IfOk result (λ demands. All (λ demand. IsAskedIn self.new.asked (wanted demand)) demands.items) }
-        ensures closed { IsErrOf result (SessionError.Fault SessionFault.Closed) ↔ (self.old.phase ≡ Over) }
-        ensures only { IfErr result (λ e. (e ≡ SessionError.Fault SessionFault.Closed) ⊎ (e ≡ SessionError.Memory)) }
+        ensures asked { IfOk result
+            (λ demands. All (λ demand. IsAskedIn self.new.asked (wanted demand)) demands.items) }
+        ensures closed { IsErrOf result (SessionError.Fault SessionFault.Closed)
+            ↔ (self.old.phase ≡ Over) }
+        ensures only { IfErr result
+            (λ e. (e ≡ SessionError.Fault SessionFault.Closed) ⊎ (e ≡ SessionError.Memory)) }
         ensures err { OnErr result (self.new ≡ self.old) }
     {
         match &self.phase {
@@ -156,7 +159,8 @@ impl<A: Allocator + Copy> ServerSession<A> {
         ensures reads { IfOk result (λ demands. (out : Outcome)
             × ServerReads self.old.phase (self.old.held ++ piece.now) out
             × (self.new ≡ after self.old out) × (map wanted demands.items ≡ out.wants)) }
-        ensures asked { IfOk result (λ demands. All (λ demand. IsAskedIn self.new.asked (wanted demand)) demands.items) }
+        ensures asked { IfOk result
+            (λ demands. All (λ demand. IsAskedIn self.new.asked (wanted demand)) demands.items) }
         ensures err { OnErr result (self.new ≡ self.old) }
     {
         let before = self.held.len();
@@ -179,7 +183,8 @@ impl<A: Allocator + Copy> ServerSession<A> {
         ensures reads { IfOk result (λ demands. (out : Outcome)
             × ServerReads self.old.phase (self.old.held ++ piece.now) out
             × (self.new ≡ after self.old out) × (map wanted demands.items ≡ out.wants)) }
-        ensures asked { IfOk result (λ demands. All (λ demand. IsAskedIn self.new.asked (wanted demand)) demands.items) }
+        ensures asked { IfOk result
+            (λ demands. All (λ demand. IsAskedIn self.new.asked (wanted demand)) demands.items) }
         ensures err { OnErr result (self.new ≡ self.old) }
     {
         let before = self.held.len();
@@ -202,7 +207,8 @@ impl<A: Allocator + Copy> ServerSession<A> {
         ensures reads { IfOk result (λ demands. (out : Outcome)
             × ServerReads self.old.phase (self.old.held ++ more.now) out
             × (self.new ≡ after self.old out) × (map wanted demands.items ≡ out.wants)) }
-        ensures asked { IfOk result (λ demands. All (λ demand. IsAskedIn self.new.asked (wanted demand)) demands.items) }
+        ensures asked { IfOk result
+            (λ demands. All (λ demand. IsAskedIn self.new.asked (wanted demand)) demands.items) }
         ensures err { OnErr result (self.new ≡ self.old) }
     {
         match take_both(self.held.alloc(), self.held.as_slice(), more)? {
@@ -224,7 +230,8 @@ impl<A: Allocator + Copy> ServerSession<A> {
         ensures reads { IfOk result (λ demands. (out : Outcome)
             × ServerReads self.old.phase (self.old.held ++ more.now) out
             × (self.new ≡ after self.old out) × (map wanted demands.items ≡ out.wants)) }
-        ensures asked { IfOk result (λ demands. All (λ demand. IsAskedIn self.new.asked (wanted demand)) demands.items) }
+        ensures asked { IfOk result
+            (λ demands. All (λ demand. IsAskedIn self.new.asked (wanted demand)) demands.items) }
         ensures err { OnErr result (self.new ≡ self.old) }
     {
         self.held.replace(more.split_at(taken.len).1)?;
@@ -261,7 +268,8 @@ impl<A: Allocator + Copy> ServerSession<A> {
         ensures reads { IfOk result (λ demands. (out : Outcome)
             × ServerReads self.old.phase self.old.held out
             × (self.new ≡ after self.old out) × (map wanted demands.items ≡ out.wants)) }
-        ensures asked { IfOk result (λ demands. All (λ demand. IsAskedIn self.new.asked (wanted demand)) demands.items) }
+        ensures asked { IfOk result
+            (λ demands. All (λ demand. IsAskedIn self.new.asked (wanted demand)) demands.items) }
         ensures err { OnErr result (self.new ≡ self.old) }
     {
         let taken = self.read_all()?;
@@ -294,7 +302,11 @@ impl<A: Allocator + Copy> ServerSession<A> {
         requires filled { IsSome reserved.filled }
         requires made { Contains self.old.asked reserved.asked }
         ensures ok { OnOk result ((answer : Answer) × (reserved.filled ≡ Some answer)
-            × (self.new ≡ record self.old { outgoing = self.old.outgoing ++ answer.bytes; taken = self.old.taken ++ reserved ∷ [] })) }
+            × (self.new ≡ record
+            self.old {
+              outgoing = self.old.outgoing ++ answer.bytes;
+              taken = self.old.taken ++ reserved ∷ [];
+            })) }
         ensures back { IfErr result (λ e. e.reserved ≡ reserved) }
         ensures err { OnErr result (self.new ≡ self.old) }
     {

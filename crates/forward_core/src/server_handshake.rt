@@ -22,7 +22,8 @@ pub fn take_ping<A: Allocator + Copy>(
     server: &Server<A>,
     bytes: &[u8],
 ) -> Result<TakenItem<A>, AllocError>
-    ensures greets { IfOk result (λ taken. Greets server.now bytes.now (outcome_of (Awaiting server.now) bytes.now taken)) }
+    ensures greets { IfOk result
+        (λ taken. Greets server.now bytes.now (outcome_of (Awaiting server.now) bytes.now taken)) }
     ensures len { IfOk result (λ taken. taken.len ≤ length bytes.now) }
 {
     match first_len(bytes) {
@@ -34,7 +35,9 @@ pub fn take_ping<A: Allocator + Copy>(
 // The bytes only begin what the client shows first: more has to come, unless too much has.
 fn wait_for_ping<A: Allocator + Copy>(alloc: A, bytes: &[u8]) -> Result<TakenItem<A>, AllocError>
     requires { IsOpen bytes.now }
-    ensures greets { IfOk result (λ taken. (server : ServerEnd) → Greets server bytes.now (outcome_of (Awaiting server) bytes.now taken)) }
+    ensures greets { IfOk result
+        (λ taken. (server : ServerEnd)
+        → Greets server bytes.now (outcome_of (Awaiting server) bytes.now taken)) }
     ensures len { IfOk result (λ taken. taken.len ≤ length bytes.now) }
 {
     let mut taken = TakenItem::new(alloc, Standing::Same, Vec::new(alloc));
@@ -55,7 +58,8 @@ fn answer_ping<A: Allocator + Copy>(
 ) -> Result<TakenItem<A>, AllocError>
     requires end { end ≤ length bytes.now }
     requires shown { IsShown bytes.now (take end bytes.now) (drop end bytes.now) }
-    ensures greets { IfOk result (λ taken. Greets server.now bytes.now (outcome_of (Awaiting server.now) bytes.now taken)) }
+    ensures greets { IfOk result
+        (λ taken. Greets server.now bytes.now (outcome_of (Awaiting server.now) bytes.now taken)) }
     ensures len { IfOk result (λ taken. taken.len ≤ length bytes.now) }
 {
     let (item, more) = bytes.split_at(end);

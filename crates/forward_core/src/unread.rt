@@ -33,7 +33,8 @@ impl<A: Allocator> Model for Unread<A> {
 
     ghost view = { λ u. u.bytes.items };
 
-    ghost invariant = { λ u. (u.given ≤ vec_len u.bytes) × IsAfter u.scanner (take u.given u.bytes.items) };
+    ghost invariant = { λ u. (u.given ≤ vec_len u.bytes)
+        × IsAfter u.scanner (take u.given u.bytes.items) };
 }
 
 impl<A: Allocator> Unread<A> {
@@ -67,7 +68,8 @@ impl<A: Allocator> Unread<A> {
     ///
     /// The error is want of memory, and changes nothing.
     pub fn complete(&mut self, piece: &[u8]) -> Result<Option<usize>, AllocError>
-        ensures ok { IfOk result (λ taken. MatchOption taken ((self.new ≡ self.old ++ piece.now) × IsOpen self.new)
+        ensures ok { IfOk result
+            (λ taken. MatchOption taken ((self.new ≡ self.old ++ piece.now) × IsOpen self.new)
             (λ n. (n ≤ length piece.now) × (self.new ≡ self.old ++ take n piece.now))) }
         ensures err { OnErr result (self.new ≡ self.old) }
     {

@@ -79,14 +79,18 @@ impl<A: Allocator> Journal<A> {
     /// nothing.
     pub fn sync<D: Dir>(&self, dir: &mut D) -> Result<(), DirError>
         requires open { IsOpenIn self.now (D.opened dir.old) }
-        ensures ok { D.is_honest dir.old → (t : JournalLog) → Keeps self.now (now (D.history dir.old)) t
+        ensures ok { D.is_honest dir.old → (t : JournalLog)
+            → Keeps self.now (now (D.history dir.old)) t
             → OnOk result (Keeps self.now (now (D.history dir.new)) (all_durable t)) }
-        ensures err { D.is_honest dir.old → (t : JournalLog) → Keeps self.now (now (D.history dir.old)) t
+        ensures err { D.is_honest dir.old → (t : JournalLog)
+            → Keeps self.now (now (D.history dir.old)) t
             → OnErr result (Keeps self.now (now (D.history dir.new)) t) }
         // A stop at any moment of the call leaves a folder that opens so.
-        ensures moments { D.is_honest dir.old → (t : JournalLog) → Keeps self.now (now (D.history dir.old)) t
+        ensures moments { D.is_honest dir.old → (t : JournalLog)
+            → Keeps self.now (now (D.history dir.old)) t
             → LeavesOnly (D.history dir.old) (D.history dir.new) (OpensWithin self.now.path t) }
-        ensures own { WritesOwn D.is_honest D.history D.opened D.fault_count self.now dir.old dir.new result }
+        ensures own { WritesOwn D.is_honest D.history D.opened D.fault_count self.now dir.old
+            dir.new result }
     {
         dir.sync(self.file)
     }
@@ -109,9 +113,16 @@ impl<A: Allocator + Copy> Journal<A> {
         requires short { length (body_of (record_of item.now)) ≤ longest_body }
         ensures ready { OnOk result (IsReady self.new (record_of item.now)) }
         ensures room { OnOk result (length self.new.ready ≤ D.bytes_left dir.new self.new.file) }
-        ensures rest { self.new ≡ record self.old { ready = self.new.ready; places = self.new.places; placing = self.new.placing } }
+        ensures rest { self.new
+            ≡ record self.old {
+              ready = self.new.ready;
+              places = self.new.places;
+              placing = self.new.placing;
+            } }
         ensures places { SamePlaces self.old.places self.new.places }
-        ensures keeps { D.is_honest dir.old → (t : JournalLog) → Keeps self.old (now (D.history dir.old)) t → Keeps self.new (now (D.history dir.new)) t }
+        ensures keeps { D.is_honest dir.old → (t : JournalLog)
+            → Keeps self.old (now (D.history dir.old)) t
+            → Keeps self.new (now (D.history dir.new)) t }
         ensures alone { LeavesAlone D.is_honest D.history D.fault_count dir.old dir.new }
         ensures opened { (other : FileNo) → D.opened dir.new other ≡ D.opened dir.old other }
     {
@@ -124,7 +135,12 @@ impl<A: Allocator + Copy> Journal<A> {
         requires tag { HasShortTag (record_of item.now) }
         requires short { length (body_of (record_of item.now)) ≤ longest_body }
         ensures ready { OnOk result (IsReady self.new (record_of item.now)) }
-        ensures rest { self.new ≡ record self.old { ready = self.new.ready; places = self.new.places; placing = self.new.placing } }
+        ensures rest { self.new
+            ≡ record self.old {
+              ready = self.new.ready;
+              places = self.new.places;
+              placing = self.new.placing;
+            } }
         ensures places { SamePlaces self.old.places self.new.places }
     {
         self.placing = Placing::Stays;
@@ -147,14 +163,23 @@ impl<A: Allocator + Copy> Journal<A> {
     pub fn put<D: Dir>(&mut self, dir: &mut D) -> Result<(), DirError>
         requires open { IsOpenIn self.old (D.opened dir.old) }
         requires room { length self.old.ready ≤ D.bytes_left dir.old self.old.file }
-        ensures journal { self.new ≡ record self.old { len = self.old.len + length self.old.ready; ready = []; places = self.new.places; placing = Stays } }
+        ensures journal { self.new
+            ≡ record self.old {
+              len = self.old.len + length self.old.ready;
+              ready = [];
+              places = self.new.places;
+              placing = Stays;
+            } }
         // A stop at any moment of the call leaves a folder that opens so.
-        ensures begins { D.is_honest dir.old → (t : JournalLog) (item : Step) → Keeps self.old (now (D.history dir.old)) t
+        ensures begins { D.is_honest dir.old → (t : JournalLog) (item : Step)
+            → Keeps self.old (now (D.history dir.old)) t
             → IsReady self.old item → Allows (state_of t) item
             → BeginsStep self.old self.new (D.history dir.old) (D.history dir.new) t item result }
-        ensures stray { D.is_honest dir.old → (t : JournalLog) → Keeps self.old (now (D.history dir.old)) t
+        ensures stray { D.is_honest dir.old → (t : JournalLog)
+            → Keeps self.old (now (D.history dir.old)) t
             → HasNoStray self.old.path (now (D.history dir.new)) }
-        ensures own { WritesOwn D.is_honest D.history D.opened D.fault_count self.old dir.old dir.new result }
+        ensures own { WritesOwn D.is_honest D.history D.opened D.fault_count self.old dir.old
+            dir.new result }
     {
         // Called for their laws alone.
         places_follow();
@@ -180,13 +205,17 @@ impl<A: Allocator + Copy> Journal<A> {
         requires open { IsOpenIn self.now (D.opened dir.old) }
         ensures honest { D.is_honest dir.old → D.is_honest dir.new }
         ensures time { D.is_honest dir.old → Elapses (D.history dir.old) (D.history dir.new) }
-        ensures same { D.is_honest dir.old → SameDisk (now (D.history dir.new)) (now (D.history dir.old)) }
+        ensures same { D.is_honest dir.old
+            → SameDisk (now (D.history dir.new)) (now (D.history dir.old)) }
         ensures opened { (other : FileNo) → D.opened dir.new other ≡ D.opened dir.old other }
-        ensures bytes { D.is_honest dir.old → (t : JournalLog) → Keeps self.now (now (D.history dir.old)) t
+        ensures bytes { D.is_honest dir.old → (t : JournalLog)
+            → Keeps self.now (now (D.history dir.old)) t
             → IfOk result (λ bytes. bytes.items ≡ entries_at (state_of t) serial) }
-        ensures whole { D.is_honest dir.old → (t : JournalLog) → Keeps self.now (now (D.history dir.old)) t → result ≢ Err JournalError.Damaged }
+        ensures whole { D.is_honest dir.old → (t : JournalLog)
+            → Keeps self.now (now (D.history dir.old)) t → result ≢ Err JournalError.Damaged }
         ensures not_last { result ≢ Err JournalError.LastGeneration }
-        ensures cause { HasReason (D.fault_count dir.old) (D.fault_count dir.new) result JournalError.Fault }
+        ensures cause { HasReason (D.fault_count dir.old)
+            (D.fault_count dir.new) result JournalError.Fault }
     {
         read_extents(alloc, dir, self.file, self.places.at(serial))
     }
@@ -204,19 +233,25 @@ impl<A: Allocator + Copy> Journal<A> {
         requires open { IsOpenIn self.old (D.opened dir.old) }
         requires tags { HasShortTags chunks.now }
         // A stop at any moment of the call leaves a folder that opens so.
-        ensures renews { D.is_honest dir.old → (t : JournalLog) → Keeps self.old (now (D.history dir.old)) t
+        ensures renews { D.is_honest dir.old → (t : JournalLog)
+            → Keeps self.old (now (D.history dir.old)) t
             → settled (state_of t) ≡ reopened chunks.now
             → Renews self.old self.new chunks.now (D.fault_count dir.old) (D.fault_count dir.new)
             (D.history dir.old) (D.history dir.new) t result }
-        ensures gap { D.is_honest dir.old → (t : JournalLog) → Keeps self.old (now (D.history dir.old)) t
+        ensures gap { D.is_honest dir.old → (t : JournalLog)
+            → Keeps self.old (now (D.history dir.old)) t
             → HasNoGap self.old.path (now (D.history dir.new)) }
-        ensures memory { D.is_honest dir.old → (t : JournalLog) → Keeps self.old (now (D.history dir.old)) t
+        ensures memory { D.is_honest dir.old → (t : JournalLog)
+            → Keeps self.old (now (D.history dir.old)) t
             → (result ≡ Err JournalError.Memory) → Keeps self.new (now (D.history dir.new)) t }
         ensures next { OnOk result (IsNextOf self.old self.new chunks.now) }
         ensures gone { D.is_honest dir.old
-            → OnOk result (reads (now (D.history dir.new)) (journal_name self.old.path self.old.number) ≡ None) }
-        ensures refused { RefusesRenewal D.is_honest D.history self.old self.new dir.old dir.new result }
-        ensures others { LeavesOthers D.is_honest D.history D.opened D.fault_count self.old self.new dir.old dir.new result }
+            → OnOk result (reads (now (D.history dir.new))
+            (journal_name self.old.path self.old.number) ≡ None) }
+        ensures refused { RefusesRenewal D.is_honest D.history self.old self.new dir.old dir.new
+            result }
+        ensures others { LeavesOthers D.is_honest D.history D.opened D.fault_count self.old
+            self.new dir.old dir.new result }
     {
         if self.number == u32::MAX {
             return Err(JournalError::LastGeneration);

@@ -36,10 +36,12 @@ impl<'a, A: Allocator + Copy> Older<'a, A> {
     ) -> Result<Older<'a, A>, DirError>
         ensures honest { D.is_honest dir.old → D.is_honest dir.new }
         ensures time { D.is_honest dir.old → Elapses (D.history dir.old) (D.history dir.new) }
-        ensures same { D.is_honest dir.old → SameDisk (now (D.history dir.new)) (now (D.history dir.old)) }
+        ensures same { D.is_honest dir.old
+            → SameDisk (now (D.history dir.new)) (now (D.history dir.old)) }
         ensures path { IfOk result (λ older. older.path.now ≡ path.now) }
         ensures number { IfOk result (λ older. older.number ≡ number) }
-        ensures files { IfOk result (λ older. AreOlder path.now number (D.opened dir.new) older.files) }
+        ensures files { IfOk result
+            (λ older. AreOlder path.now number (D.opened dir.new) older.files) }
         ensures all { D.is_honest dir.old → IfOk result (λ older. (n : ℕ) → 1 ≤ n → n < number
             → IsGoneBut path.now older.files (now (D.history dir.old)) n) }
         ensures others { (other : FileNo) → IsSome (D.opened dir.old other)
@@ -63,12 +65,17 @@ impl<'a, A: Allocator + Copy> Older<'a, A> {
         requires files { AreOlder self.path.now self.number (D.opened dir.old) self.files }
         ensures honest { D.is_honest dir.old → D.is_honest dir.new }
         ensures elsewhere { D.is_honest dir.old
-            → ChangesBelow self.entry.path.now self.entry.number (now (D.history dir.old)) (now (D.history dir.new)) }
+            → ChangesBelow self.entry.path.now self.entry.number (now (D.history dir.old))
+            (now (D.history dir.new)) }
         ensures moments { D.is_honest dir.old → LeavesOnly (D.history dir.old) (D.history dir.new)
-            (IsLeftOf (ChangesBelow self.entry.path.now self.entry.number (now (D.history dir.old)))) }
-        ensures gone { D.is_honest dir.old → (n : ℕ) → n < 2 ^ 32 → IsGoneBut self.entry.path.now self.entry.files (now (D.history dir.old)) n
-            → OnOk result (reads (now (D.history dir.new)) (journal_name self.entry.path.now n) ≡ None) }
-        ensures kept { (other : FileNo) (name : List ℕ) → IsAbove self.entry.path.now self.entry.number name
+            (IsLeftOf (ChangesBelow self.entry.path.now self.entry.number
+            (now (D.history dir.old)))) }
+        ensures gone { D.is_honest dir.old → (n : ℕ) → n < 2 ^ 32
+            → IsGoneBut self.entry.path.now self.entry.files (now (D.history dir.old)) n
+            → OnOk result (reads (now (D.history dir.new)) (journal_name self.entry.path.now n)
+            ≡ None) }
+        ensures kept { (other : FileNo) (name : List ℕ)
+            → IsAbove self.entry.path.now self.entry.number name
             → D.opened dir.old other ≡ Some name → D.opened dir.new other ≡ Some name }
         ensures cause { HasCause (D.fault_count dir.old) (D.fault_count dir.new) result }
         ensures only { OnErr result (result ≡ Err DirError.Fault) }
@@ -93,11 +100,14 @@ fn open_below<A: Allocator + Copy, D: Dir>(
     requires files { AreOlder path.now number (D.opened dir.old) files.old }
     ensures honest { D.is_honest dir.old → D.is_honest dir.new }
     ensures time { D.is_honest dir.old → Elapses (D.history dir.old) (D.history dir.new) }
-    ensures same { D.is_honest dir.old → SameDisk (now (D.history dir.new)) (now (D.history dir.old)) }
+    ensures same { D.is_honest dir.old
+        → SameDisk (now (D.history dir.new)) (now (D.history dir.old)) }
     ensures files { OnOk result (AreOlder path.now number (D.opened dir.new) files.new) }
     ensures added { OnOk result (next < number → IsSome (get nat_cmp files.new next)) }
-    ensures others { OnOk result ((n : ℕ) → IsSome (get nat_cmp files.old n) → IsSome (get nat_cmp files.new n)) }
-    ensures stays_open { (other : FileNo) → IsSome (D.opened dir.old other) → D.opened dir.new other ≡ D.opened dir.old other }
+    ensures others { OnOk result
+        ((n : ℕ) → IsSome (get nat_cmp files.old n) → IsSome (get nat_cmp files.new n)) }
+    ensures stays_open { (other : FileNo) → IsSome (D.opened dir.old other)
+        → D.opened dir.new other ≡ D.opened dir.old other }
     ensures cause { HasCause (D.fault_count dir.old) (D.fault_count dir.new) result }
 {
     if next >= number {

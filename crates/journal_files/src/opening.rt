@@ -50,13 +50,17 @@ impl<A: Allocator + Copy> Journal<A> {
     pub fn open<D: Dir>(alloc: A, dir: &mut D, path: &[u8]) -> Result<Opened<A>, JournalError>
         ensures opens { D.is_honest dir.old → IfOk result (λ opened.
             OpensNext path.now (now (D.history dir.old)) (now (D.history dir.new)) opened.journal opened.chunks) }
-        ensures fresh { IfOk result (λ opened. IsFresh path.now (D.opened dir.new) opened.journal opened.chunks) }
+        ensures fresh { IfOk result
+            (λ opened. IsFresh path.now (D.opened dir.new) opened.journal opened.chunks) }
         ensures refused { D.is_honest dir.old → IfErr result (IsRefused path.now
-            (D.fault_count dir.old) (D.fault_count dir.new) (now (D.history dir.old)) (now (D.history dir.new))) }
+            (D.fault_count dir.old) (D.fault_count dir.new) (now (D.history dir.old))
+            (now (D.history dir.new))) }
         // A stop at any moment of the call, whatever it answers, leaves a folder that opens to what
         // one before the call could open to.
-        ensures leaves { D.is_honest dir.old → LeavesFolder D.is_honest D.history path.now dir.old dir.new }
-        ensures cause { HasReason (D.fault_count dir.old) (D.fault_count dir.new) result JournalError.Fault }
+        ensures leaves { D.is_honest dir.old
+            → LeavesFolder D.is_honest D.history path.now dir.old dir.new }
+        ensures cause { HasReason (D.fault_count dir.old)
+            (D.fault_count dir.new) result JournalError.Fault }
     {
         // Called for its law alone.
         answers_one_way();
@@ -105,24 +109,29 @@ fn find<A: Allocator + Copy, D: Dir>(
 ) -> Result<Found<A>, JournalError>
     ensures honest { D.is_honest dir.old → D.is_honest dir.new }
     ensures time { D.is_honest dir.old → Elapses (D.history dir.old) (D.history dir.new) }
-    ensures same { D.is_honest dir.old → SameDisk (now (D.history dir.new)) (now (D.history dir.old)) }
+    ensures same { D.is_honest dir.old
+        → SameDisk (now (D.history dir.new)) (now (D.history dir.old)) }
     ensures state { D.is_honest dir.old
         → IfOk result (λ found. Opens path.now (reads (now (D.history dir.old))) found.chunks) }
     ensures greatest { D.is_honest dir.old
         → IfOk result (λ found. IsLastTaken path.now (now (D.history dir.old)) found.greatest) }
     ensures source { D.is_honest dir.old
-        → IfOk result (λ found. FindsSource (D.opened dir.new) (now (D.history dir.old)) path.now found.greatest found.file found.places found.chunks) }
-    ensures open { IfOk result (λ found. IfSome found.file (λ file. IsSome (D.opened dir.new file))) }
+        → IfOk result (λ found. FindsSource (D.opened dir.new)
+        (now (D.history dir.old)) path.now found.greatest found.file found.places found.chunks) }
+    ensures open { IfOk result
+        (λ found. IfSome found.file (λ file. IsSome (D.opened dir.new file))) }
     ensures tags { IfOk result (λ found. HasShortTags found.chunks) }
     ensures unclaimed { IfOk result (λ found. reopened found.chunks ≡ found.chunks) }
     ensures damaged { D.is_honest dir.old → (result ≡ Err JournalError.Damaged)
         → IsDamagedFolder path.now (reads (now (D.history dir.old))) }
     ensures last { D.is_honest dir.old → (result ≡ Err JournalError.LastGeneration)
         → IsSome (reads (now (D.history dir.old)) (journal_name path.now (2 ^ 32 - 1))) }
-    ensures unread { D.is_honest dir.old → IsSome (reads (now (D.history dir.old)) (journal_name path.now (2 ^ 32 - 1)))
+    ensures unread { D.is_honest dir.old
+        → IsSome (reads (now (D.history dir.old)) (journal_name path.now (2 ^ 32 - 1)))
         → result ≢ Err JournalError.Damaged }
     ensures below { IfOk result (λ found. found.greatest < 2 ^ 32 - 1) }
-    ensures cause { HasReason (D.fault_count dir.old) (D.fault_count dir.new) result JournalError.Fault }
+    ensures cause { HasReason (D.fault_count dir.old)
+        (D.fault_count dir.new) result JournalError.Fault }
 {
     let mut found = search_folder(alloc, dir, path)?;
     let taken = last_taken(alloc, dir, path, found.greatest)?;
@@ -138,24 +147,29 @@ fn search_folder<A: Allocator + Copy, D: Dir>(
 ) -> Result<Found<A>, JournalError>
     ensures honest { D.is_honest dir.old → D.is_honest dir.new }
     ensures time { D.is_honest dir.old → Elapses (D.history dir.old) (D.history dir.new) }
-    ensures same { D.is_honest dir.old → SameDisk (now (D.history dir.new)) (now (D.history dir.old)) }
+    ensures same { D.is_honest dir.old
+        → SameDisk (now (D.history dir.new)) (now (D.history dir.old)) }
     ensures state { D.is_honest dir.old
         → IfOk result (λ found. Opens path.now (reads (now (D.history dir.old))) found.chunks) }
     ensures greatest { D.is_honest dir.old
         → IfOk result (λ found. IsFound path.now (reads (now (D.history dir.old))) found.greatest) }
     ensures source { D.is_honest dir.old
-        → IfOk result (λ found. FindsSource (D.opened dir.new) (now (D.history dir.old)) path.now found.greatest found.file found.places found.chunks) }
-    ensures open { IfOk result (λ found. IfSome found.file (λ file. IsSome (D.opened dir.new file))) }
+        → IfOk result (λ found. FindsSource (D.opened dir.new)
+        (now (D.history dir.old)) path.now found.greatest found.file found.places found.chunks) }
+    ensures open { IfOk result
+        (λ found. IfSome found.file (λ file. IsSome (D.opened dir.new file))) }
     ensures tags { IfOk result (λ found. HasShortTags found.chunks) }
     ensures unclaimed { IfOk result (λ found. reopened found.chunks ≡ found.chunks) }
     ensures damaged { D.is_honest dir.old → (result ≡ Err JournalError.Damaged)
         → IsDamagedFolder path.now (reads (now (D.history dir.old))) }
     ensures last { D.is_honest dir.old → (result ≡ Err JournalError.LastGeneration)
         → IsSome (reads (now (D.history dir.old)) (journal_name path.now (2 ^ 32 - 1))) }
-    ensures unread { D.is_honest dir.old → IsSome (reads (now (D.history dir.old)) (journal_name path.now (2 ^ 32 - 1)))
+    ensures unread { D.is_honest dir.old
+        → IsSome (reads (now (D.history dir.old)) (journal_name path.now (2 ^ 32 - 1)))
         → result ≢ Err JournalError.Damaged }
     ensures below { IfOk result (λ found. found.greatest < 2 ^ 32 - 1) }
-    ensures cause { HasReason (D.fault_count dir.old) (D.fault_count dir.new) result JournalError.Fault }
+    ensures cause { HasReason (D.fault_count dir.old)
+        (D.fault_count dir.new) result JournalError.Fault }
 {
     let mut rest = numbers(alloc, dir, generations(path))?;
     let greatest = greatest_of(&rest);
@@ -219,8 +233,11 @@ fn last_taken<A: Allocator + Copy, D: Dir>(
     ensures from { IfOk result (λ taken. there ≤ taken) }
     ensures below { IfOk result (λ taken. taken < 2 ^ 32 - 1) }
     ensures removed { D.is_honest dir.now
-        → IfOk result (λ taken. (taken ≡ there) ⊎ WasRemoved (now (D.history dir.now)) (journal_name path.now taken)) }
-    ensures free { D.is_honest dir.now → IfOk result (λ taken. WasRemoved (now (D.history dir.now)) (journal_name path.now (taken + 1)) → ⊥) }
+        → IfOk result (λ taken. (taken ≡ there)
+        ⊎ WasRemoved (now (D.history dir.now)) (journal_name path.now taken)) }
+    ensures free { D.is_honest dir.now
+        → IfOk result (λ taken. WasRemoved (now (D.history dir.now))
+        (journal_name path.now (taken + 1)) → ⊥) }
 {
     let mut taken = there;
     while taken < u32::MAX - 1 {
@@ -239,7 +256,9 @@ fn was_removed<A: Allocator, D: Dir>(
     path: &[u8],
     number: u32,
 ) -> Result<bool, AllocError>
-    ensures { D.is_honest dir.now → IfOk result (λ was. IsTrue was ↔ WasRemoved (now (D.history dir.now)) (journal_name path.now number)) }
+    ensures { D.is_honest dir.now
+        → IfOk result (λ was. IsTrue was
+        ↔ WasRemoved (now (D.history dir.now)) (journal_name path.now number)) }
 {
     let name = generations(path).name(alloc, number)?;
     Ok(dir.was_removed(&name))
@@ -254,16 +273,24 @@ fn read_generation<A: Allocator + Copy, D: Dir>(
 ) -> Result<Option<Meant<A>>, JournalError>
     ensures honest { D.is_honest dir.old → D.is_honest dir.new }
     ensures time { D.is_honest dir.old → Elapses (D.history dir.old) (D.history dir.new) }
-    ensures same { D.is_honest dir.old → SameDisk (now (D.history dir.new)) (now (D.history dir.old)) }
+    ensures same { D.is_honest dir.old
+        → SameDisk (now (D.history dir.new)) (now (D.history dir.old)) }
     ensures meant { D.is_honest dir.old → IfOk result (λ found. IfSome found (λ meant.
         IsMeant (reads (now (D.history dir.old)) (journal_name path.now number)) meant.outlined.chunks meant.outlined.places)) }
-    ensures unsealed { D.is_honest dir.old → result ≡ Ok None → IsSo (reads (now (D.history dir.old)) (journal_name path.now number)) EndsUnsealed }
-    ensures damaged { D.is_honest dir.old → result ≡ Err JournalError.Damaged → IsSo (reads (now (D.history dir.old)) (journal_name path.now number)) IsDamaged }
-    ensures open { IfOk result (λ found. IfSome found (λ meant. D.opened dir.new meant.file ≡ Some (journal_name path.now number))) }
-    ensures tags { IfOk result (λ found. IfSome found (λ meant. HasShortTags meant.outlined.chunks)) }
-    ensures unclaimed { IfOk result (λ found. IfSome found (λ meant. reopened meant.outlined.chunks ≡ meant.outlined.chunks)) }
+    ensures unsealed { D.is_honest dir.old → result ≡ Ok None
+        → IsSo (reads (now (D.history dir.old)) (journal_name path.now number)) EndsUnsealed }
+    ensures damaged { D.is_honest dir.old → result ≡ Err JournalError.Damaged
+        → IsSo (reads (now (D.history dir.old)) (journal_name path.now number)) IsDamaged }
+    ensures open { IfOk result
+        (λ found. IfSome found
+        (λ meant. D.opened dir.new meant.file ≡ Some (journal_name path.now number))) }
+    ensures tags { IfOk result
+        (λ found. IfSome found (λ meant. HasShortTags meant.outlined.chunks)) }
+    ensures unclaimed { IfOk result
+        (λ found. IfSome found (λ meant. reopened meant.outlined.chunks ≡ meant.outlined.chunks)) }
     ensures not_last { result ≢ Err JournalError.LastGeneration }
-    ensures cause { HasReason (D.fault_count dir.old) (D.fault_count dir.new) result JournalError.Fault }
+    ensures cause { HasReason (D.fault_count dir.old)
+        (D.fault_count dir.new) result JournalError.Fault }
 {
     let name = generations(path).name(alloc, number)?;
     let file = dir.open(&name)?;

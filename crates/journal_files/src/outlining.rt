@@ -29,17 +29,22 @@ pub(crate) fn feed_file<A: Allocator + Copy, D: Dir>(
     requires { IsSome (D.opened dir.old file) }
     ensures honest { D.is_honest dir.old → D.is_honest dir.new }
     ensures time { D.is_honest dir.old → Elapses (D.history dir.old) (D.history dir.new) }
-    ensures same { D.is_honest dir.old → SameDisk (now (D.history dir.new)) (now (D.history dir.old)) }
+    ensures same { D.is_honest dir.old
+        → SameDisk (now (D.history dir.new)) (now (D.history dir.old)) }
     ensures opened { (other : FileNo) → D.opened dir.new other ≡ D.opened dir.old other }
     ensures heard { IfOk result HasHeard }
     ensures all { D.is_honest dir.old → (name bytes : List ℕ) → D.opened dir.old file ≡ Some name
-        → reads (now (D.history dir.old)) name ≡ Some bytes → IfOk result (λ outline. IsAfter outline bytes) }
+        → reads (now (D.history dir.old)) name ≡ Some bytes
+        → IfOk result (λ outline. IsAfter outline bytes) }
     ensures small { D.is_honest dir.old → (name bytes : List ℕ) → D.opened dir.old file ≡ Some name
         → reads (now (D.history dir.old)) name ≡ Some bytes → OnOk result (length bytes < 2 ^ 64) }
-    ensures damaged { D.is_honest dir.old → (name bytes : List ℕ) → D.opened dir.old file ≡ Some name
-        → reads (now (D.history dir.old)) name ≡ Some bytes → result ≡ Err JournalError.Damaged → IsDamaged bytes }
+    ensures damaged { D.is_honest dir.old → (name bytes : List ℕ)
+        → D.opened dir.old file ≡ Some name
+        → reads (now (D.history dir.old)) name ≡ Some bytes → result ≡ Err JournalError.Damaged
+        → IsDamaged bytes }
     ensures not_last { result ≢ Err JournalError.LastGeneration }
-    ensures cause { HasReason (D.fault_count dir.old) (D.fault_count dir.new) result JournalError.Fault }
+    ensures cause { HasReason (D.fault_count dir.old)
+        (D.fault_count dir.new) result JournalError.Fault }
 {
     let mut outline = Outline::new(alloc);
     let len = dir.length(file)? as u64;
@@ -67,19 +72,25 @@ fn feed_part<A: Allocator + Copy, D: Dir>(
     requires few { outline.old.fed + length part.old < 2 ^ 64 }
     ensures honest { D.is_honest dir.old → D.is_honest dir.new }
     ensures time { D.is_honest dir.old → Elapses (D.history dir.old) (D.history dir.new) }
-    ensures same { D.is_honest dir.old → SameDisk (now (D.history dir.new)) (now (D.history dir.old)) }
+    ensures same { D.is_honest dir.old
+        → SameDisk (now (D.history dir.new)) (now (D.history dir.old)) }
     ensures opened { (other : FileNo) → D.opened dir.new other ≡ D.opened dir.old other }
     ensures len { length part.new ≡ length part.old }
     ensures heard { HasHeard outline.old → OnOk result (HasHeard outline.new) }
     ensures fed { OnOk result (outline.new.fed ≡ outline.old.fed + length part.old) }
-    ensures all { D.is_honest dir.old → (name bytes seen : List ℕ) → D.opened dir.old file ≡ Some name
-        → reads (now (D.history dir.old)) name ≡ Some bytes → HasPart bytes at (length part.old) → IsAfter outline.old seen
+    ensures all { D.is_honest dir.old → (name bytes seen : List ℕ)
+        → D.opened dir.old file ≡ Some name
+        → reads (now (D.history dir.old)) name ≡ Some bytes → HasPart bytes at (length part.old)
+        → IsAfter outline.old seen
         → OnOk result (IsAfter outline.new (seen ++ part_of bytes at (length part.old))) }
-    ensures damaged { D.is_honest dir.old → (name bytes seen : List ℕ) → D.opened dir.old file ≡ Some name
-        → reads (now (D.history dir.old)) name ≡ Some bytes → HasPart bytes at (length part.old) → IsAfter outline.old seen
+    ensures damaged { D.is_honest dir.old → (name bytes seen : List ℕ)
+        → D.opened dir.old file ≡ Some name
+        → reads (now (D.history dir.old)) name ≡ Some bytes → HasPart bytes at (length part.old)
+        → IsAfter outline.old seen
         → result ≡ Err JournalError.Damaged → IsDamaged seen }
     ensures not_last { result ≢ Err JournalError.LastGeneration }
-    ensures cause { HasReason (D.fault_count dir.old) (D.fault_count dir.new) result JournalError.Fault }
+    ensures cause { HasReason (D.fault_count dir.old)
+        (D.fault_count dir.new) result JournalError.Fault }
 {
     read_exact(dir, file, at, part)?;
     match outline.feed(part) {
@@ -94,9 +105,12 @@ pub(crate) fn meaning<A: Allocator + Copy>(
     outline: Outline<A>,
 ) -> Result<Option<Outlined<A>>, JournalError>
     ensures outlined { (seen : List ℕ) → IsAfter outline seen
-        → IfOk result (λ found. IfSome found (λ outlined. IsOutlined seen outlined.chunks outlined.places outlined.used)) }
-    ensures unsealed { (seen : List ℕ) → IsAfter outline seen → result ≡ Ok None → EndsUnsealed seen }
-    ensures damaged { (seen : List ℕ) → IsAfter outline seen → result ≡ Err JournalError.Damaged → IsDamaged seen }
+        → IfOk result (λ found. IfSome found
+        (λ outlined. IsOutlined seen outlined.chunks outlined.places outlined.used)) }
+    ensures unsealed { (seen : List ℕ) → IsAfter outline seen → result ≡ Ok None
+        → EndsUnsealed seen }
+    ensures damaged { (seen : List ℕ) → IsAfter outline seen → result ≡ Err JournalError.Damaged
+        → IsDamaged seen }
     ensures no_fault { result ≢ Err JournalError.Fault }
     ensures not_last { result ≢ Err JournalError.LastGeneration }
 {

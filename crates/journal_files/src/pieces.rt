@@ -62,24 +62,34 @@ pub(crate) fn begin<A: Allocator + Copy, D: Dir>(
     requires source { IfSome from (λ file. IsSome (D.opened dir.old file)) }
     ensures honest { D.is_honest dir.old → D.is_honest dir.new }
     ensures ok { D.is_honest dir.old → HasNoneFrom path.now (now (D.history dir.old)) number
-        → HasSource (D.opened dir.old) (now (D.history dir.old)) (journal_name path.now number) from places.now chunks.now
-        → IfOk result (λ journal. Keeps journal (now (D.history dir.new)) (new_generation chunks.now)) }
+        → HasSource (D.opened dir.old) (now (D.history dir.old))
+        (journal_name path.now number) from places.now chunks.now
+        → IfOk result (λ journal. Keeps journal (now (D.history dir.new))
+        (new_generation chunks.now)) }
     // A stop at any moment of the call leaves a folder that opens so.
-    ensures moments { D.is_honest dir.old → (t : JournalLog) → Recovers path.now (now (D.history dir.old)) t
+    ensures moments { D.is_honest dir.old → (t : JournalLog)
+        → Recovers path.now (now (D.history dir.old)) t
         → HasNoneFrom path.now (now (D.history dir.old)) number → IsOfSome t (reopened chunks.now)
-        → HasSource (D.opened dir.old) (now (D.history dir.old)) (journal_name path.now number) from places.now chunks.now
+        → HasSource (D.opened dir.old) (now (D.history dir.old))
+        (journal_name path.now number) from places.now chunks.now
         → LeavesOnly (D.history dir.old) (D.history dir.new) (OpensWithin path.now t) }
     ensures gap { D.is_honest dir.old → HasNoneFrom path.now (now (D.history dir.old)) number
-        → HasAllBelow path.now (now (D.history dir.old)) number → HasNoGap path.now (now (D.history dir.new)) }
+        → HasAllBelow path.now (now (D.history dir.old)) number
+        → HasNoGap path.now (now (D.history dir.new)) }
     ensures left { D.is_honest dir.old
-        → HasSource (D.opened dir.old) (now (D.history dir.old)) (journal_name path.now number) from places.now chunks.now
-        → OnErr result (IsGivenUp (D.fault_count dir.old) (D.fault_count dir.new) (journal_name path.now number) (now (D.history dir.old)) (now (D.history dir.new))) }
+        → HasSource (D.opened dir.old) (now (D.history dir.old))
+        (journal_name path.now number) from places.now chunks.now
+        → OnErr result (IsGivenUp (D.fault_count dir.old) (D.fault_count dir.new)
+        (journal_name path.now number) (now (D.history dir.old)) (now (D.history dir.new))) }
     ensures whole { D.is_honest dir.old
-        → HasSource (D.opened dir.old) (now (D.history dir.old)) (journal_name path.now number) from places.now chunks.now
+        → HasSource (D.opened dir.old) (now (D.history dir.old))
+        (journal_name path.now number) from places.now chunks.now
         → IsErrOf result JournalError.Damaged → ⊥ }
     ensures not_last { IsErrOf result JournalError.LastGeneration → ⊥ }
-    ensures there { D.is_honest dir.old → OnOk result (IsSome (reads (now (D.history dir.new)) (journal_name path.now number))) }
-    ensures state { OnOk result (settled (state_of (new_generation chunks.now)) ≡ reopened chunks.now) }
+    ensures there { D.is_honest dir.old
+        → OnOk result (IsSome (reads (now (D.history dir.new)) (journal_name path.now number))) }
+    ensures state { OnOk result
+        (settled (state_of (new_generation chunks.now)) ≡ reopened chunks.now) }
     ensures memory { D.is_honest dir.old → IsErrOf result JournalError.Memory
         → SameDisk (now (D.history dir.new)) (now (D.history dir.old)) }
     ensures elsewhere { D.is_honest dir.old → (name : List ℕ) → name ≢ journal_name path.now number
@@ -89,9 +99,11 @@ pub(crate) fn begin<A: Allocator + Copy, D: Dir>(
     ensures open { IfOk result (λ journal. IsOpenIn journal (D.opened dir.new)) }
     ensures others { OnOk result ((other : FileNo) → IsSome (D.opened dir.old other)
         → D.opened dir.new other ≡ D.opened dir.old other) }
-    ensures kept { (other : FileNo) (name : List ℕ) → D.opened dir.old other ≡ Some name → name ≢ journal_name path.now number
+    ensures kept { (other : FileNo) (name : List ℕ) → D.opened dir.old other ≡ Some name
+        → name ≢ journal_name path.now number
         → D.opened dir.new other ≡ Some name }
-    ensures cause { HasReason (D.fault_count dir.old) (D.fault_count dir.new) result JournalError.Fault }
+    ensures cause { HasReason (D.fault_count dir.old)
+        (D.fault_count dir.new) result JournalError.Fault }
 {
     let told = tell_chunks(alloc, chunks, places)?;
     let kept = Vec::from_slice(alloc, path)?;
@@ -120,9 +132,11 @@ fn give_up<D: Dir>(dir: &mut D, file: FileNo, refused: JournalError) -> JournalE
     ensures honest { D.is_honest dir.old → D.is_honest dir.new }
     ensures time { D.is_honest dir.old → Elapses (D.history dir.old) (D.history dir.new) }
     ensures gone { D.is_honest dir.old → (name : List ℕ) → D.opened dir.old file ≡ Some name
-        → IsTakenAway (D.fault_count dir.old) (D.fault_count dir.new) name (now (D.history dir.old)) (now (D.history dir.new)) }
+        → IsTakenAway (D.fault_count dir.old) (D.fault_count dir.new) name
+        (now (D.history dir.old)) (now (D.history dir.new)) }
     ensures answer { AnswersFor (D.fault_count dir.old) (D.fault_count dir.new) refused result }
-    ensures others { (other : FileNo) → other ≢ file → D.opened dir.new other ≡ D.opened dir.old other }
+    ensures others { (other : FileNo) → other ≢ file
+        → D.opened dir.new other ≡ D.opened dir.old other }
 {
     match dir.remove(file) {
         Ok(()) => refused,
@@ -164,16 +178,23 @@ fn make<A: Allocator, D: Dir>(
     requires source { IfSome from (λ file. IsSome (D.opened dir.old file)) }
     requires some { 0 < length buffer.old }
     ensures honest { D.is_honest dir.old → D.is_honest dir.new }
-    ensures ok { D.is_honest dir.old → (bytes : List ℕ) → CanGive (D.opened dir.old) (now (D.history dir.old)) name.now from pieces.now bytes
+    ensures ok { D.is_honest dir.old → (bytes : List ℕ)
+        → CanGive (D.opened dir.old) (now (D.history dir.old)) name.now from pieces.now bytes
         → OnOk result (HasNew name.now bytes (now (D.history dir.old)) (now (D.history dir.new))) }
-    ensures left { D.is_honest dir.old → (bytes : List ℕ) → CanGive (D.opened dir.old) (now (D.history dir.old)) name.now from pieces.now bytes
-        → OnErr result (IsGivenUp (D.fault_count dir.old) (D.fault_count dir.new) name.now (now (D.history dir.old)) (now (D.history dir.new))) }
-    ensures moments { D.is_honest dir.old → (bytes : List ℕ) → CanGive (D.opened dir.old) (now (D.history dir.old)) name.now from pieces.now bytes
-        → LeavesOnly (D.history dir.old) (D.history dir.new) (IsLeftOf (IsUnfinished name.now bytes (now (D.history dir.old)))) }
-    ensures whole { D.is_honest dir.old → (bytes : List ℕ) → CanGive (D.opened dir.old) (now (D.history dir.old)) name.now from pieces.now bytes
+    ensures left { D.is_honest dir.old → (bytes : List ℕ)
+        → CanGive (D.opened dir.old) (now (D.history dir.old)) name.now from pieces.now bytes
+        → OnErr result (IsGivenUp (D.fault_count dir.old) (D.fault_count dir.new) name.now
+        (now (D.history dir.old)) (now (D.history dir.new))) }
+    ensures moments { D.is_honest dir.old → (bytes : List ℕ)
+        → CanGive (D.opened dir.old) (now (D.history dir.old)) name.now from pieces.now bytes
+        → LeavesOnly (D.history dir.old) (D.history dir.new)
+        (IsLeftOf (IsUnfinished name.now bytes (now (D.history dir.old)))) }
+    ensures whole { D.is_honest dir.old → (bytes : List ℕ)
+        → CanGive (D.opened dir.old) (now (D.history dir.old)) name.now from pieces.now bytes
         → IsErrOf result JournalError.Damaged → ⊥ }
     ensures not_last { IsErrOf result JournalError.LastGeneration → ⊥ }
-    ensures any { D.is_honest dir.old → OnOk result (HasAnyNew name.now (now (D.history dir.old)) (now (D.history dir.new))) }
+    ensures any { D.is_honest dir.old
+        → OnOk result (HasAnyNew name.now (now (D.history dir.old)) (now (D.history dir.new))) }
     ensures elsewhere { D.is_honest dir.old → (other : List ℕ) → other ≢ name.now
         → now (D.history dir.new) other ≡ now (D.history dir.old) other }
     ensures memory { D.is_honest dir.old → IsErrOf result JournalError.Memory
@@ -181,10 +202,12 @@ fn make<A: Allocator, D: Dir>(
     ensures opened { IfOk result (λ file. D.opened dir.new file ≡ Some name.now) }
     ensures others { OnOk result ((other : FileNo) → IsSome (D.opened dir.old other)
         → D.opened dir.new other ≡ D.opened dir.old other) }
-    ensures kept { (other : FileNo) (own : List ℕ) → D.opened dir.old other ≡ Some own → own ≢ name.now
+    ensures kept { (other : FileNo) (own : List ℕ) → D.opened dir.old other ≡ Some own
+        → own ≢ name.now
         → D.opened dir.new other ≡ Some own }
     ensures room { IfOk result (λ file. more ≤ D.bytes_left dir.new file) }
-    ensures cause { HasReason (D.fault_count dir.old) (D.fault_count dir.new) result JournalError.Fault }
+    ensures cause { HasReason (D.fault_count dir.old)
+        (D.fault_count dir.new) result JournalError.Fault }
 {
     let room = room_with(pieces, more)?;
     let file = dir.create(name, room)?;
@@ -219,7 +242,8 @@ fn fill<A: Allocator, D: Dir>(
     requires open { IsSome (D.opened dir.old to) }
     requires room { total_room pieces.now ≤ D.bytes_left dir.old to }
     requires some { 0 < length buffer.old }
-    ensures { Fills D.is_honest D.history D.opened D.bytes_left D.fault_count from to pieces.now dir.old dir.new result }
+    ensures { Fills D.is_honest D.history D.opened D.bytes_left D.fault_count from to pieces.now
+        dir.old dir.new result }
 {
     match from {
         Some(file) => add_pieces(dir, file, to, pieces, buffer),
@@ -233,11 +257,13 @@ fn seal_with<D: Dir>(dir: &mut D, file: FileNo, bytes: &[u8]) -> Result<(), DirE
     requires room { length bytes.now ≤ D.bytes_left dir.old file }
     ensures honest { D.is_honest dir.old → D.is_honest dir.new }
     ensures ok { D.is_honest dir.old → (name : List ℕ) → D.opened dir.old file ≡ Some name
-        → OnOk result (Changes name (sealed bytes.now) (now (D.history dir.old)) (now (D.history dir.new))) }
+        → OnOk result (Changes name (sealed bytes.now) (now (D.history dir.old))
+        (now (D.history dir.new))) }
     ensures err { D.is_honest dir.old → (name : List ℕ) → D.opened dir.old file ≡ Some name
         → OnErr result (Partly name bytes.now (now (D.history dir.old)) (now (D.history dir.new))) }
     ensures moments { D.is_honest dir.old → (name : List ℕ) → D.opened dir.old file ≡ Some name
-        → LeavesOnly (D.history dir.old) (D.history dir.new) (IsLeftOf (IsSealing name bytes.now (now (D.history dir.old)))) }
+        → LeavesOnly (D.history dir.old) (D.history dir.new)
+        (IsLeftOf (IsSealing name bytes.now (now (D.history dir.old)))) }
     ensures opened { (other : FileNo) → D.opened dir.new other ≡ D.opened dir.old other }
     ensures cause { HasCause (D.fault_count dir.old) (D.fault_count dir.new) result }
     ensures only { OnErr result (result ≡ Err DirError.Fault) }

@@ -27,16 +27,20 @@ pub(crate) fn read_extents<A: Allocator + Copy, D: Dir>(
     requires { IsSome (D.opened dir.old file) }
     ensures honest { D.is_honest dir.old → D.is_honest dir.new }
     ensures time { D.is_honest dir.old → Elapses (D.history dir.old) (D.history dir.new) }
-    ensures same { D.is_honest dir.old → SameDisk (now (D.history dir.new)) (now (D.history dir.old)) }
+    ensures same { D.is_honest dir.old
+        → SameDisk (now (D.history dir.new)) (now (D.history dir.old)) }
     ensures opened { (other : FileNo) → D.opened dir.new other ≡ D.opened dir.old other }
     ensures bytes { D.is_honest dir.old → (name seen : List ℕ) → D.opened dir.old file ≡ Some name
-        → reads (now (D.history dir.old)) name ≡ Some seen → length seen < 2 ^ 64 → AllByRecursion (IsWithin (length seen)) extents.now
+        → reads (now (D.history dir.old)) name ≡ Some seen → length seen < 2 ^ 64
+        → AllByRecursion (IsWithin (length seen)) extents.now
         → IfOk result (λ bytes. bytes.items ≡ bytes_at seen extents.now) }
     ensures whole { D.is_honest dir.old → (name seen : List ℕ) → D.opened dir.old file ≡ Some name
-        → reads (now (D.history dir.old)) name ≡ Some seen → length seen < 2 ^ 64 → AllByRecursion (IsWithin (length seen)) extents.now
+        → reads (now (D.history dir.old)) name ≡ Some seen → length seen < 2 ^ 64
+        → AllByRecursion (IsWithin (length seen)) extents.now
         → IsErrOf result JournalError.Damaged → ⊥ }
     ensures not_last { IsErrOf result JournalError.LastGeneration → ⊥ }
-    ensures cause { HasReason (D.fault_count dir.old) (D.fault_count dir.new) result JournalError.Fault }
+    ensures cause { HasReason (D.fault_count dir.old)
+        (D.fault_count dir.new) result JournalError.Fault }
 {
     let Some(size) = room_at(extents) else {
         return Err(JournalError::Memory);

@@ -43,14 +43,21 @@ pub(crate) fn tell_chunks<'a, A: Allocator + Copy>(
     from: &'a Places<A>,
 ) -> Result<Told<'a, A>, AllocError>
     requires { HasShortTags chunks.now }
-    ensures bytes { IfOk result (λ told. (seen : List ℕ) → length seen < 2 ^ 64 → ArePlaced seen from.now chunks.now
-        → pieces_bytes seen told.pieces.items ≡ journal_bytes (flat_map chunk_records chunks.now.chunks)) }
-    ensures within { IfOk result (λ told. (seen : List ℕ) → length seen < 2 ^ 64 → ArePlaced seen from.now chunks.now
+    ensures bytes { IfOk result
+        (λ told. (seen : List ℕ) → length seen < 2 ^ 64 → ArePlaced seen from.now chunks.now
+        → pieces_bytes seen told.pieces.items
+        ≡ journal_bytes (flat_map chunk_records chunks.now.chunks)) }
+    ensures within { IfOk result
+        (λ told. (seen : List ℕ) → length seen < 2 ^ 64 → ArePlaced seen from.now chunks.now
         → AreWithin seen told.pieces.items) }
-    ensures len { IfOk result (λ told. told.len ≡ length (journal_bytes (flat_map chunk_records chunks.now.chunks))) }
+    ensures len { IfOk result
+        (λ told. told.len ≡ length (journal_bytes (flat_map chunk_records chunks.now.chunks))) }
     // The places hold good behind the Seal too.
-    ensures places { IfOk result (λ told. ArePlaced (journal_bytes (records_of (new_generation chunks.now))) told.places (state_of (new_generation chunks.now))) }
-    ensures records { OnOk result (AllByRecursion IsRecord (flat_map chunk_records chunks.now.chunks)) }
+    ensures places { IfOk result
+        (λ told. ArePlaced (journal_bytes (records_of (new_generation chunks.now))) told.places
+        (state_of (new_generation chunks.now))) }
+    ensures records { OnOk result
+        (AllByRecursion IsRecord (flat_map chunk_records chunks.now.chunks)) }
     ensures told { AreTold 0 chunks.now.chunks chunks.now.next }
     ensures seal { IfOk result (λ told. told.seal.items ≡ record_bytes (Seal chunks.now.next)) }
     ensures next { IsRecord (Seal chunks.now.next) }
@@ -87,15 +94,24 @@ fn tell_chunk<'a, A: Allocator + Copy>(
 ) -> Result<u64, AllocError>
     requires tag { length chunk.now.chunk.tag ≤ longest_tag }
     requires small { size chunk.now.chunk.entries ≤ greatest_size }
-    ensures bytes { OnOk result ((seen : List ℕ) → LieAt seen (places_at from.now serial) (concat chunk.now.chunk.entries)
-        → pieces_bytes seen pieces.new.items ≡ pieces_bytes seen pieces.old.items ++ journal_bytes (chunk_records (serial, chunk.now.chunk))) }
-    ensures within { OnOk result ((seen : List ℕ) → length seen < 2 ^ 64 → LieAt seen (places_at from.now serial) (concat chunk.now.chunk.entries)
+    ensures bytes { OnOk result
+        ((seen : List ℕ) → LieAt seen (places_at from.now serial) (concat chunk.now.chunk.entries)
+        → pieces_bytes seen pieces.new.items
+        ≡ pieces_bytes seen pieces.old.items ++ journal_bytes
+        (chunk_records (serial, chunk.now.chunk))) }
+    ensures within { OnOk result
+        ((seen : List ℕ) → length seen < 2 ^ 64
+        → LieAt seen (places_at from.now serial) (concat chunk.now.chunk.entries)
         → AreWithin seen pieces.old.items → AreWithin seen pieces.new.items) }
-    ensures len { IfOk result (λ end. end ≡ len + length (journal_bytes (chunk_records (serial, chunk.now.chunk)))) }
+    ensures len { IfOk result
+        (λ end. end ≡ len + length (journal_bytes (chunk_records (serial, chunk.now.chunk)))) }
     ensures places { OnOk result (AddsPlace serial
-        (extent_before (len + length (record_bytes (Append serial chunk.now.chunk.tag chunk.now.chunk.entries))) (size chunk.now.chunk.entries))
+        (extent_before (len + length
+        (record_bytes (Append serial chunk.now.chunk.tag chunk.now.chunk.entries)))
+        (size chunk.now.chunk.entries))
         places.old places.new) }
-    ensures records { OnOk result (AllByRecursion IsRecord (chunk_records (serial, chunk.now.chunk))) }
+    ensures records { OnOk result
+        (AllByRecursion IsRecord (chunk_records (serial, chunk.now.chunk))) }
 {
     let end = tell_entries(alloc, pieces, places, len, serial, chunk, from)?;
     match chunk.stage() {
@@ -116,13 +132,22 @@ fn tell_entries<'a, A: Allocator + Copy>(
 ) -> Result<u64, AllocError>
     requires tag { length chunk.now.chunk.tag ≤ longest_tag }
     requires small { size chunk.now.chunk.entries ≤ greatest_size }
-    ensures bytes { OnOk result ((seen : List ℕ) → LieAt seen (places_at from.now serial) (concat chunk.now.chunk.entries)
-        → pieces_bytes seen pieces.new.items ≡ pieces_bytes seen pieces.old.items ++ record_bytes (Append serial chunk.now.chunk.tag chunk.now.chunk.entries)) }
-    ensures within { OnOk result ((seen : List ℕ) → length seen < 2 ^ 64 → LieAt seen (places_at from.now serial) (concat chunk.now.chunk.entries)
+    ensures bytes { OnOk result
+        ((seen : List ℕ) → LieAt seen (places_at from.now serial) (concat chunk.now.chunk.entries)
+        → pieces_bytes seen pieces.new.items
+        ≡ pieces_bytes seen pieces.old.items ++ record_bytes
+        (Append serial chunk.now.chunk.tag chunk.now.chunk.entries)) }
+    ensures within { OnOk result
+        ((seen : List ℕ) → length seen < 2 ^ 64
+        → LieAt seen (places_at from.now serial) (concat chunk.now.chunk.entries)
         → AreWithin seen pieces.old.items → AreWithin seen pieces.new.items) }
-    ensures len { IfOk result (λ end. end ≡ len + length (record_bytes (Append serial chunk.now.chunk.tag chunk.now.chunk.entries))) }
+    ensures len { IfOk result
+        (λ end. end ≡ len + length
+        (record_bytes (Append serial chunk.now.chunk.tag chunk.now.chunk.entries))) }
     ensures places { OnOk result (AddsPlace serial
-        (extent_before (len + length (record_bytes (Append serial chunk.now.chunk.tag chunk.now.chunk.entries))) (size chunk.now.chunk.entries))
+        (extent_before (len + length
+        (record_bytes (Append serial chunk.now.chunk.tag chunk.now.chunk.entries)))
+        (size chunk.now.chunk.entries))
         places.old places.new) }
     ensures record { IsRecord (Append serial chunk.now.chunk.tag chunk.now.chunk.entries) }
 {
@@ -143,8 +168,12 @@ fn tell_queue<A: Allocator + Copy>(
     len: u64,
     serial: u64,
 ) -> Result<u64, AllocError>
-    ensures bytes { OnOk result ((seen : List ℕ) → pieces_bytes seen pieces.new.items ≡ pieces_bytes seen pieces.old.items ++ record_bytes (Queue serial)) }
-    ensures within { OnOk result ((seen : List ℕ) → length seen < 2 ^ 64 → AreWithin seen pieces.old.items → AreWithin seen pieces.new.items) }
+    ensures bytes { OnOk result
+        ((seen : List ℕ) → pieces_bytes seen pieces.new.items
+        ≡ pieces_bytes seen pieces.old.items ++ record_bytes (Queue serial)) }
+    ensures within { OnOk result
+        ((seen : List ℕ) → length seen < 2 ^ 64 → AreWithin seen pieces.old.items
+        → AreWithin seen pieces.new.items) }
     ensures len { IfOk result (λ end. end ≡ len + length (record_bytes (Queue serial))) }
     ensures record { IsRecord (Queue serial) }
 {
@@ -189,8 +218,11 @@ fn put_piece<'a, A: Allocator>(
     told: Vec<u8, A>,
     places: &'a [Extent],
 ) -> Result<(), AllocError>
-    ensures bytes { OnOk result ((seen : List ℕ) → pieces_bytes seen pieces.new.items ≡ pieces_bytes seen pieces.old.items ++ (told.items ++ bytes_at seen places.now)) }
-    ensures within { OnOk result ((seen : List ℕ) → length seen < 2 ^ 64 → AllByRecursion (IsWithin (length seen)) places.now
+    ensures bytes { OnOk result
+        ((seen : List ℕ) → pieces_bytes seen pieces.new.items
+        ≡ pieces_bytes seen pieces.old.items ++ (told.items ++ bytes_at seen places.now)) }
+    ensures within { OnOk result
+        ((seen : List ℕ) → length seen < 2 ^ 64 → AllByRecursion (IsWithin (length seen)) places.now
         → AreWithin seen pieces.old.items → AreWithin seen pieces.new.items) }
 {
     pieces.push(Piece { told, places })?;

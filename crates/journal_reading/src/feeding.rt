@@ -59,8 +59,10 @@ pub trait Feed: Sized {
 
     /// Takes the next piece. `Damaged` where what was fed is damaged, whatever follows.
     fn feed(&mut self, piece: &[u8]) -> Result<(), FeedStop>
-        ensures fed { OnOk result ((seen : List ℕ) → is_after self.old seen → is_after self.new (seen ++ piece.now)) }
-        ensures damaged { (seen more : List ℕ) → is_after self.old seen → result ≡ Err FeedStop.Damaged → is_damaged ((seen ++ piece.now) ++ more) };
+        ensures fed { OnOk result
+            ((seen : List ℕ) → is_after self.old seen → is_after self.new (seen ++ piece.now)) }
+        ensures damaged { (seen more : List ℕ) → is_after self.old seen
+            → result ≡ Err FeedStop.Damaged → is_damaged ((seen ++ piece.now) ++ more) };
 
     /// What is found in a file that was fed whole. The error is want of memory.
     fn finish(self) -> Result<Self::Finding, AllocError>

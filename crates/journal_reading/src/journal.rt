@@ -61,7 +61,8 @@ impl<A: Allocator + Copy> Feed for Outline<A> {
 
 // What is found in a journal that was fed. The error is want of memory.
 fn outlined_in<A: Allocator + Copy>(outline: Outline<A>) -> Result<FoundJournal<A>, AllocError>
-    ensures { (bytes : List ℕ) → IsAfter outline bytes → IfOk result (λ found. IsInJournal bytes found) }
+    ensures { (bytes : List ℕ) → IsAfter outline bytes
+        → IfOk result (λ found. IsInJournal bytes found) }
 {
     let fed = outline.fed();
     match outline.finish() {

@@ -18,7 +18,8 @@ pub trait ReadAt {
     /// many bytes it read: none at the file's end or behind it, and where the piece has no room.
     fn read_at(&self, at: u64, piece: &mut [u8]) -> io::Result<usize>
         ensures bound { ReadsAtMost result piece.new }
-        ensures bytes { IfOk result (λ n. IfSome (bytes_of self.now) (λ bytes. Gives bytes at n piece.new)) };
+        ensures bytes { IfOk result
+            (λ n. IfSome (bytes_of self.now) (λ bytes. Gives bytes at n piece.new)) };
 }
 
 /// Opens files by their names, to be read from any place on.
@@ -28,7 +29,8 @@ pub trait OpenPlaced: Open {
 
     /// The file of this name. An error says that it can't be read.
     fn open_placed(&self, name: &str) -> io::Result<Self::Placed>
-        ensures { IfOk result (λ file. Self.Placed.bytes_of file ≡ Self.text_of self.now name.now) };
+        ensures { IfOk result
+            (λ file. Self.Placed.bytes_of file ≡ Self.text_of self.now name.now) };
 }
 
 impl ReadAt for &[u8] {

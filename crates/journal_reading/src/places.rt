@@ -36,9 +36,12 @@ impl<'a, R: ReadAt> PlacesReader<'a, R> {
 
     // The place that is read on, of which something is left; none where nothing is left.
     fn here(&mut self) -> Option<Extent>
-        ensures same { SameLeft (self.old.places.now) self.old.done (self.new.places.now) self.new.done }
+        ensures same { SameLeft (self.old.places.now) self.old.done
+            (self.new.places.now) self.new.done }
         ensures file { self.new.file ≡ self.old.file }
-        ensures place { MatchOption result (self.new.places.now ≡ []) (λ place. ((others : List Extent) × (self.new.places.now ≡ place ∷ others)) × (self.new.done < place.length)) }
+        ensures place { MatchOption result (self.new.places.now ≡ [])
+            (λ place. ((others : List Extent) × (self.new.places.now ≡ place ∷ others))
+            × (self.new.done < place.length)) }
     {
         while let [place, others @ ..] = self.places {
             if self.done < place.length() {

@@ -32,7 +32,10 @@ impl<A: Allocator + Copy> Seen<'_, A> {
         message: &Message<A>,
         kept: &[usize],
     ) -> Result<bool, AllocError>
-        ensures { IfOk result (λ yes. IsTrue yes ↔ IsSettled self.now.net.now (buffers_of self.now.places.now) self.now.book.now.messages self.now.entry.now kept.now message.now) }
+        ensures { IfOk result
+            (λ yes. IsTrue yes ↔ IsSettled self.now.net.now
+            (buffers_of self.now.places.now) self.now.book.now.messages self.now.entry.now kept.now
+            message.now) }
     {
         if !message.is_acknowledged() {
             return Ok(false);
@@ -59,7 +62,10 @@ impl<A: Allocator + Copy> Seen<'_, A> {
         tag: &[u8],
         kept: &[usize],
     ) -> Result<bool, AllocError>
-        ensures { IfOk result (λ yes. IsTrue yes ↔ EachSoFar self.now.net.now (buffers_of self.now.places.now) self.now.book.now.messages self.now.entry.now kept.now (record { host = host.now; port = port }) tag.now) }
+        ensures { IfOk result
+            (λ yes. IsTrue yes ↔ EachSoFar self.now.net.now
+            (buffers_of self.now.places.now) self.now.book.now.messages self.now.entry.now kept.now
+            (record { host = host.now; port = port }) tag.now) }
     {
         let Some(at) = self.net.entrance(host, port) else {
             return Ok(false);
@@ -80,7 +86,11 @@ impl<A: Allocator + Copy> Seen<'_, A> {
     // Whether there are such buffers of the relay, and each keeps the entry under this tag, as far
     // as that is known.
     fn leaves_keep(&self, place: usize, leaves: &[BufferNo], tag: &[u8], kept: &[usize]) -> bool
-        ensures { IsTrue result ↔ ((leaves.now ≢ []) × All (λ leaf. KeepsSoFar (buffers_of self.now.places.now) self.now.book.now.messages self.now.entry.now kept.now place leaf.0 tag.now) leaves.now) }
+        ensures { IsTrue result
+            ↔ ((leaves.now ≢ [])
+            × All (λ leaf. KeepsSoFar
+            (buffers_of self.now.places.now) self.now.book.now.messages self.now.entry.now kept.now
+            place leaf.0 tag.now) leaves.now) }
     {
         if leaves.is_empty() {
             return false;
@@ -90,7 +100,10 @@ impl<A: Allocator + Copy> Seen<'_, A> {
 
     // Whether each of these buffers does.
     fn all_keep(&self, place: usize, leaves: &[BufferNo], tag: &[u8], kept: &[usize]) -> bool
-        ensures { IsTrue result ↔ All (λ leaf. KeepsSoFar (buffers_of self.now.places.now) self.now.book.now.messages self.now.entry.now kept.now place leaf.0 tag.now) leaves.now }
+        ensures { IsTrue result
+            ↔ All (λ leaf. KeepsSoFar
+            (buffers_of self.now.places.now) self.now.book.now.messages self.now.entry.now kept.now
+            place leaf.0 tag.now) leaves.now }
     {
         for leaf in leaves {
             if !self.leaf_keeps(place, leaf.0, tag, kept) {
@@ -102,7 +115,9 @@ impl<A: Allocator + Copy> Seen<'_, A> {
 
     // Whether the buffer keeps the entry under this tag, as far as that is known.
     fn leaf_keeps(&self, place: usize, buffer: usize, tag: &[u8], kept: &[usize]) -> bool
-        ensures { IsTrue result ↔ KeepsSoFar (buffers_of self.now.places.now) self.now.book.now.messages self.now.entry.now kept.now place buffer tag.now }
+        ensures { IsTrue result
+            ↔ KeepsSoFar (buffers_of self.now.places.now) self.now.book.now.messages
+            self.now.entry.now kept.now place buffer tag.now }
     {
         self.places.holds(place, buffer, tag, self.entry)
             || self.is_passed_among(place, buffer, tag, kept)
@@ -111,7 +126,9 @@ impl<A: Allocator + Copy> Seen<'_, A> {
     // Whether one of the messages of these numbers was sent from the buffer with the entry under
     // this tag, and acknowledged.
     fn is_passed_among(&self, place: usize, buffer: usize, tag: &[u8], kept: &[usize]) -> bool
-        ensures { IsTrue result ↔ IsPassedAmong self.now.book.now.messages self.now.entry.now kept.now place buffer tag.now }
+        ensures { IsTrue result
+            ↔ IsPassedAmong self.now.book.now.messages self.now.entry.now kept.now place buffer
+            tag.now }
     {
         for number in kept {
             if self.is_passed_in(*number, place, buffer, tag) {
@@ -124,7 +141,9 @@ impl<A: Allocator + Copy> Seen<'_, A> {
     // Whether the message of this number is there, was sent from the buffer with the entry under
     // this tag, and was acknowledged.
     fn is_passed_in(&self, number: usize, place: usize, buffer: usize, tag: &[u8]) -> bool
-        ensures { IsTrue result ↔ IsSomeAnd (slice_get self.now.book.now.messages number) (IsPassedOn self.now.entry.now place buffer tag.now) }
+        ensures { IsTrue result
+            ↔ IsSomeAnd (slice_get self.now.book.now.messages number)
+            (IsPassedOn self.now.entry.now place buffer tag.now) }
     {
         match self.book.message(number) {
             Some(message) => is_passed_on(message, self.entry, place, buffer, tag),

@@ -17,8 +17,11 @@ pub(crate) fn entered<A: Allocator + Copy>(
     port: u16,
     tag: &[u8],
 ) -> Result<Tag<A>, TagError>
-    ensures tag { IfOk result (λ borne. borne ≡ tag_at net.now (record { host = host.now; port = port }) tag.now) }
-    ensures too_long { (result ≡ Err TagError.TagTooLong) → (most_tag_bytes < length (tag_at net.now (record { host = host.now; port = port }) tag.now)) }
+    ensures tag { IfOk result
+        (λ borne. borne ≡ tag_at net.now (record { host = host.now; port = port }) tag.now) }
+    ensures too_long { (result ≡ Err TagError.TagTooLong)
+        → (most_tag_bytes < length
+        (tag_at net.now (record { host = host.now; port = port }) tag.now)) }
 {
     let sent = match Tag::read(alloc, tag) {
         Ok(sent) => sent,

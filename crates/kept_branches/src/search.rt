@@ -25,7 +25,9 @@ pub fn each_branch_keeps<A: Allocator + Copy>(
     tag: &[u8],
     entry: &[u8],
 ) -> Result<bool, AllocError>
-    ensures { IfOk result (λ yes. IsTrue yes ↔ EachKeeps net.now (buffers_of places.now) book.now.messages (record { host = host.now; port = port }) tag.now entry.now) }
+    ensures { IfOk result
+        (λ yes. IsTrue yes ↔ EachKeeps net.now (buffers_of places.now) book.now.messages
+        (record { host = host.now; port = port }) tag.now entry.now) }
 {
     let seen = Seen {
         alloc,
@@ -40,8 +42,14 @@ pub fn each_branch_keeps<A: Allocator + Copy>(
 
 // The numbers of the messages that passed the entry on to where it is kept.
 fn settle<A: Allocator + Copy>(seen: &Seen<'_, A>) -> Result<Vec<usize, A>, AllocError>
-    ensures settled { IfOk result (λ kept. AreSettled seen.now.net.now (buffers_of seen.now.places.now) seen.now.book.now.messages seen.now.entry.now kept.items) }
-    ensures all { IfOk result (λ kept. (number : ℕ) → IsDone seen.now.net.now (buffers_of seen.now.places.now) seen.now.book.now.messages seen.now.entry.now kept.items number) }
+    ensures settled { IfOk result
+        (λ kept. AreSettled seen.now.net.now
+        (buffers_of seen.now.places.now) seen.now.book.now.messages seen.now.entry.now kept.items) }
+    ensures all { IfOk result
+        (λ kept. (number : ℕ)
+        → IsDone seen.now.net.now
+        (buffers_of seen.now.places.now) seen.now.book.now.messages seen.now.entry.now kept.items
+        number) }
 {
     let mut kept = Vec::new(seen.alloc);
     let mut next = next_settled(seen, &kept)?;
@@ -58,7 +66,9 @@ fn next_settled<A: Allocator + Copy>(
     seen: &Seen<'_, A>,
     kept: &[usize],
 ) -> Result<Option<usize>, AllocError>
-    ensures { IfOk result (IsNext seen.now.net.now (buffers_of seen.now.places.now) seen.now.book.now.messages seen.now.entry.now kept.now) }
+    ensures { IfOk result
+        (IsNext seen.now.net.now
+        (buffers_of seen.now.places.now) seen.now.book.now.messages seen.now.entry.now kept.now) }
 {
     for number in 0..seen.book.message_count() {
         if is_new(seen, kept, number)? {
@@ -75,7 +85,10 @@ fn is_new<A: Allocator + Copy>(
     kept: &[usize],
     number: usize,
 ) -> Result<bool, AllocError>
-    ensures { IfOk result (IsNewOrDone seen.now.net.now (buffers_of seen.now.places.now) seen.now.book.now.messages seen.now.entry.now kept.now number) }
+    ensures { IfOk result
+        (IsNewOrDone seen.now.net.now
+        (buffers_of seen.now.places.now) seen.now.book.now.messages seen.now.entry.now kept.now
+        number) }
 {
     if kept.contains(&number) {
         return Ok(false);

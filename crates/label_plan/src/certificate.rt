@@ -36,7 +36,8 @@ pub(crate) fn only_adds<A: Allocator + Copy>(
 // Whether the lines begin with these others.
 fn begin_with(all: &[&[u8]], own: &[&[u8]]) -> bool
     requires { length own.now ≤ length all.now }
-    ensures { IsTrue result → take (length own.now) (map (λ line. line.now) all.now) ≡ map (λ line. line.now) own.now }
+    ensures { IsTrue result
+        → take (length own.now) (map (λ line. line.now) all.now) ≡ map (λ line. line.now) own.now }
 {
     for at in 0..own.len() {
         if all[at] != own[at] {
@@ -81,7 +82,8 @@ fn are_label_words(words: &[&str]) -> bool
 /// Whether the rules on clients, coverage, relabels and forwards hold of the plan. The only error
 /// is want of memory.
 pub(crate) fn is_closed<A: Allocator + Copy>(alloc: A, plan: &Plan<A>) -> Result<bool, AllocError>
-    ensures { IfOk result (λ closed. IsTrue closed → IsClosed plan.now.net plan.now.labels plan.now.reaches) }
+    ensures { IfOk result
+        (λ closed. IsTrue closed → IsClosed plan.now.net plan.now.labels plan.now.reaches) }
 {
     let list = plan.labels();
     let labels = Labels::new(alloc, list)?;

@@ -39,7 +39,8 @@ pub fn labelled_text<A: Allocator + Copy>(
     confs: &[Vec<u8, A>],
 ) -> Result<Option<Vec<u8, A>>, PlanError>
     requires { length confs.now ≡ length (confs_named net.now) }
-    ensures labelled { IfOk result (λ found. IfSome found (λ text. IsLabelled A (texts confs.now) net.now text.items)) }
+    ensures labelled { IfOk result
+        (λ found. IfSome found (λ text. IsLabelled A (texts confs.now) net.now text.items)) }
     ensures refused { IfErr result (IsRefusal A net.now (texts confs.now)) }
 {
     let plan = Plan::read(alloc, net, confs)?;
@@ -58,7 +59,9 @@ pub fn labelled_dropping<A: Allocator + Copy>(
     drops: &[DropName<'_>],
     plan: &Plan<A>,
 ) -> Result<Option<Vec<u8, A>>, AllocError>
-    ensures { IfOk result (λ found. IfSome found (λ text. IsLabelledDropping A (texts confs.now) drops.now net.now text.items)) }
+    ensures { IfOk result
+        (λ found. IfSome found
+        (λ text. IsLabelledDropping A (texts confs.now) drops.now net.now text.items)) }
 {
     let narrow = preferred(alloc, net, confs, drops, plan, false)?;
     if narrow.is_some() {
@@ -96,7 +99,9 @@ fn preferred<A: Allocator + Copy>(
     plan: &Plan<A>,
     widest: bool,
 ) -> Result<Option<Candidate<A>>, AllocError>
-    ensures { IfOk result (λ found. IfSome found (λ found. IsLabelledDropping A (texts confs.now) drops.now net.now found.text.items)) }
+    ensures { IfOk result
+        (λ found. IfSome found
+        (λ found. IsLabelledDropping A (texts confs.now) drops.now net.now found.text.items)) }
 {
     let prefer = Preference::Label;
     let one = attempt(alloc, net, confs, drops, plan, Manner { prefer, widest })?;
@@ -139,7 +144,9 @@ fn attempt<A: Allocator + Copy>(
     plan: &Plan<A>,
     manner: Manner,
 ) -> Result<Option<Candidate<A>>, AllocError>
-    ensures { IfOk result (λ found. IfSome found (λ found. IsLabelledDropping A (texts confs.now) drops.now net.now found.text.items)) }
+    ensures { IfOk result
+        (λ found. IfSome found
+        (λ found. IsLabelledDropping A (texts confs.now) drops.now net.now found.text.items)) }
 {
     let Some(lines) = derived(alloc, plan, manner)? else {
         return Ok(None);
@@ -170,7 +177,9 @@ fn certified<A: Allocator + Copy>(
     drops: &[DropName<'_>],
 ) -> Result<Option<Candidate<A>>, AllocError>
     requires { OnlyAdds net.now text.items }
-    ensures { IfOk result (λ found. IfSome found (λ found. IsLabelledDropping A (texts confs.now) drops.now net.now found.text.items)) }
+    ensures { IfOk result
+        (λ found. IfSome found
+        (λ found. IsLabelledDropping A (texts confs.now) drops.now net.now found.text.items)) }
 {
     let _ = net;
     if !names_as_many(alloc, &text, confs.len())? {

@@ -36,7 +36,10 @@ pub fn check_labelled<A: Allocator + Copy>(
     confs: &[Vec<u8, A>],
 ) -> Result<LabelledCheck<A>, PlanError>
     requires { length confs.now ≡ length (confs_named net.now) }
-    ensures checked { IfOk result (λ found. IsLabelledCheck A (texts confs.now) [] net.now found.is_labelled found.text.items found.plan found.broken.items) }
+    ensures checked { IfOk result
+        (λ found. IsLabelledCheck A
+        (texts confs.now) [] net.now found.is_labelled found.text.items found.plan
+        found.broken.items) }
     ensures refused { IfErr result (IsRefusal A net.now (texts confs.now)) }
 {
     match check_dropping(alloc, net, confs, &[]) {
@@ -57,7 +60,10 @@ pub fn check_dropping<A: Allocator + Copy>(
     drops: &[DropName<'_>],
 ) -> Result<LabelledCheck<A>, DroppedPlanError>
     requires { length confs.now ≡ length (confs_named net.now) }
-    ensures checked { IfOk result (λ found. IsLabelledCheck A (texts confs.now) drops.now net.now found.is_labelled found.text.items found.plan found.broken.items) }
+    ensures checked { IfOk result
+        (λ found. IsLabelledCheck A
+        (texts confs.now) drops.now net.now found.is_labelled found.text.items found.plan
+        found.broken.items) }
     ensures refused { IfErr result (IsNoDroppedPlan A net.now (texts confs.now) drops.now) }
 {
     let plan = plan_with_drops(alloc, net, confs, drops)?;
@@ -86,7 +92,10 @@ fn checked<A: Allocator + Copy>(
     confs: &[Vec<u8, A>],
     drops: &[DropName<'_>],
 ) -> Result<Option<LabelledCheck<A>>, AllocError>
-    ensures { IfOk result (λ found. IfSome found (λ found. (found.text ≡ text) × (found.is_labelled ≡ true) × AreChecked (texts confs.now) drops.now text.items found.plan found.broken.items)) }
+    ensures { IfOk result
+        (λ found. IfSome found
+        (λ found. (found.text ≡ text) × (found.is_labelled ≡ true)
+        × AreChecked (texts confs.now) drops.now text.items found.plan found.broken.items)) }
 {
     if !names_as_many(alloc, &text, confs.len())? {
         return Ok(None);

@@ -42,9 +42,15 @@ impl<A: Allocator> Model for Peer<A> {
 
     ghost Value = { PeerState };
 
-    ghost view = { λ p. record { entry = arc_value p.inlet; session = p.session; waits = p.waiting.items; closing = p.is_closing } };
+    ghost view = { λ p. record {
+      entry = arc_value p.inlet;
+      session = p.session;
+      waits = p.waiting.items;
+      closing = p.is_closing;
+    } };
 
-    ghost invariant = { λ p. IsFaithful (arc_value p.inlet) p.session.asked p.session.taken p.waiting.items };
+    ghost invariant = { λ p. IsFaithful
+        (arc_value p.inlet) p.session.asked p.session.taken p.waiting.items };
 }
 
 impl<A: Allocator + Copy> Peer<A> {
@@ -58,7 +64,13 @@ impl<A: Allocator + Copy> Peer<A> {
         nonce: [u8; 16],
     ) -> Result<Peer<A>, AllocError>
         requires { IsHosted security }
-        ensures { IfOk result (λ peer. peer ≡ record { entry = arc_value inlet.now; session = initial_server security.entry nonce; waits = []; closing = false }) }
+        ensures { IfOk result
+            (λ peer. peer ≡ record {
+              entry = arc_value inlet.now;
+              session = initial_server security.entry nonce;
+              waits = [];
+              closing = false;
+            }) }
     {
         let session = ServerSession::open(alloc, security, nonce)?;
         let inlet = Arc::try_clone(inlet)?;
@@ -129,9 +141,11 @@ impl<A: Allocator + Copy> Peer<A> {
         ensures lanes { KeepsLanes lanes.old lanes.new }
         ensures time { lanes.new.time ≡ lanes.old.time }
         ensures session { self.new.session ≡ self.old.session }
-        ensures numbered { OnOk result (numbers.new ≡ numbers.old + length (asked_in (map wanted demands.items))) }
+        ensures numbered { OnOk result
+            (numbers.new ≡ numbers.old + length (asked_in (map wanted demands.items))) }
         ensures drawn { numbers.old ≤ numbers.new }
-        ensures closes { OnOk result (self.new.closing ≡ (self.old.closing || wants_close (map wanted demands.items))) }
+        ensures closes { OnOk result
+            (self.new.closing ≡ (self.old.closing || wants_close (map wanted demands.items))) }
         ensures closed { self.old.closing ≡ true → self.new.closing ≡ true }
         ensures waits { GoOnWaiting self.old.waits self.new.waits }
     {
@@ -171,7 +185,8 @@ impl<A: Allocator + Copy> Peer<A> {
         ensures numbered { OnOk result (numbers.new ≡ numbers.old + 1) }
         ensures drawn { numbers.old ≤ numbers.new }
         ensures closing { self.new.closing ≡ self.old.closing }
-        ensures waits { (self.new.waits ≡ self.old.waits) ⊎ OneMoreWaits self.old.waits self.new.waits }
+        ensures waits { (self.new.waits ≡ self.old.waits)
+            ⊎ OneMoreWaits self.old.waits self.new.waits }
     {
         let Some(number) = numbers.draw() else {
             return Err(LoopFault::NoNumber);
@@ -212,8 +227,13 @@ impl<A: Allocator + Copy> Peer<A> {
         ensures ended { NoneLater lanes.old.later → self.new.waits ≡ [] }
         // None is answered behind one that waits on, and none ends without an answer but where a
         // buffer refused it, or nothing more is read.
-        ensures order { BecomeInOrder self.old.waits (record { left = []; session = self.old.session; closing = self.old.closing })
-            (record { left = self.new.waits; session = self.new.session; closing = self.new.closing }) }
+        ensures order { BecomeInOrder self.old.waits
+            (record { left = []; session = self.old.session; closing = self.old.closing })
+            (record {
+              left = self.new.waits;
+              session = self.new.session;
+              closing = self.new.closing;
+            }) }
         ensures closed { self.old.closing ≡ true → self.new.closing ≡ true }
     {
         let list = mem::replace(&mut self.waiting, Vec::new(alloc));
@@ -240,7 +260,11 @@ impl<A: Allocator + Copy> Peer<A> {
     /// The first n bytes of what is outgoing were sent.
     pub fn sent(&mut self, n: usize)
         requires { n ≤ length self.old.session.outgoing }
-        ensures { self.new ≡ record self.old { session = record self.old.session { outgoing = drop n self.old.session.outgoing } } }
+        ensures { self.new ≡ record
+            self.old {
+              session = record
+                  self.old.session { outgoing = drop n self.old.session.outgoing };
+            } }
     {
         self.session.sent(n);
     }
@@ -344,7 +368,8 @@ fn settle_all<R: Wait, D: Dir + Drop, A: Allocator + Copy>(
     ensures lanes { lanes.new ≡ lanes.old }
     ensures waited { AreAmong (awaited_in list.items) result.items }
     ensures ended { NoneLater lanes.old.later → result.items ≡ [] }
-    ensures order { BecomeInOrder list.items (record { left = []; session = session.old; closing = is_closing.old })
+    ensures order { BecomeInOrder list.items
+        (record { left = []; session = session.old; closing = is_closing.old })
         (record { left = result.items; session = session.new; closing = is_closing.new }) }
     ensures closed { is_closing.old ≡ true → is_closing.new ≡ true }
 {
@@ -374,10 +399,20 @@ fn settle_one<R: Wait, D: Dir + Drop, A: Allocator + Copy>(
     ensures asked { session.new.asked ≡ session.old.asked }
     ensures kept { IsFaithful inlet.now session.new.asked session.new.taken later.new.items }
     ensures lanes { lanes.new ≡ lanes.old }
-    ensures waited { (before : List Awaited) → AreAmong before later.old.items → Contains before waiting.awaited → AreAmong before later.new.items }
+    ensures waited { (before : List Awaited) → AreAmong before later.old.items
+        → Contains before waiting.awaited → AreAmong before later.new.items }
     ensures ended { NoneLater lanes.old.later → later.old.items ≡ [] → later.new.items ≡ [] }
-    ensures becomes { (closing : Bool) → Becomes waiting (record { left = later.old.items; session = session.old; closing = closing })
-        (record { left = later.new.items; session = session.new; closing = closing || not result }) }
+    ensures becomes { (closing : Bool)
+        → Becomes waiting (record {
+          left = later.old.items;
+          session = session.old;
+          closing = closing;
+        })
+        (record {
+          left = later.new.items;
+          session = session.new;
+          closing = closing || not result;
+        }) }
 {
     let held = !later.is_empty();
     match waiting.collect(rt, lanes, held) {
@@ -410,7 +445,8 @@ fn answer<A: Allocator + Copy>(
     ensures taken { result ≡ true → IsTaken reserved session.old session.new }
     ensures refused { result ≡ false → session.new ≡ session.old }
     ensures asked { session.new.asked ≡ session.old.asked }
-    ensures kept { All (IsEarned inlet.now) session.old.taken → All (IsEarned inlet.now) session.new.taken }
+    ensures kept { All (IsEarned inlet.now) session.old.taken
+        → All (IsEarned inlet.now) session.new.taken }
 {
     let _ = inlet.number();
     session.answer(reserved).is_ok()

@@ -17,7 +17,8 @@ pub fn if_losing_text<A: Allocator + Copy>(
     duty: Duty,
     text: Vec<u8, A>,
 ) -> Result<Option<Vec<u8, A>>, AllocError>
-    ensures { IfOk result (λ found. IfSome found (λ tried. (tried ≡ text) × IsLosingText duty net.now tried.items)) }
+    ensures { IfOk result
+        (λ found. IfSome found (λ tried. (tried ≡ text) × IsLosingText duty net.now tried.items)) }
 {
     if text_loses_event(alloc, net, duty, &text)? {
         Ok(Some(text))
@@ -52,7 +53,8 @@ pub fn if_losing<A: Allocator + Copy>(
     duty: Duty,
     steps: Vec<Step<A>, A>,
 ) -> Result<Option<Vec<Step<A>, A>>, AllocError>
-    ensures right { IfOk result (λ found. IfSome found (λ tried. (tried ≡ steps) × Loses duty net.now tried.items)) }
+    ensures right { IfOk result
+        (λ found. IfSome found (λ tried. (tried ≡ steps) × Loses duty net.now tried.items)) }
     ensures only { IfOk result (λ found. Loses duty net.now steps.items → IsSome found) }
 {
     if loses_event(alloc, net, duty, &steps)? {
@@ -90,7 +92,8 @@ fn refused(fault: StepFault) -> Result<bool, AllocError>
 
 // Whether one of the events that were acknowledged isn't kept as is asked.
 fn has_lost<A: Allocator + Copy>(world: &World<'_, A>, duty: Duty) -> Result<bool, AllocError>
-    ensures { IfOk result (λ yes. IsTrue yes ↔ HasLost duty (net_of world.now) (world_of world.now)) }
+    ensures { IfOk result
+        (λ yes. IsTrue yes ↔ HasLost duty (net_of world.now) (world_of world.now)) }
 {
     for number in 0..world.acknowledged().len() {
         if !is_kept_as(world, duty, number)? {

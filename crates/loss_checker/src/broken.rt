@@ -60,7 +60,8 @@ fn ask_all_but_the_last<'a, 'b, A: Allocator + Copy>(
     requires labels { labels.now ≡ plan.now.labels }
     requires reaches { reaches.now ≡ plan.now.reaches }
     requires before { AreBrokenBefore plan.now 1 found.old.items }
-    ensures { OnOk result (AreBrokenBefore plan.now (rule_number Rule.NoRelabelCycle) found.new.items) }
+    ensures { OnOk result
+        (AreBrokenBefore plan.now (rule_number Rule.NoRelabelCycle) found.new.items) }
 {
     let net = plan.net();
     let list = plan.labels();

@@ -17,10 +17,14 @@ use std::alloc::{AllocError, Allocator};
 pub fn check<A: Allocator + Copy>(alloc: A, plan: &Plan<A>) -> Result<Answer, AllocError>
     ensures answer { IfOk result (IsAnswer plan.now) }
     // A yes means that the rules hold under which nothing is lost.
-    ensures rules_kept { IfOk result (λ answer. answer ≡ Answer.Yes → AreKeepingRulesKept plan.now.net plan.now.labels plan.now.reaches) }
+    ensures rules_kept { IfOk result
+        (λ answer. answer ≡ Answer.Yes
+        → AreKeepingRulesKept plan.now.net plan.now.labels plan.now.reaches) }
     // Under the duty every it means besides that each output of each reached match keeps, or is a
     // relabel.
-    ensures each_keeps { IfOk result (λ answer. answer ≡ Answer.Yes → plan.now.duty ≡ Duty.Every → EachOutputKeeps plan.now.net plan.now.reaches) }
+    ensures each_keeps { IfOk result
+        (λ answer. answer ≡ Answer.Yes → plan.now.duty ≡ Duty.Every
+        → EachOutputKeeps plan.now.net plan.now.reaches) }
 {
     let broken = broken_rules(alloc, plan)?;
     Ok(first_answer(&broken))

@@ -30,7 +30,8 @@ pub fn addresses_are_distinct<A: Allocator + Copy, B: Allocator + Copy>(
 ) -> Result<Vec<Place, B>, AllocError>
     requires { length relay_lines.now ≡ length net.now.relays }
     ensures listed { IfOk result (λ places. AreTwice net.now relay_lines.now places.items) }
-    ensures kept { IfOk result (λ places. places.items ≡ [] → AddressesAreDistinct net.now relay_lines.now) }
+    ensures kept { IfOk result
+        (λ places. places.items ≡ [] → AddressesAreDistinct net.now relay_lines.now) }
 {
     let mut places = Vec::new(alloc);
     for (place, node) in net.relays().iter().enumerate() {
@@ -51,7 +52,9 @@ fn put_own_place<A: Allocator + Copy, B: Allocator>(
 ) -> Result<(), AllocError>
     requires relay { place < length net.now.relays }
     requires line { place < length lines.now }
-    ensures { OnOk result ((own : List Place) × IsOwnPlace net.now lines.now place own × (places.new.items ≡ places.old.items ++ own)) }
+    ensures { OnOk result
+        ((own : List Place) × IsOwnPlace net.now lines.now place own
+        × (places.new.items ≡ places.old.items ++ own)) }
 {
     if !relay_is_new(net, lines, place) {
         let line = lines[place].line;
@@ -105,7 +108,8 @@ fn source_lines<A: Allocator + Copy, B: Allocator>(
 ) -> Result<Vec<usize, B>, AllocError>
     requires { place < length net.now.relays }
     ensures lines { IfOk result (λ lines. AreLines (BreaksAtSource net.now place) lines.items) }
-    ensures kept { IfOk result (λ lines. lines.items ≡ [] → (source : ℕ) → SourceIsNew net.now place source) }
+    ensures kept { IfOk result
+        (λ lines. lines.items ≡ [] → (source : ℕ) → SourceIsNew net.now place source) }
 {
     let mut lines = Vec::new(alloc);
     let node = &net.relays()[place];

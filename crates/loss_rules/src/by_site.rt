@@ -28,7 +28,8 @@ impl<'a, A: Allocator + Copy> PatternsBySite<'a, A> {
 
     /// No patterns.
     pub fn new(alloc: A) -> Self
-        ensures { (site : (ℕ × ℕ) × ℕ) (list : List (List Item)) → ¬ Contains (patterns_at result site) list }
+        ensures { (site : (ℕ × ℕ) × ℕ) (list : List (List Item))
+            → ¬ Contains (patterns_at result site) list }
     {
         PatternsBySite {
             lists: BTreeMap::new(alloc),
@@ -43,7 +44,11 @@ impl<'a, A: Allocator + Copy> PatternsBySite<'a, A> {
         site: ((usize, usize), usize),
         patterns: &'a [Plain<A>],
     ) -> Result<(), AllocError>
-        ensures { OnOk result ((other : (ℕ × ℕ) × ℕ) (list : List (List Item)) → Contains (patterns_at self.new other) list ↔ (Contains (patterns_at self.old other) list ⊎ ((site ≡ other) × (patterns.now ≡ list)))) }
+        ensures { OnOk result
+            ((other : (ℕ × ℕ) × ℕ) (list : List (List Item))
+            → Contains (patterns_at self.new other) list
+            ↔ (Contains (patterns_at self.old other) list
+            ⊎ ((site ≡ other) × (patterns.now ≡ list)))) }
     {
         let place = self.at(site).len();
         self.note(site, place, patterns)?;
@@ -129,7 +134,10 @@ impl<'a, A: Allocator + Copy> Labels<'a, A> {
 
     /// The patterns of each label of this scope.
     pub(crate) fn at<'b>(&'b self, scope: Entrance) -> &'b [&'b [Plain<A>]]
-        ensures { (list : List (List Item)) → Contains (map (λ patterns. patterns.now) result.now) list ↔ Any (λ label. IsLabelOf scope.relay scope.scope label × (label.patterns.items ≡ list)) self.now }
+        ensures { (list : List (List Item))
+            → Contains (map (λ patterns. patterns.now) result.now) list
+            ↔ Any (λ label. IsLabelOf scope.relay scope.scope label
+            × (label.patterns.items ≡ list)) self.now }
     {
         self.by_scope.at(((scope.relay, scope.scope), 0))
     }
@@ -184,7 +192,10 @@ impl<'a, A: Allocator + Copy> Reaches<'a, A> {
 
     /// The patterns of each reach of the match at this site.
     pub(crate) fn at<'b>(&'b self, at: Site) -> &'b [&'b [Plain<A>]]
-        ensures { (list : List (List Item)) → Contains (map (λ patterns. patterns.now) result.now) list ↔ Any (λ reach. IsReachOf at.place at.scope at.rule reach × (reach.patterns.items ≡ list)) self.now }
+        ensures { (list : List (List Item))
+            → Contains (map (λ patterns. patterns.now) result.now) list
+            ↔ Any (λ reach. IsReachOf at.place at.scope at.rule reach
+            × (reach.patterns.items ≡ list)) self.now }
     {
         self.by_match.at(((at.place, at.scope), at.rule))
     }

@@ -24,7 +24,11 @@ pub fn no_relabel_cycle<A: Allocator + Copy, B: Allocator + Copy>(
     net: &Net<B>,
     reaches: &Reaches<'_, B>,
 ) -> Result<Vec<Place, A>, AllocError>
-    ensures listed { IfOk result (λ places. AreInConf net.now (BreaksAtOutput net.now (λ place scope rule output relabel. IsOnNoCycle net.now reaches.now place scope rule relabel)) places.items) }
+    ensures listed { IfOk result
+        (λ places. AreInConf net.now
+        (BreaksAtOutput net.now
+        (λ place scope rule output relabel. IsOnNoCycle net.now reaches.now place scope rule
+        relabel)) places.items) }
     ensures kept { IfOk result (λ places. places.items ≡ [] → NoRelabelCycle net.now reaches.now) }
 {
     let mut places = Vec::new(alloc);

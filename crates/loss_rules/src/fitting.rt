@@ -30,7 +30,8 @@ fn fits_any_entered<A: Allocator>(
     pattern: &Plain<A>,
     others: &[Plain<A>],
 ) -> bool
-    ensures { IsTrue result ↔ Any (Fits (entered_items (option_copied prefix.entry) pattern.now)) others.now }
+    ensures { IsTrue result
+        ↔ Any (Fits (entered_items (option_copied prefix.entry) pattern.now)) others.now }
 {
     for other in others {
         if fits_entered(prefix, pattern, other) {
@@ -48,7 +49,9 @@ fn fits_at<A: Allocator>(
     lists: &[&[Plain<A>]],
     place: usize,
 ) -> bool
-    ensures { IsTrue result → Any (λ list. Any (Fits (entered_items (option_copied prefix.entry) pattern.now)) list.now) lists.now }
+    ensures { IsTrue result
+        → Any (λ list. Any (Fits (entered_items (option_copied prefix.entry) pattern.now))
+        list.now) lists.now }
 {
     match lists.get(place) {
         Some(others) => fits_any_entered(prefix, pattern, others),
@@ -64,7 +67,9 @@ pub(crate) fn fits_label<A: Allocator + Copy>(
     prefix: Option<&Prefix<A>>,
     pattern: &Plain<A>,
 ) -> bool
-    ensures { IsTrue result ↔ FitsLabelWith labels.now scope.relay scope.scope (option_copied prefix.entry) pattern.now }
+    ensures { IsTrue result
+        ↔ FitsLabelWith labels.now scope.relay scope.scope
+        (option_copied prefix.entry) pattern.now }
 {
     let hint = labels.hint(scope, prefix, pattern);
     if fits_at(prefix, pattern, labels.at(scope), hint) {
@@ -86,7 +91,9 @@ pub(crate) fn all_fit_label<A: Allocator + Copy>(
     prefix: Option<&Prefix<A>>,
     patterns: &[Plain<A>],
 ) -> bool
-    ensures { IsTrue result ↔ All (FitsLabelWith labels.now scope.relay scope.scope (option_copied prefix.entry)) patterns.now }
+    ensures { IsTrue result
+        ↔ All (FitsLabelWith labels.now scope.relay scope.scope (option_copied prefix.entry))
+        patterns.now }
 {
     for pattern in patterns {
         if !fits_label(labels, scope, prefix, pattern) {
@@ -143,7 +150,9 @@ pub(crate) fn reaches_fit_label<A: Allocator + Copy>(
     scope: Entrance,
     prefix: Option<&Prefix<A>>,
 ) -> bool
-    ensures { IsTrue result ↔ EachReach reaches.now at.place at.scope at.rule (FitsLabelWith labels.now scope.relay scope.scope (option_copied prefix.entry)) }
+    ensures { IsTrue result
+        ↔ EachReach reaches.now at.place at.scope at.rule
+        (FitsLabelWith labels.now scope.relay scope.scope (option_copied prefix.entry)) }
 {
     for patterns in reaches.at(at) {
         if !all_fit_label(labels, scope, prefix, patterns) {

@@ -43,7 +43,9 @@ impl<A: Allocator> ScopeRelabels<A> {
         scope: usize,
         reaches: &Reaches<'_, B>,
     ) -> Result<ScopeRelabels<A>, AllocError>
-        ensures { IfOk result (λ found. (target line : ℕ) → Contains found (record { target = target; line = line }) ↔ HasReachedRelabel net.now reaches.now place scope target line) }
+        ensures { IfOk result
+            (λ found. (target line : ℕ) → Contains found (record { target = target; line = line })
+            ↔ HasReachedRelabel net.now reaches.now place scope target line) }
     {
         let mut found = ScopeRelabels {
             relabels: Vec::new(alloc),
@@ -131,7 +133,8 @@ impl<A: Allocator + Copy> RelabelGraph<A> {
     // Adds the lines of the relabels of the scope whose targets lead back to it.
     fn add_lines_from(&self, scope: usize, lines: &mut Vec<usize, A>) -> Result<(), AllocError>
         requires { scope < length self.now }
-        ensures { OnOk result (AddsLines (IsOnCycleFrom self.now scope) lines.old.items lines.new.items) }
+        ensures { OnOk result
+            (AddsLines (IsOnCycleFrom self.now scope) lines.old.items lines.new.items) }
     {
         for relabel in self.relabels(scope) {
             if self.leads(relabel.target, scope)? {

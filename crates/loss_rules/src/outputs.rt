@@ -27,8 +27,13 @@ pub fn reached_matches_keep<'a, 'b, A: Allocator + Copy, B: Allocator + Copy>(
     duty: Duty,
     reaches: &'a Reaches<'b, A>,
 ) -> Result<Vec<Place, B>, AllocError>
-    ensures listed { IfOk result (λ places. AreInConf net.now (BreaksAtMatch net.now (λ place scope rule found. IsReached reaches.now place scope rule → DoesDuty duty found)) places.items) }
-    ensures kept { IfOk result (λ places. places.items ≡ [] → ReachedMatchesDo net.now duty reaches.now) }
+    ensures listed { IfOk result
+        (λ places. AreInConf net.now
+        (BreaksAtMatch net.now
+        (λ place scope rule found. IsReached reaches.now place scope rule → DoesDuty duty found))
+        places.items) }
+    ensures kept { IfOk result
+        (λ places. places.items ≡ [] → ReachedMatchesDo net.now duty reaches.now) }
 {
     broken_places(alloc, net, &KeepsIfReached { duty, reaches })
 }
@@ -42,8 +47,13 @@ pub fn relabels_are_labelled<'a, 'b, A: Allocator + Copy, B: Allocator + Copy>(
     labels: &'a Labels<'b, A>,
     reaches: &'a Reaches<'b, A>,
 ) -> Result<Vec<Place, B>, AllocError>
-    ensures listed { IfOk result (λ places. AreInConf net.now (BreaksAtOutput net.now (λ place scope rule output found. IsLabelledRelabel labels.now reaches.now place scope rule found)) places.items) }
-    ensures kept { IfOk result (λ places. places.items ≡ [] → RelabelsAreLabelled net.now labels.now reaches.now) }
+    ensures listed { IfOk result
+        (λ places. AreInConf net.now
+        (BreaksAtOutput net.now
+        (λ place scope rule output found. IsLabelledRelabel labels.now reaches.now place scope rule
+        found)) places.items) }
+    ensures kept { IfOk result
+        (λ places. places.items ≡ [] → RelabelsAreLabelled net.now labels.now reaches.now) }
 {
     broken_places(alloc, net, &OfOutputs(RelabelsToLabel { labels, reaches }))
 }
@@ -60,9 +70,11 @@ impl<A: Allocator + Copy> Requirement<MatchRule<A>> for KeepsIfReached<'_, '_, A
     ghost use Rattle.loss_rules.specs.Labels.{IsReached};
     ghost use Rattle.loss_rules.specs.Rules.{DoesDuty};
 
-    ghost keeps = { λ asked at found. IsReached asked.reaches.now at.place at.scope at.rule → DoesDuty asked.duty found };
+    ghost keeps = { λ asked at found. IsReached asked.reaches.now at.place at.scope at.rule
+        → DoesDuty asked.duty found };
 
-    ghost breaks = { λ asked at found line. (found.line ≡ line) × ¬ (IsReached asked.reaches.now at.place at.scope at.rule → DoesDuty asked.duty found) };
+    ghost breaks = { λ asked at found line. (found.line ≡ line)
+        × ¬ (IsReached asked.reaches.now at.place at.scope at.rule → DoesDuty asked.duty found) };
 
     fn add_lines<B: Allocator + Copy>(
         &self,
@@ -88,9 +100,11 @@ impl<A: Allocator + Copy> Requirement<Output<A>> for RelabelsToLabel<'_, '_, A> 
     ghost use Rattle.loss_rules.specs.Rules.{IsLabelledRelabel};
     ghost use Rattle.loss_rules.specs.Sites.{line_of};
 
-    ghost keeps = { λ asked at found. IsLabelledRelabel asked.labels.now asked.reaches.now at.place at.scope at.rule found };
+    ghost keeps = { λ asked at found. IsLabelledRelabel asked.labels.now asked.reaches.now at.place
+        at.scope at.rule found };
 
-    ghost breaks = { λ asked at found line. (line_of found ≡ line) × ¬ IsLabelledRelabel asked.labels.now asked.reaches.now at.place at.scope at.rule found };
+    ghost breaks = { λ asked at found line. (line_of found ≡ line)
+        × ¬ IsLabelledRelabel asked.labels.now asked.reaches.now at.place at.scope at.rule found };
 
     fn add_lines<B: Allocator + Copy>(
         &self,
@@ -124,7 +138,8 @@ fn does_duty<A: Allocator>(duty: Duty, found: &MatchRule<A>) -> bool
 
 // Whether each of the outputs keeps, or sends events on to another scope.
 fn all_keep_or_relabel<A: Allocator>(outputs: &[Output<A>]) -> bool
-    ensures { IsTrue result ↔ All (λ found. Keeps found ⊎ ((scope : ℕ) × RelabelsTo found scope)) outputs.now }
+    ensures { IsTrue result
+        ↔ All (λ found. Keeps found ⊎ ((scope : ℕ) × RelabelsTo found scope)) outputs.now }
 {
     for output in outputs {
         if !keeps_or_relabels(output) {
@@ -136,7 +151,8 @@ fn all_keep_or_relabel<A: Allocator>(outputs: &[Output<A>]) -> bool
 
 // Whether one of the outputs keeps, or sends events on to another scope.
 fn keep_or_relabel<A: Allocator>(outputs: &[Output<A>]) -> bool
-    ensures { IsTrue result ↔ Any (λ found. Keeps found ⊎ ((scope : ℕ) × RelabelsTo found scope)) outputs.now }
+    ensures { IsTrue result
+        ↔ Any (λ found. Keeps found ⊎ ((scope : ℕ) × RelabelsTo found scope)) outputs.now }
 {
     for output in outputs {
         if keeps_or_relabels(output) {

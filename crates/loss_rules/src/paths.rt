@@ -21,7 +21,9 @@ pub fn paths_are_distinct<A: Allocator + Copy, B: Allocator + Copy>(
     alloc: B,
     net: &Net<A>,
 ) -> Result<Vec<Place, B>, AllocError>
-    ensures listed { IfOk result (λ places. AreInConf net.now (BreaksAtOutput net.now (IsFirstOfPath net.now)) places.items) }
+    ensures listed { IfOk result
+        (λ places. AreInConf net.now
+        (BreaksAtOutput net.now (IsFirstOfPath net.now)) places.items) }
     ensures kept { IfOk result (λ places. places.items ≡ [] → PathsAreDistinct net.now) }
 {
     broken_places(alloc, net, &OfOutputs(HasOwnPaths { net }))
@@ -38,9 +40,11 @@ impl<A: Allocator + Copy> Requirement<Output<A>> for HasOwnPaths<'_, A> {
     ghost use Rattle.loss_rules.specs.Breaks.{IsFirstOfPath};
     ghost use Rattle.loss_rules.specs.Sites.{line_of};
 
-    ghost keeps = { λ asked at found. IsFirstOfPath asked.net.now at.place at.scope at.rule at.output found };
+    ghost keeps = { λ asked at found. IsFirstOfPath asked.net.now at.place at.scope at.rule
+        at.output found };
 
-    ghost breaks = { λ asked at found line. (line_of found ≡ line) × ¬ IsFirstOfPath asked.net.now at.place at.scope at.rule at.output found };
+    ghost breaks = { λ asked at found line. (line_of found ≡ line)
+        × ¬ IsFirstOfPath asked.net.now at.place at.scope at.rule at.output found };
 
     fn add_lines<B: Allocator + Copy>(
         &self,
@@ -72,7 +76,8 @@ impl<A: Allocator> Requirement<Output<A>> for IsBehind<'_, A> {
 
     ghost keeps = { λ asked at other. StandsBehind asked.at asked.found.now at other };
 
-    ghost breaks = { λ asked at other line. (line_of other ≡ line) × ¬ StandsBehind asked.at asked.found.now at other };
+    ghost breaks = { λ asked at other line. (line_of other ≡ line)
+        × ¬ StandsBehind asked.at asked.found.now at other };
 
     fn add_lines<B: Allocator + Copy>(
         &self,
@@ -102,7 +107,8 @@ impl<A: Allocator> IsBehind<'_, A> {
 
 // Whether the sites are of one output of a relay.
 fn is_same(one: Site, two: Site) -> bool
-    ensures { IsTrue result ↔ ((one.scope ≡ two.scope) × (one.rule ≡ two.rule) × (one.output ≡ two.output)) }
+    ensures { IsTrue result
+        ↔ ((one.scope ≡ two.scope) × (one.rule ≡ two.rule) × (one.output ≡ two.output)) }
 {
     one.scope == two.scope && one.rule == two.rule && one.output == two.output
 }
@@ -117,7 +123,9 @@ fn share_path<A: Allocator>(one: &Output<A>, two: &Output<A>) -> bool
 
 // Whether there are two paths, and they are the same.
 fn are_same_path(one: Option<&[u8]>, two: Option<&[u8]>) -> bool
-    ensures { IsTrue result ↔ ((path : List ℕ) × (option_copied one.entry ≡ Some path) × (option_copied two.entry ≡ Some path)) }
+    ensures { IsTrue result
+        ↔ ((path : List ℕ) × (option_copied one.entry ≡ Some path)
+        × (option_copied two.entry ≡ Some path)) }
 {
     match (one, two) {
         (Some(path), Some(other)) => is_same_text(path, other),

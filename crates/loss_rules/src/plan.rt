@@ -29,8 +29,12 @@ pub fn clients_are_labelled<A: Allocator + Copy, B: Allocator + Copy>(
     labels: &Labels<'_, A>,
 ) -> Result<Vec<Place, B>, AllocError>
     requires { length client_lines.now ≡ length net.now.clients }
-    ensures listed { IfOk result (λ places. AreInPlan (BreaksAtClient net.now client_lines.now (IsLabelledClient net.now labels.now)) places.items) }
-    ensures kept { IfOk result (λ places. places.items ≡ [] → ClientsAreLabelled net.now labels.now) }
+    ensures listed { IfOk result
+        (λ places. AreInPlan
+        (BreaksAtClient net.now client_lines.now (IsLabelledClient net.now labels.now))
+        places.items) }
+    ensures kept { IfOk result
+        (λ places. places.items ≡ [] → ClientsAreLabelled net.now labels.now) }
 {
     let mut lines = Vec::new(alloc);
     for (number, line) in client_lines.iter().enumerate() {
@@ -48,7 +52,8 @@ pub fn labels_are_matched<A: Allocator + Copy, B: Allocator + Copy>(
     net: &Net<A>,
     labels: &[Label<A>],
 ) -> Result<Vec<Place, B>, AllocError>
-    ensures listed { IfOk result (λ places. AreInPlan (BreaksAtLabel labels.now (IsMatchedLabel net.now)) places.items) }
+    ensures listed { IfOk result
+        (λ places. AreInPlan (BreaksAtLabel labels.now (IsMatchedLabel net.now)) places.items) }
     ensures kept { IfOk result (λ places. places.items ≡ [] → LabelsAreMatched net.now labels.now) }
 {
     let mut lines = Vec::new(alloc);
@@ -70,8 +75,11 @@ pub fn reaches_cover<A: Allocator + Copy, B: Allocator + Copy>(
     labels: &[Label<A>],
     reaches: &Reaches<'_, A>,
 ) -> Result<Vec<Place, B>, AllocError>
-    ensures listed { IfOk result (λ places. AreInPlan (BreaksAtLabel labels.now (IsCoveredLabel net.now reaches.now)) places.items) }
-    ensures kept { IfOk result (λ places. places.items ≡ [] → ReachesCover net.now labels.now reaches.now) }
+    ensures listed { IfOk result
+        (λ places. AreInPlan
+        (BreaksAtLabel labels.now (IsCoveredLabel net.now reaches.now)) places.items) }
+    ensures kept { IfOk result
+        (λ places. places.items ≡ [] → ReachesCover net.now labels.now reaches.now) }
 {
     let mut lines = Vec::new(alloc);
     for label in labels {
@@ -84,7 +92,8 @@ pub fn reaches_cover<A: Allocator + Copy, B: Allocator + Copy>(
 // Whether each pattern of the client of this number fits a label of the scope that its source leads
 // into.
 fn is_labelled<A: Allocator + Copy>(net: &Net<A>, labels: &Labels<'_, A>, number: usize) -> bool
-    ensures { IsTrue result ↔ IsSomeAnd (slice_get net.now.clients number) (IsLabelledClient net.now labels.now) }
+    ensures { IsTrue result
+        ↔ IsSomeAnd (slice_get net.now.clients number) (IsLabelledClient net.now labels.now) }
 {
     let (Some(client), Some(host)) = (net.client(number), net.client_host(number)) else {
         return false;
@@ -181,7 +190,8 @@ fn is_match_covered<A: Allocator + Copy>(
     label: &Plain<A>,
     patterns: &[Plain<A>],
 ) -> bool
-    ensures { IsTrue result ↔ All (IsCovered reaches.now at.place at.scope at.rule label.now) patterns.now }
+    ensures { IsTrue result
+        ↔ All (IsCovered reaches.now at.place at.scope at.rule label.now) patterns.now }
 {
     for pattern in patterns {
         if !is_pattern_covered(reaches, at, label, pattern) {
@@ -199,7 +209,8 @@ fn is_pattern_covered<A: Allocator + Copy>(
     label: &Plain<A>,
     pattern: &Plain<A>,
 ) -> bool
-    ensures { IsTrue result ↔ IsCovered reaches.now at.place at.scope at.rule label.now pattern.now }
+    ensures { IsTrue result
+        ↔ IsCovered reaches.now at.place at.scope at.rule label.now pattern.now }
 {
     if apart(pattern, label) {
         return true;

@@ -33,7 +33,9 @@ pub(crate) trait Requirement<T> {
         found: &T,
         lines: &mut Vec<usize, B>,
     ) -> Result<(), AllocError>
-        ensures { OnOk result (Adds (keeps self.now at found.now) (breaks self.now at found.now) lines.old.items lines.new.items) };
+        ensures { OnOk result
+            (Adds (keeps self.now at found.now)
+            (breaks self.now at found.now) lines.old.items lines.new.items) };
 }
 
 /// This is asked of each server of an output.
@@ -45,9 +47,11 @@ impl<A: Allocator, R: Requirement<Server<A>>> Requirement<Output<A>> for OfServe
     ghost use Rattle.relay_net.specs.Outputs.{servers_of};
     ghost use Rattle.loss_rules.specs.Lines.{KeptInList, BrokenInList};
 
-    ghost keeps = { λ asked at found. KeptInList (λ number server. R.keeps asked.0 at server) (servers_of found) };
+    ghost keeps = { λ asked at found. KeptInList
+        (λ number server. R.keeps asked.0 at server) (servers_of found) };
 
-    ghost breaks = { λ asked at found line. BrokenInList (λ number server l. R.breaks asked.0 at server l) (servers_of found) line };
+    ghost breaks = { λ asked at found line. BrokenInList
+        (λ number server l. R.breaks asked.0 at server l) (servers_of found) line };
 
     fn add_lines<B: Allocator + Copy>(
         &self,
@@ -70,9 +74,13 @@ impl<A: Allocator, R: Requirement<Output<A>>> Requirement<MatchRule<A>> for OfOu
     ghost use Rattle.std.specs.Prelude.{ℕ};
     ghost use Rattle.loss_rules.specs.Lines.{KeptInList, BrokenInList};
 
-    ghost keeps = { λ asked at found. KeptInList (λ output other. R.keeps asked.0 (record at { output = output }) other) found.outputs.items };
+    ghost keeps = { λ asked at found. KeptInList
+        (λ output other. R.keeps asked.0 (record at { output = output }) other)
+        found.outputs.items };
 
-    ghost breaks = { λ asked at found line. BrokenInList (λ output other l. R.breaks asked.0 (record at { output = output }) other l) found.outputs.items line };
+    ghost breaks = { λ asked at found line. BrokenInList
+        (λ output other l. R.breaks asked.0 (record at { output = output }) other l)
+        found.outputs.items line };
 
     fn add_lines<B: Allocator + Copy>(
         &self,
@@ -99,8 +107,15 @@ pub(crate) fn broken_places<A: Allocator + Copy, B: Allocator + Copy, R: Require
     net: &Net<A>,
     asked: &R,
 ) -> Result<Vec<Place, B>, AllocError>
-    ensures listed { IfOk result (λ places. AreInConf net.now (BrokenInNet net.now (λ place scope rule found line. R.breaks asked.now (site_of place scope rule) found line)) places.items) }
-    ensures kept { IfOk result (λ places. places.items ≡ [] → EachMatch net.now (λ place scope rule found. R.keeps asked.now (site_of place scope rule) found)) }
+    ensures listed { IfOk result
+        (λ places. AreInConf net.now
+        (BrokenInNet net.now
+        (λ place scope rule found line. R.breaks asked.now (site_of place scope rule) found line))
+        places.items) }
+    ensures kept { IfOk result
+        (λ places. places.items ≡ []
+        → EachMatch net.now
+        (λ place scope rule found. R.keeps asked.now (site_of place scope rule) found)) }
 {
     let mut places = Vec::new(alloc);
     for (place, node) in net.relays().iter().enumerate() {
@@ -117,8 +132,14 @@ pub(crate) fn relay_lines<A: Allocator, B: Allocator + Copy, R: Requirement<Matc
     place: usize,
     relay: &Relay<A>,
 ) -> Result<Vec<usize, B>, AllocError>
-    ensures lines { IfOk result (λ lines. AreLines (BrokenInRelay (λ scope rule found line. R.breaks asked.now (site_of place scope rule) found line) relay.now) lines.items) }
-    ensures kept { IfOk result (λ lines. lines.items ≡ [] → KeptInRelay (λ scope rule found. R.keeps asked.now (site_of place scope rule) found) relay.now) }
+    ensures lines { IfOk result
+        (λ lines. AreLines (BrokenInRelay
+        (λ scope rule found line. R.breaks asked.now (site_of place scope rule) found line)
+        relay.now) lines.items) }
+    ensures kept { IfOk result
+        (λ lines. lines.items ≡ []
+        → KeptInRelay (λ scope rule found. R.keeps asked.now (site_of place scope rule) found)
+        relay.now) }
 {
     let mut lines = Vec::new(alloc);
     for (scope, found) in relay.scopes.iter().enumerate() {
@@ -138,7 +159,8 @@ fn add_scope_lines<A: Allocator, B: Allocator + Copy, R: Requirement<MatchRule<A
 ) -> Result<(), AllocError>
     ensures { OnOk result (Adds
         (KeptInList (λ rule found. R.keeps asked.now (site_of place scope rule) found) matches.now)
-        (BrokenInList (λ rule found line. R.breaks asked.now (site_of place scope rule) found line) matches.now) lines.old.items lines.new.items) }
+        (BrokenInList (λ rule found line. R.breaks asked.now (site_of place scope rule) found line)
+        matches.now) lines.old.items lines.new.items) }
 {
     for (rule, found) in matches.iter().enumerate() {
         let here = Site {
@@ -158,7 +180,8 @@ pub(crate) fn add_unless<B: Allocator>(
     line: usize,
     lines: &mut Vec<usize, B>,
 ) -> Result<(), AllocError>
-    ensures { OnOk result (lines.new.items ≡ cond kept lines.old.items (lines.old.items ++ line ∷ [])) }
+    ensures { OnOk result
+        (lines.new.items ≡ cond kept lines.old.items (lines.old.items ++ line ∷ [])) }
 {
     if !kept {
         lines.push(line)?;

@@ -21,7 +21,11 @@ pub fn servers_are_sources<A: Allocator + Copy, B: Allocator + Copy>(
     alloc: B,
     net: &Net<A>,
 ) -> Result<Vec<Place, B>, AllocError>
-    ensures listed { IfOk result (λ places. AreInConf net.now (BreaksAtServer net.now (λ place scope rule server. IsSome (entrance net.now (address_of_server server)))) places.items) }
+    ensures listed { IfOk result
+        (λ places. AreInConf net.now
+        (BreaksAtServer net.now
+        (λ place scope rule server. IsSome (entrance net.now (address_of_server server))))
+        places.items) }
     ensures kept { IfOk result (λ places. places.items ≡ [] → ServersAreSources net.now) }
 {
     broken_places(alloc, net, &OfOutputs(OfServers(IsSource { net })))
@@ -37,8 +41,13 @@ pub fn forwards_are_labelled<'a, 'b, A: Allocator + Copy, B: Allocator + Copy>(
     labels: &'a Labels<'b, A>,
     reaches: &'a Reaches<'b, A>,
 ) -> Result<Vec<Place, B>, AllocError>
-    ensures listed { IfOk result (λ places. AreInConf net.now (BreaksAtServer net.now (λ place scope rule server. IsLabelledServer net.now labels.now reaches.now place scope rule (address_of_server server))) places.items) }
-    ensures kept { IfOk result (λ places. places.items ≡ [] → ForwardsAreLabelled net.now labels.now reaches.now) }
+    ensures listed { IfOk result
+        (λ places. AreInConf net.now
+        (BreaksAtServer net.now
+        (λ place scope rule server. IsLabelledServer net.now labels.now reaches.now place scope
+        rule (address_of_server server))) places.items) }
+    ensures kept { IfOk result
+        (λ places. places.items ≡ [] → ForwardsAreLabelled net.now labels.now reaches.now) }
 {
     broken_places(
         alloc,
@@ -63,7 +72,8 @@ impl<A: Allocator + Copy> Requirement<Server<A>> for IsSource<'_, A> {
 
     ghost keeps = { λ asked at server. IsSome (entrance asked.net.now (address_of_server server)) };
 
-    ghost breaks = { λ asked at server line. (server.line ≡ line) × ¬ IsSome (entrance asked.net.now (address_of_server server)) };
+    ghost breaks = { λ asked at server line. (server.line ≡ line)
+        × ¬ IsSome (entrance asked.net.now (address_of_server server)) };
 
     fn add_lines<B: Allocator + Copy>(
         &self,
@@ -93,9 +103,12 @@ impl<A: Allocator + Copy> Requirement<Server<A>> for LeadsToLabel<'_, '_, A> {
     ghost use Rattle.relay_net.specs.Network.{address_of_server};
     ghost use Rattle.loss_rules.specs.Rules.{IsLabelledServer};
 
-    ghost keeps = { λ asked at server. IsLabelledServer asked.net.now asked.labels.now asked.reaches.now at.place at.scope at.rule (address_of_server server) };
+    ghost keeps = { λ asked at server. IsLabelledServer asked.net.now asked.labels.now
+        asked.reaches.now at.place at.scope at.rule (address_of_server server) };
 
-    ghost breaks = { λ asked at server line. (server.line ≡ line) × ¬ IsLabelledServer asked.net.now asked.labels.now asked.reaches.now at.place at.scope at.rule (address_of_server server) };
+    ghost breaks = { λ asked at server line. (server.line ≡ line)
+        × ¬ IsLabelledServer asked.net.now asked.labels.now asked.reaches.now at.place at.scope
+        at.rule (address_of_server server) };
 
     fn add_lines<B: Allocator + Copy>(
         &self,

@@ -17,7 +17,8 @@ impl<A: Allocator> ScopeSearch<A> {
     /// Takes the next scope off those to come, if there is one.
     pub fn next(&mut self) -> Option<usize>
         ensures marks { self.new.marks.items ≡ self.old.marks.items }
-        ensures some { IfSome result (λ scope. self.old.ahead.items ≡ self.new.ahead.items ++ scope ∷ []) }
+        ensures some { IfSome result
+            (λ scope. self.old.ahead.items ≡ self.new.ahead.items ++ scope ∷ []) }
         ensures none { IfNone result (self.old.ahead.items ≡ []) }
     {
         self.ahead.pop()
@@ -44,7 +45,9 @@ impl<A: Allocator> ScopeSearch<A> {
     /// Adds the targets of these relabels to the scopes to come.
     pub fn follow(&mut self, relabels: &[Relabel]) -> Result<(), AllocError>
         ensures marks { OnOk result (self.new.marks.items ≡ self.old.marks.items) }
-        ensures ahead { OnOk result (self.new.ahead.items ≡ self.old.ahead.items ++ map (λ relabel. relabel.target) relabels.now) }
+        ensures ahead { OnOk result
+            (self.new.ahead.items
+            ≡ self.old.ahead.items ++ map (λ relabel. relabel.target) relabels.now) }
     {
         for relabel in relabels {
             self.ahead.push(relabel.target)?;

@@ -28,7 +28,8 @@ impl<A: Allocator> Model for Book<A> {
 
     ghost Value = { book.Book };
 
-    ghost view = { λ b. book.book_from b.messages.items b.deliveries.items (book.told_events b.acknowledged.items) };
+    ghost view = { λ b. book.book_from b.messages.items b.deliveries.items
+        (book.told_events b.acknowledged.items) };
 }
 
 impl<A: Allocator + Copy> Book<A> {
@@ -66,7 +67,8 @@ impl<A: Allocator + Copy> Book<A> {
 
     /// The delivery of this number, if there is one.
     pub fn delivery(&self, number: usize) -> Option<&Delivery<A>>
-        ensures { option_map (λ d. d.delivery) (option_copied result) ≡ slice_get self.now.deliveries number }
+        ensures { option_map (λ d. d.delivery) (option_copied result)
+            ≡ slice_get self.now.deliveries number }
     {
         self.deliveries.get(number)
     }
@@ -80,7 +82,8 @@ impl<A: Allocator + Copy> Book<A> {
 
     /// Whether the delivery of this number is there and was appended to this buffer.
     pub fn has_appended(&self, delivery: usize, buffer: usize) -> bool
-        ensures { IsTrue result ↔ IsSomeAnd (slice_get self.now.deliveries delivery) (λ d. Contains d.appended buffer) }
+        ensures { IsTrue result
+            ↔ IsSomeAnd (slice_get self.now.deliveries delivery) (λ d. Contains d.appended buffer) }
     {
         match self.delivery(delivery) {
             Some(found) => found.has_appended(buffer),
@@ -97,7 +100,16 @@ impl<A: Allocator + Copy> Book<A> {
         tag: &Tag<A>,
         entries: &[Vec<u8, A>],
     ) -> Result<(), AllocError>
-        ensures ok { OnOk result (self.new ≡ record self.old { messages = self.old.messages ++ record { sender = sender; address = address; tag = tag.now; entries = texts_of entries.now; acknowledged = false } ∷ [] }) }
+        ensures ok { OnOk result
+            (self.new ≡ record self.old {
+              messages = self.old.messages ++ record {
+                sender = sender;
+                address = address;
+                tag = tag.now;
+                entries = texts_of entries.now;
+                acknowledged = false;
+              } ∷ [];
+            }) }
         ensures err { OnErr result (self.new ≡ self.old) }
     {
         let alloc = *self.messages.allocator();
@@ -115,7 +127,17 @@ impl<A: Allocator + Copy> Book<A> {
         tag: Tag<A>,
         room: usize,
     ) -> Result<(), AllocError>
-        ensures ok { OnOk result (self.new ≡ record self.old { deliveries = self.old.deliveries ++ record { message = message; entrance = entrance; tag = tag; appended = []; is_open = true } ∷ []; room = self.old.room ++ room ∷ [] }) }
+        ensures ok { OnOk result
+            (self.new ≡ record self.old {
+              deliveries = self.old.deliveries ++ record {
+                message = message;
+                entrance = entrance;
+                tag = tag;
+                appended = [];
+                is_open = true;
+              } ∷ [];
+              room = self.old.room ++ room ∷ [];
+            }) }
         ensures err { OnErr result (self.new ≡ self.old) }
     {
         let alloc = *self.messages.allocator();
@@ -128,7 +150,8 @@ impl<A: Allocator + Copy> Book<A> {
     /// changes nothing.
     pub fn make_room(&mut self, delivery: usize) -> Result<(), AllocError>
         requires { delivery < length self.old.deliveries }
-        ensures ok { OnOk result (self.new ≡ record self.old { room = changed_at self.old.room delivery with_room }) }
+        ensures ok { OnOk result
+            (self.new ≡ record self.old { room = changed_at self.old.room delivery with_room }) }
         ensures there { OnOk result (HasRoom self.new delivery) }
         ensures err { OnErr result (self.new ≡ self.old) }
     {
@@ -139,7 +162,12 @@ impl<A: Allocator + Copy> Book<A> {
     /// The delivery was appended to this buffer, for which there is room.
     pub fn mark_appended(&mut self, delivery: usize, buffer: usize)
         requires { HasRoom self.old delivery }
-        ensures { self.new ≡ record self.old { deliveries = changed_at self.old.deliveries delivery (appended_to_buffer buffer); room = changed_at self.old.room delivery less_room } }
+        ensures { self.new ≡ record
+            self.old {
+              deliveries = changed_at self.old.deliveries delivery
+                  (appended_to_buffer buffer);
+              room = changed_at self.old.room delivery less_room;
+            } }
     {
         let opened = &mut self.deliveries[delivery];
         opened.mark_appended(buffer);
@@ -148,7 +176,8 @@ impl<A: Allocator + Copy> Book<A> {
     /// The delivery ends.
     pub fn end(&mut self, delivery: usize)
         requires { delivery < length self.old.deliveries }
-        ensures { self.new ≡ record self.old { deliveries = changed_at self.old.deliveries delivery ended } }
+        ensures { self.new ≡ record
+            self.old { deliveries = changed_at self.old.deliveries delivery ended } }
     {
         let opened = &mut self.deliveries[delivery];
         opened.end();
@@ -158,7 +187,13 @@ impl<A: Allocator + Copy> Book<A> {
     /// events are acknowledged, once each. An `Err` changes nothing.
     pub fn answer(&mut self, message: usize) -> Result<(), AllocError>
         requires { message < length self.old.messages }
-        ensures ok { OnOk result (self.new ≡ record self.old { messages = changed_at self.old.messages message acknowledged_message; acknowledged = self.old.acknowledged ++ option_map_or events_told (slice_get self.old.messages message) [] }) }
+        ensures ok { OnOk result
+            (self.new ≡ record self.old {
+              messages = changed_at self.old.messages message
+                  acknowledged_message;
+              acknowledged = self.old.acknowledged ++ option_map_or events_told
+                  (slice_get self.old.messages message) [];
+            }) }
         ensures err { OnErr result (self.new ≡ self.old) }
     {
         let alloc = *self.messages.allocator();
@@ -174,7 +209,8 @@ impl<A: Allocator + Copy> Book<A> {
     /// it takes no memory.
     pub fn answer_outside(&mut self, message: usize)
         requires { message < length self.old.messages }
-        ensures { self.new ≡ record self.old { messages = changed_at self.old.messages message acknowledged_message } }
+        ensures { self.new ≡ record
+            self.old { messages = changed_at self.old.messages message acknowledged_message } }
     {
         let marked = &mut self.messages[message];
         marked.acknowledge();

@@ -40,7 +40,17 @@ impl<A: Allocator> Delivery<A> {
         tag: Tag<A>,
         room: usize,
     ) -> Result<Delivery<A>, AllocError>
-        ensures { IfOk result (λ d. d ≡ record { delivery = record { message = message; entrance = entrance; tag = tag; appended = []; is_open = true }; room = room }) }
+        ensures { IfOk result
+            (λ d. d ≡ record {
+              delivery = record {
+                message = message;
+                entrance = entrance;
+                tag = tag;
+                appended = [];
+                is_open = true;
+              };
+              room = room;
+            }) }
     {
         Ok(Delivery {
             message,
@@ -105,7 +115,10 @@ impl<A: Allocator> Delivery<A> {
     /// It was appended to this buffer, for which there is room.
     pub(crate) fn mark_appended(&mut self, buffer: usize)
         requires { 0 < self.old.room }
-        ensures { self.new ≡ record { delivery = appended_to_buffer buffer self.old.delivery; room = less_room self.old.room } }
+        ensures { self.new ≡ record {
+          delivery = appended_to_buffer buffer self.old.delivery;
+          room = less_room self.old.room;
+        } }
     {
         self.appended.push_reserved(buffer);
     }

@@ -57,7 +57,15 @@ impl<A: Allocator> Message<A> {
     ) -> Result<Message<A>, AllocError>
     where
         A: Copy,
-        ensures { IfOk result (λ message. message ≡ record { sender = sender; address = address; tag = tag.now; entries = texts_of entries.now; acknowledged = false }) }
+        ensures { IfOk result
+            (λ message. message
+            ≡ record {
+              sender = sender;
+              address = address;
+              tag = tag.now;
+              entries = texts_of entries.now;
+              acknowledged = false;
+            }) }
     {
         Ok(Message {
             sender,
@@ -133,7 +141,8 @@ fn copy_told<A: Allocator + Copy>(
     tag: &[u8],
     entries: &[Vec<u8, A>],
 ) -> Result<Vec<Acknowledged<A>, A>, AllocError>
-    ensures { IfOk result (λ events. told_events events.items ≡ told_to client tag.now (texts_of entries.now)) }
+    ensures { IfOk result
+        (λ events. told_events events.items ≡ told_to client tag.now (texts_of entries.now)) }
 {
     let mut events = Vec::new(alloc);
     for entry in entries {

@@ -113,7 +113,9 @@ fn next_of<N: Network + Drop, A: Allocator>(
 ) -> Accepted<N::Stream>
     ensures bound { N.bound network.new ≡ N.bound network.old }
     ensures time { N.time network.new ≡ N.time network.old }
-    ensures came { IfStream result (λ stream. IsSomeAnd (slice_get listeners.now place) (λ listener. N.Stream.origin stream ≡ CameAt listener.number)) }
+    ensures came { IfStream result
+        (λ stream. IsSomeAnd (slice_get listeners.now place)
+        (λ listener. N.Stream.origin stream ≡ CameAt listener.number)) }
 {
     if !matches!(ready.get(place), Some(true)) {
         return Accepted::Empty;

@@ -37,7 +37,12 @@ impl<N: Network + Drop, A: Allocator> Model for BoundRelay<N, A> {
 
     ghost Value = { BoundState A };
 
-    ghost view = { λ b. record { bound = N.bound b.network; sources = sources_in b.listeners.items; number = b.number; outputs = b.outputs.items } };
+    ghost view = { λ b. record {
+      bound = N.bound b.network;
+      sources = sources_in b.listeners.items;
+      number = b.number;
+      outputs = b.outputs.items;
+    } };
 
     ghost invariant = { λ b. AreListening (N.bound b.network) b.listeners.items };
 }
@@ -62,9 +67,12 @@ impl<N: Network + Drop, A: Allocator + Copy> BoundRelay<N, A> {
         setup: RelaySetup<A>,
     ) -> Result<Self, LoopFault>
         requires { N.bound network ≡ [] }
-        ensures sources { IfOk result (λ bound. bound.sources ≡ map (served_as setup.number setup.table) setup.sources) }
-        ensures bound { IfOk result (λ bound. bound.bound ≡ map (λ source. source.endpoint) bound.sources) }
-        ensures outputs { IfOk result (λ bound. (bound.number ≡ setup.number) × (bound.outputs ≡ setup.outputs)) }
+        ensures sources { IfOk result
+            (λ bound. bound.sources ≡ map (served_as setup.number setup.table) setup.sources) }
+        ensures bound { IfOk result
+            (λ bound. bound.bound ≡ map (λ source. source.endpoint) bound.sources) }
+        ensures outputs { IfOk result
+            (λ bound. (bound.number ≡ setup.number) × (bound.outputs ≡ setup.outputs)) }
     {
         let Ok(nonces) = Nonces::new(rt) else {
             return Err(LoopFault::Poll);
@@ -95,15 +103,21 @@ impl<N: Network + Drop, A: Allocator + Copy> BoundRelay<N, A> {
         self,
         folders: &F,
     ) -> Result<OpenRelay<N, D, A>, LoopFault>
-        ensures sources { IfOk result (λ opened. (opened.turning.sources ≡ self.sources) × (opened.turning.bound ≡ self.bound)) }
+        ensures sources { IfOk result
+            (λ opened. (opened.turning.sources ≡ self.sources)
+            × (opened.turning.bound ≡ self.bound)) }
         ensures none { IfOk result (λ opened. opened.turning.connections ≡ []) }
-        ensures buffers { IfOk result (λ opened. AreBuffersOf self.number self.outputs opened.turning.buffers) }
+        ensures buffers { IfOk result
+            (λ opened. AreBuffersOf self.number self.outputs opened.turning.buffers) }
         // Each job is of one output, with the buffer that the loop has for it.
-        ensures jobs { IfOk result (λ opened. (map (λ job. job.output) opened.jobs.items ≡ self.outputs)
+        ensures jobs { IfOk result
+            (λ opened. (map (λ job. job.output) opened.jobs.items ≡ self.outputs)
             × (map (λ job. job.terms) opened.jobs.items ≡ opened.turning.buffers)) }
         // The loop queues what is staged in these buffers when their outputs' settings say: what
         // was when they were opened, since then.
-        ensures planned { IfOk result (λ opened. ArePlanned opened.turning.time opened.jobs.items opened.turning.lanes.plans) }
+        ensures planned { IfOk result
+            (λ opened. ArePlanned opened.turning.time opened.jobs.items
+            opened.turning.lanes.plans) }
         ensures placed { IfOk result (λ opened. ArePlaced (F.place folders.now) opened.jobs.items) }
         ensures ports { IfOk result (λ opened. ArePortsOf self.sources opened.ports) }
         ensures fault { IfOk result (λ opened. opened.turning.lanes.fault ≡ None) }

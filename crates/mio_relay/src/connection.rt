@@ -99,7 +99,15 @@ impl<S: Wire, A: Allocator + Copy> Connection<S, A> {
     /// A stream that was just accepted, with its session, at the source with this place, and at
     /// this time in milliseconds.
     pub fn new(stream: S, peer: Peer<A>, source: usize, time: u64) -> Self
-        ensures { result ≡ record { origin = S.origin stream; came = time; traffic = S.traffic stream; peer = peer; is_broken = false; is_blocked = S.refuses stream; has_ended = S.has_ended stream } }
+        ensures { result ≡ record {
+          origin = S.origin stream;
+          came = time;
+          traffic = S.traffic stream;
+          peer = peer;
+          is_broken = false;
+          is_blocked = S.refuses stream;
+          has_ended = S.has_ended stream;
+        } }
     {
         Connection {
             stream,
@@ -176,9 +184,12 @@ impl<S: Wire, A: Allocator + Copy> Connection<S, A> {
         ensures only { MayRead self.old ⊎ ((result ≡ Ok tt) × (self.new ≡ self.old)) }
         // Each piece that came was received, in order, and no more than a turn has for one
         // connection.
-        ensures received { OnOk result ((pieces : ℕ) × (pieces ≤ most_pieces) × AreReceived pieces self.old self.new) }
+        ensures received { OnOk result
+            ((pieces : ℕ) × (pieces ≤ most_pieces) × AreReceived pieces self.old self.new) }
         // Each message that was demanded got its number, unless the connection is to be closed.
-        ensures numbered { OnOk result ((numbers.new + length self.old.peer.session.asked ≡ numbers.old + length self.new.peer.session.asked)
+        ensures numbered { OnOk result
+            ((numbers.new + length self.old.peer.session.asked
+            ≡ numbers.old + length self.new.peer.session.asked)
             ⊎ (self.new.is_broken ≡ true)) }
         ensures drawn { numbers.old ≤ numbers.new }
     {
@@ -204,7 +215,9 @@ impl<S: Wire, A: Allocator + Copy> Connection<S, A> {
         ensures lanes { KeepsLanes lanes.old lanes.new }
         ensures time { lanes.new.time ≡ lanes.old.time }
         ensures received { OnOk result (IsReceived self.old self.new) }
-        ensures numbered { OnOk result ((numbers.new + length self.old.peer.session.asked ≡ numbers.old + length self.new.peer.session.asked)
+        ensures numbered { OnOk result
+            ((numbers.new + length self.old.peer.session.asked
+            ≡ numbers.old + length self.new.peer.session.asked)
             ⊎ (self.new.is_broken ≡ true)) }
         ensures drawn { numbers.old ≤ numbers.new }
     {

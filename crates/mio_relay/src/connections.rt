@@ -78,7 +78,8 @@ impl<S: Wire + Drop, A: Allocator + Copy> Connections<S, A> {
     /// Puts a connection at this key, which `make_room` gave, and gives it back where it can't
     /// stay: there is no room, or one is there.
     pub fn put(&mut self, key: usize, connection: Connection<S, A>) -> Option<Connection<S, A>>
-        ensures served { (sources : List Served) → AreServed sources self.old → IsServed sources connection → AreServed sources self.new }
+        ensures served { (sources : List Served) → AreServed sources self.old
+            → IsServed sources connection → AreServed sources self.new }
         ensures gets { EachKey (MayGet connection) self.old self.new }
     {
         match self.keys.insert(()) {
@@ -99,7 +100,8 @@ impl<S: Wire + Drop, A: Allocator + Copy> Connections<S, A> {
         ensures flushed { AreFlushed self.old → AreFlushed self.new }
         ensures over { IfSome result (MayClose time) }
         ensures loses { EachKey (MayLose time) self.old self.new }
-        ensures in_time { AreInTimeBelow time key self.old → AreInTimeBelow time (key + 1) self.new }
+        ensures in_time { AreInTimeBelow time key self.old
+            → AreInTimeBelow time (key + 1) self.new }
     {
         let Some(slot) = self.slots.get_mut(key) else {
             return None;
@@ -134,7 +136,8 @@ impl<S: Wire + Drop, A: Allocator + Copy> Connections<S, A> {
         ensures settled { AreSettled self.old → AreSettled self.new }
         ensures flushed { AreFlushed self.old → AreFlushed self.new }
         ensures in_time { (time : ℕ) → AreInTime time self.old → AreInTime time self.new }
-        ensures others { (k : ℕ) (none : Option ConnectionState) → (k ≡ key → ⊥) → slice_index_or self.new k none ≡ slice_index_or self.old k none }
+        ensures others { (k : ℕ) (none : Option ConnectionState) → (k ≡ key → ⊥)
+            → slice_index_or self.new k none ≡ slice_index_or self.old k none }
     {
         let Some(slot) = self.slots.get_mut(key) else {
             return;
@@ -174,7 +177,8 @@ impl<S: Wire + Drop, A: Allocator + Copy> Connections<S, A> {
     ) -> Result<(), NoNumber>
         ensures goes { GoOn self.old self.new }
         ensures stands { StandOn self.old self.new }
-        ensures numbered { OnOk result (AreNumbered numbers.old numbers.new (at_key self.old key) (at_key self.new key)) }
+        ensures numbered { OnOk result
+            (AreNumbered numbers.old numbers.new (at_key self.old key) (at_key self.new key)) }
         ensures drawn { numbers.old ≤ numbers.new }
         ensures lanes { KeepsLanes lanes.old lanes.new }
         ensures time { lanes.new.time ≡ lanes.old.time }
@@ -197,7 +201,8 @@ impl<S: Wire + Drop, A: Allocator + Copy> Connections<S, A> {
         ensures stands { StandOn self.old self.new }
         ensures lanes { lanes.new ≡ lanes.old }
         ensures keys { length self.new ≡ length self.old }
-        ensures settled { NoneLater lanes.old.later → AreSettledBelow key self.old → AreSettledBelow (key + 1) self.new }
+        ensures settled { NoneLater lanes.old.later → AreSettledBelow key self.old
+            → AreSettledBelow (key + 1) self.new }
     {
         let Some(slot) = self.slots.get_mut(key) else {
             return;

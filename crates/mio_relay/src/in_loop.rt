@@ -90,7 +90,8 @@ impl<N: Network + Drop, D: Dir + Drop, A: Allocator> Model for InLoop<N, D, A> {
 
     // Each source is bound at its address, each connection is served as one of the source at whose
     // listener it came in, and the loop uses the relay's own buffers, in their order.
-    ghost invariant = { λ l. AreListening (N.bound l.network) l.listeners.items × AreServed (sources_in l.listeners.items) l.connections
+    ghost invariant = { λ l. AreListening (N.bound l.network) l.listeners.items
+        × AreServed (sources_in l.listeners.items) l.connections
         × (l.lanes.terms ≡ map (λ buffer. arc_value buffer) l.buffers.items) };
 }
 
@@ -147,9 +148,11 @@ where
         path: &str,
     ) -> Result<Self, LoopFault>
         ensures sources { IfOk result (λ opened. opened.sources ≡ sources_of number relay) }
-        ensures bound { IfOk result (λ opened. opened.bound ≡ map (λ source. source.endpoint) opened.sources) }
+        ensures bound { IfOk result
+            (λ opened. opened.bound ≡ map (λ source. source.endpoint) opened.sources) }
         ensures none { IfOk result (λ opened. opened.connections ≡ []) }
-        ensures buffers { IfOk result (λ opened. AreBuffersOf number (outputs_in relay.scopes.items) opened.buffers) }
+        ensures buffers { IfOk result
+            (λ opened. AreBuffersOf number (outputs_in relay.scopes.items) opened.buffers) }
         ensures runs { IfOk result (λ _. CanRun (outputs_in relay.scopes.items)) }
     {
         let Ok(theirs) = rt.clone() else {
@@ -178,9 +181,11 @@ where
         folders: &F,
     ) -> Result<Self, LoopFault>
         ensures sources { IfOk result (λ opened. opened.sources ≡ sources_of number relay) }
-        ensures bound { IfOk result (λ opened. opened.bound ≡ map (λ source. source.endpoint) opened.sources) }
+        ensures bound { IfOk result
+            (λ opened. opened.bound ≡ map (λ source. source.endpoint) opened.sources) }
         ensures none { IfOk result (λ opened. opened.connections ≡ []) }
-        ensures buffers { IfOk result (λ opened. AreBuffersOf number (outputs_in relay.scopes.items) opened.buffers) }
+        ensures buffers { IfOk result
+            (λ opened. AreBuffersOf number (outputs_in relay.scopes.items) opened.buffers) }
         ensures runs { IfOk result (λ _. CanRun (outputs_in relay.scopes.items)) }
     {
         let Ok(theirs) = rt.clone() else {
@@ -205,9 +210,11 @@ impl<N: Network + Drop, D: Dir + Drop, A: Allocator + Copy> InLoop<N, D, A> {
     ) -> Result<Self, LoopFault>
         requires { N.bound network ≡ [] }
         ensures sources { IfOk result (λ opened. opened.sources ≡ sources_of number relay) }
-        ensures bound { IfOk result (λ opened. opened.bound ≡ map (λ source. source.endpoint) opened.sources) }
+        ensures bound { IfOk result
+            (λ opened. opened.bound ≡ map (λ source. source.endpoint) opened.sources) }
         ensures none { IfOk result (λ opened. opened.connections ≡ []) }
-        ensures buffers { IfOk result (λ opened. AreBuffersOf number (outputs_in relay.scopes.items) opened.buffers) }
+        ensures buffers { IfOk result
+            (λ opened. AreBuffersOf number (outputs_in relay.scopes.items) opened.buffers) }
         ensures runs { IfOk result (λ _. CanRun (outputs_in relay.scopes.items)) }
     {
         let setup = RelaySetup::new(alloc, relay, number)?;
@@ -285,7 +292,8 @@ impl<N: Network + Drop, D: Dir + Drop, A: Allocator + Copy> InLoop<N, D, A> {
     pub fn turn<R: Wait>(&mut self, rt: &R) -> Result<(), LoopFault>
         requires { self.old.fault ≡ None }
         ensures stays { Stays self.old self.new }
-        ensures settled { OnOk result (NoneLater self.new.lanes.later → AreSettled self.new.connections) }
+        ensures settled { OnOk result
+            (NoneLater self.new.lanes.later → AreSettled self.new.connections) }
         ensures faultless { OnOk result (self.new.lanes.fault ≡ None) }
         ensures came { IfErr result (IsReason self.new.lanes.fault) }
         ensures ended { self.new.fault ≡ fault_in result }
@@ -317,7 +325,8 @@ impl<N: Network + Drop, D: Dir + Drop, A: Allocator + Copy> InLoop<N, D, A> {
 
     fn turn_once<R: Wait>(&mut self, rt: &R) -> Result<(), LoopFault>
         ensures stays { Stays self.old self.new }
-        ensures settled { OnOk result (NoneLater self.new.lanes.later → AreSettled self.new.connections) }
+        ensures settled { OnOk result
+            (NoneLater self.new.lanes.later → AreSettled self.new.connections) }
         ensures faultless { OnOk result (self.new.lanes.fault ≡ None) }
         ensures came { IfErr result (IsReason self.new.lanes.fault) }
         ensures queued { OnOk result (AreQueued self.new.lanes) }
@@ -361,7 +370,8 @@ impl<N: Network + Drop, D: Dir + Drop, A: Allocator + Copy> InLoop<N, D, A> {
     fn take_in<R: Wait>(&mut self, rt: &R) -> Result<(), NoNumber>
         ensures stays { Stays self.old self.new }
         ensures takes { TakesIn self.old self.new }
-        ensures held { AppendsWait self.old.lanes.waiting → (result ≡ Ok tt) × (self.new ≡ self.old) }
+        ensures held { AppendsWait self.old.lanes.waiting
+            → (result ≡ Ok tt) × (self.new ≡ self.old) }
     {
         if self.lanes.have_pendings() {
             return Ok(());
@@ -410,7 +420,8 @@ impl<N: Network + Drop, D: Dir + Drop, A: Allocator + Copy> InLoop<N, D, A> {
     // the last turn.
     fn go_on<R: Wait>(&mut self, rt: &R, stop: &AtomicBool) -> Result<Told, LoopFault>
         ensures stays { Stays self.old self.new }
-        ensures ended { IfSome self.old.fault (λ fault. (result ≡ Err fault) × (self.new ≡ self.old)) }
+        ensures ended { IfSome self.old.fault
+            (λ fault. (result ≡ Err fault) × (self.new ≡ self.old)) }
     {
         match self.fault {
             Some(fault) => Err(fault),

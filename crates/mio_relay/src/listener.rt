@@ -85,8 +85,11 @@ pub fn listen<N: Network, A: Allocator + Copy>(
     sources: Vec<Source<A>, A>,
 ) -> Result<Vec<Listener<N, A>, A>, LoopFault>
     requires { N.bound network.old ≡ [] }
-    ensures listening { IfOk result (λ listeners. AreListening (N.bound network.new) listeners.items) }
-    ensures sources { IfOk result (λ listeners. sources_in listeners.items ≡ map (served_as number (arc_value routes.now)) sources.items) }
+    ensures listening { IfOk result
+        (λ listeners. AreListening (N.bound network.new) listeners.items) }
+    ensures sources { IfOk result
+        (λ listeners. sources_in listeners.items
+        ≡ map (served_as number (arc_value routes.now)) sources.items) }
 {
     let mut listeners = Vec::with_capacity(alloc, sources.len())?;
     let mut rest = sources.into_iter();
@@ -105,9 +108,11 @@ fn listen_at<N: Network, A: Allocator + Copy>(
     routes: &Arc<Routes<A>, A>,
     source: Source<A>,
 ) -> Result<Listener<N, A>, LoopFault>
-    ensures bound { OnOk result (N.bound network.new ≡ N.bound network.old ++ endpoint_of source ∷ []) }
+    ensures bound { OnOk result
+        (N.bound network.new ≡ N.bound network.old ++ endpoint_of source ∷ []) }
     ensures number { IfOk result (λ listener. listener.number ≡ length (N.bound network.old)) }
-    ensures source { IfOk result (λ listener. listener.source ≡ served_as number (arc_value routes.now) source) }
+    ensures source { IfOk result
+        (λ listener. listener.source ≡ served_as number (arc_value routes.now) source) }
 {
     let Source {
         port,
@@ -140,7 +145,10 @@ pub fn peer_at<N: Network, A: Allocator + Copy>(
     place: usize,
     nonce: Nonce,
 ) -> Result<Option<Peer<A>>, AllocError>
-    ensures { IfOk result (λ found. IfSome found (λ peer. IsSomeAnd (slice_get listeners.now place) (λ listener. BeginsAt listener.source nonce peer))) }
+    ensures { IfOk result
+        (λ found. IfSome found
+        (λ peer. IsSomeAnd (slice_get listeners.now place)
+        (λ listener. BeginsAt listener.source nonce peer))) }
 {
     let Some(listener) = listeners.get(place) else {
         return Ok(None);

@@ -83,7 +83,9 @@ impl<N: Network + Drop, D: Dir + Drop, A: Allocator + Copy> InLoop<N, D, A> {
     fn read_from<R: Wait>(&mut self, rt: &R, key: usize) -> Result<(), NoNumber>
         ensures stays { Stays self.old self.new }
         ensures takes { TakesIn self.old self.new }
-        ensures numbered { OnOk result (AreNumbered self.old.numbers self.new.numbers (at_key self.old.connections key) (at_key self.new.connections key)) }
+        ensures numbered { OnOk result
+            (AreNumbered self.old.numbers self.new.numbers (at_key self.old.connections key)
+            (at_key self.new.connections key)) }
     {
         self.connections.read(
             key,
@@ -112,7 +114,8 @@ impl<N: Network + Drop, D: Dir + Drop, A: Allocator + Copy> InLoop<N, D, A> {
         ensures takes { TakesIn self.old self.new }
         ensures lanes { self.new.lanes ≡ self.old.lanes }
         ensures keys { length self.new.connections ≡ length self.old.connections }
-        ensures settled { NoneLater self.old.lanes.later → AreSettledBelow key self.old.connections → AreSettledBelow (key + 1) self.new.connections }
+        ensures settled { NoneLater self.old.lanes.later → AreSettledBelow key self.old.connections
+            → AreSettledBelow (key + 1) self.new.connections }
     {
         self.connections
             .settle(key, rt, self.alloc, &mut self.lanes);
@@ -137,7 +140,8 @@ impl<N: Network + Drop, D: Dir + Drop, A: Allocator + Copy> InLoop<N, D, A> {
         ensures lanes { self.new.lanes ≡ self.old.lanes }
         ensures settled { AreSettled self.old.connections → AreSettled self.new.connections }
         ensures keys { length self.new.connections ≡ length self.old.connections }
-        ensures flushed { AreFlushedBelow key self.old.connections → AreFlushedBelow (key + 1) self.new.connections }
+        ensures flushed { AreFlushedBelow key self.old.connections
+            → AreFlushedBelow (key + 1) self.new.connections }
     {
         self.connections.write(key, rt);
     }
@@ -161,7 +165,8 @@ impl<N: Network + Drop, D: Dir + Drop, A: Allocator + Copy> InLoop<N, D, A> {
         ensures rests { Rests self.old self.new }
         ensures time { self.new.time ≡ self.old.time }
         ensures keys { length self.new.connections ≡ length self.old.connections }
-        ensures in_time { AreInTimeBelow self.old.time key self.old.connections → AreInTimeBelow self.old.time (key + 1) self.new.connections }
+        ensures in_time { AreInTimeBelow self.old.time key self.old.connections
+            → AreInTimeBelow self.old.time (key + 1) self.new.connections }
     {
         if let Some(connection) = self.connections.take(key, self.time) {
             tell_closed(rt, &self.clients, &connection, self.time);
@@ -178,7 +183,8 @@ impl<N: Network + Drop, D: Dir + Drop, A: Allocator + Copy> InLoop<N, D, A> {
         ensures stands { StandOn self.old.connections self.new.connections }
         ensures time { self.new.time ≡ self.old.time }
         ensures rests { Rests self.old self.new }
-        ensures in_time { AreInTime self.old.time self.old.connections → AreInTime self.new.time self.new.connections }
+        ensures in_time { AreInTime self.old.time self.old.connections
+            → AreInTime self.new.time self.new.connections }
         ensures held { held_in self.new.connections ≤ most_held }
     {
         for _ in rt.forever() {
@@ -196,7 +202,8 @@ impl<N: Network + Drop, D: Dir + Drop, A: Allocator + Copy> InLoop<N, D, A> {
         ensures stands { StandOn self.old.connections self.new.connections }
         ensures time { self.new.time ≡ self.old.time }
         ensures rests { Rests self.old self.new }
-        ensures in_time { AreInTime self.old.time self.old.connections → AreInTime self.new.time self.new.connections }
+        ensures in_time { AreInTime self.old.time self.old.connections
+            → AreInTime self.new.time self.new.connections }
         ensures most { ShedsMost self.old.connections self.new.connections }
     {
         let key = self.connections.heaviest();

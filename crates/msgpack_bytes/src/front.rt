@@ -49,7 +49,8 @@ pub fn next_text(bytes: &[u8]) -> Option<(&[u8], &[u8])>
 pub fn next_bool(bytes: &[u8]) -> Option<(bool, &[u8])>
     ensures right { IfSome result (λ found. (front : List ℕ) × IsBool found.0 front
         × (bytes.now ≡ front ++ found.1.now)) }
-    ensures only { (value : Bool) (front back : List ℕ) → IsBool value front → bytes.now ≡ front ++ back
+    ensures only { (value : Bool) (front back : List ℕ) → IsBool value front
+        → bytes.now ≡ front ++ back
         → IsSomeAnd result (λ found. (found.0 ≡ value) × (found.1.now ≡ back)) }
 {
     match head(bytes, 0)? {
@@ -89,7 +90,8 @@ pub fn map_of(bytes: &[u8]) -> Option<(u32, &[u8])>
 pub fn str_or_bin(item: &[u8]) -> Option<&[u8]>
     ensures right { MatchOption result ((content : List ℕ) → IsText item.now content → ⊥)
         (λ content. IsText item.now content.now) }
-    ensures only { (content : List ℕ) → IsText item.now content → IsSomeAnd result (λ found. found.now ≡ content) }
+    ensures only { (content : List ℕ) → IsText item.now content
+        → IsSomeAnd result (λ found. found.now ≡ content) }
 {
     let (content, rest) = next_text(item)?;
     if rest.is_empty() { Some(content) } else { None }

@@ -44,9 +44,15 @@ impl Model for Scanner {
 
     ghost Value = { Scanning };
 
-    ghost view = { λ s. record { missing = s.missing; place = s.place; front = s.front; over = s.over } };
+    ghost view = { λ s. record {
+      missing = s.missing;
+      place = s.place;
+      front = s.front;
+      over = s.over;
+    } };
 
-    ghost invariant = { λ s. HasSeen (record { missing = s.missing; place = s.place; front = s.front; over = s.over }) };
+    ghost invariant = { λ s. HasSeen
+        (record { missing = s.missing; place = s.place; front = s.front; over = s.over }) };
 }
 
 impl Scanner {
@@ -73,10 +79,13 @@ impl Scanner {
     /// whatever follows.
     pub fn take(&mut self, piece: &[u8]) -> PieceScan
         ensures right { (seen : List ℕ) → IsAfter self.old seen → IsTaken seen piece.now result }
-        ensures only { (seen : List ℕ) → IsAfter self.old seen → (other : PieceScan) → IsTaken seen piece.now other → other ≡ result }
-        ensures after { (seen : List ℕ) → IsAfter self.old seen → IsAfter self.new (seen ++ piece.now) }
+        ensures only { (seen : List ℕ) → IsAfter self.old seen → (other : PieceScan)
+            → IsTaken seen piece.now other → other ≡ result }
+        ensures after { (seen : List ℕ) → IsAfter self.old seen
+            → IsAfter self.new (seen ++ piece.now) }
         // So more is asked for exactly where all bytes so far are open.
-        ensures need { (seen : List ℕ) → IsAfter self.old seen → (result ≡ PieceScan.Need) ↔ IsOpen (seen ++ piece.now) }
+        ensures need { (seen : List ℕ) → IsAfter self.old seen → (result ≡ PieceScan.Need)
+            ↔ IsOpen (seen ++ piece.now) }
     {
         if let Some(answer) = self.over {
             return answer;
@@ -127,7 +136,8 @@ enum Went {
 
 // Puts the bytes that follow behind those that came of an item's front.
 fn fill(front: &mut [u8; HEADER], came: usize, follow: &[u8])
-    ensures { (part : List ℕ) → length part ≡ came → BeginsSame 5 front.old part → BeginsSame 5 front.new (part ++ follow.now) }
+    ensures { (part : List ℕ) → length part ≡ came → BeginsSame 5 front.old part
+        → BeginsSame 5 front.new (part ++ follow.now) }
 {
     for k in came..HEADER {
         front[k] = byte(follow, k - came) as u8;
@@ -137,7 +147,8 @@ fn fill(front: &mut [u8; HEADER], came: usize, follow: &[u8])
 // The first bytes of what is cut, of which `came` bytes stood in earlier pieces and these in the
 // last.
 fn kept(front: &[u8; HEADER], came: usize, rest: &[u8]) -> [u8; HEADER]
-    ensures { (all : List ℕ) → (came ≡ 0 → all ≡ rest.now) → (0 < came → BeginsSame 5 front.now all) → BeginsSame 5 result all }
+    ensures { (all : List ℕ) → (came ≡ 0 → all ≡ rest.now)
+        → (0 < came → BeginsSame 5 front.now all) → BeginsSame 5 result all }
 {
     if came > 0 {
         return *front;
@@ -150,7 +161,8 @@ fn kept(front: &[u8; HEADER], came: usize, rest: &[u8]) -> [u8; HEADER]
 // Goes over the items of the piece.
 fn go_on(missing: &mut [u32; DEEPEST + 1], front: &[u8; HEADER], piece: &[u8], place: Place) -> Went
     requires { (seen : List ℕ) × Stands seen piece.now front.now missing.old place 0 }
-    ensures { (seen : List ℕ) → Stands seen piece.now front.now missing.old place 0 → Goes seen piece.now front.now missing.new result }
+    ensures { (seen : List ℕ) → Stands seen piece.now front.now missing.old place 0
+        → Goes seen piece.now front.now missing.new result }
 {
     let mut levels = place.levels;
     let mut room = place.room;

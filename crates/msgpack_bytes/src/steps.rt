@@ -16,7 +16,8 @@ use crate::table::is_single;
 pub fn next_step(front: &[u8; 5], came: usize, piece: &[u8], at: usize, may_open: bool) -> ScanStep
     requires within { at ≤ length piece.now }
     requires few { came + length piece.now ≤ usize.MAX }
-    ensures is { (all : List ℕ) → IsNext front.now came piece.now at all → result ≡ step_of may_open all }
+    ensures is { (all : List ℕ) → IsNext front.now came piece.now at all
+        → result ≡ step_of may_open all }
     ensures small { IsSmall result }
 {
     if came > 0 {
@@ -29,7 +30,8 @@ pub fn next_step(front: &[u8; 5], came: usize, piece: &[u8], at: usize, may_open
 // The step of `len` bytes, of which `front` has the first five.
 fn cut_step(front: &[u8; 5], len: usize, may_open: bool) -> ScanStep
     requires { 0 < len }
-    ensures is { (all : List ℕ) → length all ≡ len → BeginsSame 5 front.now all → result ≡ step_of may_open all }
+    ensures is { (all : List ℕ) → length all ≡ len → BeginsSame 5 front.now all
+        → result ≡ step_of may_open all }
     ensures small { IsSmall result }
 {
     step_from(tell(front, 0), len - 1, may_open)
@@ -75,7 +77,8 @@ fn step_from(told: Told, left: usize, may_open: bool) -> ScanStep
 #[inline(always)]
 pub fn single(bytes: &[u8], at: usize) -> bool
     requires { at < length bytes.now }
-    ensures { (may_open : Bool) → IsTrue result → ScanStep.Whole 1 ≡ step_of may_open (drop at bytes.now) }
+    ensures { (may_open : Bool) → IsTrue result
+        → ScanStep.Whole 1 ≡ step_of may_open (drop at bytes.now) }
 {
     is_single(bytes[at])
 }
@@ -134,7 +137,8 @@ fn sized(bytes: &[u8], at: usize, width: usize, extra: usize) -> Told
     requires at { at < length bytes.now }
     requires width { width ≤ 4 }
     requires extra { extra ≤ 1 }
-    ensures is { result ≡ Told.Scalar (1 + width + (number width (drop (at + 1) bytes.now) + extra)) }
+    ensures is { result
+        ≡ Told.Scalar (1 + width + (number width (drop (at + 1) bytes.now) + extra)) }
     ensures small { IsSmallTold result }
 {
     Told::Scalar(1 + width + (number_at(bytes, at + 1, width) as usize + extra))
@@ -145,7 +149,8 @@ fn sized(bytes: &[u8], at: usize, width: usize, extra: usize) -> Told
 fn counted(bytes: &[u8], at: usize, container: Container, width: usize) -> Told
     requires at { at < length bytes.now }
     requires width { width ≤ 4 }
-    ensures is { result ≡ Told.Container (items_in container (number width (drop (at + 1) bytes.now))) width }
+    ensures is { result
+        ≡ Told.Container (items_in container (number width (drop (at + 1) bytes.now))) width }
     ensures small { IsSmallTold result }
 {
     let count = u64::from(number_at(bytes, at + 1, width));

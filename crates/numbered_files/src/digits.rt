@@ -64,7 +64,8 @@ fn counted(text: &[u8]) -> Option<u32>
 
 /// The number that these ten digits spell, if they spell one of 32 bits.
 pub(crate) fn number_of(text: &[u8]) -> Option<u32>
-    ensures { MatchOption result ((n : ℕ) → n < 2 ^ 32 → text.now ≢ ten_digits n) (λ n. text.now ≡ ten_digits n) }
+    ensures { MatchOption result ((n : ℕ) → n < 2 ^ 32 → text.now ≢ ten_digits n)
+        (λ n. text.now ≡ ten_digits n) }
 {
     let number = counted(text)?;
     if ten_digits(number).as_slice() == text {

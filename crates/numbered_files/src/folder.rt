@@ -22,11 +22,14 @@ pub fn numbers<A: Allocator + Copy, D: Dir>(
     dir: &mut D,
     family: Family<'_>,
 ) -> Result<BTreeSet<u32, A>, DirError>
-    ensures device { CallsDevice D.is_honest D.history D.fails_after D.fault_count dir.old dir.new result }
-    ensures same { D.is_honest dir.old → SameDisk (now (D.history dir.new)) (now (D.history dir.old)) }
+    ensures device { CallsDevice D.is_honest D.history D.fails_after D.fault_count dir.old dir.new
+        result }
+    ensures same { D.is_honest dir.old
+        → SameDisk (now (D.history dir.new)) (now (D.history dir.old)) }
     ensures numbers { D.is_honest dir.old
         → IfOk result (λ found. (n : ℕ)
-        → (IsTrue (contains nat_cmp found n) ↔ IsThere family.entry (reads (now (D.history dir.old))) n)) }
+        → (IsTrue (contains nat_cmp found n)
+        ↔ IsThere family.entry (reads (now (D.history dir.old))) n)) }
     ensures opened { (other : FileNo) → D.opened dir.new other ≡ D.opened dir.old other }
     ensures other_room { (other : FileNo)
         → D.bytes_left dir.old other ≤ D.bytes_left dir.new other }
@@ -45,7 +48,9 @@ fn numbers_in<A: Allocator + Copy, B: Allocator>(
     family: Family<'_>,
     names: &[FileName<B>],
 ) -> Result<BTreeSet<u32, A>, AllocError>
-    ensures { IfOk result (λ found. (n : ℕ) → (IsTrue (contains nat_cmp found n) ↔ IsNamed family.entry names.now n)) }
+    ensures { IfOk result
+        (λ found. (n : ℕ) →
+        (IsTrue (contains nat_cmp found n) ↔ IsNamed family.entry names.now n)) }
 {
     let mut found = BTreeSet::new(alloc);
     for name in names {
@@ -82,7 +87,8 @@ pub fn read_file<A: Allocator, D: Dir>(
     requires { IsSome (D.opened dir.old file) }
     ensures honest { D.is_honest dir.old → D.is_honest dir.new }
     ensures time { D.is_honest dir.old → Elapses (D.history dir.old) (D.history dir.new) }
-    ensures same { D.is_honest dir.old → SameDisk (now (D.history dir.new)) (now (D.history dir.old)) }
+    ensures same { D.is_honest dir.old
+        → SameDisk (now (D.history dir.new)) (now (D.history dir.old)) }
     ensures bytes { D.is_honest dir.old → (name bytes : List ℕ)
         → D.opened dir.old file ≡ Some name → reads (now (D.history dir.old)) name ≡ Some bytes
         → IfOk result (λ found. found.items ≡ bytes) }

@@ -25,7 +25,8 @@ pub fn run_check<A: Allocator + Copy, R: CountedRead, O: Open, W: Write>(
     files: &O,
     out: &mut W,
 ) -> Status
-    ensures printed { PrintsCheck A (R.remaining net.old) (O.text_of files.now) (W.contents out.old) (W.contents out.new) result }
+    ensures printed { PrintsCheck A (R.remaining net.old) (O.text_of files.now)
+        (W.contents out.old) (W.contents out.new) result }
     ensures calls { R.calls net.new ≤ R.calls net.old + 16777216 }
 {
     match read_checked(alloc, net, files) {
@@ -49,7 +50,8 @@ pub fn run_replay<A: Allocator + Copy, R: CountedRead, S: CountedRead, O: Open, 
     files: &O,
     out: &mut W,
 ) -> Status
-    ensures printed { PrintsReplay A (R.remaining net.old) (O.text_of files.now) (S.remaining steps.old) (W.contents out.old) (W.contents out.new) result }
+    ensures printed { PrintsReplay A (R.remaining net.old) (O.text_of files.now)
+        (S.remaining steps.old) (W.contents out.old) (W.contents out.new) result }
     ensures net_calls { R.calls net.new ≤ R.calls net.old + 16777216 }
     ensures step_calls { S.calls steps.new ≤ S.calls steps.old + 16777216 }
 {
@@ -112,7 +114,9 @@ fn read_checked<A: Allocator + Copy, R: CountedRead, O: Open>(
     net: &mut R,
     files: &O,
 ) -> Result<Checked<A>, Stop>
-    ensures answered { IfOk result (λ checked. IsAnswered A (R.remaining net.old) (O.text_of files.now) checked.plan checked.answer) }
+    ensures answered { IfOk result
+        (λ checked. IsAnswered A (R.remaining net.old)
+        (O.text_of files.now) checked.plan checked.answer) }
     ensures earned { IfOk result (λ checked. IsYesEarned checked.plan checked.answer) }
     ensures line { IfOk result (λ checked. string_bytes checked.line ≡ answer_line checked.answer) }
     ensures stop { IfErr result (IsStopOf A (R.remaining net.old) (O.text_of files.now)) }
@@ -160,7 +164,9 @@ pub fn read_confs<A: Allocator + Copy, O: Open>(
     files: &O,
 ) -> Result<Vec<Vec<u8, A>, A>, ReadFault>
     ensures count { IfOk result (λ confs. length confs.items ≡ length names.now) }
-    ensures texts { IfOk result (λ confs. AllZip (λ name conf. IsTextOf (O.text_of files.now name) conf) (map (λ name. name.now) names.now) (texts_of confs.items)) }
+    ensures texts { IfOk result
+        (λ confs. AllZip (λ name conf. IsTextOf (O.text_of files.now name) conf)
+        (map (λ name. name.now) names.now) (texts_of confs.items)) }
 {
     let mut confs = Vec::new(alloc);
     for name in names {
@@ -177,7 +183,9 @@ fn replay_read<A: Allocator + Copy, S: CountedRead>(
     plan: &Plan<A>,
     steps: &mut S,
 ) -> Result<Said<A>, ReadFault>
-    ensures replayed { (found : Answer) → IsYesEarned plan.now found → IfOk result (λ said. AreReplayed plan.now found (S.remaining steps.old) said.lines.items said.status) }
+    ensures replayed { (found : Answer) → IsYesEarned plan.now found
+        → IfOk result (λ said. AreReplayed plan.now found
+        (S.remaining steps.old) said.lines.items said.status) }
     ensures calls { S.calls steps.new ≤ S.calls steps.old + 16777216 }
 {
     let text = read_whole(alloc, steps)?;

@@ -28,7 +28,8 @@ pub fn replay<A: Allocator + Copy>(
     plan: &Plan<A>,
     text: &[u8],
 ) -> Result<Said<A>, AllocError>
-    ensures { (found : Answer) → IsYesEarned plan.now found → IfOk result (λ said. IsReplayed plan.now found text.now said.lines.items said.status) }
+    ensures { (found : Answer) → IsYesEarned plan.now found
+        → IfOk result (λ said. IsReplayed plan.now found text.now said.lines.items said.status) }
 {
     let steps = match Step::read_all(alloc, text) {
         Ok(steps) => steps,
@@ -92,7 +93,9 @@ fn list_world<A: Allocator + Copy>(
     duty: Duty,
     steps: usize,
 ) -> Result<Said<A>, AllocError>
-    ensures { IfOk result (λ said. IsWorldListing duty (net_of world.now) (world_of world.now) steps said.lines.items said.status) }
+    ensures { IfOk result
+        (λ said. IsWorldListing duty (net_of world.now)
+        (world_of world.now) steps said.lines.items said.status) }
 {
     let mut said = list_fates(alloc, world, duty)?;
     let lost = said.lost;
@@ -137,7 +140,9 @@ fn list_fates<A: Allocator + Copy>(
     world: &World<'_, A>,
     duty: Duty,
 ) -> Result<Fates<A>, AllocError>
-    ensures { IfOk result (λ listed. AreListed duty (net_of world.now) (world_of world.now) listed.lines.items listed.lost) }
+    ensures { IfOk result
+        (λ listed. AreListed duty (net_of world.now)
+        (world_of world.now) listed.lines.items listed.lost) }
 {
     let mut lines = Vec::new(alloc);
     let mut lost = 0usize;
@@ -158,7 +163,8 @@ fn put_fate<A: Allocator>(
     event: &Event<A>,
     is_held: bool,
 ) -> Result<(), AllocError>
-    ensures { OnOk result (lines.new.items ≡ lines.old.items ++ told_line is_held (event_of event.now)) }
+    ensures { OnOk result
+        (lines.new.items ≡ lines.old.items ++ told_line is_held (event_of event.now)) }
 {
     let fate = if is_held { "held " } else { "lost " };
     lines.extend_from_slice(fate.as_bytes())?;

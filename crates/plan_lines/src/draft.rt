@@ -63,8 +63,11 @@ impl<A: Allocator + Copy> Draft<A> {
         confs: &[Vec<u8, A>],
     ) -> Result<(), PlanError>
         requires { HasItsConf (line_form text.now) (length self.old.relays) (length confs.now) }
-        ensures adds { OnOk result (Adds (texts confs.now) line (line_form text.now) (draft_of self.old) (draft_of self.new)) }
-        ensures refuses { IfErr result (Refuses (texts confs.now) line (line_form text.now) (draft_of self.old)) }
+        ensures adds { OnOk result
+            (Adds (texts confs.now) line (line_form text.now) (draft_of self.old)
+            (draft_of self.new)) }
+        ensures refuses { IfErr result
+            (Refuses (texts confs.now) line (line_form text.now) (draft_of self.old)) }
     {
         match str::from_utf8(text) {
             Ok(text) => self.add_text(alloc, line, text, confs),
@@ -80,9 +83,13 @@ impl<A: Allocator + Copy> Draft<A> {
         text: &str,
         confs: &[Vec<u8, A>],
     ) -> Result<(), PlanError>
-        requires { HasItsConf (form_by (words_of text.now)) (length self.old.relays) (length confs.now) }
-        ensures adds { OnOk result (Adds (texts confs.now) line (form_by (words_of text.now)) (draft_of self.old) (draft_of self.new)) }
-        ensures refuses { IfErr result (Refuses (texts confs.now) line (form_by (words_of text.now)) (draft_of self.old)) }
+        requires { HasItsConf (form_by (words_of text.now)) (length self.old.relays)
+            (length confs.now) }
+        ensures adds { OnOk result
+            (Adds (texts confs.now) line (form_by (words_of text.now)) (draft_of self.old)
+            (draft_of self.new)) }
+        ensures refuses { IfErr result
+            (Refuses (texts confs.now) line (form_by (words_of text.now)) (draft_of self.old)) }
     {
         let fields = words(alloc, text)?;
         self.add_form(alloc, line, form_of(&fields), confs)
@@ -97,8 +104,11 @@ impl<A: Allocator + Copy> Draft<A> {
         confs: &[Vec<u8, A>],
     ) -> Result<(), PlanError>
         requires { HasItsConf (form_view form) (length self.old.relays) (length confs.now) }
-        ensures adds { OnOk result (Adds (texts confs.now) line (form_view form.entry) (draft_of self.old) (draft_of self.new)) }
-        ensures refuses { IfErr result (Refuses (texts confs.now) line (form_view form.entry) (draft_of self.old)) }
+        ensures adds { OnOk result
+            (Adds (texts confs.now) line (form_view form.entry) (draft_of self.old)
+            (draft_of self.new)) }
+        ensures refuses { IfErr result
+            (Refuses (texts confs.now) line (form_view form.entry) (draft_of self.old)) }
     {
         match form {
             Form::Nothing => Ok(()),
@@ -143,8 +153,13 @@ impl<A: Allocator + Copy> Draft<A> {
         confs: &[Vec<u8, A>],
     ) -> Result<(), PlanError>
         requires { length self.old.relays < length confs.now }
-        ensures adds { OnOk result ((conf : List ℕ) → Adds (texts confs.now) line (a_relay number.now host.now folder.now conf) (draft_of self.old) (draft_of self.new)) }
-        ensures refuses { IfErr result (λ e. (conf : List ℕ) → Refuses (texts confs.now) line (a_relay number.now host.now folder.now conf) (draft_of self.old) e) }
+        ensures adds { OnOk result
+            ((conf : List ℕ) → Adds (texts confs.now) line
+            (a_relay number.now host.now folder.now conf) (draft_of self.old) (draft_of self.new)) }
+        ensures refuses { IfErr result
+            (λ e. (conf : List ℕ)
+            → Refuses (texts confs.now) line (a_relay number.now host.now folder.now conf)
+            (draft_of self.old) e) }
     {
         let Some(number) = relay_number(number) else {
             return Err(PlanError::BadNumber(line));
@@ -170,8 +185,15 @@ impl<A: Allocator + Copy> Draft<A> {
         port: &str,
         patterns: &[&str],
     ) -> Result<(), PlanError>
-        ensures adds { OnOk result ((confs : List (List ℕ)) → Adds confs line (a_client number.now port.now (map (λ word. word.now) patterns.now)) (draft_of self.old) (draft_of self.new)) }
-        ensures refuses { IfErr result (λ e. (confs : List (List ℕ)) → Refuses confs line (a_client number.now port.now (map (λ word. word.now) patterns.now)) (draft_of self.old) e) }
+        ensures adds { OnOk result
+            ((confs : List (List ℕ))
+            → Adds confs line (a_client number.now port.now (map (λ word. word.now) patterns.now))
+            (draft_of self.old) (draft_of self.new)) }
+        ensures refuses { IfErr result
+            (λ e. (confs : List (List ℕ))
+            → Refuses confs line
+            (a_client number.now port.now (map (λ word. word.now) patterns.now))
+            (draft_of self.old) e) }
     {
         let Some(relay) = relay_number(number) else {
             return Err(PlanError::BadNumber(line));
@@ -201,8 +223,15 @@ impl<A: Allocator + Copy> Draft<A> {
         scope: &str,
         patterns: &[&str],
     ) -> Result<(), PlanError>
-        ensures adds { OnOk result ((confs : List (List ℕ)) → Adds confs line (a_label number.now scope.now (map (λ word. word.now) patterns.now)) (draft_of self.old) (draft_of self.new)) }
-        ensures refuses { IfErr result (λ e. (confs : List (List ℕ)) → Refuses confs line (a_label number.now scope.now (map (λ word. word.now) patterns.now)) (draft_of self.old) e) }
+        ensures adds { OnOk result
+            ((confs : List (List ℕ))
+            → Adds confs line (a_label number.now scope.now (map (λ word. word.now) patterns.now))
+            (draft_of self.old) (draft_of self.new)) }
+        ensures refuses { IfErr result
+            (λ e. (confs : List (List ℕ))
+            → Refuses confs line
+            (a_label number.now scope.now (map (λ word. word.now) patterns.now))
+            (draft_of self.old) e) }
     {
         let Some(number) = relay_number(number) else {
             return Err(PlanError::BadNumber(line));
@@ -233,8 +262,15 @@ impl<A: Allocator + Copy> Draft<A> {
         index: &str,
         patterns: &[&str],
     ) -> Result<(), PlanError>
-        ensures adds { OnOk result ((confs : List (List ℕ)) → Adds confs line (a_reach number.now scope.now index.now (map (λ word. word.now) patterns.now)) (draft_of self.old) (draft_of self.new)) }
-        ensures refuses { IfErr result (λ e. (confs : List (List ℕ)) → Refuses confs line (a_reach number.now scope.now index.now (map (λ word. word.now) patterns.now)) (draft_of self.old) e) }
+        ensures adds { OnOk result
+            ((confs : List (List ℕ))
+            → Adds confs line (a_reach number.now scope.now index.now
+            (map (λ word. word.now) patterns.now)) (draft_of self.old) (draft_of self.new)) }
+        ensures refuses { IfErr result
+            (λ e. (confs : List (List ℕ))
+            → Refuses confs line
+            (a_reach number.now scope.now index.now (map (λ word. word.now) patterns.now))
+            (draft_of self.old) e) }
     {
         let Some(number) = relay_number(number) else {
             return Err(PlanError::BadNumber(line));
@@ -264,7 +300,10 @@ impl<A: Allocator + Copy> Draft<A> {
 
     // The port, where the relay that the number means has a source of it.
     fn source_port(&self, number: u32, port: u64) -> Option<u16>
-        ensures { result ≡ option_map (λ source. source.port) (option_and_then (λ node. source_of_port node.relay port) (node_of self.now.relays number)) }
+        ensures { result ≡ option_map
+            (λ source. source.port)
+            (option_and_then (λ node. source_of_port node.relay port)
+            (node_of self.now.relays number)) }
     {
         match self.relays.node(number) {
             None => None,
@@ -284,7 +323,8 @@ impl<A: Allocator + Copy> Draft<A> {
 
     // The place of the match with this index, where that scope has it.
     fn rule(&self, place: usize, scope: usize, index: u64) -> Option<usize>
-        ensures { result ≡ option_map (λ _. index) (rule_at (draft_of self.now).net place scope index) }
+        ensures { result ≡ option_map
+            (λ _. index) (rule_at (draft_of self.now).net place scope index) }
     {
         let node = self.relays.nodes().get(place)?;
         let found = node.relay.scopes.get(scope)?;
@@ -331,7 +371,8 @@ fn scope_name(word: &str) -> &str
 
 // The place of the first scope of this name.
 fn scope_in<A: Allocator>(relay: &Relay<A>, name: &str) -> Option<usize>
-    ensures { result ≡ position (λ scope. bytes_eq (string_bytes scope.name) name.now) relay.now.scopes.items }
+    ensures { result ≡ position
+        (λ scope. bytes_eq (string_bytes scope.name) name.now) relay.now.scopes.items }
 {
     relay.scopes.iter().position(|scope| is_named(scope, name))
 }
@@ -370,7 +411,8 @@ fn patterns_of<A: Allocator + Copy>(
     line: usize,
     words: &[&str],
 ) -> Result<Vec<Plain<A>, A>, PlanError>
-    ensures patterns { IfOk result (λ plains. AreOfWords (map (λ word. word.now) words.now) plains.items) }
+    ensures patterns { IfOk result
+        (λ plains. AreOfWords (map (λ word. word.now) words.now) plains.items) }
     ensures fault { IfErr result (IsPatternFault line (map (λ word. word.now) words.now)) }
 {
     let mut plains = Vec::new(alloc);

@@ -17,7 +17,8 @@ pub fn conf_names<'t, A: Allocator + Copy>(
     alloc: A,
     net: &'t [u8],
 ) -> Result<Vec<&'t str, A>, AllocError>
-    ensures names { IfOk result (λ names. map (λ name. name.now) names.items ≡ confs_named net.now) }
+    ensures names { IfOk result
+        (λ names. map (λ name. name.now) names.items ≡ confs_named net.now) }
     ensures count { IfOk result (λ names. length names.items ≡ length (confs_named net.now)) }
 {
     let lines = lines(alloc, net)?;
@@ -34,7 +35,9 @@ fn push_conf<'t, A: Allocator + Copy>(
     names: &mut Vec<&'t str, A>,
     line: &'t [u8],
 ) -> Result<(), AllocError>
-    ensures { OnOk result (map (λ name. name.now) names.new.items ≡ map (λ name. name.now) names.old.items ++ filter_map named_conf (line.now ∷ [])) }
+    ensures { OnOk result
+        (map (λ name. name.now) names.new.items
+        ≡ map (λ name. name.now) names.old.items ++ filter_map named_conf (line.now ∷ [])) }
 {
     match conf_named(alloc, line)? {
         None => Ok(()),

@@ -38,7 +38,8 @@ impl<A: Allocator + Copy> PlanParts<A> {
     /// Reads what `Plan::read` reads, and gives the same errors.
     pub fn read(alloc: A, net: &[u8], confs: &[Vec<u8, A>]) -> Result<PlanParts<A>, PlanError>
         requires { length confs.now ≡ length (confs_named net.now) }
-        ensures plan { IfOk result (λ parts. IsPlanOf net.now (texts confs.now) (plan_of_parts parts)) }
+        ensures plan { IfOk result
+            (λ parts. IsPlanOf net.now (texts confs.now) (plan_of_parts parts)) }
         ensures whole { IfOk result (λ parts. IsWhole (plan_of_parts parts)) }
         ensures refused { IfErr result (IsRefusal A net.now (texts confs.now)) }
     {

@@ -33,9 +33,18 @@ impl<A: Allocator> Model for Plan<A> {
 
     ghost Value = { Subject A };
 
-    ghost view = { λ plan. record { net = plan.net; relay_lines = plan.relay_lines.items; client_lines = plan.client_lines.items; labels = plan.labels.items; reaches = plan.reaches.items; duty = plan.duty } };
+    ghost view = { λ plan. record {
+      net = plan.net;
+      relay_lines = plan.relay_lines.items;
+      client_lines = plan.client_lines.items;
+      labels = plan.labels.items;
+      reaches = plan.reaches.items;
+      duty = plan.duty;
+    } };
 
-    ghost invariant = { λ plan. (length plan.relay_lines.items ≡ length plan.net.relays) × (length plan.client_lines.items ≡ length plan.net.clients) × BuffersAreDistinct plan.net };
+    ghost invariant = { λ plan. (length plan.relay_lines.items ≡ length plan.net.relays)
+        × (length plan.client_lines.items ≡ length plan.net.clients)
+        × BuffersAreDistinct plan.net };
 }
 
 impl<A: Allocator + Copy> Plan<A> {

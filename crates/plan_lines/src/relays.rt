@@ -30,7 +30,8 @@ impl<A: Allocator> Model for Relays<A> {
 
     ghost view = { λ relays. relays.nodes.items };
 
-    ghost invariant = { λ relays. (number : ℕ) → get nat_cmp relays.places number ≡ place_among relays.nodes.items number };
+    ghost invariant = { λ relays. (number : ℕ)
+        → get nat_cmp relays.places number ≡ place_among relays.nodes.items number };
 }
 
 impl<A: Allocator + Copy> Relays<A> {
@@ -93,8 +94,11 @@ fn note<A: Allocator + Copy>(
     number: u32,
     place: usize,
 ) -> Result<(), AllocError>
-    ensures noted { OnOk result ((other : ℕ) → get nat_cmp places.new other ≡ option_or (get nat_cmp places.old other) (cond (number == other) (Some place) None)) }
-    ensures stays { OnErr result ((other : ℕ) → get nat_cmp places.new other ≡ get nat_cmp places.old other) }
+    ensures noted { OnOk result
+        ((other : ℕ) → get nat_cmp places.new other
+        ≡ option_or (get nat_cmp places.old other) (cond (number == other) (Some place) None)) }
+    ensures stays { OnErr result
+        ((other : ℕ) → get nat_cmp places.new other ≡ get nat_cmp places.old other) }
 {
     if !places.contains_key(&number) {
         let _ = places.insert(number, place)?;

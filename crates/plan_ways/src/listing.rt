@@ -32,7 +32,8 @@ pub fn run_plan_ways<A: Allocator + Copy, B: Allocator, R: CountedRead, O: Open,
     tags: &[String<B>],
     out: &mut W,
 ) -> Status
-    ensures { PrintsPlanWays A (R.remaining net.old) (O.text_of files.now) (map string_bytes tags.now) (W.contents out.old) (W.contents out.new) result }
+    ensures { PrintsPlanWays A (R.remaining net.old) (O.text_of files.now)
+        (map string_bytes tags.now) (W.contents out.old) (W.contents out.new) result }
 {
     let plan = match read_plan(alloc, net, files) {
         Ok(plan) => plan,
@@ -67,7 +68,8 @@ fn unsent_lines<A: Allocator + Copy, B: Allocator>(
     begun: &[Sent<A>],
     tags: &[String<B>],
 ) -> Result<Vec<u8, A>, AllocError>
-    ensures { IfOk result (λ lines. AreListed (IsUnsentLine begun.now) (map string_bytes tags.now) lines.items) }
+    ensures { IfOk result
+        (λ lines. AreListed (IsUnsentLine begun.now) (map string_bytes tags.now) lines.items) }
 {
     let mut lines = Vec::new(alloc);
     for tag in tags {
@@ -187,7 +189,8 @@ fn behind<A: Allocator + Copy>(
     at: Entrance,
     sent: &Sent<A>,
 ) -> Result<Vec<u8, A>, AllocError>
-    ensures { IfOk result (λ text. IsBehind net.now at (tag_at net.now sent.now.address sent.now.tag) text.items) }
+    ensures { IfOk result
+        (λ text. IsBehind net.now at (tag_at net.now sent.now.address sent.now.tag) text.items) }
 {
     let prefix = net.prefix(sent.host(), sent.port());
     let Some(tag) = entered(alloc, prefix, sent.tag())? else {
@@ -224,7 +227,8 @@ fn buffers_text<A: Allocator + Copy>(
     place: usize,
     buffers: &[BufferNo],
 ) -> Result<Vec<u8, A>, AllocError>
-    ensures { IfOk result (λ text. text.items ≡ flat_map (buffer_text_of net.now place) (numbers_of buffers.now)) }
+    ensures { IfOk result
+        (λ text. text.items ≡ flat_map (buffer_text_of net.now place) (numbers_of buffers.now)) }
 {
     let mut text = Vec::new(alloc);
     for buffer in buffers {
@@ -241,7 +245,8 @@ fn put_buffer<A: Allocator + Copy>(
     buffer: BufferNo,
     text: &mut Vec<u8, A>,
 ) -> Result<(), AllocError>
-    ensures { OnOk result (text.new.items ≡ text.old.items ++ buffer_text_of net.now place buffer.0) }
+    ensures { OnOk result
+        (text.new.items ≡ text.old.items ++ buffer_text_of net.now place buffer.0) }
 {
     match net.output(place, buffer.0) {
         Some(output) => put_numbered(alloc, output, text),

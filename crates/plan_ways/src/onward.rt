@@ -44,7 +44,9 @@ fn send_all<A: Allocator + Copy>(
     tag: &[u8],
     found: &mut Vec<Sent<A>, A>,
 ) -> Result<(), AllocError>
-    ensures { OnOk result (Adds (Through (λ leaf next. SendsTo net.now place leaf.0 next.address × (next.tag ≡ tag.now)) leaves.now) found.old.items found.new.items) }
+    ensures { OnOk result
+        (Adds (Through (λ leaf next. SendsTo net.now place leaf.0 next.address
+        × (next.tag ≡ tag.now)) leaves.now) found.old.items found.new.items) }
 {
     for leaf in leaves {
         send(alloc, net, place, leaf.0, tag, found)?;
@@ -61,7 +63,9 @@ fn send<A: Allocator + Copy>(
     tag: &[u8],
     found: &mut Vec<Sent<A>, A>,
 ) -> Result<(), AllocError>
-    ensures { OnOk result (Adds (λ next. SendsTo net.now place buffer next.address × (next.tag ≡ tag.now)) found.old.items found.new.items) }
+    ensures { OnOk result
+        (Adds (λ next. SendsTo net.now place buffer next.address × (next.tag ≡ tag.now))
+        found.old.items found.new.items) }
 {
     match net.output(place, buffer) {
         Some(output) => send_to(alloc, servers(output), tag, found),
@@ -76,7 +80,9 @@ fn send_to<A: Allocator + Copy>(
     tag: &[u8],
     found: &mut Vec<Sent<A>, A>,
 ) -> Result<(), AllocError>
-    ensures { OnOk result (Adds (Through (λ server next. sending (address_of_server server) tag.now ≡ next) servers.now) found.old.items found.new.items) }
+    ensures { OnOk result
+        (Adds (Through (λ server next. sending (address_of_server server) tag.now ≡ next)
+        servers.now) found.old.items found.new.items) }
 {
     for server in servers {
         add(alloc, server.host.as_bytes(), server.port, tag, found)?;

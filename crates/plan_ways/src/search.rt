@@ -26,7 +26,8 @@ pub(crate) fn search<A: Allocator + Copy>(
     starts: Vec<Sent<A>, A>,
 ) -> Result<Found<A>, AllocError>
     requires { AllPairs (λ one other. one ≢ other) starts.items }
-    ensures { IfOk result (λ found. AreOnTheirWay net.now starts.items found.sent.items found.are_all) }
+    ensures { IfOk result
+        (λ found. AreOnTheirWay net.now starts.items found.sent.items found.are_all) }
 {
     let mut sent = starts;
     let mut next = 0;

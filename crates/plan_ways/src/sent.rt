@@ -25,7 +25,8 @@ impl<A: Allocator> Model for Sent<A> {
 impl<A: Allocator + Copy> Sent<A> {
     /// The message with this tag to this host and port.
     pub(crate) fn new(alloc: A, host: &[u8], port: u16, tag: &[u8]) -> Result<Sent<A>, AllocError>
-        ensures { IfOk result (λ sent. sent ≡ sending (record { host = host.now; port = port }) tag.now) }
+        ensures { IfOk result
+            (λ sent. sent ≡ sending (record { host = host.now; port = port }) tag.now) }
     {
         Ok(Sent {
             address: Address::new(alloc, host, port)?,
@@ -73,7 +74,8 @@ impl<A: Allocator + Copy> Sent<A> {
 
     // Whether it is the message with this tag to this host and port.
     fn is(&self, host: &[u8], port: u16, tag: &[u8]) -> bool
-        ensures { IsTrue result ↔ (self.now ≡ sending (record { host = host.now; port = port }) tag.now) }
+        ensures { IsTrue result
+            ↔ (self.now ≡ sending (record { host = host.now; port = port }) tag.now) }
     {
         self.address.port() == port && self.address.host() == host && self.tag() == tag
     }
@@ -81,7 +83,8 @@ impl<A: Allocator + Copy> Sent<A> {
 
 // Whether the message is among these.
 fn is_among<A: Allocator + Copy>(found: &[Sent<A>], host: &[u8], port: u16, tag: &[u8]) -> bool
-    ensures { IsTrue result ↔ Contains found.now (sending (record { host = host.now; port = port }) tag.now) }
+    ensures { IsTrue result
+        ↔ Contains found.now (sending (record { host = host.now; port = port }) tag.now) }
 {
     for one in found {
         if one.is(host, port, tag) {
@@ -99,7 +102,9 @@ pub(crate) fn add<A: Allocator + Copy>(
     tag: &[u8],
     found: &mut Vec<Sent<A>, A>,
 ) -> Result<(), AllocError>
-    ensures { OnOk result (Adds (λ other. sending (record { host = host.now; port = port }) tag.now ≡ other) found.old.items found.new.items) }
+    ensures { OnOk result
+        (Adds (λ other. sending (record { host = host.now; port = port }) tag.now ≡ other)
+        found.old.items found.new.items) }
 {
     if !is_among(found, host, port, tag) {
         found.push(Sent::new(alloc, host, port, tag)?)?;

@@ -15,7 +15,8 @@ pub(crate) fn starts<A: Allocator + Copy, B: Allocator>(
     net: &Net<A>,
     tags: &[String<B>],
 ) -> Result<Vec<Sent<A>, A>, AllocError>
-    ensures { IfOk result (λ found. Adds (IsOfClient net.now (map string_bytes tags.now)) [] found.items) }
+    ensures { IfOk result
+        (λ found. Adds (IsOfClient net.now (map string_bytes tags.now)) [] found.items) }
 {
     let mut found = Vec::new(alloc);
     for (number, client) in net.clients().iter().enumerate() {
@@ -34,7 +35,9 @@ fn of_number<A: Allocator + Copy, B: Allocator>(
     found: &mut Vec<Sent<A>, A>,
 ) -> Result<(), AllocError>
     requires { slice_get net.now.clients number ≡ Some client.now }
-    ensures { OnOk result (Adds (Sends net.now (map string_bytes tags.now) client.now) found.old.items found.new.items) }
+    ensures { OnOk result
+        (Adds (Sends net.now (map string_bytes tags.now) client.now) found.old.items
+        found.new.items) }
 {
     match net.client_host(number) {
         Some(host) => of_client(alloc, client, host, tags, found),
@@ -50,7 +53,10 @@ fn of_client<A: Allocator + Copy, B: Allocator>(
     tags: &[String<B>],
     found: &mut Vec<Sent<A>, A>,
 ) -> Result<(), AllocError>
-    ensures { OnOk result (Adds (Through (IsSentUnder client.now.patterns.items (record { host = host.now; port = client.now.port })) (map string_bytes tags.now)) found.old.items found.new.items) }
+    ensures { OnOk result
+        (Adds (Through (IsSentUnder client.now.patterns.items
+        (record { host = host.now; port = client.now.port })) (map string_bytes tags.now))
+        found.old.items found.new.items) }
 {
     for tag in tags {
         of_tag(alloc, client, host, tag.as_bytes(), found)?;
@@ -66,7 +72,10 @@ fn of_tag<A: Allocator + Copy>(
     tag: &[u8],
     found: &mut Vec<Sent<A>, A>,
 ) -> Result<(), AllocError>
-    ensures { OnOk result (Adds (IsSentUnder client.now.patterns.items (record { host = host.now; port = client.now.port }) tag.now) found.old.items found.new.items) }
+    ensures { OnOk result
+        (Adds (IsSentUnder client.now.patterns.items
+        (record { host = host.now; port = client.now.port }) tag.now) found.old.items
+        found.new.items) }
 {
     let read = match Tag::read(alloc, tag) {
         Ok(read) => read,

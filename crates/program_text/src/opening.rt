@@ -17,5 +17,6 @@ pub trait Open {
 
     /// A reader of the text of this name, from its beginning. An error says that it can't be read.
     fn open(&self, name: &str) -> io::Result<Self::Reader>
-        ensures { IfOk result (λ reader. Self.Reader.remaining reader ≡ text_of self.now name.now) };
+        ensures { IfOk result
+            (λ reader. Self.Reader.remaining reader ≡ text_of self.now name.now) };
 }

@@ -28,7 +28,10 @@ impl<A: Allocator + Copy> Model for RecentLines<A> {
 
     ghost Value = { Recent };
 
-    ghost view = { λ r. record { most = r.digests.cap; digests = map (λ e. e.0) r.digests.entries } };
+    ghost view = { λ r. record {
+      most = r.digests.cap;
+      digests = map (λ e. e.0) r.digests.entries;
+    } };
 }
 
 impl<A: Allocator + Copy> RecentLines<A> {

@@ -27,7 +27,8 @@ pub trait Folders<D, A: Allocator> {
     /// The folder of a buffer of this kind. The error is want of memory.
     fn folder_of(&self, kind: &BufferKind<A>) -> Result<PlacedDir<D, A>, AllocError>
         ensures kind { IfOk result (λ placed. is_for self.now kind.now placed.dir) }
-        ensures path { IfOk result (λ placed. option_map string_bytes placed.path ≡ place self.now kind.now) };
+        ensures path { IfOk result
+            (λ placed. option_map string_bytes placed.path ≡ place self.now kind.now) };
 }
 
 /// A folder of the system, or one in memory.

@@ -34,7 +34,8 @@ impl<D: Dir + Drop, A: Allocator> Model for DeliveryJob<D, A> {
 
     ghost view = { λ j. owned_by j.number j.output j.share (option_map string_bytes j.path) };
 
-    ghost invariant = { λ j. IsOwned (owned_by j.number j.output j.share (option_map string_bytes j.path)) };
+    ghost invariant = { λ j. IsOwned
+        (owned_by j.number j.output j.share (option_map string_bytes j.path)) };
 }
 
 impl<D: Dir + Drop, A: Allocator> DeliveryJob<D, A> {

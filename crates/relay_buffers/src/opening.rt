@@ -45,9 +45,14 @@ impl<D: Dir + Drop, A: Allocator> Model for OpenOutput<D, A> {
 
     ghost Value = { OpenState D A };
 
-    ghost view = { λ o. record { owned = o.job; folder = o.share.opened.start; plan = o.schedule } };
+    ghost view = { λ o. record {
+      owned = o.job;
+      folder = o.share.opened.start;
+      plan = o.schedule;
+    } };
 
-    ghost invariant = { λ o. IsOwned o.job × (o.share.terms ≡ o.job.terms) × (opened_as o.share.opened ≡ o.job.opened)
+    ghost invariant = { λ o. IsOwned o.job × (o.share.terms ≡ o.job.terms)
+        × (opened_as o.share.opened ≡ o.job.opened)
         × IsScheduledBy (settings_of o.job.output) o.schedule };
 }
 
@@ -65,10 +70,15 @@ pub fn open_all<D: Dir + Drop, A: Allocator + Copy, F: Folders<D, A>>(
     now: u64,
 ) -> Result<Vec<OpenOutput<D, A>, A>, LoopFault>
     ensures outputs { IfOk result (λ all. map (λ one. one.owned.output) all.items ≡ outputs.items) }
-    ensures buffers { IfOk result (λ all. AreBuffersOf number outputs.items (map (λ one. one.owned.terms) all.items)) }
-    ensures opened { IfOk result (λ all. All (IsOpenIn (F.is_for folders.now) D.is_honest D.history) all.items) }
-    ensures placed { IfOk result (λ all. ArePlaced (F.place folders.now) (map (λ one. one.owned) all.items)) }
-    ensures planned { IfOk result (λ all. ArePlanned now (map (λ one. one.owned) all.items) (map (λ one. one.plan) all.items)) }
+    ensures buffers { IfOk result
+        (λ all. AreBuffersOf number outputs.items (map (λ one. one.owned.terms) all.items)) }
+    ensures opened { IfOk result
+        (λ all. All (IsOpenIn (F.is_for folders.now) D.is_honest D.history) all.items) }
+    ensures placed { IfOk result
+        (λ all. ArePlaced (F.place folders.now) (map (λ one. one.owned) all.items)) }
+    ensures planned { IfOk result
+        (λ all. ArePlanned now (map (λ one. one.owned) all.items)
+        (map (λ one. one.plan) all.items)) }
 {
     if !folders.make_ready() {
         return Err(LoopFault::Buffer(BufferFault::Fault));
@@ -93,7 +103,8 @@ fn open_one<D: Dir + Drop, A: Allocator + Copy, F: Folders<D, A>>(
     ensures output { IfOk result (λ one. one.owned.output ≡ output) }
     ensures buffer { IfOk result (λ one. IsBufferOf number output one.owned.terms) }
     ensures opened { IfOk result (IsOpenIn (F.is_for folders.now) D.is_honest D.history) }
-    ensures placed { IfOk result (λ one. one.owned.path ≡ F.place folders.now (settings_of output).kind) }
+    ensures placed { IfOk result
+        (λ one. one.owned.path ≡ F.place folders.now (settings_of output).kind) }
     ensures planned { IfOk result (λ one. IsPlanned now one.owned one.plan) }
 {
     let Ok(place) = u32::try_from(output.number().0) else {
@@ -135,12 +146,16 @@ fn open_buffer<D: Dir + Drop, A: Allocator + Copy, F: Folders<D, A>>(
     now: u64,
 ) -> Result<OpenBuffer<D, A>, LoopFault>
     ensures set { IfOk result (λ opened. IsSetAs settings.now (opened_as opened.buffer)) }
-    ensures path { IfOk result (λ opened. option_map string_bytes opened.path ≡ F.place folders.now settings.now.kind) }
-    ensures folder { IfOk result (λ opened. F.is_for folders.now settings.now.kind opened.buffer.start) }
+    ensures path { IfOk result
+        (λ opened. option_map string_bytes opened.path ≡ F.place folders.now settings.now.kind) }
+    ensures folder { IfOk result
+        (λ opened. F.is_for folders.now settings.now.kind opened.buffer.start) }
     ensures chunks { IfOk result (λ opened. D.is_honest opened.buffer.start
-        → Opens opened.buffer.journal.path (reads (now_of (D.history opened.buffer.start))) opened.buffer.chunks) }
+        → Opens opened.buffer.journal.path
+        (reads (now_of (D.history opened.buffer.start))) opened.buffer.chunks) }
     ensures queues { IfOk result (λ opened. IsScheduledBy settings.now opened.schedule) }
-    ensures staged { IfOk result (λ opened. opened.schedule.chunks ≡ staged_at now opened.buffer.chunks) }
+    ensures staged { IfOk result
+        (λ opened. opened.schedule.chunks ≡ staged_at now opened.buffer.chunks) }
 {
     let PlacedDir { dir, path } = folders.folder_of(&settings.kind)?;
     let name = match &settings.kind {

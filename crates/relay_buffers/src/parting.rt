@@ -25,9 +25,12 @@ pub fn parts_of<D: Dir + Drop, A: Allocator + Copy>(
     alloc: A,
     opened: Vec<OpenOutput<D, A>, A>,
 ) -> Result<RelayParts<D, A>, AllocError>
-    ensures buffers { IfOk result (λ parts. map (λ buffer. arc_value buffer) parts.buffers.items ≡ map (λ one. one.owned.terms) opened.items) }
+    ensures buffers { IfOk result
+        (λ parts. map (λ buffer. arc_value buffer) parts.buffers.items
+        ≡ map (λ one. one.owned.terms) opened.items) }
     ensures jobs { IfOk result (λ parts. parts.jobs.items ≡ map (λ one. one.owned) opened.items) }
-    ensures terms { IfOk result (λ parts. parts.lanes.terms ≡ map (λ one. one.owned.terms) opened.items) }
+    ensures terms { IfOk result
+        (λ parts. parts.lanes.terms ≡ map (λ one. one.owned.terms) opened.items) }
     ensures plans { IfOk result (λ parts. parts.lanes.plans ≡ map (λ one. one.plan) opened.items) }
     ensures fault { IfOk result (λ parts. parts.lanes.fault ≡ None) }
 {
@@ -56,7 +59,9 @@ fn shares_of<D: Dir + Drop, A: Allocator + Copy>(
     alloc: A,
     opened: &[OpenOutput<D, A>],
 ) -> Result<Vec<Arc<SharedBuffer<D, A>, A>, A>, AllocError>
-    ensures { IfOk result (λ shares. map (λ buffer. arc_value buffer) shares.items ≡ map (λ one. one.owned.terms) opened.now) }
+    ensures { IfOk result
+        (λ shares. map (λ buffer. arc_value buffer) shares.items
+        ≡ map (λ one. one.owned.terms) opened.now) }
 {
     let mut shares = Vec::with_capacity(alloc, opened.len())?;
     for one in opened {

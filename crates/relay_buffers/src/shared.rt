@@ -37,7 +37,11 @@ impl<D: Dir + Drop, A: Allocator + Copy> Share<D, A> {
         leaf: Leaf,
         takes: Takes<A>,
     ) -> Result<(Self, Self), AllocError>
-        ensures one { IfOk result (λ two. two.0 ≡ record { terms = record { leaf = leaf; takes = takes }; opened = buffer }) }
+        ensures one { IfOk result
+            (λ two. two.0 ≡ record {
+              terms = record { leaf = leaf; takes = takes };
+              opened = buffer;
+            }) }
         ensures other { IfOk result (λ two. two.1 ≡ two.0) }
     {
         let (opened, remembered) = (Snapshot::of(&buffer), Snapshot::of(&buffer));

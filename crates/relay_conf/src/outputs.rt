@@ -72,7 +72,8 @@ fn output<A: Allocator + Copy>(
     element: &Element<A>,
     number: usize,
 ) -> Result<Output<A>, AllocError>
-    ensures { IfOk result (λ o. output_view o ≡ output_of (map tree_of elements.now) number (tree_of element.now)) }
+    ensures { IfOk result
+        (λ o. output_view o ≡ output_of (map tree_of elements.now) number (tree_of element.now)) }
 {
     let pairs = pairs_of(element);
     let line = line_of(element);
@@ -108,7 +109,8 @@ fn buffers_in<A: Allocator>(element: &Element<A>) -> Result<usize, AllocError>
 }
 
 fn own_buffers<A: Allocator>(element: &Element<A>) -> usize
-    ensures { result ≡ one_if (has_buffer (heading_of (tree_of element.now)) (settings_of (tree_of element.now))) }
+    ensures { result ≡ one_if
+        (has_buffer (heading_of (tree_of element.now)) (settings_of (tree_of element.now))) }
 {
     let is_output = is_named(element, "match") || is_named(element, "store");
     if is_output && is_buffered(kind_of(pairs_of(element))) {
@@ -160,7 +162,9 @@ fn outputs<A: Allocator + Copy>(
     element: &Element<A>,
     first: usize,
 ) -> Result<Vec<Output<A>, A>, AllocError>
-    ensures { IfOk result (λ os. map output_view os.items ≡ outputs_of (map tree_of elements.now) first (tree_of element.now)) }
+    ensures { IfOk result
+        (λ os. map output_view os.items
+        ≡ outputs_of (map tree_of elements.now) first (tree_of element.now)) }
 {
     if is_copy(kind_of(pairs_of(element))) {
         return stores(alloc, elements, children_of(element), first);
@@ -177,7 +181,10 @@ fn stores<A: Allocator + Copy>(
     children: &[Element<A>],
     first: usize,
 ) -> Result<Vec<Output<A>, A>, AllocError>
-    ensures { IfOk result (λ os. map output_view os.items ≡ map (λ p. output_of (map tree_of elements.now) p.0 p.1) (numbered (codes "store") first (map tree_of children.now))) }
+    ensures { IfOk result
+        (λ os. map output_view os.items
+        ≡ map (λ p. output_of (map tree_of elements.now) p.0 p.1)
+        (numbered (codes "store") first (map tree_of children.now))) }
 {
     let mut outputs = Vec::new(alloc);
     let mut number = first;
@@ -197,7 +204,8 @@ fn match_rule<A: Allocator + Copy>(
     element: &Element<A>,
     first: usize,
 ) -> Result<MatchRule<A>, AllocError>
-    ensures { IfOk result (λ rule. IsMatchOf (map tree_of elements.now) first (tree_of element.now) rule) }
+    ensures { IfOk result
+        (λ rule. IsMatchOf (map tree_of elements.now) first (tree_of element.now) rule) }
 {
     Ok(MatchRule {
         patterns: patterns(alloc, argument_of(element))?,
@@ -213,7 +221,9 @@ pub(crate) fn matches_in<A: Allocator + Copy>(
     among: &[Element<A>],
     first: usize,
 ) -> Result<Vec<MatchRule<A>, A>, AllocError>
-    ensures { IfOk result (λ rules. AreMatchesOf (map tree_of elements.now) first (map tree_of among.now) rules.items) }
+    ensures { IfOk result
+        (λ rules. AreMatchesOf (map tree_of elements.now) first
+        (map tree_of among.now) rules.items) }
 {
     let mut rules = Vec::new(alloc);
     let mut number = first;
@@ -233,7 +243,8 @@ fn scope<A: Allocator + Copy>(
     element: &Element<A>,
     first: usize,
 ) -> Result<Scope<A>, AllocError>
-    ensures { IfOk result (λ scope. IsScopeOf (map tree_of elements.now) first (tree_of element.now) scope) }
+    ensures { IfOk result
+        (λ scope. IsScopeOf (map tree_of elements.now) first (tree_of element.now) scope) }
 {
     Ok(Scope {
         name: String::from_str(alloc, argument_of(element))?,
@@ -246,7 +257,9 @@ pub(crate) fn label_scopes<A: Allocator + Copy>(
     alloc: A,
     elements: &[Element<A>],
 ) -> Result<Vec<Scope<A>, A>, AllocError>
-    ensures { IfOk result (λ scopes. AreScopesOf (map tree_of elements.now) 0 (map tree_of elements.now) scopes.items) }
+    ensures { IfOk result
+        (λ scopes. AreScopesOf (map tree_of elements.now) 0
+        (map tree_of elements.now) scopes.items) }
 {
     let mut scopes = Vec::new(alloc);
     let mut number = 0;

@@ -37,9 +37,11 @@ impl<A: Allocator + Copy> Relay<A> {
         // What is refused has that fault, and it is the first, or memory ran out.
         ensures refused { IfErr result (λ e. IsRefusal (map tree_of elements.now) e) }
         // Elements with a fault aren't read.
-        ensures fault { (f : RelayFault) → HasFault (map tree_of elements.now) f → IfOk result (λ _. ⊥) }
+        ensures fault { (f : RelayFault) → HasFault (map tree_of elements.now) f
+            → IfOk result (λ _. ⊥) }
         // Elements without a fault are read, unless memory runs out.
-        ensures only { HasNoFault (map tree_of elements.now) → MatchResult result (λ _. ⊤) (λ e. e ≡ RelayError.Memory) }
+        ensures only { HasNoFault (map tree_of elements.now)
+            → MatchResult result (λ _. ⊤) (λ e. e ≡ RelayError.Memory) }
     {
         examine_elements(alloc, elements)?;
         Ok(filled(alloc, elements)?)
@@ -67,7 +69,10 @@ fn sources<A: Allocator + Copy>(
     alloc: A,
     elements: &[Element<A>],
 ) -> Result<Vec<Source<A>, A>, AllocError>
-    ensures { IfOk result (λ found. map source_view found.items ≡ map (source_of (map tree_of elements.now)) (filter (is_named (codes "source")) (map tree_of elements.now))) }
+    ensures { IfOk result
+        (λ found. map source_view found.items
+        ≡ map (source_of (map tree_of elements.now))
+        (filter (is_named (codes "source")) (map tree_of elements.now))) }
 {
     let mut found = Vec::new(alloc);
     for element in elements {
@@ -83,7 +88,8 @@ fn source<A: Allocator + Copy>(
     elements: &[Element<A>],
     element: &Element<A>,
 ) -> Result<Source<A>, AllocError>
-    ensures { IfOk result (λ s. source_view s ≡ source_of (map tree_of elements.now) (tree_of element.now)) }
+    ensures { IfOk result
+        (λ s. source_view s ≡ source_of (map tree_of elements.now) (tree_of element.now)) }
 {
     let pairs = pairs_of(element);
     Ok(Source {

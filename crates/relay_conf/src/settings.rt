@@ -38,7 +38,8 @@ pub(crate) fn security_in<A: Allocator + Copy>(
     alloc: A,
     children: &[Element<A>],
 ) -> Result<Option<Security<A>>, AllocError>
-    ensures { IfOk result (λ found. option_map security_view found ≡ security_in (map tree_of children.now)) }
+    ensures { IfOk result
+        (λ found. option_map security_view found ≡ security_in (map tree_of children.now)) }
 {
     match last_child(children, "security") {
         None => Ok(None),
@@ -62,7 +63,9 @@ pub(crate) fn servers<A: Allocator + Copy>(
     alloc: A,
     children: &[Element<A>],
 ) -> Result<Vec<Server<A>, A>, AllocError>
-    ensures { IfOk result (λ found. map server_view found.items ≡ map server_of (filter (is_named (codes "server")) (map tree_of children.now))) }
+    ensures { IfOk result
+        (λ found. map server_view found.items
+        ≡ map server_of (filter (is_named (codes "server")) (map tree_of children.now))) }
 {
     let mut found = Vec::new(alloc);
     for child in children {

@@ -25,7 +25,9 @@ pub(crate) fn text_or<A: Allocator + Copy>(
     name: &str,
     default: &str,
 ) -> Result<String<A>, AllocError>
-    ensures { IfOk result (λ text. string_bytes text ≡ unwrap_or (value_of name.now (map setting pairs.now)) default.now) }
+    ensures { IfOk result
+        (λ text. string_bytes text
+        ≡ unwrap_or (value_of name.now (map setting pairs.now)) default.now) }
 {
     match value_of(pairs, name) {
         None => String::from_str(alloc, default),
@@ -113,7 +115,8 @@ pub(crate) fn prefix<A: Allocator>(
     pairs: &[Pair<A>],
     name: &str,
 ) -> Result<Option<Prefix<A>>, AllocError>
-    ensures { IfOk result (λ prefix. prefix ≡ option_and_then prefix_of (value_of name.now (map setting pairs.now))) }
+    ensures { IfOk result
+        (λ prefix. prefix ≡ option_and_then prefix_of (value_of name.now (map setting pairs.now))) }
 {
     let Some(value) = value_of(pairs, name) else {
         return Ok(None);
@@ -186,7 +189,8 @@ pub(crate) fn last_child<'a, A: Allocator>(
     children: &'a [Element<A>],
     name: &str,
 ) -> Option<&'a Element<A>>
-    ensures { option_map (λ e. tree_of e.now) result ≡ last_child name.now (map tree_of children.now) }
+    ensures { option_map (λ e. tree_of e.now) result
+        ≡ last_child name.now (map tree_of children.now) }
 {
     let mut found = None;
     for child in children {

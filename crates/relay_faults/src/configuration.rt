@@ -30,9 +30,11 @@ pub fn examine_elements<A: Allocator + Copy>(
     // What is refused has that fault, and it is the first, or memory ran out.
     ensures refused { IfErr result (λ e. IsRefusal (map tree_of elements.now) e) }
     // Elements with a fault don't pass.
-    ensures fault { (f : RelayFault) → HasFault (map tree_of elements.now) f → IfOk result (λ _. ⊥) }
+    ensures fault { (f : RelayFault) → HasFault (map tree_of elements.now) f
+        → IfOk result (λ _. ⊥) }
     // Elements without a fault pass, unless memory runs out.
-    ensures only { HasNoFault (map tree_of elements.now) → MatchResult result (λ _. ⊤) (λ e. e ≡ RelayError.Memory) }
+    ensures only { HasNoFault (map tree_of elements.now)
+        → MatchResult result (λ _. ⊤) (λ e. e ≡ RelayError.Memory) }
 {
     examine_all(alloc, elements)
 }

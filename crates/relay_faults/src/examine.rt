@@ -44,8 +44,12 @@ fn examine_front<A: Allocator + Copy>(
     opening: Option<Opening>,
     element: &Element<A>,
 ) -> Result<Section, RelayError>
-    ensures found { Examines (front_found opening (heading_of (tree_of element.now)) (settings_of (tree_of element.now))) result }
-    ensures section { IfOk result (λ s. s ≡ section_of opening (value_of (codes "@type") (settings_of (tree_of element.now)))) }
+    ensures found { Examines
+        (front_found opening (heading_of (tree_of element.now))
+        (settings_of (tree_of element.now))) result }
+    ensures section { IfOk result
+        (λ s. s ≡ section_of opening
+        (value_of (codes "@type") (settings_of (tree_of element.now)))) }
 {
     let pairs = pairs_of(element);
     examine_opening(alloc, opening, element)?;

@@ -91,7 +91,9 @@ pub fn words<A: Allocator + Copy>(alloc: A, text: &str) -> Result<Words<'_, A>, 
 
 // What tabs separate.
 fn push_words<'t, A: Allocator>(words: &mut Words<'t, A>, part: &'t str) -> Result<(), AllocError>
-    ensures { OnOk result (map (λ word. word.now) words.new.items ≡ map (λ word. word.now) words.old.items ++ tab_words part.now) }
+    ensures { OnOk result
+        (map (λ word. word.now) words.new.items
+        ≡ map (λ word. word.now) words.old.items ++ tab_words part.now) }
 {
     for word in part.split('\t') {
         if !word.is_empty() {

@@ -34,7 +34,9 @@ impl OutputPlace {
 
     // The output that stands there, in its scope.
     fn output_within<A: Allocator>(self, scope: &Scope<A>) -> Option<&Output<A>>
-        ensures { option_copied result ≡ option_and_then (λ rule. slice_get rule.outputs.items self.output) (slice_get scope.now.matches.items self.rule) }
+        ensures { option_copied result
+            ≡ option_and_then (λ rule. slice_get rule.outputs.items self.output)
+            (slice_get scope.now.matches.items self.rule) }
     {
         match scope.matches.get(self.rule) {
             Some(rule) => rule.outputs.get(self.output),
@@ -72,7 +74,9 @@ impl<A: Allocator + Copy> OutputIndex<A> {
 
     // Adds the outputs of all scopes.
     fn add_scopes<B: Allocator>(&mut self, scopes: &[Scope<B>]) -> Result<(), AllocError>
-        ensures { OnOk result ((buffer : ℕ) → place_in self.new buffer ≡ option_or (place_in self.old buffer) (among_scopes 0 scopes.now buffer)) }
+        ensures { OnOk result
+            ((buffer : ℕ) → place_in self.new buffer
+            ≡ option_or (place_in self.old buffer) (among_scopes 0 scopes.now buffer)) }
     {
         for (place, scope) in scopes.iter().enumerate() {
             self.add_rules(place, &scope.matches)?;
@@ -86,7 +90,9 @@ impl<A: Allocator + Copy> OutputIndex<A> {
         scope: usize,
         rules: &[MatchRule<B>],
     ) -> Result<(), AllocError>
-        ensures { OnOk result ((buffer : ℕ) → place_in self.new buffer ≡ option_or (place_in self.old buffer) (among_rules scope 0 rules.now buffer)) }
+        ensures { OnOk result
+            ((buffer : ℕ) → place_in self.new buffer
+            ≡ option_or (place_in self.old buffer) (among_rules scope 0 rules.now buffer)) }
     {
         for (place, rule) in rules.iter().enumerate() {
             self.add_outputs(scope, place, &rule.outputs)?;
@@ -101,7 +107,10 @@ impl<A: Allocator + Copy> OutputIndex<A> {
         rule: usize,
         outputs: &[Output<B>],
     ) -> Result<(), AllocError>
-        ensures { OnOk result ((buffer : ℕ) → place_in self.new buffer ≡ option_or (place_in self.old buffer) (among_outputs scope rule 0 outputs.now buffer)) }
+        ensures { OnOk result
+            ((buffer : ℕ) → place_in self.new buffer
+            ≡ option_or (place_in self.old buffer)
+            (among_outputs scope rule 0 outputs.now buffer)) }
     {
         for (place, found) in outputs.iter().enumerate() {
             if let Some(number) = output::buffer_number(found) {
@@ -118,7 +127,10 @@ impl<A: Allocator + Copy> OutputIndex<A> {
 
     // Adds an output, unless there is one with this number.
     fn add(&mut self, number: usize, place: OutputPlace) -> Result<(), AllocError>
-        ensures { OnOk result ((buffer : ℕ) → place_in self.new buffer ≡ option_or (place_in self.old buffer) (cond (is_numbered (Some number) buffer) (Some place) None)) }
+        ensures { OnOk result
+            ((buffer : ℕ) → place_in self.new buffer
+            ≡ option_or (place_in self.old buffer)
+            (cond (is_numbered (Some number) buffer) (Some place) None)) }
     {
         if !self.places.contains_key(&number) {
             let _ = self.places.insert(number, place)?;

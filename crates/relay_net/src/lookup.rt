@@ -36,7 +36,8 @@ impl<A: Allocator + Copy> Lookup<A> {
         relay: &'a Relay<B>,
         buffer: usize,
     ) -> Option<&'a Output<B>>
-        ensures { option_copied result ≡ option_and_then (output_in relay.now) (place_in self.now.outputs buffer) }
+        ensures { option_copied result
+            ≡ option_and_then (output_in relay.now) (place_in self.now.outputs buffer) }
     {
         match self.outputs.place(buffer) {
             Some(place) => place.output(relay),

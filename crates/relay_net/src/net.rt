@@ -45,7 +45,9 @@ impl<A: Allocator> Model for Net<A> {
 
     ghost view = { λ net. record { relays = net.relays.items; clients = net.clients.items } };
 
-    ghost invariant = { λ net. (all_enter net.relays.items net.clients.items ≡ true) × AreLookups net.lookups.items net.relays.items × IsSourceIndex net.sources net.relays.items };
+    ghost invariant = { λ net. (all_enter net.relays.items net.clients.items ≡ true)
+        × AreLookups net.lookups.items net.relays.items
+        × IsSourceIndex net.sources net.relays.items };
 }
 
 /// Memory ran out: the relays and the clients that no network was made of.
@@ -109,7 +111,9 @@ impl<A: Allocator + Copy> Net<A> {
 
     /// The host that this client sends to: that of the relay that its number means.
     pub fn client_host(&self, number: usize) -> Option<&[u8]>
-        ensures { option_copied result ≡ option_map (λ client. (address_of_client self.now client).host) (slice_get self.now.clients number) }
+        ensures { option_copied result
+            ≡ option_map (λ client. (address_of_client self.now client).host)
+            (slice_get self.now.clients number) }
     {
         let client = self.clients.get(number)?;
         Some(host(&self.relays, client.relay))
@@ -117,7 +121,9 @@ impl<A: Allocator + Copy> Net<A> {
 
     /// Each client's address is that of a source. This does nothing: it stands for its clause.
     pub fn clients_enter(&self)
-        ensures { (number : ℕ) → IfSome (slice_get self.now.clients number) (λ client. IsSome (entrance self.now (address_of_client self.now client))) }
+        ensures { (number : ℕ)
+            → IfSome (slice_get self.now.clients number)
+            (λ client. IsSome (entrance self.now (address_of_client self.now client))) }
     {
         let _ = &self.relays;
     }
@@ -148,7 +154,8 @@ impl<A: Allocator + Copy> Net<A> {
     /// What is put in front of the tags of messages to this host and port: the prefix of the first
     /// source with that address.
     pub fn prefix(&self, host: &[u8], port: u16) -> Option<&Prefix<A>>
-        ensures { option_copied result ≡ prefix_at self.now (record { host = host.now; port = port }) }
+        ensures { option_copied result
+            ≡ prefix_at self.now (record { host = host.now; port = port }) }
     {
         match self.source(host, port) {
             Some((_, source)) => source.prefix.as_ref(),
@@ -158,7 +165,8 @@ impl<A: Allocator + Copy> Net<A> {
 
     // The first source with this host and port, and the place of its relay before it.
     fn source(&self, host: &[u8], port: u16) -> Option<(usize, &Source<A>)>
-        ensures { option_map (λ found. (found.0, found.1.now)) result ≡ first_source 0 self.now.relays (record { host = host.now; port = port }) }
+        ensures { option_map (λ found. (found.0, found.1.now)) result
+            ≡ first_source 0 self.now.relays (record { host = host.now; port = port }) }
     {
         let Some(place) = self.sources.place(host, port) else {
             return None;

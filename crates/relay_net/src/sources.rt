@@ -49,7 +49,10 @@ impl<A: Allocator + Copy> SourceIndex<A> {
         node: &Node<B>,
         place: usize,
     ) -> Result<(), AllocError>
-        ensures { OnOk result ((other : Address) → first_place self.new other ≡ option_or (first_place self.old other) (cond (has_source node.now other) (Some place) None)) }
+        ensures { OnOk result
+            ((other : Address) → first_place self.new other
+            ≡ option_or (first_place self.old other)
+            (cond (has_source node.now other) (Some place) None)) }
     {
         for source in &node.relay.sources {
             self.add(alloc, node.host.as_bytes(), source.port, place)?;
@@ -59,7 +62,10 @@ impl<A: Allocator + Copy> SourceIndex<A> {
 
     // Adds an address with the place of its relay, unless it is there.
     fn add(&mut self, alloc: A, host: &[u8], port: u16, place: usize) -> Result<(), AllocError>
-        ensures { OnOk result ((other : Address) → first_place self.new other ≡ option_or (first_place self.old other) (cond (bytes_eq host.now other.host && (port == other.port)) (Some place) None)) }
+        ensures { OnOk result
+            ((other : Address) → first_place self.new other
+            ≡ option_or (first_place self.old other)
+            (cond (bytes_eq host.now other.host && (port == other.port)) (Some place) None)) }
     {
         if let Some(ports) = self.hosts.get_mut(host) {
             add_port(ports, port, place)?;
@@ -79,7 +85,9 @@ fn add_port<A: Allocator + Copy>(
     port: u16,
     place: usize,
 ) -> Result<(), AllocError>
-    ensures { OnOk result ((other : ℕ) → get nat_cmp ports.new other ≡ option_or (get nat_cmp ports.old other) (cond (port == other) (Some place) None)) }
+    ensures { OnOk result
+        ((other : ℕ) → get nat_cmp ports.new other
+        ≡ option_or (get nat_cmp ports.old other) (cond (port == other) (Some place) None)) }
 {
     if !ports.contains_key(&port) {
         let _ = ports.insert(port, place)?;

@@ -78,7 +78,9 @@ impl<A: Allocator> Limiter<A> {
 // The first place of which something is to be said now.
 fn first_due(slots: &[Slot], now: u64) -> Option<usize>
     ensures within { IfSome result (λ place. place < length slots.now) }
-    ensures due { IfSome result (λ place. (slot : Slot) × (slice_get slots.now place ≡ Some slot) × IsTrue (is_due now slot)) }
+    ensures due { IfSome result
+        (λ place. (slot : Slot) × (slice_get slots.now place ≡ Some slot)
+        × IsTrue (is_due now slot)) }
     ensures none { IfNone result (All (IsQuiet now) slots.now) }
 {
     slots.iter().position(|slot| slot.is_due(now))

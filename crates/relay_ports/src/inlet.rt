@@ -32,7 +32,12 @@ impl<A: Allocator> Model for Inlet<A> {
 
     ghost Value = { Entry };
 
-    ghost view = { λ i. record { number = i.number; table = arc_value i.routes; scope = i.scope.0; prefix = i.prefix } };
+    ghost view = { λ i. record {
+      number = i.number;
+      table = arc_value i.routes;
+      scope = i.scope.0;
+      prefix = i.prefix;
+    } };
 }
 
 /// Where a message goes: the tag that its entries are stored under, and the buffers that have to
@@ -52,7 +57,12 @@ impl<A: Allocator + Copy> Inlet<A> {
         scope: ScopeNo,
         prefix: Option<Prefix<A>>,
     ) -> Inlet<A>
-        ensures { result ≡ record { number = number; table = arc_value routes; scope = scope.0; prefix = prefix } }
+        ensures { result ≡ record {
+          number = number;
+          table = arc_value routes;
+          scope = scope.0;
+          prefix = prefix;
+        } }
     {
         Inlet {
             number,
@@ -78,10 +88,18 @@ impl<A: Allocator + Copy> Inlet<A> {
         alloc: A,
         message: &Message<B>,
     ) -> Result<Option<Branches<A>>, AllocError>
-        ensures leaves { IfOk result (λ found. IfSome found (λ branches. IsRoutedTo self.now (asked_of (meaning message.now)) branches.tag branches.leaves.items)) }
-        ensures buffers { IfOk result (λ found. IfSome found (λ branches. (0 < length message.now.entries) ⊎ (branches.buffers.items ≡ []))) }
+        ensures leaves { IfOk result
+            (λ found. IfSome found
+            (λ branches. IsRoutedTo self.now
+            (asked_of (meaning message.now)) branches.tag branches.leaves.items)) }
+        ensures buffers { IfOk result
+            (λ found. IfSome found
+            (λ branches. (0 < length message.now.entries) ⊎ (branches.buffers.items ≡ []))) }
         // Its leaves are its buffers, in their order.
-        ensures same { IfOk result (λ found. IfSome found (λ branches. branches.leaves.items ≡ map (leaf_of self.now.number) branches.buffers.items)) }
+        ensures same { IfOk result
+            (λ found. IfSome found
+            (λ branches. branches.leaves.items
+            ≡ map (leaf_of self.now.number) branches.buffers.items)) }
     {
         let Some(tag) = self.entered(alloc, &message.tag)? else {
             return Ok(None);
@@ -101,7 +119,8 @@ impl<A: Allocator + Copy> Inlet<A> {
 
     // The tag of an event that came in with this one; `None` where it is too long.
     fn entered(&self, alloc: A, tag: &[u8]) -> Result<Option<Tag<A>>, AllocError>
-        ensures { IfOk result (λ found. IfSome found (λ entered. entered ≡ entered_tag self.now.prefix tag.now)) }
+        ensures { IfOk result
+            (λ found. IfSome found (λ entered. entered ≡ entered_tag self.now.prefix tag.now)) }
     {
         let tag = match Tag::read(alloc, tag) {
             Ok(tag) => tag,
@@ -125,7 +144,11 @@ impl<A: Allocator + Copy> Inlet<A> {
         tag: Tag<A>,
         buffers: Vec<BufferNo, A>,
     ) -> Result<Option<Branches<A>>, AllocError>
-        ensures { IfOk result (λ found. IfSome found (λ branches. (branches.tag ≡ tag) × (branches.leaves.items ≡ map (leaf_of self.now.number) buffers.items) × (branches.buffers ≡ buffers))) }
+        ensures { IfOk result
+            (λ found. IfSome found
+            (λ branches. (branches.tag ≡ tag)
+            × (branches.leaves.items ≡ map (leaf_of self.now.number) buffers.items)
+            × (branches.buffers ≡ buffers))) }
     {
         let mut leaves = Vec::with_capacity(alloc, buffers.len())?;
         for buffer in &buffers {

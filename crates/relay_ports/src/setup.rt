@@ -34,7 +34,12 @@ impl<A: Allocator> Model for RelaySetup<A> {
 
     ghost Value = { Setup A };
 
-    ghost view = { λ s. record { number = s.number; table = arc_value s.routes; sources = s.sources.items; outputs = s.outputs.items } };
+    ghost view = { λ s. record {
+      number = s.number;
+      table = arc_value s.routes;
+      sources = s.sources.items;
+      outputs = s.outputs.items;
+    } };
 
     ghost invariant = { λ s. CanRun s.outputs.items };
 }
@@ -61,8 +66,10 @@ impl<A: Allocator + Copy> RelaySetup<A> {
     pub fn new(alloc: A, relay: Relay<A>, number: u32) -> Result<RelaySetup<A>, SetupFault>
         ensures setup { IfOk result (λ setup. setup ≡ setup_of number relay) }
         ensures runs { IfOk result (λ _. CanRun (outputs_in relay.scopes.items)) }
-        ensures path { result ≡ Err SetupFault.Path → HaveOwnPaths (outputs_in relay.scopes.items) → ⊥ }
-        ensures numbers { result ≡ Err SetupFault.Number → CanRun (outputs_in relay.scopes.items) → ⊥ }
+        ensures path { result ≡ Err SetupFault.Path → HaveOwnPaths (outputs_in relay.scopes.items)
+            → ⊥ }
+        ensures numbers { result ≡ Err SetupFault.Number → CanRun (outputs_in relay.scopes.items)
+            → ⊥ }
     {
         let routes = Arc::new(alloc, Routes::new(alloc, &relay)?)?;
         let Relay { sources, scopes } = relay;

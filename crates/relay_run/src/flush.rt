@@ -107,7 +107,8 @@ impl Model for Pool {
     ghost view = { λ p. record { job = p.of.value; carrier = p.carrier } };
 
     // It has the job's buffer, and as many threads and such retries as the job's output says.
-    ghost invariant = { λ p. (arc_value p.buffer ≡ p.of.value.terms) × (p.threads ≡ (settings_of p.of.value.output).flush_thread_count)
+    ghost invariant = { λ p. (arc_value p.buffer ≡ p.of.value.terms)
+        × (p.threads ≡ (settings_of p.of.value.output).flush_thread_count)
         × (p.retry ≡ (settings_of p.of.value.output).retry) };
 }
 

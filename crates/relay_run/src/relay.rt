@@ -86,7 +86,8 @@ where
 
     // Runs the relay of this configuration, or prints why there is none.
     fn run_conf<I: CountedRead, W: Write>(&self, conf: &mut I, number: u32, out: &mut W) -> Status
-        ensures { PrintsRelay self.now number (I.remaining conf.old) (W.contents out.old) (W.contents out.new) result }
+        ensures { PrintsRelay self.now number (I.remaining conf.old) (W.contents out.old)
+            (W.contents out.new) result }
     {
         let alloc = self.rt.alloc();
         match read_relay(alloc, conf) {
@@ -99,7 +100,8 @@ where
     // of it is said meanwhile.
     #[tactic(auto, using(crate::proofs::StartingSteps::not_opened))]
     fn run_read<W: Write>(&self, relay: Relay<Global>, number: u32, out: &mut W) -> Status
-        ensures { PrintsRun self.now (setup_of number relay) (W.contents out.old) (W.contents out.new) result }
+        ensures { PrintsRun self.now (setup_of number relay) (W.contents out.old)
+            (W.contents out.new) result }
     {
         match Voice::start(self.rt, self.home, &relay) {
             Ok(voice) => self.run_heard(relay, number, voice, out),
@@ -115,7 +117,8 @@ where
         voice: Voice,
         out: &mut W,
     ) -> Status
-        ensures { PrintsRun self.now (setup_of number relay) (W.contents out.old) (W.contents out.new) result }
+        ensures { PrintsRun self.now (setup_of number relay) (W.contents out.old)
+            (W.contents out.new) result }
     {
         let status = self.run_with(relay, number, &voice, out);
         voice.end(self.rt);
@@ -131,7 +134,8 @@ where
         voice: &Voice,
         out: &mut W,
     ) -> Status
-        ensures { PrintsRun self.now (setup_of number relay) (W.contents out.old) (W.contents out.new) result }
+        ensures { PrintsRun self.now (setup_of number relay) (W.contents out.old)
+            (W.contents out.new) result }
     {
         match self.open(relay, number, voice) {
             Ok(running) => {
@@ -191,7 +195,8 @@ where
 
     // The system's sockets, none of which listens yet.
     fn network(&self) -> Result<SocketNetwork<R, Global>, LoopFault>
-        ensures { IfOk result (λ network. ⟦<SocketNetwork<R, Global> as Network>⟧.bound network ≡ []) }
+        ensures { IfOk result
+            (λ network. ⟦<SocketNetwork<R, Global> as Network>⟧.bound network ≡ []) }
     {
         match SocketNetwork::new(copy_of(self.rt)?, self.rt.alloc()) {
             Ok(network) => Ok(network),

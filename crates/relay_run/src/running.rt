@@ -73,7 +73,12 @@ impl<R: Net + Clock + Clone + Drop> Model for Ran<R> {
 
     ghost Value = { RelayEnded };
 
-    ghost view = { λ r. record { turning = r.turned.value; ports = r.ports; fault = r.left; pools = r.ends.items } };
+    ghost view = { λ r. record {
+      turning = r.turned.value;
+      ports = r.ports;
+      fault = r.left;
+      pools = r.ends.items;
+    } };
 }
 
 impl<R: Net + Clock + Clone + Drop> Ran<R> {
@@ -285,7 +290,9 @@ where
         + Send
         + Sync
         + 'static,
-    ensures started { OnOk result (map (λ thread. thread.promise) threads.new.items ≡ map (λ thread. thread.promise) threads.old.items ++ pools.items) }
+    ensures started { OnOk result
+        (map (λ thread. thread.promise) threads.new.items
+        ≡ map (λ thread. thread.promise) threads.old.items ++ pools.items) }
     ensures full { IfErr result (λ fault. fault ≡ LoopFault.Memory) }
 {
     let mut left = pools.into_iter();
@@ -326,7 +333,8 @@ fn join_all<R: Threads + AllocGlobal>(
     rt: &R,
     threads: Vec<Delivery>,
 ) -> Result<Vec<PoolEnd>, LoopFault>
-    ensures ended { IfOk result (λ ends. map (λ end. end.pool) ends.items ≡ map (λ thread. thread.promise) threads.items) }
+    ensures ended { IfOk result
+        (λ ends. map (λ end. end.pool) ends.items ≡ map (λ thread. thread.promise) threads.items) }
     ensures full { IfErr result (λ fault. fault ≡ LoopFault.Memory) }
 {
     let mut ends = Vec::new(rt.alloc());

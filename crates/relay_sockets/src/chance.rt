@@ -61,7 +61,8 @@ impl Nonces {
     /// The next one. The generator goes on to what it has left.
     pub fn draw(&mut self) -> Nonce
         ensures drawn { result ≡ next_nonce self.old }
-        ensures rest { ⟦<ChaCha20Rng as Rng>⟧.stream self.new ≡ (fill_bytes nonce_length (⟦<ChaCha20Rng as Rng>⟧.stream self.old)).1 }
+        ensures rest { ⟦<ChaCha20Rng as Rng>⟧.stream self.new
+            ≡ (fill_bytes nonce_length (⟦<ChaCha20Rng as Rng>⟧.stream self.old)).1 }
     {
         let mut nonce = [0u8; 16];
         self.rng.fill_bytes(&mut nonce);

@@ -40,7 +40,13 @@ pub trait Dialer: Time {
         port: u16,
         until: u64,
     ) -> Result<Result<Self::Stream, Unreached>, AllocError>
-        ensures went { IfOk result (λ found. IfOk found (λ stream. Self.Stream.origin stream ≡ WentTo (record { host = host.now; port = port }))) }
-        ensures fresh { IfOk result (λ found. IfOk found (λ stream. IsFresh (Self.Stream.traffic stream))) }
-        ensures known { is_known self.now → IfOk result (λ found. is_ok found ≡ takes self.now (record { host = host.now; port = port })) };
+        ensures went { IfOk result
+            (λ found. IfOk found
+            (λ stream. Self.Stream.origin stream
+            ≡ WentTo (record { host = host.now; port = port }))) }
+        ensures fresh { IfOk result
+            (λ found. IfOk found (λ stream. IsFresh (Self.Stream.traffic stream))) }
+        ensures known { is_known self.now
+            → IfOk result (λ found. is_ok found
+            ≡ takes self.now (record { host = host.now; port = port })) };
 }

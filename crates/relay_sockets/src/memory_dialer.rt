@@ -69,7 +69,8 @@ impl<A: Allocator + Copy> Dialer for MemoryDialer<A> {
 
     ghost is_known = { λ _. Unit {0} };
 
-    ghost takes = { λ d endpoint. is_some (find (λ server. same_endpoint server.endpoint endpoint) d.servers.items) };
+    ghost takes = { λ d endpoint. is_some
+        (find (λ server. same_endpoint server.endpoint endpoint) d.servers.items) };
 
     fn connect(
         &self,

@@ -56,14 +56,16 @@ impl<A: Allocator + Copy> MemoryNetwork<A> {
 
     /// It is this time from now on, in milliseconds.
     pub fn set_time(&mut self, time: u64)
-        ensures { ⟦<MemoryNetwork<A> as Network>⟧.bound self.new ≡ ⟦<MemoryNetwork<A> as Network>⟧.bound self.old }
+        ensures { ⟦<MemoryNetwork<A> as Network>⟧.bound self.new
+            ≡ ⟦<MemoryNetwork<A> as Network>⟧.bound self.old }
     {
         self.time = time;
     }
 
     /// A client connects to the listener with this number, and sends these bytes.
     pub fn call_in(&mut self, listener: usize, bytes: &[u8]) -> Result<(), AllocError>
-        ensures { ⟦<MemoryNetwork<A> as Network>⟧.bound self.new ≡ ⟦<MemoryNetwork<A> as Network>⟧.bound self.old }
+        ensures { ⟦<MemoryNetwork<A> as Network>⟧.bound self.new
+            ≡ ⟦<MemoryNetwork<A> as Network>⟧.bound self.old }
     {
         let sent = Vec::from_slice(self.alloc, bytes)?;
         self.callers.push(Caller { listener, sent })?;
@@ -72,7 +74,8 @@ impl<A: Allocator + Copy> MemoryNetwork<A> {
 
     /// The next wait notes this besides.
     pub fn add_note(&mut self, note: Note) -> Result<(), AllocError>
-        ensures { ⟦<MemoryNetwork<A> as Network>⟧.bound self.new ≡ ⟦<MemoryNetwork<A> as Network>⟧.bound self.old }
+        ensures { ⟦<MemoryNetwork<A> as Network>⟧.bound self.new
+            ≡ ⟦<MemoryNetwork<A> as Network>⟧.bound self.old }
     {
         self.notes.push(note)?;
         Ok(())
@@ -80,7 +83,8 @@ impl<A: Allocator + Copy> MemoryNetwork<A> {
 
     /// It reports nothing of sockets from now on: each wait is refused.
     pub fn mute(&mut self)
-        ensures bound { ⟦<MemoryNetwork<A> as Network>⟧.bound self.new ≡ ⟦<MemoryNetwork<A> as Network>⟧.bound self.old }
+        ensures bound { ⟦<MemoryNetwork<A> as Network>⟧.bound self.new
+            ≡ ⟦<MemoryNetwork<A> as Network>⟧.bound self.old }
         ensures refuses { ⟦<MemoryNetwork<A> as Network>⟧.refusal self.new ≡ Some Poll }
     {
         self.is_mute = true;
@@ -95,8 +99,10 @@ impl<A: Allocator + Copy> MemoryNetwork<A> {
 // The place of the first connection that waits at a listener.
 fn place_of<A: Allocator>(callers: &[Caller<A>], listener: usize) -> Option<usize>
     ensures within { IfSome result (λ at. at < length callers.now) }
-    ensures there { is_some result ≡ is_some (find (λ caller. nat_eq caller.listener listener) callers.now) }
-    ensures its { IfSome result (λ at. IfSome (slice_get callers.now at) (λ caller. caller.listener ≡ listener)) }
+    ensures there { is_some result
+        ≡ is_some (find (λ caller. nat_eq caller.listener listener) callers.now) }
+    ensures its { IfSome result
+        (λ at. IfSome (slice_get callers.now at) (λ caller. caller.listener ≡ listener)) }
 {
     for (at, caller) in callers.iter().enumerate() {
         if caller.listener == listener {
@@ -126,7 +132,8 @@ impl<A: Allocator + Copy> Network for MemoryNetwork<A> {
 
     ghost is_known = { λ _. Unit {0} };
 
-    ghost waits = { λ n number. is_some (find (λ caller. nat_eq caller.listener number) n.callers.items) };
+    ghost waits = { λ n number. is_some
+        (find (λ caller. nat_eq caller.listener number) n.callers.items) };
 
     ghost refusal = { λ n. if n.is_mute then Some Poll else None };
 

@@ -36,7 +36,8 @@ impl<A: Allocator + Copy> MemoryWire<A> {
     /// One that comes from there, whose other end has sent these bytes.
     pub(crate) fn new(alloc: A, origin: MemoryOrigin<A>, incoming: Vec<u8, A>) -> MemoryWire<A>
         ensures origin { ⟦<MemoryWire<A> as Wire>⟧.origin result ≡ origin_in origin }
-        ensures fresh { ⟦<MemoryWire<A> as Wire>⟧.traffic result ≡ record { taken = Some []; given = Some [] } }
+        ensures fresh { ⟦<MemoryWire<A> as Wire>⟧.traffic result
+            ≡ record { taken = Some []; given = Some [] } }
     {
         MemoryWire {
             origin,
@@ -53,8 +54,10 @@ impl<A: Allocator + Copy> MemoryWire<A> {
 impl<A: Allocator> MemoryWire<A> {
     /// The other end sends more bytes. After an error it sent none of them.
     pub fn bring(&mut self, bytes: &[u8]) -> Result<(), AllocError>
-        ensures origin { ⟦<MemoryWire<A> as Wire>⟧.origin self.new ≡ ⟦<MemoryWire<A> as Wire>⟧.origin self.old }
-        ensures bytes { ⟦<MemoryWire<A> as Wire>⟧.traffic self.new ≡ ⟦<MemoryWire<A> as Wire>⟧.traffic self.old }
+        ensures origin { ⟦<MemoryWire<A> as Wire>⟧.origin self.new
+            ≡ ⟦<MemoryWire<A> as Wire>⟧.origin self.old }
+        ensures bytes { ⟦<MemoryWire<A> as Wire>⟧.traffic self.new
+            ≡ ⟦<MemoryWire<A> as Wire>⟧.traffic self.old }
     {
         self.incoming.extend_from_slice(bytes)?;
         Ok(())
@@ -62,24 +65,30 @@ impl<A: Allocator> MemoryWire<A> {
 
     /// The other end has ended its sending, once what it sent was read.
     pub fn end(&mut self)
-        ensures origin { ⟦<MemoryWire<A> as Wire>⟧.origin self.new ≡ ⟦<MemoryWire<A> as Wire>⟧.origin self.old }
-        ensures bytes { ⟦<MemoryWire<A> as Wire>⟧.traffic self.new ≡ ⟦<MemoryWire<A> as Wire>⟧.traffic self.old }
+        ensures origin { ⟦<MemoryWire<A> as Wire>⟧.origin self.new
+            ≡ ⟦<MemoryWire<A> as Wire>⟧.origin self.old }
+        ensures bytes { ⟦<MemoryWire<A> as Wire>⟧.traffic self.new
+            ≡ ⟦<MemoryWire<A> as Wire>⟧.traffic self.old }
     {
         self.is_ended = true;
     }
 
     /// Whether it takes no bytes from now on.
     pub fn set_full(&mut self, is_full: bool)
-        ensures origin { ⟦<MemoryWire<A> as Wire>⟧.origin self.new ≡ ⟦<MemoryWire<A> as Wire>⟧.origin self.old }
-        ensures bytes { ⟦<MemoryWire<A> as Wire>⟧.traffic self.new ≡ ⟦<MemoryWire<A> as Wire>⟧.traffic self.old }
+        ensures origin { ⟦<MemoryWire<A> as Wire>⟧.origin self.new
+            ≡ ⟦<MemoryWire<A> as Wire>⟧.origin self.old }
+        ensures bytes { ⟦<MemoryWire<A> as Wire>⟧.traffic self.new
+            ≡ ⟦<MemoryWire<A> as Wire>⟧.traffic self.old }
     {
         self.is_full = is_full;
     }
 
     /// It fails from now on.
     pub fn fail(&mut self)
-        ensures origin { ⟦<MemoryWire<A> as Wire>⟧.origin self.new ≡ ⟦<MemoryWire<A> as Wire>⟧.origin self.old }
-        ensures bytes { ⟦<MemoryWire<A> as Wire>⟧.traffic self.new ≡ ⟦<MemoryWire<A> as Wire>⟧.traffic self.old }
+        ensures origin { ⟦<MemoryWire<A> as Wire>⟧.origin self.new
+            ≡ ⟦<MemoryWire<A> as Wire>⟧.origin self.old }
+        ensures bytes { ⟦<MemoryWire<A> as Wire>⟧.traffic self.new
+            ≡ ⟦<MemoryWire<A> as Wire>⟧.traffic self.old }
     {
         self.is_broken = true;
     }
@@ -108,7 +117,10 @@ impl<A: Allocator> Wire for MemoryWire<A> {
 
     ghost origin = { λ w. origin_in w.origin };
 
-    ghost traffic = { λ w. record { taken = Some w.taken.items; given = Some (take w.at w.incoming.items) } };
+    ghost traffic = { λ w. record {
+      taken = Some w.taken.items;
+      given = Some (take w.at w.incoming.items);
+    } };
 
     ghost refuses = { λ w. w.is_full };
 

@@ -105,7 +105,8 @@ pub trait Network: Time {
     /// `Bind`: the address can't be had. `Poll`: the system reports nothing of the socket.
     /// `Memory`.
     fn bind(&mut self, host: &str, port: u16) -> Result<Self::Listener, NetFault>
-        ensures ok { OnOk result (bound self.new ≡ bound self.old ++ record { host = host.now; port = port } ∷ []) }
+        ensures ok { OnOk result
+            (bound self.new ≡ bound self.old ++ record { host = host.now; port = port } ∷ []) }
         ensures number { IfOk result (λ listener. number listener ≡ length (bound self.old)) }
         ensures err { OnErr result (bound self.new ≡ bound self.old) }
         ensures time { Self.time self.new ≡ Self.time self.old };
@@ -113,16 +114,21 @@ pub trait Network: Time {
     /// The port that the listener has: the one that was bound, or the one that the system chose
     /// where that is 0.
     fn port(&self, listener: &Self::Listener) -> u16
-        ensures known { is_known self.now → IfSome (slice_get (bound self.now) (number listener.now)) (λ endpoint. result ≡ endpoint.port) }
-        ensures bound { IfSome (slice_get (bound self.now) (number listener.now)) (IsPortOf result) };
+        ensures known { is_known self.now
+            → IfSome (slice_get (bound self.now) (number listener.now))
+            (λ endpoint. result ≡ endpoint.port) }
+        ensures bound { IfSome (slice_get (bound self.now) (number listener.now))
+            (IsPortOf result) };
 
     /// Takes the next connection that waits at this listener. No call on it waits.
     fn accept(&mut self, listener: &Self::Listener) -> Accepted<Self::Stream>
         ensures bound { bound self.new ≡ bound self.old }
         ensures time { Self.time self.new ≡ Self.time self.old }
-        ensures came { IfStream result (λ stream. Self.Stream.origin stream ≡ CameAt (number listener.now)) }
+        ensures came { IfStream result
+            (λ stream. Self.Stream.origin stream ≡ CameAt (number listener.now)) }
         ensures fresh { IfStream result (λ stream. IsFresh (Self.Stream.traffic stream)) }
-        ensures known { is_known self.old → IsAnswered (waits self.old (number listener.now)) result };
+        ensures known { is_known self.old
+            → IsAnswered (waits self.old (number listener.now)) result };
 
     /// Has a connection noted under this key from now on. `Poll`: the system reports nothing of it,
     /// or not under such a key.

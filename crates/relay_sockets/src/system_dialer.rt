@@ -148,7 +148,8 @@ impl<S: Read + Write + OpenStream + AsRawFd, A: Allocator> Wire for SystemWire<S
         ensures origin { self.new.asked ≡ self.old.asked }
         ensures bytes { IsReadFrom unknown_traffic unknown_traffic piece.new result }
         ensures refuses { self.new.is_full ≡ self.old.is_full }
-        ensures stream { IsReadOff (S.Read.remaining self.old.stream) (S.Read.remaining self.new.stream) piece.new result }
+        ensures stream { IsReadOff (S.Read.remaining self.old.stream)
+            (S.Read.remaining self.new.stream) piece.new result }
     {
         if self.stream.set_read_timeout(wait_of(most)).is_err() {
             return Moved::Broken;
@@ -161,7 +162,8 @@ impl<S: Read + Write + OpenStream + AsRawFd, A: Allocator> Wire for SystemWire<S
         ensures bytes { IsWrittenTo unknown_traffic unknown_traffic bytes.now result }
         ensures refused { result ≡ Moved.None → self.new.is_full ≡ true }
         ensures took { (n : ℕ) → result ≡ Moved.Some n → self.new.is_full ≡ false }
-        ensures stream { IsWrittenTo (taking (S.Write.contents self.old.stream)) (taking (S.Write.contents self.new.stream)) bytes.now result }
+        ensures stream { IsWrittenTo (taking (S.Write.contents self.old.stream))
+            (taking (S.Write.contents self.new.stream)) bytes.now result }
     {
         if self.stream.set_write_timeout(wait_of(most)).is_err() {
             return Moved::Broken;

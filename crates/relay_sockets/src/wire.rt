@@ -47,7 +47,8 @@ pub trait Wire {
         ensures origin { origin self.new ≡ origin self.old }
         ensures bytes { IsReadFrom (traffic self.old) (traffic self.new) piece.new result }
         ensures refuses { refuses self.new ≡ refuses self.old }
-        ensures ended { (has_ended self.new ≡ true) ↔ ((has_ended self.old ≡ true) ⊎ (result ≡ Moved.Ended)) };
+        ensures ended { (has_ended self.new ≡ true)
+            ↔ ((has_ended self.old ≡ true) ⊎ (result ≡ Moved.Ended)) };
 
     /// Writes some of the bytes. Where it waits for room, it waits no longer than this.
     fn put(&mut self, bytes: &[u8], most: Duration) -> Moved

@@ -78,7 +78,9 @@ fn put_left<A: Allocator + Copy>(
     blanks: &[Blank],
     all: &mut Vec<Vec<u8, A>, A>,
 ) -> Result<(), AllocError>
-    ensures { OnOk result ((before : List (List ℕ)) → AreLeft before (texts_of all.old.items) → AreLeft (before ++ conf.now ∷ []) (texts_of all.new.items)) }
+    ensures { OnOk result
+        ((before : List (List ℕ)) → AreLeft before (texts_of all.old.items)
+        → AreLeft (before ++ conf.now ∷ []) (texts_of all.new.items)) }
 {
     if is_gone(conf_lines, place, blanks) {
         return Ok(());

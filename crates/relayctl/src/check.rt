@@ -39,7 +39,9 @@ pub fn run_check<A: Allocator + Copy, R: CountedRead, O: Open, W: Write, F: Writ
     out: &mut W,
     faults: &mut F,
 ) -> Status
-    ensures { PrintsCheck A (R.remaining net.old) (O.text_of files.now) drops.now (W.contents out.old) (W.contents out.new) (F.contents faults.old) (F.contents faults.new) result }
+    ensures { PrintsCheck A (R.remaining net.old) (O.text_of files.now) drops.now
+        (W.contents out.old) (W.contents out.new) (F.contents faults.old)
+        (F.contents faults.new) result }
 {
     let found = check_read(alloc, name, net, files, drops);
     print_check(alloc, found, out, faults)
@@ -65,7 +67,9 @@ pub fn run_adapted_check<
     out: &mut W,
     faults: &mut F,
 ) -> Status
-    ensures { PrintsAdaptedCheck A (R.remaining net.old) (O.text_of files.now) (map string_bytes accepted.now) drops.now (W.contents out.old) (W.contents out.new) (F.contents faults.old) (F.contents faults.new) result }
+    ensures { PrintsAdaptedCheck A (R.remaining net.old) (O.text_of files.now)
+        (map string_bytes accepted.now) drops.now (W.contents out.old) (W.contents out.new)
+        (F.contents faults.old) (F.contents faults.new) result }
 {
     let found = check_adapted(alloc, name, net, files, accepted, drops);
     print_check(alloc, found, out, faults)
@@ -79,8 +83,11 @@ fn print_check<A: Allocator, W: Write, F: Write>(
     out: &mut W,
     faults: &mut F,
 ) -> Status
-    ensures { MatchResult found (λ found. PrintsFound found (W.contents out.old) (W.contents out.new) (F.contents faults.old) (F.contents faults.new) result)
-        (λ _. PrintsUnread (W.contents out.old) (W.contents out.new) (F.contents faults.old) (F.contents faults.new) result) }
+    ensures { MatchResult found
+        (λ found. PrintsFound found (W.contents out.old) (W.contents out.new)
+        (F.contents faults.old) (F.contents faults.new) result)
+        (λ _. PrintsUnread (W.contents out.old) (W.contents out.new) (F.contents faults.old)
+        (F.contents faults.new) result) }
 {
     match found {
         Ok(Check::Answered(said)) => put_last(out, &said.lines, said.status),
@@ -124,7 +131,9 @@ fn check_adapted<A: Allocator + Copy, B: Allocator, R: CountedRead, O: Open>(
     accepted: &[String<B>],
     drops: &[DropName<'_>],
 ) -> Result<Check<A>, ReadFault>
-    ensures { IfOk result (IsAdaptedCheck A (R.remaining net.old) (O.text_of files.now) (map string_bytes accepted.now) drops.now) }
+    ensures { IfOk result
+        (IsAdaptedCheck A (R.remaining net.old) (O.text_of files.now)
+        (map string_bytes accepted.now) drops.now) }
 {
     let text = read_whole(alloc, net)?;
     let names = conf_names(alloc, &text)?;
@@ -291,7 +300,8 @@ fn say_checked<A: Allocator + Copy>(
     texts: &Texts<'_, A>,
     drops: &[DropName<'_>],
 ) -> Result<Check<A>, AllocError>
-    ensures { IfOk result (SaysCheck drops.now checked.now.is_labelled checked.now.plan checked.now.broken.items) }
+    ensures { IfOk result
+        (SaysCheck drops.now checked.now.is_labelled checked.now.plan checked.now.broken.items) }
 {
     let net = checked.plan.net();
     if net.relays().is_empty() {
@@ -316,7 +326,9 @@ fn say_empty<A: Allocator>(alloc: A, line: &str) -> Result<Said<A>, AllocError>
 
 // The same, with a line behind it where no labels were found.
 fn noted<A: Allocator>(said: Said<A>, is_labelled: bool) -> Result<Said<A>, AllocError>
-    ensures { IfOk result (λ noted. (noted.lines.items ≡ said.lines.items ++ labels_note_of is_labelled) × (noted.status ≡ said.status)) }
+    ensures { IfOk result
+        (λ noted. (noted.lines.items ≡ said.lines.items ++ labels_note_of is_labelled)
+        × (noted.status ≡ said.status)) }
 {
     let Said { mut lines, status } = said;
     lines.extend_from_slice(labels_note(is_labelled).as_bytes())?;
@@ -344,7 +356,8 @@ fn say_rules<A: Allocator + Copy>(
     broken: &[BrokenRule<A>],
     drops: &[DropName<'_>],
 ) -> Result<Said<A>, AllocError>
-    ensures { IfOk result (λ said. SaysRules drops.now plan.now broken.now said.lines.items said.status) }
+    ensures { IfOk result
+        (λ said. SaysRules drops.now plan.now broken.now said.lines.items said.status) }
 {
     if broken.is_empty() {
         let mut lines = Vec::from_slice(alloc, b"yes\n")?;

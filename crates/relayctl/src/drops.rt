@@ -64,7 +64,8 @@ pub fn print_misspelt<A: Allocator + Copy, F: Write>(
     words: &[&str],
     faults: &mut F,
 ) -> Status
-    ensures { PrintsMisspelt (map (λ word. word.now) words.now) (F.contents faults.old) (F.contents faults.new) result }
+    ensures { PrintsMisspelt (map (λ word. word.now) words.now) (F.contents faults.old)
+        (F.contents faults.new) result }
 {
     match misspelt_lines(alloc, words) {
         Ok(lines) => put_last(faults, &lines, Status::Usage),
@@ -74,7 +75,8 @@ pub fn print_misspelt<A: Allocator + Copy, F: Write>(
 
 // The lines of the words that are no names.
 fn misspelt_lines<A: Allocator + Copy>(alloc: A, words: &[&str]) -> Result<Vec<u8, A>, AllocError>
-    ensures { IfOk result (λ lines. AreLines IsMisspeltLine (map (λ word. word.now) words.now) lines.items) }
+    ensures { IfOk result
+        (λ lines. AreLines IsMisspeltLine (map (λ word. word.now) words.now) lines.items) }
 {
     let mut lines = Vec::new(alloc);
     for word in words {
@@ -105,7 +107,8 @@ pub(crate) fn say_missing<A: Allocator + Copy>(
     names: &[DropName<'_>],
 ) -> Result<Said<A>, AllocError>
     requires { length confs.now ≡ length (confs_named text.now) }
-    ensures { IfOk result (λ said. IsMissing A text.now (texts_of confs.now) names.now said.lines.items said.status) }
+    ensures { IfOk result
+        (λ said. IsMissing A text.now (texts_of confs.now) names.now said.lines.items said.status) }
 {
     // The plan was read before, and a name is known to mean no match of it.
     let Ok(plan) = Plan::read(alloc, text, confs) else {
@@ -197,7 +200,9 @@ fn put_drop<A: Allocator + Copy>(
     name: &DropName<'_>,
     lines: &mut Vec<u8, A>,
 ) -> Result<(), AllocError>
-    ensures { OnOk result ((said : List ℕ) × IsSaidOf plan.now name.now said × (lines.new.items ≡ lines.old.items ++ said)) }
+    ensures { OnOk result
+        ((said : List ℕ) × IsSaidOf plan.now name.now said
+        × (lines.new.items ≡ lines.old.items ++ said)) }
 {
     match place_of(plan.net().relays(), name, 0) {
         Ok(at) => {

@@ -29,7 +29,8 @@ pub fn run_explain<A: Allocator + Copy, R: CountedRead, O: Open, W: Write>(
     drops: &[DropName<'_>],
     out: &mut W,
 ) -> Status
-    ensures { PrintsExplanation A (R.remaining net.old) (O.text_of files.now) drops.now (W.contents out.old) (W.contents out.new) result }
+    ensures { PrintsExplanation A (R.remaining net.old) (O.text_of files.now) drops.now
+        (W.contents out.old) (W.contents out.new) result }
 {
     match explain_read(alloc, name, net, files, drops) {
         Ok(said) => put_last(out, &said.lines, said.status),
@@ -52,7 +53,9 @@ fn explain_read<A: Allocator + Copy, R: CountedRead, O: Open>(
     files: &O,
     drops: &[DropName<'_>],
 ) -> Result<Said<A>, ReadFault>
-    ensures { IfOk result (λ said. IsExplanation A (R.remaining net.old) (O.text_of files.now) drops.now said.lines.items said.status) }
+    ensures { IfOk result
+        (λ said. IsExplanation A (R.remaining net.old)
+        (O.text_of files.now) drops.now said.lines.items said.status) }
 {
     let text = read_whole(alloc, net)?;
     let names = conf_names(alloc, &text)?;
@@ -82,7 +85,9 @@ fn say_plan<A: Allocator + Copy>(
     texts: &Texts<'_, A>,
     drops: &[DropName<'_>],
 ) -> Result<Said<A>, AllocError>
-    ensures { IfOk result (λ said. (found : Answer) × IsAnswer plan.now found × SaysAnswer drops.now plan.now found said.lines.items said.status) }
+    ensures { IfOk result
+        (λ said. (found : Answer) × IsAnswer plan.now found
+        × SaysAnswer drops.now plan.now found said.lines.items said.status) }
 {
     let answer = check(alloc, plan)?;
     let mut lines = format!(in alloc; "{answer}\n")?.into_bytes();
@@ -151,7 +156,8 @@ fn fault_lines<A: Allocator + Copy>(
     first: PlanError,
     further: &[PlanError],
 ) -> Result<Vec<u8, A>, AllocError>
-    ensures { IfOk result (λ lines. lines.items ≡ plan_fault_line first ++ flat_map plan_fault_line further.now) }
+    ensures { IfOk result
+        (λ lines. lines.items ≡ plan_fault_line first ++ flat_map plan_fault_line further.now) }
 {
     let mut lines = format!(in alloc; "fault {first}\n")?.into_bytes();
     for fault in further {

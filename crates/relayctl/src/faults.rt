@@ -66,7 +66,9 @@ fn next_fault<A: Allocator + Copy>(
 
 // The first fault of what is left.
 fn fault_of<A: Allocator + Copy>(alloc: A, rest: &Rest<A>) -> Result<Option<PlanError>, AllocError>
-    ensures { IfOk result (λ found. IfSome found (λ fault. IsRefusal A rest.now.net.items (texts_of rest.now.confs.items) fault)) }
+    ensures { IfOk result
+        (λ found. IfSome found
+        (λ fault. IsRefusal A rest.now.net.items (texts_of rest.now.confs.items) fault)) }
 {
     if conf_names(alloc, &rest.net)?.len() != rest.confs.len() {
         return Ok(None);

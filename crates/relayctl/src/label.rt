@@ -20,7 +20,8 @@ pub fn run_label<A: Allocator + Copy, R: CountedRead, O: Open, W: Write>(
     files: &O,
     out: &mut W,
 ) -> Status
-    ensures { PrintsLabels A (R.remaining net.old) (O.text_of files.now) (W.contents out.old) (W.contents out.new) result }
+    ensures { PrintsLabels A (R.remaining net.old) (O.text_of files.now) (W.contents out.old)
+        (W.contents out.new) result }
 {
     match label_read(alloc, net, files) {
         Ok(Some(text)) => put_last(out, &text, Status::Done),
@@ -36,7 +37,8 @@ pub fn run_fresh_label<A: Allocator + Copy, R: CountedRead, O: Open, W: Write>(
     files: &O,
     out: &mut W,
 ) -> Status
-    ensures { PrintsFreshLabels A (R.remaining net.old) (O.text_of files.now) (W.contents out.old) (W.contents out.new) result }
+    ensures { PrintsFreshLabels A (R.remaining net.old) (O.text_of files.now) (W.contents out.old)
+        (W.contents out.new) result }
 {
     match fresh_read(alloc, net) {
         Ok(text) => run_label(alloc, &mut text.as_slice(), files, out),
@@ -61,7 +63,9 @@ fn label_read<A: Allocator + Copy, R: CountedRead, O: Open>(
     net: &mut R,
     files: &O,
 ) -> Result<Option<Vec<u8, A>>, Stop>
-    ensures labelled { IfOk result (λ found. IfSome found (λ text. IsLabelledPlan A (R.remaining net.old) (O.text_of files.now) text.items)) }
+    ensures labelled { IfOk result
+        (λ found. IfSome found
+        (λ text. IsLabelledPlan A (R.remaining net.old) (O.text_of files.now) text.items)) }
     ensures stop { IfErr result (IsStopOf A (R.remaining net.old) (O.text_of files.now)) }
 {
     let text = read_whole(alloc, net)?;

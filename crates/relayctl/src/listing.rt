@@ -91,7 +91,9 @@ fn put_places<A: Allocator + Copy>(
     one: &BrokenRule<A>,
     lines: &mut Vec<u8, A>,
 ) -> Result<(), AllocError>
-    ensures { OnOk result (lines.new.items ≡ lines.old.items ++ no_lines one.now.rule (one.now.place ∷ one.now.others.items)) }
+    ensures { OnOk result
+        (lines.new.items ≡ lines.old.items ++ no_lines one.now.rule
+        (one.now.place ∷ one.now.others.items)) }
 {
     put_place(alloc, one.rule, one.place, lines)?;
     for place in &one.others {
@@ -107,7 +109,8 @@ fn put_place<A: Allocator + Copy>(
     place: Place,
     lines: &mut Vec<u8, A>,
 ) -> Result<(), AllocError>
-    ensures { OnOk result (lines.new.items ≡ lines.old.items ++ answer_line (Answer.No rule place)) }
+    ensures { OnOk result
+        (lines.new.items ≡ lines.old.items ++ answer_line (Answer.No rule place)) }
 {
     let answer = Answer::No { rule, place };
     let line = format!(in alloc; "{answer}\n")?.into_bytes();

@@ -58,7 +58,8 @@ impl<A: Allocator + Copy> Failures<A> {
     ///
     /// The error is want of memory. It comes only at a chunk's first failure, and changes nothing.
     pub fn note(&mut self, serial: u64, now: u64) -> Result<(), AllocError>
-        ensures ok { OnOk result (self.new ≡ map.insert self.old serial (noted now (map.get self.old serial))) }
+        ensures ok { OnOk result
+            (self.new ≡ map.insert self.old serial (noted now (map.get self.old serial))) }
         ensures first { OnErr result (map.get self.old serial ≡ None) }
         ensures err { OnErr result (self.new ≡ self.old) }
     {

@@ -50,7 +50,11 @@ impl<A: Allocator> Model for LeafSearch<A> {
 
     ghost Value = { Known };
 
-    ghost view = { λ v. record { marks = v.marks.items; coming = reverse v.ahead.items; found = numbers_of v.found.items } };
+    ghost view = { λ v. record {
+      marks = v.marks.items;
+      coming = reverse v.ahead.items;
+      found = numbers_of v.found.items;
+    } };
 
     ghost invariant = { λ v. HasNumbers v.numbers (numbers_of v.found.items) };
 }
@@ -65,7 +69,8 @@ impl<A: Allocator> LeafSearch<A> {
 
     /// Takes the next step off those to come, if there is one.
     pub fn next(&mut self) -> Option<Step>
-        ensures taken { self.old ≡ record self.new { coming = option_to_list result ++ self.new.coming } }
+        ensures taken { self.old
+            ≡ record self.new { coming = option_to_list result ++ self.new.coming } }
         ensures none { IfNone result (self.old.coming ≡ []) }
     {
         self.ahead.pop()
@@ -80,7 +85,8 @@ impl<A: Allocator> LeafSearch<A> {
 
     /// Marks a scope as done, if it is there.
     pub fn leave(&mut self, scope: ScopeNo)
-        ensures { self.new ≡ record self.old { marks = slice_set self.old.marks scope.0 Mark.Done } }
+        ensures { self.new ≡ record
+            self.old { marks = slice_set self.old.marks scope.0 Mark.Done } }
     {
         if let Some(mark) = self.marks.get_mut(scope.0) {
             *mark = Mark::Done;
@@ -90,7 +96,8 @@ impl<A: Allocator> LeafSearch<A> {
     /// Opens a scope, if it is there: its hops come next, and then it is left.
     pub fn enter(&mut self, scope: ScopeNo, hops: &[Hop]) -> Result<(), AllocError>
         ensures marks { OnOk result (self.new.marks ≡ slice_set self.old.marks scope.0 Mark.Open) }
-        ensures coming { OnOk result (self.new.coming ≡ map Step.Take hops.now ++ Step.Leave scope ∷ self.old.coming) }
+        ensures coming { OnOk result
+            (self.new.coming ≡ map Step.Take hops.now ++ Step.Leave scope ∷ self.old.coming) }
         ensures found { OnOk result (self.new.found ≡ self.old.found) }
     {
         self.ahead.push(Step::Leave(scope))?;
@@ -105,7 +112,12 @@ impl<A: Allocator> LeafSearch<A> {
 impl<A: Allocator + Copy> LeafSearch<A> {
     /// The search from this scope, of so many in all.
     pub fn begin(alloc: A, scopes: usize, start: ScopeNo) -> Result<LeafSearch<A>, AllocError>
-        ensures { IfOk result (λ visit. visit ≡ record { marks = replicate scopes Mark.New; coming = Step.Take (Hop.Scope start) ∷ []; found = [] }) }
+        ensures { IfOk result
+            (λ visit. visit ≡ record {
+              marks = replicate scopes Mark.New;
+              coming = Step.Take (Hop.Scope start) ∷ [];
+              found = [];
+            }) }
     {
         let mut ahead = Vec::new(alloc);
         ahead.push(Step::Take(Hop::Scope(start)))?;
@@ -133,7 +145,8 @@ impl<A: Allocator + Copy> LeafSearch<A> {
 
 // Puts the steps that take these hops on top of those ahead, the first one uppermost.
 fn push_steps<A: Allocator>(ahead: &mut Vec<Step, A>, hops: &[Hop]) -> Result<(), AllocError>
-    ensures { OnOk result (reverse ahead.new.items ≡ map Step.Take hops.now ++ reverse ahead.old.items) }
+    ensures { OnOk result
+        (reverse ahead.new.items ≡ map Step.Take hops.now ++ reverse ahead.old.items) }
 {
     for place in (0..hops.len()).rev() {
         ahead.push(Step::Take(hops[place]))?;

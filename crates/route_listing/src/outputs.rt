@@ -91,7 +91,8 @@ fn output_of<A: Allocator>(relay: &Relay<A>, buffer: BufferNo) -> Option<&Output
 
 // The output of the scope that has this buffer.
 fn in_scope<A: Allocator>(scope: &Scope<A>, buffer: BufferNo) -> Option<&Output<A>>
-    ensures { option_copied result ≡ find (λ output. is_numbered (buffer_number output) buffer.0) (outputs_in scope.now) }
+    ensures { option_copied result
+        ≡ find (λ output. is_numbered (buffer_number output) buffer.0) (outputs_in scope.now) }
 {
     for rule in &scope.matches {
         if let Some(output) = among(&rule.outputs, buffer) {
@@ -103,7 +104,8 @@ fn in_scope<A: Allocator>(scope: &Scope<A>, buffer: BufferNo) -> Option<&Output<
 
 // The output among these that has this buffer.
 fn among<A: Allocator>(outputs: &[Output<A>], buffer: BufferNo) -> Option<&Output<A>>
-    ensures { option_copied result ≡ find (λ output. is_numbered (buffer_number output) buffer.0) outputs.now }
+    ensures { option_copied result
+        ≡ find (λ output. is_numbered (buffer_number output) buffer.0) outputs.now }
 {
     for output in outputs {
         if has_buffer(output, buffer) {

@@ -28,7 +28,8 @@ pub fn run_ways<A: Allocator + Copy, B: Allocator, R: CountedRead, W: Write>(
     tags: &[String<B>],
     out: &mut W,
 ) -> Status
-    ensures { PrintsWays A (R.remaining conf.old) (map string_bytes tags.now) (W.contents out.old) (W.contents out.new) result }
+    ensures { PrintsWays A (R.remaining conf.old) (map string_bytes tags.now) (W.contents out.old)
+        (W.contents out.new) result }
 {
     let relay = match read_relay(alloc, conf) {
         Ok(relay) => relay,
@@ -66,7 +67,8 @@ fn list_source<A: Allocator + Copy, B: Allocator>(
     tags: &[String<B>],
 ) -> Result<Vec<u8, A>, AllocError>
     requires { routes.now ≡ table_of relay.now }
-    ensures { IfOk result (λ lines. AreWaysFrom relay.now (map string_bytes tags.now) source.now lines.items) }
+    ensures { IfOk result
+        (λ lines. AreWaysFrom relay.now (map string_bytes tags.now) source.now lines.items) }
 {
     let mut lines = Vec::new(alloc);
     for tag in tags {
@@ -123,8 +125,11 @@ pub fn entered<A: Allocator + Copy>(
     prefix: Option<&Prefix<A>>,
     tag: &[u8],
 ) -> Result<Option<Tag<A>>, AllocError>
-    ensures { IfOk result (λ found. MatchOption found (most_tag_bytes < length (entered_tag (option_copied prefix.entry) tag.now))
-        (λ entered. (entered ≡ entered_tag (option_copied prefix.entry) tag.now) × (length (entered_tag (option_copied prefix.entry) tag.now) ≤ most_tag_bytes))) }
+    ensures { IfOk result
+        (λ found. MatchOption found
+        (most_tag_bytes < length (entered_tag (option_copied prefix.entry) tag.now))
+        (λ entered. (entered ≡ entered_tag (option_copied prefix.entry) tag.now)
+        × (length (entered_tag (option_copied prefix.entry) tag.now) ≤ most_tag_bytes))) }
 {
     let tag = match Tag::read(alloc, tag) {
         Ok(tag) => tag,
@@ -162,7 +167,8 @@ fn buffers_text<A: Allocator + Copy>(
     relay: &Relay<A>,
     buffers: &[BufferNo],
 ) -> Result<Vec<u8, A>, AllocError>
-    ensures { IfOk result (λ text. text.items ≡ flat_map (buffer_text relay.now) (numbers_of buffers.now)) }
+    ensures { IfOk result
+        (λ text. text.items ≡ flat_map (buffer_text relay.now) (numbers_of buffers.now)) }
 {
     let mut text = Vec::new(alloc);
     for buffer in buffers {

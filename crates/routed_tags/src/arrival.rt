@@ -58,7 +58,8 @@ pub(crate) fn comes_in<A: Allocator + Copy>(
     wanted: &[u8],
 ) -> Option<Arrival>
     requires { length tag.now ≤ most_tag_bytes }
-    ensures { (arrival : Arrival) → (result ≡ Some arrival) ↔ IsArrival net.now wanted.now (record { host = host.now; port = port }) tag.now arrival }
+    ensures { (arrival : Arrival) → (result ≡ Some arrival)
+        ↔ IsArrival net.now wanted.now (record { host = host.now; port = port }) tag.now arrival }
 {
     let at = net.entrance(host, port)?;
     let prefix = net.prefix(host, port);

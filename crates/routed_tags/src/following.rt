@@ -47,7 +47,9 @@ fn follow_buffers<A: Allocator + Copy>(
     found: &mut Vec<Arrival, A>,
 ) -> Result<(), AllocError>
     requires { length tag.now ≤ most_tag_bytes }
-    ensures { OnOk result (Grows (Through (λ leaf. IsSentOn net.now wanted.now place leaf.0 tag.now) leaves.now) found.old.items found.new.items) }
+    ensures { OnOk result
+        (Grows (Through (λ leaf. IsSentOn net.now wanted.now place leaf.0 tag.now) leaves.now)
+        found.old.items found.new.items) }
 {
     for leaf in leaves {
         follow_buffer(net, wanted, place, leaf.0, tag, found)?;
@@ -65,7 +67,8 @@ fn follow_buffer<A: Allocator + Copy>(
     found: &mut Vec<Arrival, A>,
 ) -> Result<(), AllocError>
     requires { length tag.now ≤ most_tag_bytes }
-    ensures { OnOk result (Grows (IsSentOn net.now wanted.now place buffer tag.now) found.old.items found.new.items) }
+    ensures { OnOk result
+        (Grows (IsSentOn net.now wanted.now place buffer tag.now) found.old.items found.new.items) }
 {
     match net.output(place, buffer) {
         Some(output) => follow_servers(net, wanted, servers(output), tag, found),
@@ -82,7 +85,9 @@ fn follow_servers<A: Allocator + Copy>(
     found: &mut Vec<Arrival, A>,
 ) -> Result<(), AllocError>
     requires { length tag.now ≤ most_tag_bytes }
-    ensures { OnOk result (Grows (Through (λ server. IsArrival net.now wanted.now (address_of_server server) tag.now) servers.now) found.old.items found.new.items) }
+    ensures { OnOk result
+        (Grows (Through (λ server. IsArrival net.now wanted.now (address_of_server server) tag.now)
+        servers.now) found.old.items found.new.items) }
 {
     for server in servers {
         add(

@@ -21,7 +21,9 @@ pub fn is_routed_tag<A: Allocator + Copy>(
     tag: &[u8],
     wanted: &[u8],
 ) -> Result<bool, AllocError>
-    ensures { IfOk result (λ yes. IsTrue yes ↔ IsRoutedTag net.now (record { host = host.now; port = port }) tag.now wanted.now) }
+    ensures { IfOk result
+        (λ yes. IsTrue yes ↔ IsRoutedTag net.now
+        (record { host = host.now; port = port }) tag.now wanted.now) }
 {
     if tag.len() > MOST_TAG_BYTES {
         return Ok(false);
@@ -43,7 +45,9 @@ fn search<A: Allocator + Copy>(
 ) -> Result<bool, AllocError>
     requires tag { length tag.now ≤ most_tag_bytes }
     requires wanted { length wanted.now ≤ most_tag_bytes }
-    ensures { IfOk result (λ yes. IsTrue yes ↔ IsRoutedTag net.now (record { host = host.now; port = port }) tag.now wanted.now) }
+    ensures { IfOk result
+        (λ yes. IsTrue yes ↔ IsRoutedTag net.now
+        (record { host = host.now; port = port }) tag.now wanted.now) }
 {
     let mut found = Vec::new(alloc);
     add(&mut found, comes_in(net, host, port, tag, wanted))?;

@@ -39,7 +39,8 @@ pub fn explain<A: Allocator + Copy>(
     place: Place,
     others: &[Place],
 ) -> Result<Explained<A>, AllocError>
-    ensures { IfOk result (λ said. IsTrue said.has_loss → IsLosingText plan.now.duty plan.now.net said.lines.items) }
+    ensures { IfOk result
+        (λ said. IsTrue said.has_loss → IsLosingText plan.now.duty plan.now.net said.lines.items) }
 {
     let subject = Subject {
         alloc,
@@ -72,7 +73,8 @@ fn with_steps<A: Allocator + Copy>(
     front: Vec<u8, A>,
     steps: &[Step<A>],
 ) -> Result<Explained<A>, AllocError>
-    ensures { IfOk result (λ said. IsTrue said.has_loss → IsLosingText plan.now.duty plan.now.net said.lines.items) }
+    ensures { IfOk result
+        (λ said. IsTrue said.has_loss → IsLosingText plan.now.duty plan.now.net said.lines.items) }
 {
     let mut lines = Vec::from_slice(alloc, &front)?;
     put_note(

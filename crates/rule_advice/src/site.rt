@@ -94,7 +94,10 @@ impl<'t> Site<'t> {
         out: &mut Vec<u8, A>,
         words: &str,
     ) -> Result<(), AllocError>
-        ensures { OnOk result ((shown : List ℕ) × (out.new.items ≡ out.old.items ++ site_line words.now self.now.name.now self.now.line shown)) }
+        ensures { OnOk result
+            ((shown : List ℕ) ×
+            (out.new.items ≡ out.old.items ++ site_line words.now self.now.name.now self.now.line
+            shown)) }
     {
         let name = self.name;
         let line = self.line;

@@ -52,10 +52,30 @@ impl<D: Dir, A: Allocator> Model for Rotation<D, A> {
 
     ghost Value = { RotationView D };
 
-    ghost view = { λ s. record { dir = dir_of s.files; opening = s.opening.value; path = s.path.items; limits = s.limits; closed = s.closed; open_one = open_of s.files; size = s.size; since = s.since; retry = s.retry } };
+    ghost view = { λ s. record {
+      dir = dir_of s.files;
+      opening = s.opening.value;
+      path = s.path.items;
+      limits = s.limits;
+      closed = s.closed;
+      open_one = open_of s.files;
+      size = s.size;
+      since = s.since;
+      retry = s.retry;
+    } };
 
     ghost invariant = { λ s. IsRotating D.is_honest D.history
-        (record { dir = dir_of s.files; opening = s.opening.value; path = s.path.items; limits = s.limits; closed = s.closed; open_one = open_of s.files; size = s.size; since = s.since; retry = s.retry }) };
+        (record {
+          dir = dir_of s.files;
+          opening = s.opening.value;
+          path = s.path.items;
+          limits = s.limits;
+          closed = s.closed;
+          open_one = open_of s.files;
+          size = s.size;
+          since = s.since;
+          retry = s.retry;
+        }) };
 }
 
 impl<D: Dir, A: Allocator + Copy> Rotation<D, A> {
@@ -70,7 +90,8 @@ impl<D: Dir, A: Allocator + Copy> Rotation<D, A> {
         limits: FileLimits,
         time: u64,
     ) -> Result<Rotation<D, A>, (SeriesFault, D)>
-        ensures sink { IfOk result (λ sink. (sink.opening ≡ dir) × (sink.path ≡ path.now) × (sink.limits ≡ limits)) }
+        ensures sink { IfOk result
+            (λ sink. (sink.opening ≡ dir) × (sink.path ≡ path.now) × (sink.limits ≡ limits)) }
         ensures fresh { IfOk result (λ sink. answers_of sink ≡ []) }
     {
         let Ok(own_path) = Vec::from_slice(alloc, path) else {
@@ -128,9 +149,12 @@ impl<D: Dir, A: Allocator + Copy> Rotation<D, A> {
     ) -> (Rotation<D, A>, Result<Stored<A>, SeriesFault>)
         requires { length tag.now ≤ longest_tag }
         ensures sink { IsSameSink self result.0 }
-        ensures answers { Answers self result.0 (record { path = self.path; tag = tag.now; entries = entries.now }) result.1 }
-        ensures turns { IsDue self.limits self.size self.since self.retry time → Turns time self result.0 }
-        ensures stays { (IsDue self.limits self.size self.since self.retry time → ⊥) → Stays self result.0 }
+        ensures answers { Answers self result.0
+            (record { path = self.path; tag = tag.now; entries = entries.now }) result.1 }
+        ensures turns { IsDue self.limits self.size self.since self.retry time
+            → Turns time self result.0 }
+        ensures stays { (IsDue self.limits self.size self.since self.retry time → ⊥)
+            → Stays self result.0 }
         // The bytes that are counted are those of the open file.
         ensures first { IsDue self.limits self.size self.since self.retry time
             → OnOk result.1 (result.0.size ≡ added 0 (length (concat entries.now))) }
@@ -148,8 +172,10 @@ impl<D: Dir, A: Allocator + Copy> Rotation<D, A> {
     fn made_ready(self, time: u64) -> (Rotation<D, A>, Result<(), SeriesFault>)
         ensures sink { IsSameSink self result.0 }
         ensures answers { answers_of result.0 ≡ answers_of self }
-        ensures stays { (IsDue self.limits self.size self.since self.retry time → ⊥) → result ≡ (self, Ok tt) }
-        ensures turns { IsDue self.limits self.size self.since self.retry time → Turns time self result.0 × (result.0.size ≡ 0) }
+        ensures stays { (IsDue self.limits self.size self.since self.retry time → ⊥)
+            → result ≡ (self, Ok tt) }
+        ensures turns { IsDue self.limits self.size self.since self.retry time
+            → Turns time self result.0 × (result.0.size ≡ 0) }
     {
         if self.is_due(time) {
             self.begin_next(time)
@@ -160,7 +186,8 @@ impl<D: Dir, A: Allocator + Copy> Rotation<D, A> {
 
     // Whether the next file is to be begun.
     fn is_due(&self, time: u64) -> bool
-        ensures { (result ≡ true) ↔ IsDue self.now.limits self.now.size self.now.since self.now.retry time }
+        ensures { (result ≡ true)
+            ↔ IsDue self.now.limits self.now.size self.now.since self.now.retry time }
     {
         match self.retry {
             Some(from) => from <= time,
@@ -218,9 +245,11 @@ impl<D: Dir, A: Allocator + Copy> Rotation<D, A> {
     ) -> (Rotation<D, A>, Result<Stored<A>, SeriesFault>)
         requires { length tag.now ≤ longest_tag }
         ensures sink { IsSameSink self result.0 }
-        ensures answers { Answers self result.0 (record { path = self.path; tag = tag.now; entries = entries.now }) result.1 }
+        ensures answers { Answers self result.0
+            (record { path = self.path; tag = tag.now; entries = entries.now }) result.1 }
         ensures size { result.0.size ≡ size_after self.size result.1 (length (concat entries.now)) }
-        ensures retry { result.0.retry ≡ retry_after self.retry result.1 (added self.since self.limits.pause) }
+        ensures retry { result.0.retry
+            ≡ retry_after self.retry result.1 (added self.since self.limits.pause) }
         ensures stays { Stays self result.0 }
     {
         let Rotation {

@@ -50,7 +50,10 @@ impl<D: Dir, A: Allocator> Answers<D, A> {
 
     /// These, and one receipt more, given while the folder is as it is.
     pub fn then(&self, stored: &Stored<A>, dir: &D) -> Answers<D, A>
-        ensures { result ≡ record { stored = stored.now; since = (D.history dir.now).moment } ∷ self.now }
+        ensures { result ≡ record {
+          stored = stored.now;
+          since = (D.history dir.now).moment;
+        } ∷ self.now }
     {
         Answers {
             link: Link::Then(Snapshot::of(stored), Snapshot::of(dir), Snapshot::of(self)),

@@ -64,8 +64,10 @@ fn next_number<A: Allocator + Copy, D: Dir>(
 ) -> Result<u32, SeriesFault>
     ensures honest { D.is_honest dir.old → D.is_honest dir.new }
     ensures time { D.is_honest dir.old → Elapses (D.history dir.old) (D.history dir.new) }
-    ensures same { D.is_honest dir.old → SameDisk (now (D.history dir.new)) (now (D.history dir.old)) }
-    ensures next { D.is_honest dir.old → IfOk result (IsNext path.now (reads (now (D.history dir.old)))) }
+    ensures same { D.is_honest dir.old
+        → SameDisk (now (D.history dir.new)) (now (D.history dir.old)) }
+    ensures next { D.is_honest dir.old
+        → IfOk result (IsNext path.now (reads (now (D.history dir.old)))) }
     ensures range { IfOk result (λ n. (1 ≤ n) × (n ≤ last_number)) }
     ensures last { D.is_honest dir.old → IsErrOf result SeriesFault.LastNumber
         → IsSome (reads (now (D.history dir.old)) (sink_name path.now last_number)) }
@@ -89,12 +91,15 @@ pub(crate) fn make_next<A: Allocator + Copy, D: Dir>(
     dir: &mut D,
     path: &[u8],
 ) -> Result<Newest<A>, SeriesFault>
-    ensures leaves { D.is_honest dir.old → LeavesSafe D.is_honest D.history path.now dir.old dir.new }
+    ensures leaves { D.is_honest dir.old
+        → LeavesSafe D.is_honest D.history path.now dir.old dir.new }
     ensures next { D.is_honest dir.old
         → IfOk result (λ newest. IsNext path.now (reads (now (D.history dir.old))) newest.number) }
     ensures made { D.is_honest dir.old
-        → IfOk result (λ newest. Makes (sink_name path.now newest.number) (now (D.history dir.old)) (now (D.history dir.new))) }
-    ensures opened { IfOk result (λ newest. D.opened dir.new newest.file ≡ Some (sink_name path.now newest.number)) }
+        → IfOk result (λ newest. Makes (sink_name path.now newest.number) (now (D.history dir.old))
+        (now (D.history dir.new))) }
+    ensures opened { IfOk result
+        (λ newest. D.opened dir.new newest.file ≡ Some (sink_name path.now newest.number)) }
     ensures path { IfOk result (λ newest. newest.path.items ≡ path.now) }
     ensures range { IfOk result (λ newest. (1 ≤ newest.number) × (newest.number ≤ last_number)) }
     ensures refused { D.is_honest dir.old
@@ -126,8 +131,10 @@ pub(crate) fn prepare<A: Allocator + Copy, B: Allocator, D: Dir>(
     requires open { IsSome (D.opened dir.old file) }
     ensures honest { D.is_honest dir.old → D.is_honest dir.new }
     ensures time { D.is_honest dir.old → Elapses (D.history dir.old) (D.history dir.new) }
-    ensures same { D.is_honest dir.old → SameDisk (now (D.history dir.new)) (now (D.history dir.old)) }
-    ensures stored { IfOk result (λ write. write.stored ≡ record { path = path.now; tag = tag.now; entries = entries.now }) }
+    ensures same { D.is_honest dir.old
+        → SameDisk (now (D.history dir.new)) (now (D.history dir.old)) }
+    ensures stored { IfOk result
+        (λ write. write.stored ≡ record { path = path.now; tag = tag.now; entries = entries.now }) }
     ensures bytes { IfOk result (λ write. write.bytes ≡ run_of (under tag.now entries.now)) }
     ensures events { OnOk result (AllByRecursion IsEvent (under tag.now entries.now)) }
     ensures room { IfOk result (λ write. length write.bytes ≤ D.bytes_left dir.new file) }
@@ -147,20 +154,27 @@ pub(crate) fn put_synced<D: Dir>(dir: &mut D, file: FileNo, bytes: &[u8]) -> Res
     ensures honest { D.is_honest dir.old → D.is_honest dir.new }
     // At each moment what was safe before is safe, each other file is as it was, and where the file
     // held events and nothing else, a stop leaves a beginning of these and those.
-    ensures safe { D.is_honest dir.old → (own name : List ℕ) (events : List Event) → D.opened dir.old file ≡ Some own
+    ensures safe { D.is_honest dir.old → (own name : List ℕ) (events : List Event)
+        → D.opened dir.old file ≡ Some own
         → IsSafe (now (D.history dir.old)) name events
         → StaysSafe (D.history dir.old) (D.history dir.new) name events }
     ensures others { D.is_honest dir.old → (own : List ℕ) → D.opened dir.old file ≡ Some own
         → OthersStay (D.history dir.old) (D.history dir.new) own }
-    ensures moments { D.is_honest dir.old → (name : List ℕ) (begun events : List Event) (is_durable : Bool)
-        → D.opened dir.old file ≡ Some name → now (D.history dir.old) name ≡ Some (file_with begun is_durable)
+    ensures moments { D.is_honest dir.old
+        → (name : List ℕ) (begun events : List Event) (is_durable : Bool)
+        → D.opened dir.old file ≡ Some name
+        → now (D.history dir.old) name ≡ Some (file_with begun is_durable)
         → AllByRecursion IsEvent begun → AllByRecursion IsEvent events → bytes.now ≡ run_of events
         → LeavesOnly (D.history dir.old) (D.history dir.new)
         (λ folder. IsBeginning folder name (length begun) (begun ++ events)) }
     ensures ok { D.is_honest dir.old → (name : List ℕ) → D.opened dir.old file ≡ Some name
-        → OnOk result (Changes name (λ f. flushed (with_bytes bytes.now f)) (now (D.history dir.old)) (now (D.history dir.new))) }
+        → OnOk result (Changes name
+        (λ f. flushed (with_bytes bytes.now f)) (now (D.history dir.old))
+        (now (D.history dir.new))) }
     ensures err { D.is_honest dir.old → (name : List ℕ) → D.opened dir.old file ≡ Some name
-        → OnErr result ((n : ℕ) × Changes name (with_bytes (take n bytes.now)) (now (D.history dir.old)) (now (D.history dir.new))) }
+        → OnErr result ((n : ℕ)
+        × Changes name (with_bytes (take n bytes.now)) (now (D.history dir.old))
+        (now (D.history dir.new))) }
     ensures opened { (other : FileNo) → D.opened dir.new other ≡ D.opened dir.old other }
     ensures cause { HasDirCause (D.fault_count dir.old) (D.fault_count dir.new) result }
     ensures only { OnErr result (result ≡ Err DirError.Fault) }
@@ -179,12 +193,16 @@ pub(crate) fn read_all<A: Allocator + Copy, D: Dir>(
 ) -> Result<Vec<SinkEvent<A>, A>, SeriesFault>
     ensures honest { D.is_honest dir.old → D.is_honest dir.new }
     ensures time { D.is_honest dir.old → Elapses (D.history dir.old) (D.history dir.new) }
-    ensures same { D.is_honest dir.old → SameDisk (now (D.history dir.new)) (now (D.history dir.old)) }
+    ensures same { D.is_honest dir.old
+        → SameDisk (now (D.history dir.new)) (now (D.history dir.old)) }
     ensures content { D.is_honest dir.old
-        → IfOk result (λ events. SinkHolds path.now (reads (now (D.history dir.old))) events.items) }
-    ensures stays_open { IsSome (D.opened dir.old own) → D.opened dir.new own ≡ D.opened dir.old own }
+        → IfOk result (λ events. SinkHolds path.now
+        (reads (now (D.history dir.old))) events.items) }
+    ensures stays_open { IsSome (D.opened dir.old own)
+        → D.opened dir.new own ≡ D.opened dir.old own }
     ensures cause { HasCause (D.fault_count dir.old) (D.fault_count dir.new) result }
-    ensures only { OnErr result ((result ≡ Err SeriesFault.Memory) ⊎ (result ≡ Err SeriesFault.Fault)) }
+    ensures only { OnErr result
+        ((result ≡ Err SeriesFault.Memory) ⊎ (result ≡ Err SeriesFault.Fault)) }
 {
     let found = numbers(alloc, dir, sinks(path))?;
     read_to(alloc, dir, path, own, &found, greatest_of(&found))
@@ -209,13 +227,18 @@ fn read_to<A: Allocator + Copy, D: Dir>(
     numbers: &BTreeSet<u32, A>,
     to: u32,
 ) -> Result<Vec<SinkEvent<A>, A>, SeriesFault>
-    ensures still { D.is_honest dir.old → D.is_honest dir.new × IsStill (D.history dir.old) (D.history dir.new) }
+    ensures still { D.is_honest dir.old
+        → D.is_honest dir.new × IsStill (D.history dir.old) (D.history dir.new) }
     ensures content { D.is_honest dir.old
-        → ((n : ℕ) → (IsTrue (contains nat_cmp numbers.now n) ↔ HasFile path.now (reads (now (D.history dir.old))) n))
-        → IfOk result (λ events. HoldsTo path.now (reads (now (D.history dir.old))) to events.items) }
-    ensures stays_open { IsSome (D.opened dir.old own) → D.opened dir.new own ≡ D.opened dir.old own }
+        → ((n : ℕ) → (IsTrue (contains nat_cmp numbers.now n)
+        ↔ HasFile path.now (reads (now (D.history dir.old))) n))
+        → IfOk result (λ events. HoldsTo path.now
+        (reads (now (D.history dir.old))) to events.items) }
+    ensures stays_open { IsSome (D.opened dir.old own)
+        → D.opened dir.new own ≡ D.opened dir.old own }
     ensures cause { HasCause (D.fault_count dir.old) (D.fault_count dir.new) result }
-    ensures only { OnErr result ((result ≡ Err SeriesFault.Memory) ⊎ (result ≡ Err SeriesFault.Fault)) }
+    ensures only { OnErr result
+        ((result ≡ Err SeriesFault.Memory) ⊎ (result ≡ Err SeriesFault.Fault)) }
 {
     let mut events = Vec::new(alloc);
     let mut number = 0;
@@ -237,13 +260,16 @@ fn read_number<A: Allocator + Copy, D: Dir>(
     own: FileNo,
     number: u32,
 ) -> Result<Vec<SinkEvent<A>, A>, SeriesFault>
-    ensures still { D.is_honest dir.old → D.is_honest dir.new × IsStill (D.history dir.old) (D.history dir.new) }
+    ensures still { D.is_honest dir.old
+        → D.is_honest dir.new × IsStill (D.history dir.old) (D.history dir.new) }
     ensures content { D.is_honest dir.old → (bytes : List ℕ)
         → reads (now (D.history dir.old)) (sink_name path.now number) ≡ Some bytes
         → IfOk result (λ events. Holds bytes events.items) }
-    ensures stays_open { IsSome (D.opened dir.old own) → D.opened dir.new own ≡ D.opened dir.old own }
+    ensures stays_open { IsSome (D.opened dir.old own)
+        → D.opened dir.new own ≡ D.opened dir.old own }
     ensures cause { HasCause (D.fault_count dir.old) (D.fault_count dir.new) result }
-    ensures only { OnErr result ((result ≡ Err SeriesFault.Memory) ⊎ (result ≡ Err SeriesFault.Fault)) }
+    ensures only { OnErr result
+        ((result ≡ Err SeriesFault.Memory) ⊎ (result ≡ Err SeriesFault.Fault)) }
 {
     let name = name_of(alloc, path, number)?;
     let file = dir.open(&name)?;

@@ -98,7 +98,8 @@ fn behind_item<'a, A: Allocator>(
 // The tag, and the time with the record, of the item that the bytes begin with.
 fn parts_of(bytes: &[u8]) -> Option<(&[u8], &[u8])>
     ensures { (event : Event) (rest : List ℕ) → IsEvent event → bytes.now ≡ item_of event ++ rest
-        → IsSomeAnd result (λ found. (found.0.now ≡ event.tag) × (entry_header ∷ found.1.now ≡ event.entry)) }
+        → IsSomeAnd result (λ found. (found.0.now ≡ event.tag)
+        × (entry_header ∷ found.1.now ≡ event.entry)) }
 {
     let behind = array_of(bytes, 3)?;
     let (tag, content) = next_text(behind)?;
@@ -113,8 +114,11 @@ fn event_of<A: Allocator + Copy>(
     tag: &[u8],
     body: &[u8],
 ) -> Result<Option<SinkEvent<A>>, AllocError>
-    ensures { IfOk result (λ found. MatchOption found (IsEvent (record { tag = tag.now; entry = entry_header ∷ body.now }) → ⊥)
-        (λ event. IsEvent event × (event ≡ record { tag = tag.now; entry = entry_header ∷ body.now }))) }
+    ensures { IfOk result
+        (λ found. MatchOption found
+        (IsEvent (record { tag = tag.now; entry = entry_header ∷ body.now }) → ⊥)
+        (λ event. IsEvent event
+        × (event ≡ record { tag = tag.now; entry = entry_header ∷ body.now }))) }
 {
     if tag.len() > LONGEST_TAG {
         return Ok(None);

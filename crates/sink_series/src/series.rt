@@ -51,10 +51,26 @@ impl<D: Dir, A: Allocator> Model for Series<D, A> {
 
     ghost Value = { SeriesView D };
 
-    ghost view = { λ s. record { dir = s.dir; opening = s.opening.value; path = s.path.items; number = s.number; begun = written_by s.begun; stored = s.answers; has_failed = s.has_failed } };
+    ghost view = { λ s. record {
+      dir = s.dir;
+      opening = s.opening.value;
+      path = s.path.items;
+      number = s.number;
+      begun = written_by s.begun;
+      stored = s.answers;
+      has_failed = s.has_failed;
+    } };
 
     ghost invariant = { λ s. IsOpen D.is_honest D.history (D.opened s.dir s.file)
-        (record { dir = s.dir; opening = s.opening.value; path = s.path.items; number = s.number; begun = written_by s.begun; stored = s.answers; has_failed = s.has_failed }) };
+        (record {
+          dir = s.dir;
+          opening = s.opening.value;
+          path = s.path.items;
+          number = s.number;
+          begun = written_by s.begun;
+          stored = s.answers;
+          has_failed = s.has_failed;
+        }) };
 }
 
 impl<D: Dir, A: Allocator + Copy> Series<D, A> {
@@ -66,7 +82,8 @@ impl<D: Dir, A: Allocator + Copy> Series<D, A> {
     /// made or not.
     pub fn open(alloc: A, dir: D, path: &[u8]) -> Result<Series<D, A>, (SeriesFault, D)>
         // It goes on in the sink's next file, and each answer stays.
-        ensures opens { D.is_honest dir → IfOk result (OpensNext D.is_honest D.history dir path.now) }
+        ensures opens { D.is_honest dir
+            → IfOk result (OpensNext D.is_honest D.history dir path.now) }
         ensures fresh { IfOk result (IsFresh dir path.now) }
         ensures refused { D.is_honest dir → IfErr result (λ refused.
             IsRefused path.now (now (D.history dir)) (now (D.history refused.1)) refused.0) }
@@ -75,7 +92,8 @@ impl<D: Dir, A: Allocator + Copy> Series<D, A> {
         // empty file of the sink.
         ensures leaves { D.is_honest dir
             → LeavesSafe D.is_honest D.history path.now dir (folder_left result) }
-        ensures cause { HasCause (D.fault_count dir) (D.fault_count (folder_left result)) (answer_of result) }
+        ensures cause { HasCause (D.fault_count dir) (D.fault_count (folder_left result))
+            (answer_of result) }
     {
         let mut dir = dir;
         let opening = Snapshot::of(&dir);
@@ -111,7 +129,8 @@ impl<D: Dir, A: Allocator + Copy> Series<D, A> {
             stored ≡ record { path = self.old.path; tag = tag.now; entries = entries.now }) }
         // After the answer the file holds what was begun in it, all of it synced.
         ensures written { D.is_honest self.old.opening → OnOk result
-            (now (D.history self.new.dir) (newest self.new) ≡ Some (kept_file (run_of self.new.begun))) }
+            (now (D.history self.new.dir) (newest self.new)
+            ≡ Some (kept_file (run_of self.new.begun))) }
         // At each moment what was safe before is safe, each older file is as it was, and of what
         // was begun in the newest one a stop leaves a beginning with all that was begun before.
         ensures safe { D.is_honest self.old.opening → (name : List ℕ) (events : List Event)
@@ -121,7 +140,8 @@ impl<D: Dir, A: Allocator + Copy> Series<D, A> {
             → OthersStay (D.history self.old.dir) (D.history self.new.dir) (newest self.old) }
         ensures moments { D.is_honest self.old.opening → self.old.has_failed ≡ false
             → LeavesOnly (D.history self.old.dir) (D.history self.new.dir)
-            (λ folder. IsBeginning folder (newest self.old) (length self.old.begun) (self.old.begun ++ under tag.now entries.now)) }
+            (λ folder. IsBeginning folder (newest self.old) (length self.old.begun)
+            (self.old.begun ++ under tag.now entries.now)) }
         ensures failed { IsErrOf result SeriesFault.Failed ↔ (self.old.has_failed ≡ true) }
         ensures answered { OnOk result (self.new ≡ record self.old {
           dir = self.new.dir;
@@ -132,10 +152,16 @@ impl<D: Dir, A: Allocator + Copy> Series<D, A> {
           } ∷ self.old.stored;
         }) }
         ensures fault { IsErrOf result SeriesFault.Fault
-            → (self.new ≡ record self.old { dir = self.new.dir; begun = self.old.begun ++ under tag.now entries.now; has_failed = true }) }
+            → (self.new ≡ record
+            self.old {
+              dir = self.new.dir;
+              begun = self.old.begun ++ under tag.now entries.now;
+              has_failed = true;
+            }) }
         ensures refused { (result ≡ Err SeriesFault.Failed) ⊎ (result ≡ Err SeriesFault.Memory)
             → (self.new ≡ record self.old { dir = self.new.dir }) }
-        ensures same { D.is_honest self.old.opening → (result ≡ Err SeriesFault.Failed) ⊎ (result ≡ Err SeriesFault.Memory)
+        ensures same { D.is_honest self.old.opening → (result ≡ Err SeriesFault.Failed)
+            ⊎ (result ≡ Err SeriesFault.Memory)
             → SameDisk (now (D.history self.new.dir)) (now (D.history self.old.dir)) }
         ensures cause { HasCause (D.fault_count self.old.dir) (D.fault_count self.new.dir) result }
         ensures never_last { result ≢ Err SeriesFault.LastNumber }
@@ -169,14 +195,17 @@ impl<D: Dir, A: Allocator + Copy> Series<D, A> {
     /// item is whole. The errors are `Memory` and `Fault`, and change nothing.
     pub fn content(&mut self) -> Result<Vec<SinkEvent<A>, A>, SeriesFault>
         ensures kept { D.is_honest self.old.opening → Keeps D.is_honest D.history self.new }
-        ensures time { D.is_honest self.old.opening → Elapses (D.history self.old.dir) (D.history self.new.dir) }
+        ensures time { D.is_honest self.old.opening
+            → Elapses (D.history self.old.dir) (D.history self.new.dir) }
         ensures same { D.is_honest self.old.opening
             → SameDisk (now (D.history self.new.dir)) (now (D.history self.old.dir)) }
         ensures content { D.is_honest self.old.opening
-            → IfOk result (λ events. SinkHolds self.old.path (reads (now (D.history self.old.dir))) events.items) }
+            → IfOk result (λ events. SinkHolds self.old.path
+            (reads (now (D.history self.old.dir))) events.items) }
         ensures series { self.new ≡ record self.old { dir = self.new.dir } }
         ensures cause { HasCause (D.fault_count self.old.dir) (D.fault_count self.new.dir) result }
-        ensures only { OnErr result ((result ≡ Err SeriesFault.Memory) ⊎ (result ≡ Err SeriesFault.Fault)) }
+        ensures only { OnErr result
+            ((result ≡ Err SeriesFault.Memory) ⊎ (result ≡ Err SeriesFault.Fault)) }
     {
         read_all(self.alloc, &mut self.dir, &self.path, self.file)
     }

@@ -63,7 +63,14 @@ impl<A: Allocator> Model for Prepared<A> {
 
     ghost Value = { WriteView };
 
-    ghost view = { λ w. record { stored = record { path = w.path.items; tag = w.tag.items; entries = w.entries }; bytes = w.bytes.items } };
+    ghost view = { λ w. record {
+      stored = record {
+        path = w.path.items;
+        tag = w.tag.items;
+        entries = w.entries;
+      };
+      bytes = w.bytes.items;
+    } };
 }
 
 impl<A: Allocator> Prepared<A> {
@@ -77,7 +84,9 @@ impl<A: Allocator> Prepared<A> {
     where
         A: Copy,
         requires { length tag.now ≤ longest_tag }
-        ensures stored { IfOk result (λ write. write.stored ≡ record { path = path.now; tag = tag.now; entries = entries.now }) }
+        ensures stored { IfOk result
+            (λ write. write.stored
+            ≡ record { path = path.now; tag = tag.now; entries = entries.now }) }
         ensures bytes { IfOk result (λ write. write.bytes ≡ run_of (under tag.now entries.now)) }
         ensures events { OnOk result (AllByRecursion IsEvent (under tag.now entries.now)) }
     {

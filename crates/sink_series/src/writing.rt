@@ -29,7 +29,8 @@ pub(crate) fn put_item<A: Allocator>(
 ) -> Result<(), AllocError>
     requires tag { length tag.now ≤ longest_tag }
     requires entry { 1 ≤ length entry.now }
-    ensures { OnOk result (out.new.items ≡ out.old.items ++ item_of (record { tag = tag.now; entry = entry.now })) }
+    ensures { OnOk result
+        (out.new.items ≡ out.old.items ++ item_of (record { tag = tag.now; entry = entry.now })) }
 {
     put_front(out, tag)?;
     out.extend_from_slice(entry.split_at(1).1)?;

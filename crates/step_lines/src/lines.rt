@@ -65,7 +65,8 @@ fn words<'t, A: Allocator + Copy>(alloc: A, line: &'t [u8]) -> Result<Words<'t, 
 
 // The parts of a word between slashes.
 fn name_parts<'t, A: Allocator + Copy>(alloc: A, word: &'t [u8]) -> Result<Words<'t, A>, AllocError>
-    ensures { IfOk result (λ parts. map (λ part. part.now) parts.items ≡ slice_split (λ byte. byte == 47) word.now) }
+    ensures { IfOk result
+        (λ parts. map (λ part. part.now) parts.items ≡ slice_split (λ byte. byte == 47) word.now) }
 {
     word.split(|byte| *byte == b'/').collect(alloc)
 }
@@ -73,7 +74,8 @@ fn name_parts<'t, A: Allocator + Copy>(alloc: A, word: &'t [u8]) -> Result<Words
 // The chunk that the word names.
 fn chunk_name<A: Allocator + Copy>(alloc: A, word: &[u8]) -> Result<Option<ChunkName>, AllocError>
     ensures name { IfOk result (λ found. IfSome found (IsChunkName word.now)) }
-    ensures none { IfOk result (λ found. IfNone found ((name : TheName) → ¬ (IsChunkName word.now name))) }
+    ensures none { IfOk result
+        (λ found. IfNone found ((name : TheName) → ¬ (IsChunkName word.now name))) }
 {
     let parts = name_parts(alloc, word)?;
     Ok(name_of(parts.as_slice()))
@@ -82,7 +84,8 @@ fn chunk_name<A: Allocator + Copy>(alloc: A, word: &[u8]) -> Result<Option<Chunk
 // The chunk of these parts of a name.
 fn name_of(parts: &[&[u8]]) -> Option<ChunkName>
     ensures name { IfSome result (AreNameParts (map (λ part. part.now) parts.now)) }
-    ensures none { IfNone result ((name : TheName) → ¬ (AreNameParts (map (λ part. part.now) parts.now) name)) }
+    ensures none { IfNone result
+        ((name : TheName) → ¬ (AreNameParts (map (λ part. part.now) parts.now) name)) }
 {
     match parts {
         [relay, buffer, serial] => name_of_three(relay, buffer, serial),
@@ -93,7 +96,9 @@ fn name_of(parts: &[&[u8]]) -> Option<ChunkName>
 // The chunk of these three numbers.
 fn name_of_three(relay: &[u8], buffer: &[u8], serial: &[u8]) -> Option<ChunkName>
     ensures name { IfSome result (AreNameParts (relay.now ∷ buffer.now ∷ serial.now ∷ [])) }
-    ensures none { IfNone result ((name : TheName) → IsNumber relay.now name.relay → IsNumber buffer.now name.buffer → ¬ (IsNumber serial.now name.serial)) }
+    ensures none { IfNone result
+        ((name : TheName) → IsNumber relay.now name.relay → IsNumber buffer.now name.buffer
+        → ¬ (IsNumber serial.now name.serial)) }
 {
     Some(ChunkName {
         relay: whole_number(relay)?,
@@ -105,7 +110,8 @@ fn name_of_three(relay: &[u8], buffer: &[u8], serial: &[u8]) -> Option<ChunkName
 // The entry that the word spells in hex, if it spells one.
 fn entry_of<A: Allocator>(alloc: A, word: &[u8]) -> Result<Option<Vec<u8, A>>, AllocError>
     ensures entry { IfOk result (λ found. IfSome found (λ entry. IsHexOf word.now entry.items)) }
-    ensures none { IfOk result (λ found. IfNone found ((entry : List ℕ) → ¬ (IsHexOf word.now entry))) }
+    ensures none { IfOk result
+        (λ found. IfNone found ((entry : List ℕ) → ¬ (IsHexOf word.now entry))) }
 {
     match hex::decode(alloc, word) {
         Ok(entry) => Ok(Some(entry)),
@@ -121,8 +127,13 @@ fn entries_of<A: Allocator + Copy>(
     alloc: A,
     words: &[&[u8]],
 ) -> Result<Option<Vec<Vec<u8, A>, A>>, AllocError>
-    ensures entries { IfOk result (λ found. IfSome found (λ entries. AllZip IsHexOf (map (λ word. word.now) words.now) (texts_of entries.items))) }
-    ensures none { IfOk result (λ found. IfNone found ((entries : List (List ℕ)) → ¬ (AllZip IsHexOf (map (λ word. word.now) words.now) entries))) }
+    ensures entries { IfOk result
+        (λ found. IfSome found
+        (λ entries. AllZip IsHexOf (map (λ word. word.now) words.now) (texts_of entries.items))) }
+    ensures none { IfOk result
+        (λ found. IfNone found
+        ((entries : List (List ℕ))
+        → ¬ (AllZip IsHexOf (map (λ word. word.now) words.now) entries))) }
 {
     let mut entries = Vec::new(alloc);
     for word in words {
@@ -141,8 +152,12 @@ fn send_of<A: Allocator + Copy>(
     tag: &[u8],
     entries: &[&[u8]],
 ) -> Result<Option<Step<A>>, AllocError>
-    ensures step { IfOk result (λ found. IfSome found (IsStepOf (codes "send" ∷ client.now ∷ tag.now ∷ map (λ word. word.now) entries.now))) }
-    ensures none { IfOk result (λ found. IfNone found (NoStep A (codes "send" ∷ client.now ∷ tag.now ∷ map (λ word. word.now) entries.now))) }
+    ensures step { IfOk result
+        (λ found. IfSome found
+        (IsStepOf (codes "send" ∷ client.now ∷ tag.now ∷ map (λ word. word.now) entries.now))) }
+    ensures none { IfOk result
+        (λ found. IfNone found
+        (NoStep A (codes "send" ∷ client.now ∷ tag.now ∷ map (λ word. word.now) entries.now))) }
 {
     let Some(client) = whole_number(client) else {
         return Ok(None);
@@ -188,7 +203,8 @@ fn number_step<A: Allocator>(name: &[u8], word: &[u8]) -> Option<Step<A>>
 
 // The step of a line of this word and a chunk's name.
 fn chunk_step<A: Allocator>(name: &[u8], chunk: ChunkName) -> Option<Step<A>>
-    ensures step { IfSome result (λ s. (word : List ℕ) → IsChunkName word chunk → IsStepOf (name.now ∷ word ∷ []) s) }
+    ensures step { IfSome result
+        (λ s. (word : List ℕ) → IsChunkName word chunk → IsStepOf (name.now ∷ word ∷ []) s) }
     ensures none { IfNone result (IsNoneOf name.now chunk_words) }
 {
     if is_word(name, b"enqueue") {
@@ -238,7 +254,9 @@ fn short_step<A: Allocator + Copy>(
 
 // The step of a line of this word, a chunk's name and a number.
 fn counted_step<A: Allocator>(name: &[u8], chunk: ChunkName, word: &[u8]) -> Option<Step<A>>
-    ensures step { IfSome result (λ s. (first : List ℕ) → IsChunkName first chunk → IsStepOf (name.now ∷ first ∷ word.now ∷ []) s) }
+    ensures step { IfSome result
+        (λ s. (first : List ℕ) → IsChunkName first chunk
+        → IsStepOf (name.now ∷ first ∷ word.now ∷ []) s) }
     ensures none { IfNone result ((n : ℕ) → IsNumber word.now n → IsNoneOf name.now counted_words) }
 {
     let number = whole_number(word)?;
@@ -275,8 +293,11 @@ fn middle_step<A: Allocator + Copy>(
     first: &[u8],
     second: &[u8],
 ) -> Result<Option<Step<A>>, AllocError>
-    ensures step { IfOk result (λ found. IfSome found (IsStepOf (name.now ∷ first.now ∷ second.now ∷ []))) }
-    ensures none { IfOk result (λ found. IfNone found (¬ (name.now ≡ codes "send") → NoStep A (name.now ∷ first.now ∷ second.now ∷ []))) }
+    ensures step { IfOk result
+        (λ found. IfSome found (IsStepOf (name.now ∷ first.now ∷ second.now ∷ []))) }
+    ensures none { IfOk result
+        (λ found. IfNone found
+        (¬ (name.now ≡ codes "send") → NoStep A (name.now ∷ first.now ∷ second.now ∷ []))) }
 {
     if is_word(name, b"oldest") {
         return Ok(oldest_of(first, second));
@@ -289,8 +310,11 @@ fn middle_step<A: Allocator + Copy>(
 
 // The step of a line that begins with `append` and goes on with these words.
 fn append_of<A: Allocator>(delivery: &[u8], buffer: &[u8], serial: &[u8]) -> Option<Step<A>>
-    ensures step { IfSome result (IsStepOf (codes "append" ∷ delivery.now ∷ buffer.now ∷ serial.now ∷ [])) }
-    ensures none { IfNone result ((d b s : ℕ) → IsNumber delivery.now d → IsNumber buffer.now b → ¬ (IsNumber serial.now s)) }
+    ensures step { IfSome result
+        (IsStepOf (codes "append" ∷ delivery.now ∷ buffer.now ∷ serial.now ∷ [])) }
+    ensures none { IfNone result
+        ((d b s : ℕ) → IsNumber delivery.now d → IsNumber buffer.now b
+        → ¬ (IsNumber serial.now s)) }
 {
     Some(Step::Append {
         delivery: whole_number(delivery)?,
@@ -306,8 +330,11 @@ fn long_step<A: Allocator>(
     buffer: &[u8],
     serial: &[u8],
 ) -> Option<Step<A>>
-    ensures step { IfSome result (IsStepOf (name.now ∷ delivery.now ∷ buffer.now ∷ serial.now ∷ [])) }
-    ensures none { IfNone result (¬ (name.now ≡ codes "send") → NoStep A (name.now ∷ delivery.now ∷ buffer.now ∷ serial.now ∷ [])) }
+    ensures step { IfSome result
+        (IsStepOf (name.now ∷ delivery.now ∷ buffer.now ∷ serial.now ∷ [])) }
+    ensures none { IfNone result
+        (¬ (name.now ≡ codes "send")
+        → NoStep A (name.now ∷ delivery.now ∷ buffer.now ∷ serial.now ∷ [])) }
 {
     if is_word(name, b"append") {
         return append_of(delivery, buffer, serial);
@@ -317,8 +344,10 @@ fn long_step<A: Allocator>(
 
 // The step of a line that begins with `send` and goes on with these words.
 fn sent_step<A: Allocator + Copy>(alloc: A, fields: &[&[u8]]) -> Result<Option<Step<A>>, AllocError>
-    ensures step { IfOk result (λ found. IfSome found (IsStepOf (codes "send" ∷ map (λ word. word.now) fields.now))) }
-    ensures none { IfOk result (λ found. IfNone found (NoStep A (codes "send" ∷ map (λ word. word.now) fields.now))) }
+    ensures step { IfOk result
+        (λ found. IfSome found (IsStepOf (codes "send" ∷ map (λ word. word.now) fields.now))) }
+    ensures none { IfOk result
+        (λ found. IfNone found (NoStep A (codes "send" ∷ map (λ word. word.now) fields.now))) }
 {
     match fields {
         [client, tag, entries @ ..] => send_of(alloc, client, tag, entries),
@@ -332,8 +361,11 @@ fn other_step<A: Allocator + Copy>(
     name: &[u8],
     fields: &[&[u8]],
 ) -> Result<Option<Step<A>>, AllocError>
-    ensures step { IfOk result (λ found. IfSome found (IsStepOf (name.now ∷ map (λ word. word.now) fields.now))) }
-    ensures none { IfOk result (λ found. IfNone found (¬ (name.now ≡ codes "send") → NoStep A (name.now ∷ map (λ word. word.now) fields.now))) }
+    ensures step { IfOk result
+        (λ found. IfSome found (IsStepOf (name.now ∷ map (λ word. word.now) fields.now))) }
+    ensures none { IfOk result
+        (λ found. IfNone found
+        (¬ (name.now ≡ codes "send") → NoStep A (name.now ∷ map (λ word. word.now) fields.now))) }
 {
     match fields {
         [word] => short_step(alloc, name, word),
@@ -345,8 +377,10 @@ fn other_step<A: Allocator + Copy>(
 
 // The step of a line of these words.
 fn step_of<A: Allocator + Copy>(alloc: A, words: &[&[u8]]) -> Result<Option<Step<A>>, AllocError>
-    ensures step { IfOk result (λ found. IfSome found (IsStepOf (map (λ word. word.now) words.now))) }
-    ensures none { IfOk result (λ found. IfNone found (NoStep A (map (λ word. word.now) words.now))) }
+    ensures step { IfOk result
+        (λ found. IfSome found (IsStepOf (map (λ word. word.now) words.now))) }
+    ensures none { IfOk result
+        (λ found. IfNone found (NoStep A (map (λ word. word.now) words.now))) }
 {
     let Some((name, fields)) = words.split_first() else {
         return Ok(None);

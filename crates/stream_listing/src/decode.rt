@@ -25,7 +25,8 @@ pub fn run_decode<A: Allocator + Copy, R: CountedRead, W: Write>(
     input: &mut R,
     out: &mut W,
 ) -> Status
-    ensures printed { PrintsListing (R.remaining input.old) (W.contents out.old) (W.contents out.new) result }
+    ensures printed { PrintsListing (R.remaining input.old) (W.contents out.old)
+        (W.contents out.new) result }
     ensures calls { R.calls input.new ≤ R.calls input.old + 16777216 }
 {
     match Vec::from_elem(alloc, 0, PIECE) {
@@ -96,7 +97,8 @@ impl<A: Allocator + Copy> Decoder<A> {
     // Collects the lines of what is whole with the next piece of the text.
     fn list(&mut self, piece: &[u8]) -> Result<(), Stop>
         requires { self.old.feed.fault ≡ None }
-        ensures { Lists self.old.hex self.old.feed piece.now self.new.lines.items result self.new.hex self.new.feed }
+        ensures { Lists self.old.hex self.old.feed piece.now self.new.lines.items result
+            self.new.hex self.new.feed }
     {
         self.lines.clear();
         self.bytes.clear();
@@ -129,7 +131,8 @@ impl<A: Allocator + Copy> Decoder<A> {
 
     // Ends the text.
     fn finish<W: Write>(&self, out: &mut W) -> Status
-        ensures { PrintsLast (IsLastAtEnd self.now.hex self.now.feed.held) (W.contents out.old) (W.contents out.new) result }
+        ensures { PrintsLast (IsLastAtEnd self.now.hex self.now.feed.held) (W.contents out.old)
+            (W.contents out.new) result }
     {
         if !self.hex.is_whole() {
             return end(self.alloc, Stop::Hex, out);
@@ -190,7 +193,8 @@ fn decode_pieces<A: Allocator + Copy, R: CountedRead, W: Write>(
     out: &mut W,
 ) -> Status
     requires { 0 < length piece.old }
-    ensures printed { PrintsListing (R.remaining input.old) (W.contents out.old) (W.contents out.new) result }
+    ensures printed { PrintsListing (R.remaining input.old) (W.contents out.old)
+        (W.contents out.new) result }
     ensures calls { R.calls input.new ≤ R.calls input.old + 16777216 }
 {
     let mut decoder = Decoder::new(alloc);

@@ -91,7 +91,8 @@ impl HexText {
 
     // Takes one digit: the first of a byte waits for the second.
     fn step(&mut self, digit: u8) -> Result<Option<u8>, HexFault>
-        ensures ok { IfOk result (λ byte. AreDigitsUpTo (self.old ++ digit ∷ []) (option_to_list byte) self.new) }
+        ensures ok { IfOk result
+            (λ byte. AreDigitsUpTo (self.old ++ digit ∷ []) (option_to_list byte) self.new) }
         ensures broken { OnErr result (Breaks (self.old ++ digit ∷ []) []) }
         ensures error { IfErr result (λ e. e ≡ HexFault.Broken) }
     {

@@ -17,7 +17,8 @@ pub fn put_message<A: Allocator + Copy>(
     lines: &mut Vec<u8, A>,
     message: &Message<A>,
 ) -> Result<(), AllocError>
-    ensures ok { OnOk result (lines.new.items ≡ lines.old.items ++ arrival_lines (Sent (meaning message.now))) }
+    ensures ok { OnOk result
+        (lines.new.items ≡ lines.old.items ++ arrival_lines (Sent (meaning message.now))) }
     ensures err { OnErr result (lines.new.items ≡ lines.old.items) }
 {
     let whole = lines.len();
@@ -34,7 +35,8 @@ fn put_parts<A: Allocator + Copy>(
     lines: &mut Vec<u8, A>,
     message: &Message<A>,
 ) -> Result<(), AllocError>
-    ensures ok { OnOk result (lines.new.items ≡ lines.old.items ++ arrival_lines (Sent (meaning message.now))) }
+    ensures ok { OnOk result
+        (lines.new.items ≡ lines.old.items ++ arrival_lines (Sent (meaning message.now))) }
     ensures err { OnErr result (KeepsFront lines.old.items lines.new.items) }
 {
     put_message_line(alloc, lines, &message.tag, message.entries.count())?;

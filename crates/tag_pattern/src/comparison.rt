@@ -27,7 +27,8 @@ pub fn matches<A: Allocator, B: Allocator>(pattern: &Plain<A>, tag: &Tag<B>) -> 
 /// is one of the second's. It takes no memory, and at most 33 times 33 steps.
 pub fn fits<A: Allocator, B: Allocator>(pattern: &Plain<A>, other: &Plain<B>) -> bool
     ensures fits { IsTrue result ↔ Fits pattern.now other.now }
-    ensures subset { IsTrue result → (tag : List ℕ) → IsTagOf pattern.now tag → IsTagOf other.now tag }
+    ensures subset { IsTrue result → (tag : List ℕ) → IsTagOf pattern.now tag
+        → IsTagOf other.now tag }
 {
     compare(Relation::Fits, pattern.items(), other.items())
 }
@@ -39,7 +40,8 @@ pub fn fits_entered<A: Allocator, B: Allocator, C: Allocator>(
     pattern: &Plain<B>,
     other: &Plain<C>,
 ) -> bool
-    ensures { IsTrue result ↔ Fits (entered_items (option_copied prefix.entry) pattern.now) other.now }
+    ensures { IsTrue result
+        ↔ Fits (entered_items (option_copied prefix.entry) pattern.now) other.now }
 {
     match prefix {
         Some(prefix) => {
@@ -56,7 +58,8 @@ pub fn fits_entered<A: Allocator, B: Allocator, C: Allocator>(
 pub fn apart<A: Allocator, B: Allocator>(pattern: &Plain<A>, other: &Plain<B>) -> bool
     ensures apart { IsTrue result ↔ (¬ Meets pattern.now other.now) }
     ensures meet { (result ≡ false) ↔ Meets pattern.now other.now }
-    ensures none_common { IsTrue result → (tag : List ℕ) → IsTagOf pattern.now tag → IsTagOf other.now tag → ⊥ }
+    ensures none_common { IsTrue result → (tag : List ℕ) → IsTagOf pattern.now tag
+        → IsTagOf other.now tag → ⊥ }
 {
     !compare(Relation::Meets, pattern.items(), other.items())
 }

@@ -19,7 +19,8 @@ pub(crate) fn cut<'a>(text: &'a [u8], marks: &[u8]) -> (&'a [u8], &'a [u8])
 
 /// The first of the pieces that the separator parts, and the text behind it, where there are more.
 pub(crate) fn first_piece(text: &[u8], separator: u8) -> (&[u8], Option<&[u8]>)
-    ensures pieces { slice_split (λ b. b == separator) text.now ≡ result.0.now ∷ pieces_behind separator (option_copied result.1) }
+    ensures pieces { slice_split (λ b. b == separator) text.now
+        ≡ result.0.now ∷ pieces_behind separator (option_copied result.1) }
     ensures shorter { IfSome result.1 (λ rest. length rest.now < length text.now) }
 {
     let (front, back) = cut(text, &[separator]);

@@ -30,7 +30,8 @@ fn push_parts<A: Allocator + Copy>(
     alternative: &[u8],
 ) -> Result<(), AllocError>
     ensures { OnOk result
-        (items_of items.new.items ≡ items_of items.old.items ++ map part_item (parts_of alternative.now)) }
+        (items_of items.new.items
+        ≡ items_of items.old.items ++ map part_item (parts_of alternative.now)) }
 {
     let mut rest = Some(alternative);
     while let Some(ahead) = rest {
@@ -49,7 +50,8 @@ pub(crate) fn expansion<A: Allocator + Copy>(
     number: usize,
     plains: usize,
 ) -> Result<Vec<PatternItem<Vec<u8, A>>, A>, AllocError>
-    requires { (slots : List Slot) × IsPatternText slots text.now × (plains ≡ length (expansions slots)) × (number < plains) }
+    requires { (slots : List Slot) × IsPatternText slots text.now
+        × (plains ≡ length (expansions slots)) × (number < plains) }
     ensures { IfOk result
         (λ items. (slots : List Slot) → IsPatternText slots text.now
         → items_of items.items ≡ map part_item (slice_index_or (expansions slots) number [])) }

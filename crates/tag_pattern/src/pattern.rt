@@ -60,9 +60,11 @@ impl Pattern {
     /// plain patterns, whatever the text.
     pub fn read<A: Allocator + Copy>(alloc: A, text: &str) -> Result<Vec<Plain<A>, A>, PatternError>
         ensures patterns { IfOk result
-            (λ plains. (slots : List Slot) × IsPattern slots text.now × (plains.items ≡ plain_patterns slots)) }
+            (λ plains. (slots : List Slot) × IsPattern slots text.now
+            × (plains.items ≡ plain_patterns slots)) }
         ensures only { (slots : List Slot) → IsPattern slots text.now
-            → MatchResult result (λ plains. plains.items ≡ plain_patterns slots) (λ e. e ≡ PatternError.Memory) }
+            → MatchResult result (λ plains. plains.items ≡ plain_patterns slots)
+            (λ e. e ≡ PatternError.Memory) }
 
         ensures brace_fault { (result ≡ Err PatternError.BraceFault)
             ↔ ((slots : List Slot) → ¬ IsPatternText slots text.now) }
@@ -92,9 +94,11 @@ fn expansions<A: Allocator + Copy>(
     text: &[u8],
     plains: usize,
 ) -> Result<Vec<Plain<A>, A>, PatternError>
-    requires { (slots : List Slot) × IsPattern slots text.now × (plains ≡ length (plain_patterns slots)) }
+    requires { (slots : List Slot) × IsPattern slots text.now
+        × (plains ≡ length (plain_patterns slots)) }
     ensures { (slots : List Slot) → IsPatternText slots text.now
-        → MatchResult result (λ read. read.items ≡ plain_patterns slots) (λ e. e ≡ PatternError.Memory) }
+        → MatchResult result (λ read. read.items ≡ plain_patterns slots)
+        (λ e. e ≡ PatternError.Memory) }
 {
     let mut read = Vec::with_capacity(alloc, plains)?;
     for number in 0..plains {

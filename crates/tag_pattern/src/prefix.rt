@@ -53,7 +53,8 @@ impl<A: Allocator> Prefix<A> {
     /// `Memory`.
     pub fn read(alloc: A, bytes: &[u8]) -> Result<Prefix<A>, PrefixError>
         ensures prefix { IfOk result (λ prefix. prefix ≡ bytes.now) }
-        ensures bad { (result ≡ Err PrefixError.BadPrefix) ↔ (prefixes.is_prefix bytes.now ≡ false) }
+        ensures bad { (result ≡ Err PrefixError.BadPrefix)
+            ↔ (prefixes.is_prefix bytes.now ≡ false) }
     {
         if !is_prefix(bytes) {
             return Err(PrefixError::BadPrefix);

@@ -43,7 +43,8 @@ impl<A: Allocator> PrefixedPlain<A> {
     /// memory.
     pub fn fits<B: Allocator>(&self, other: &Plain<B>) -> bool
         ensures fits { IsTrue result ↔ Fits self.now other.now }
-        ensures subset { IsTrue result → (tag : List ℕ) → IsTagOf self.now tag → IsTagOf other.now tag }
+        ensures subset { IsTrue result → (tag : List ℕ) → IsTagOf self.now tag
+            → IsTagOf other.now tag }
     {
         compare(Relation::Fits, &self.items, other.items())
     }
@@ -74,7 +75,8 @@ fn push_literals<A: Allocator + Copy>(
     items: &mut Vec<PatternItem<Vec<u8, A>>, A>,
     text: &[u8],
 ) -> Result<(), AllocError>
-    ensures { OnOk result (items_of items.new.items ≡ items_of items.old.items ++ map Literal (parts_of text.now)) }
+    ensures { OnOk result
+        (items_of items.new.items ≡ items_of items.old.items ++ map Literal (parts_of text.now)) }
 {
     let mut rest = Some(text);
     while let Some(ahead) = rest {
@@ -91,7 +93,8 @@ fn push_copies<A: Allocator + Copy, B: Allocator>(
     items: &mut Vec<PatternItem<Vec<u8, A>>, A>,
     others: &[PatternItem<Vec<u8, B>>],
 ) -> Result<(), AllocError>
-    ensures { OnOk result (items_of items.new.items ≡ items_of items.old.items ++ items_of others.now) }
+    ensures { OnOk result
+        (items_of items.new.items ≡ items_of items.old.items ++ items_of others.now) }
 {
     for other in others {
         items.push(copied_item(alloc, other)?)?;

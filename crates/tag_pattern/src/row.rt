@@ -37,7 +37,8 @@ fn fits_cell(
     right: bool,
     diagonal: bool,
 ) -> bool
-    ensures { IsCell Relation.Fits (lent_item item.entry) (lent_item other.entry) below right diagonal result }
+    ensures { IsCell Relation.Fits (lent_item item.entry)
+        (lent_item other.entry) below right diagonal result }
 {
     match (item, other) {
         (_, PatternItem::AnyParts) => below | right,
@@ -58,7 +59,8 @@ fn meets_cell(
     right: bool,
     diagonal: bool,
 ) -> bool
-    ensures { IsCell Relation.Meets (lent_item item.entry) (lent_item other.entry) below right diagonal result }
+    ensures { IsCell Relation.Meets (lent_item item.entry)
+        (lent_item other.entry) below right diagonal result }
 {
     match (item, other) {
         (_, PatternItem::AnyParts) => below | right,
@@ -80,7 +82,8 @@ fn cell(
     right: bool,
     diagonal: bool,
 ) -> bool
-    ensures { IsCell relation (lent_item item.entry) (lent_item other.entry) below right diagonal result }
+    ensures { IsCell relation (lent_item item.entry)
+        (lent_item other.entry) below right diagonal result }
 {
     match relation {
         Relation::Fits => fits_cell(item, other, below, right, diagonal),

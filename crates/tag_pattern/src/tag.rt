@@ -56,7 +56,8 @@ impl<A: Allocator> Tag<A> {
     /// error is `Memory`.
     pub fn read(alloc: A, bytes: &[u8]) -> Result<Tag<A>, TagError>
         ensures tag { IfOk result (λ tag. tag ≡ bytes.now) }
-        ensures too_long { (result ≡ Err TagError.TagTooLong) ↔ (most_tag_bytes < length bytes.now) }
+        ensures too_long { (result ≡ Err TagError.TagTooLong)
+            ↔ (most_tag_bytes < length bytes.now) }
     {
         if bytes.len() > MOST_TAG_BYTES {
             return Err(TagError::TagTooLong);
@@ -83,7 +84,8 @@ impl<A: Allocator> Tag<A> {
         prefix: &Prefix<C>,
     ) -> Result<Tag<B>, TagError>
         ensures tag { IfOk result (λ tag. tag ≡ prefixed_tag prefix.now self.now) }
-        ensures too_long { (result ≡ Err TagError.TagTooLong) ↔ (most_tag_bytes < length (prefixed_tag prefix.now self.now)) }
+        ensures too_long { (result ≡ Err TagError.TagTooLong)
+            ↔ (most_tag_bytes < length (prefixed_tag prefix.now self.now)) }
     {
         let front = prefix.as_bytes();
         let length = front.len() + 1 + self.bytes.len();

@@ -90,8 +90,10 @@ impl<N: Dialer + Drop, A: Allocator + Copy> TcpCourier<N, A> {
         stop: Arc<AtomicBool, A>,
         dialer: Arc<N, A>,
     ) -> Result<TcpCourier<N, A>, AllocFailed<CourierParts<N, A>>>
-        ensures sends { IfOk result (λ courier. courier ≡ sender_of settings.now (arc_value dialer)) }
-        ensures value_returned { IfErr result (λ failed. failed.value ≡ record { nonces = nonces; stop = stop; dialer = dialer }) }
+        ensures sends { IfOk result
+            (λ courier. courier ≡ sender_of settings.now (arc_value dialer)) }
+        ensures value_returned { IfErr result
+            (λ failed. failed.value ≡ record { nonces = nonces; stop = stop; dialer = dialer }) }
     {
         let Ok(servers) = endpoints_of(alloc, &settings.servers) else {
             return Err(refused(nonces, stop, dialer));
@@ -123,7 +125,8 @@ impl<N: Dialer + Drop, A: Allocator + Copy> TcpCourier<N, A> {
 
     // A session of a connection that was made.
     fn session<R: Wait>(&self, rt: &R) -> Result<ClientSession<A>, CarryFault>
-        ensures { IfOk result (λ session. (salt : List ℕ) × IsDrawn salt × (session ≡ begun self.now.shows salt)) }
+        ensures { IfOk result
+            (λ session. (salt : List ℕ) × IsDrawn salt × (session ≡ begun self.now.shows salt)) }
     {
         let Ok(security) = shown(&self.secret) else {
             return Err(CarryFault::NoServer);
@@ -139,10 +142,15 @@ impl<N: Dialer + Drop, A: Allocator + Copy> TcpCourier<N, A> {
         turn: Turn,
         until: u64,
     ) -> Result<Option<Reached<N::Stream>>, AllocError>
-        ensures one { IfOk result (λ found. IfSome found (λ r. IsToOne self.now.servers (N.Stream.origin r.stream))) }
-        ensures within { IfOk result (λ found. IfSome found (λ r. r.place < length self.now.servers)) }
-        ensures fresh { IfOk result (λ found. IfSome found (λ r. IsFresh (N.Stream.traffic r.stream))) }
-        ensures first { N.is_known self.now.dialer → IfOk result (λ found. IsToFirst (N.takes self.now.dialer) (in_turn turn.place self.now.servers)
+        ensures one { IfOk result
+            (λ found. IfSome found (λ r. IsToOne self.now.servers (N.Stream.origin r.stream))) }
+        ensures within { IfOk result
+            (λ found. IfSome found (λ r. r.place < length self.now.servers)) }
+        ensures fresh { IfOk result
+            (λ found. IfSome found (λ r. IsFresh (N.Stream.traffic r.stream))) }
+        ensures first { N.is_known self.now.dialer
+            → IfOk result (λ found. IsToFirst (N.takes self.now.dialer)
+            (in_turn turn.place self.now.servers)
             (option_map (λ r. N.Stream.origin r.stream) found)) }
         ensures place { N.is_known self.now.dialer → IfOk result (λ found.
             option_map (λ r. r.place) found ≡ place_in_turn (N.takes self.now.dialer) self.now.servers turn.place) }
@@ -167,9 +175,12 @@ impl<N: Dialer + Drop, A: Allocator + Copy> TcpCourier<N, A> {
     ) -> Result<Carried<N::Stream, A>, CarryFault>
         requires fresh { IsFresh (N.Stream.traffic stream) }
         requires count { length entries.now ≡ chunk.now.count }
-        ensures origin { IfOk result (λ carried. N.Stream.origin carried.stream ≡ N.Stream.origin stream) }
-        ensures names { IfOk result (λ carried. NamesChunk self.now.asks chunk.now carried.evidence) }
-        ensures delivers { IfOk result (λ carried. Delivers self.now chunk.now (N.Stream.traffic carried.stream)) }
+        ensures origin { IfOk result
+            (λ carried. N.Stream.origin carried.stream ≡ N.Stream.origin stream) }
+        ensures names { IfOk result
+            (λ carried. NamesChunk self.now.asks chunk.now carried.evidence) }
+        ensures delivers { IfOk result
+            (λ carried. Delivers self.now chunk.now (N.Stream.traffic carried.stream)) }
     {
         if chunk.tag().len() > LONGEST_TAG || entries.as_bytes().len() > u32::MAX as usize {
             return Err(CarryFault::Device);
@@ -205,9 +216,12 @@ impl<N: Dialer + Drop, A: Allocator + Copy> TcpCourier<N, A> {
         chunk: &ClaimView<'_, D, A>,
     ) -> Result<Carried<N::Stream, A>, CarryFault>
         requires fresh { IsFresh (N.Stream.traffic stream) }
-        ensures origin { IfOk result (λ carried. N.Stream.origin carried.stream ≡ N.Stream.origin stream) }
-        ensures names { IfOk result (λ carried. NamesChunk self.now.asks chunk.now carried.evidence) }
-        ensures delivers { IfOk result (λ carried. Delivers self.now chunk.now (N.Stream.traffic carried.stream)) }
+        ensures origin { IfOk result
+            (λ carried. N.Stream.origin carried.stream ≡ N.Stream.origin stream) }
+        ensures names { IfOk result
+            (λ carried. NamesChunk self.now.asks chunk.now carried.evidence) }
+        ensures delivers { IfOk result
+            (λ carried. Delivers self.now chunk.now (N.Stream.traffic carried.stream)) }
     {
         let entries = chunk.entries(rt)?;
         self.send(rt, stream, until, chunk, &entries)
@@ -231,16 +245,24 @@ impl<N: Dialer + Drop, A: Allocator + Copy> TcpCourier<N, A> {
         chunk: &ClaimView<'_, D, A>,
         turn: &mut Turn,
     ) -> Result<Carried<N::Stream, A>, CarryFault>
-        ensures one { IfOk result (λ carried. IsToOne self.now.servers (N.Stream.origin carried.stream)) }
-        ensures first { N.is_known self.now.dialer → IfOk result (λ carried. IsToFirst (N.takes self.now.dialer) (in_turn turn.old.place self.now.servers)
+        ensures one { IfOk result
+            (λ carried. IsToOne self.now.servers (N.Stream.origin carried.stream)) }
+        ensures first { N.is_known self.now.dialer
+            → IfOk result (λ carried. IsToFirst (N.takes self.now.dialer)
+            (in_turn turn.old.place self.now.servers)
             (Some (N.Stream.origin carried.stream))) }
-        ensures delivers { IfOk result (λ carried. Delivers self.now chunk.now (N.Stream.traffic carried.stream)) }
-        ensures names { IfOk result (λ carried. NamesChunk self.now.asks chunk.now carried.evidence) }
+        ensures delivers { IfOk result
+            (λ carried. Delivers self.now chunk.now (N.Stream.traffic carried.stream)) }
+        ensures names { IfOk result
+            (λ carried. NamesChunk self.now.asks chunk.now carried.evidence) }
         // Where no server takes a connection, the chunk isn't read.
-        ensures unread { N.is_known self.now.dialer → place_in_turn (N.takes self.now.dialer) self.now.servers turn.old.place ≡ None
+        ensures unread { N.is_known self.now.dialer
+            → place_in_turn (N.takes self.now.dialer) self.now.servers turn.old.place ≡ None
             → IfErr result (λ fault. (fault ≡ CarryFault.NoServer) ⊎ (fault ≡ CarryFault.Memory)) }
         ensures turn { N.is_known self.now.dialer
-            → turn.new.place ≡ turn_after (place_in_turn (N.takes self.now.dialer) self.now.servers turn.old.place) turn.old.place result }
+            → turn.new.place ≡ turn_after
+            (place_in_turn (N.takes self.now.dialer) self.now.servers turn.old.place)
+            turn.old.place result }
     {
         let until = self.dialer.now_after(0).saturating_add(self.timeout);
         let Some(Reached { stream, place }) = self.connect(rt, *turn, until)? else {
@@ -332,11 +354,17 @@ fn first_of<R: Wait, N: Dialer, A: Allocator + Copy>(
     until: u64,
 ) -> Result<Option<Reached<N::Stream>>, AllocError>
     requires { from + length servers.now < 2 ^ 64 }
-    ensures one { IfOk result (λ found. IfSome found (λ r. IsToOne servers.now (N.Stream.origin r.stream))) }
-    ensures within { IfOk result (λ found. IfSome found (λ r. r.place < from + length servers.now)) }
+    ensures one { IfOk result
+        (λ found. IfSome found (λ r. IsToOne servers.now (N.Stream.origin r.stream))) }
+    ensures within { IfOk result
+        (λ found. IfSome found (λ r. r.place < from + length servers.now)) }
     ensures fresh { IfOk result (λ found. IfSome found (λ r. IsFresh (N.Stream.traffic r.stream))) }
-    ensures first { N.is_known dialer.now → IfOk result (λ found. IsToFirst (N.takes dialer.now) servers.now (option_map (λ r. N.Stream.origin r.stream) found)) }
-    ensures place { N.is_known dialer.now → IfOk result (λ found. option_map (λ r. r.place) found ≡ position_from (N.takes dialer.now) from servers.now) }
+    ensures first { N.is_known dialer.now
+        → IfOk result (λ found. IsToFirst (N.takes dialer.now) servers.now
+        (option_map (λ r. N.Stream.origin r.stream) found)) }
+    ensures place { N.is_known dialer.now
+        → IfOk result (λ found. option_map (λ r. r.place) found
+        ≡ position_from (N.takes dialer.now) from servers.now) }
 {
     let mut place = from;
     for server in servers {

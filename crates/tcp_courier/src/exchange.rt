@@ -39,7 +39,9 @@ pub fn deliver<T: Time, W: Wire, D: Dir, A: Allocator + Copy>(
     requires entries { length (concat entries.now) < 2 ^ 32 }
     ensures origin { W.origin line.new.wire ≡ W.origin line.old.wire }
     ensures names { IfOk result (NamesChunk asks chunk.now) }
-    ensures delivered { OnOk result (ConveysChunk (W.traffic line.old.wire) (W.traffic line.new.wire) session.old.phase chunk.now entries.now asks) }
+    ensures delivered { OnOk result
+        (ConveysChunk (W.traffic line.old.wire)
+        (W.traffic line.new.wire) session.old.phase chunk.now entries.now asks) }
 {
     greet(line, session, piece)?;
     session.send(chunk.tag(), entries, chunk.id(), asks)?;
@@ -58,8 +60,10 @@ fn greet<T: Time, W: Wire, A: Allocator + Copy>(
 ) -> Result<(), CarryFault>
     ensures origin { W.origin line.new.wire ≡ W.origin line.old.wire }
     ensures ready { OnOk result (session.new.phase ≡ Ready) }
-    ensures greets { OnOk result ((greeting : List ℕ) × (items : List (List ℕ)) × IsGreeting session.old.phase greeting items
-        × TalksOn (W.traffic line.old.wire) (W.traffic line.new.wire) session.old session.new greeting items) }
+    ensures greets { OnOk result
+        ((greeting : List ℕ) × (items : List (List ℕ)) × IsGreeting session.old.phase greeting items
+        × TalksOn (W.traffic line.old.wire)
+        (W.traffic line.new.wire) session.old session.new greeting items) }
 {
     for _ in 0..u64::MAX {
         write_out(line, session)?;
@@ -80,7 +84,8 @@ fn write_out<T: Time, W: Wire, A: Allocator + Copy>(
 ) -> Result<(), CarryFault>
     ensures origin { W.origin line.new.wire ≡ W.origin line.old.wire }
     ensures rest { OnOk result (session.new ≡ record session.old { outgoing = [] }) }
-    ensures written { OnOk result (Conveys (W.traffic line.old.wire) (W.traffic line.new.wire) session.old.outgoing []) }
+    ensures written { OnOk result
+        (Conveys (W.traffic line.old.wire) (W.traffic line.new.wire) session.old.outgoing []) }
 {
     for _ in 0..u64::MAX {
         if session.outgoing().is_empty() {
@@ -106,7 +111,9 @@ fn hear<T: Time, W: Wire, A: Allocator + Copy>(
     piece: &mut [u8],
 ) -> Result<Option<Evidence<A>>, CarryFault>
     ensures origin { W.origin line.new.wire ≡ W.origin line.old.wire }
-    ensures came { IfOk result (λ heard. (came : List ℕ) × Conveys (W.traffic line.old.wire) (W.traffic line.new.wire) [] came
+    ensures came { IfOk result
+        (λ heard. (came : List ℕ)
+        × Conveys (W.traffic line.old.wire) (W.traffic line.new.wire) [] came
         × Hears session.old came heard session.new) }
 {
     if line.is_late() {
@@ -131,9 +138,12 @@ fn acknowledged<T: Time, W: Wire, A: Allocator + Copy>(
     piece: &mut [u8],
 ) -> Result<Evidence<A>, CarryFault>
     ensures origin { W.origin line.new.wire ≡ W.origin line.old.wire }
-    ensures names { (id : ChunkId) → session.old.phase ≡ HasSent (Some id) → IfOk result (λ evidence. evidence ≡ Acknowledged id) }
-    ensures came { (id : ChunkId) → session.old.phase ≡ HasSent (Some id) → OnOk result ((came : List ℕ)
-        × Conveys (W.traffic line.old.wire) (W.traffic line.new.wire) [] came × Acknowledges id (session.old.held ++ came)) }
+    ensures names { (id : ChunkId) → session.old.phase ≡ HasSent (Some id)
+        → IfOk result (λ evidence. evidence ≡ Acknowledged id) }
+    ensures came { (id : ChunkId) → session.old.phase ≡ HasSent (Some id)
+        → OnOk result ((came : List ℕ)
+        × Conveys (W.traffic line.old.wire) (W.traffic line.new.wire) [] came
+        × Acknowledges id (session.old.held ++ came)) }
 {
     for _ in 0..u64::MAX {
         if let Some(evidence) = hear(line, session, piece)? {

@@ -39,7 +39,8 @@ impl<'a, T: Time, W: Wire, A: Allocator> Line<'a, T, W, A> {
     /// Reads bytes into the piece, waiting for a little.
     pub fn get(&mut self, piece: &mut [u8]) -> Moved
         ensures origin { W.origin self.new.wire ≡ W.origin self.old.wire }
-        ensures bytes { IsReadFrom (W.traffic self.old.wire) (W.traffic self.new.wire) piece.new result }
+        ensures bytes { IsReadFrom (W.traffic self.old.wire)
+            (W.traffic self.new.wire) piece.new result }
     {
         let most = self.slice();
         self.wire.get(piece, most)
@@ -48,7 +49,8 @@ impl<'a, T: Time, W: Wire, A: Allocator> Line<'a, T, W, A> {
     /// Writes some of the bytes, waiting for a little.
     pub fn put(&mut self, bytes: &[u8]) -> Moved
         ensures origin { W.origin self.new.wire ≡ W.origin self.old.wire }
-        ensures bytes { IsWrittenTo (W.traffic self.old.wire) (W.traffic self.new.wire) bytes.now result }
+        ensures bytes { IsWrittenTo (W.traffic self.old.wire)
+            (W.traffic self.new.wire) bytes.now result }
     {
         let most = self.slice();
         self.wire.put(bytes, most)

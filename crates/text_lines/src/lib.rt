@@ -26,7 +26,9 @@ pub fn lines<'t, A: Allocator + Copy>(alloc: A, text: &'t [u8]) -> Result<Pieces
 
 // The parts of a text between LFs.
 fn pieces<'t, A: Allocator + Copy>(alloc: A, text: &'t [u8]) -> Result<Pieces<'t, A>, AllocError>
-    ensures { IfOk result (λ pieces. map (λ piece. piece.now) pieces.items ≡ slice_split (λ byte. byte == 10) text.now) }
+    ensures { IfOk result
+        (λ pieces. map (λ piece. piece.now) pieces.items
+        ≡ slice_split (λ byte. byte == 10) text.now) }
 {
     text.split(|byte| *byte == b'\n').collect(alloc)
 }
@@ -34,7 +36,8 @@ fn pieces<'t, A: Allocator + Copy>(alloc: A, text: &'t [u8]) -> Result<Pieces<'t
 // The line that the piece at this place is.
 fn line_at<'t>(pieces: &[&'t [u8]], at: usize) -> &'t [u8]
     requires { at < length pieces.now }
-    ensures { slice_get (lines_of_pieces (map (λ piece. piece.now) pieces.now)) at ≡ Some result.now }
+    ensures { slice_get (lines_of_pieces (map (λ piece. piece.now) pieces.now)) at
+        ≡ Some result.now }
 {
     if at + 1 < pieces.len() {
         without_return(pieces[at])

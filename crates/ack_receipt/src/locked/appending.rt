@@ -71,10 +71,19 @@ impl<D: Dir, A: Allocator + Copy> LockedBuffer<D, A> {
         ensures leaf { IfOk result (λ receipt. receipt.leaf ≡ terms.now.leaf) }
         ensures line { IfOk result (λ receipt. receipt.line ≡ length self.old.lines) }
         // The entries of the delivery, under its tag, and no others, where they were planned.
-        ensures appended { IfOk result (λ receipt. Appends delivery.now.number receipt.serial delivery.now.tag delivery.now.message.entries self.old self.new) }
-        ensures written { IfOk result (λ receipt. WritesLine (length self.old.appends) (record { delivery = delivery.now.number; serial = receipt.serial; count = length delivery.now.message.entries }) self.old self.new) }
+        ensures appended { IfOk result
+            (λ receipt. Appends delivery.now.number receipt.serial delivery.now.tag
+            delivery.now.message.entries self.old self.new) }
+        ensures written { IfOk result
+            (λ receipt. WritesLine (length self.old.appends)
+            (record {
+              delivery = delivery.now.number;
+              serial = receipt.serial;
+              count = length delivery.now.message.entries;
+            }) self.old self.new) }
         // The append is synced, and all before it.
-        ensures synced { OnOk result ((self.new.synced ≡ length self.new.appends) × (self.new.buffer.staged ≡ false)) }
+        ensures synced { OnOk result
+            ((self.new.synced ≡ length self.new.appends) × (self.new.buffer.staged ≡ false)) }
         ensures same { OnErr result (Unchanged self.old self.new) }
         ensures steady { Steady self.old.buffer self.new.buffer result }
     {
@@ -101,10 +110,14 @@ impl<D: Dir, A: Allocator + Copy> LockedBuffer<D, A> {
         requires some { 0 < length delivery.now.message.entries }
         ensures number { IfOk result (λ pending. pending.delivery ≡ delivery.now.number) }
         ensures leaf { IfOk result (λ pending. pending.leaf ≡ terms.now.leaf) }
-        ensures appended { IfOk result (λ pending. Appends delivery.now.number pending.serial delivery.now.tag delivery.now.message.entries self.old self.new) }
-        ensures waits { IfOk result (λ pending. IsWaiting self.new.waiting pending.place (line_of pending)) }
+        ensures appended { IfOk result
+            (λ pending. Appends delivery.now.number pending.serial delivery.now.tag
+            delivery.now.message.entries self.old self.new) }
+        ensures waits { IfOk result
+            (λ pending. IsWaiting self.new.waiting pending.place (line_of pending)) }
         // It has no receipt, and no line is closed.
-        ensures lines { (self.new.lines ≡ self.old.lines) × SameLines self.old.pages self.new.pages }
+        ensures lines { (self.new.lines ≡ self.old.lines)
+            × SameLines self.old.pages self.new.pages }
         ensures same { OnErr result (Unchanged self.old self.new) }
         ensures steady { Steady self.old.buffer self.new.buffer result }
     {

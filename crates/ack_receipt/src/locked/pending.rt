@@ -27,7 +27,13 @@ impl<A: Allocator> Model for Pending<A> {
 
     ghost Value = { Pended };
 
-    ghost view = { λ p. record { delivery = p.delivery; leaf = p.leaf; serial = p.serial; count = p.count; place = p.place } };
+    ghost view = { λ p. record {
+      delivery = p.delivery;
+      leaf = p.leaf;
+      serial = p.serial;
+      count = p.count;
+      place = p.place;
+    } };
 
     ghost invariant = { λ p. (p.room.items ≡ []) × (0 < vec_capacity p.room) };
 }
@@ -55,7 +61,11 @@ impl<A: Allocator> Pending<A> {
 
     // What the book says of the append.
     pub(super) fn line(&self) -> Line
-        ensures { result ≡ record { delivery = self.now.delivery; serial = self.now.serial; count = self.now.count } }
+        ensures { result ≡ record {
+          delivery = self.now.delivery;
+          serial = self.now.serial;
+          count = self.now.count;
+        } }
     {
         Line {
             delivery: self.delivery,

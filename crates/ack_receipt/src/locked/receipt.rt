@@ -27,7 +27,12 @@ impl<A: Allocator> Model for Receipt<A> {
 
     ghost Value = { Appended };
 
-    ghost view = { λ r. record { delivery = r.delivery; leaf = r.leaf; serial = r.serial; line = r.line } };
+    ghost view = { λ r. record {
+      delivery = r.delivery;
+      leaf = r.leaf;
+      serial = r.serial;
+      line = r.line;
+    } };
 
     ghost invariant = { λ r. (r.room.items ≡ []) × (0 < vec_capacity r.room) };
 }
@@ -95,7 +100,12 @@ impl<A: Allocator> Receipt<A> {
 
 // The part for this line of the buffer's book.
 fn part_at(leaf: Leaf, serial: u64, line: u64) -> Part
-    ensures { result ≡ record { relay = leaf.relay; buffer = leaf.buffer; serial = serial; line = line } }
+    ensures { result ≡ record {
+      relay = leaf.relay;
+      buffer = leaf.buffer;
+      serial = serial;
+      line = line;
+    } }
 {
     Part {
         relay: leaf.relay,

@@ -31,8 +31,10 @@ impl<D: Dir, A: Allocator + Copy> LockedBuffer<D, A> {
         terms: &Terms<A>,
         pendings: Vec<Pending<A>, A>,
     ) -> Result<Vec<Receipt<A>, A>, (RedeemFault, Vec<Pending<A>, A>)>
-        ensures ok { IfOk result (λ receipts. AreReceiptsOf terms.now.leaf pendings.items receipts.items) }
-        ensures written { IfOk result (λ receipts. AreWritten pendings.items receipts.items self.old.lines self.new.lines) }
+        ensures ok { IfOk result
+            (λ receipts. AreReceiptsOf terms.now.leaf pendings.items receipts.items) }
+        ensures written { IfOk result
+            (λ receipts. AreWritten pendings.items receipts.items self.old.lines self.new.lines) }
         // Their appends are synced.
         ensures synced { OnOk result (AreBefore self.new.synced pendings.items) }
         ensures syncs { Syncs self.old self.new }
@@ -40,9 +42,14 @@ impl<D: Dir, A: Allocator + Copy> LockedBuffer<D, A> {
         ensures chunks { self.new.buffer.chunks ≡ self.old.buffer.chunks }
         ensures appends { self.new.appends ≡ self.old.appends }
         // The device isn't touched where all of them are synced.
-        ensures quiet { AreBefore self.old.synced pendings.items → self.new.buffer ≡ self.old.buffer }
-        ensures stranger { IfErr result (λ refused. (refused.0 ≡ RedeemFault.Stranger) ↔ (CanRedeem terms.now.leaf self.old.waiting pendings.items → ⊥)) }
-        ensures failed { IfErr result (λ refused. refused.0 ≡ RedeemFault.Buffer BufferFault.Failed → self.old.buffer.failed ≡ true) }
+        ensures quiet { AreBefore self.old.synced pendings.items
+            → self.new.buffer ≡ self.old.buffer }
+        ensures stranger { IfErr result
+            (λ refused. (refused.0 ≡ RedeemFault.Stranger)
+            ↔ (CanRedeem terms.now.leaf self.old.waiting pendings.items → ⊥)) }
+        ensures failed { IfErr result
+            (λ refused. refused.0 ≡ RedeemFault.Buffer BufferFault.Failed
+            → self.old.buffer.failed ≡ true) }
         // A failed buffer gives no receipts.
         ensures stopped { self.old.buffer.failed ≡ true → IsErr result }
         ensures back { IfErr result (λ refused. refused.1 ≡ pendings) }
@@ -79,9 +86,12 @@ fn sync_for<D: Dir, A: Allocator + Copy>(
     ensures syncs { Syncs booked.old booked.new }
     ensures count { OnErr result (booked.new.synced ≡ booked.old.synced) }
     ensures chunks { booked.new.buffer.chunks ≡ booked.old.buffer.chunks }
-    ensures rest { booked.new ≡ record booked.old { buffer = booked.new.buffer; synced = booked.new.synced } }
-    ensures quiet { AreBefore booked.old.synced pendings.now → (result ≡ Ok tt) × (booked.new ≡ booked.old) }
-    ensures only { OnErr result ((result ≡ Err BufferFault.Failed) ⊎ (result ≡ Err BufferFault.Fault)) }
+    ensures rest { booked.new
+        ≡ record booked.old { buffer = booked.new.buffer; synced = booked.new.synced } }
+    ensures quiet { AreBefore booked.old.synced pendings.now
+        → (result ≡ Ok tt) × (booked.new ≡ booked.old) }
+    ensures only { OnErr result
+        ((result ≡ Err BufferFault.Failed) ⊎ (result ≡ Err BufferFault.Fault)) }
     ensures failed { result ≡ Err BufferFault.Failed → booked.old.buffer.failed ≡ true }
 {
     // What waits is an append of the book.
@@ -199,8 +209,15 @@ fn receipt_of<D: Dir, A: Allocator + Copy>(
     ensures origin { origin_of result ≡ origin_of_pending pending }
     ensures line { result.line ≡ length booked.old.lines }
     ensures written { WritesLine pending.place (line_of pending) booked.old booked.new }
-    ensures waiting { (other : ℕ) → waiting_at booked.new.waiting other ≡ cond (is_at (nat_cmp pending.place) other) None (waiting_at booked.old.waiting other) }
-    ensures rest { booked.new ≡ record booked.old { lines = booked.new.lines; pages = booked.new.pages; waiting = booked.new.waiting } }
+    ensures waiting { (other : ℕ)
+        → waiting_at booked.new.waiting other
+        ≡ cond (is_at (nat_cmp pending.place) other) None (waiting_at booked.old.waiting other) }
+    ensures rest { booked.new
+        ≡ record booked.old {
+          lines = booked.new.lines;
+          pages = booked.new.pages;
+          waiting = booked.new.waiting;
+        } }
 {
     let Pending {
         delivery,

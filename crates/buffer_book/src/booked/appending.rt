@@ -50,12 +50,17 @@ impl<D: Dir, A: Allocator + Copy> Booked<D, A> {
         entries: &Entries<A>,
     ) -> Result<Noted, BufferFault>
         requires some { 0 < length entries.now }
-        ensures noted { IfOk result (λ noted. Appends delivery noted.serial tag.now entries.now self.old self.new) }
+        ensures noted { IfOk result
+            (λ noted. Appends delivery noted.serial tag.now entries.now self.old self.new) }
         ensures line { IfOk result (λ noted. noted.line ≡ length self.old.lines) }
-        ensures written { IfOk result (λ noted. WritesLine (length self.old.appends) (record { delivery = delivery; serial = noted.serial; count = length entries.now }) self.old self.new) }
+        ensures written { IfOk result
+            (λ noted. WritesLine (length self.old.appends)
+            (record { delivery = delivery; serial = noted.serial; count = length entries.now })
+            self.old self.new) }
         ensures waiting { self.new.waiting ≡ self.old.waiting }
         // The append is synced, and all before it.
-        ensures synced { OnOk result ((self.new.synced ≡ length self.new.appends) × (self.new.buffer.staged ≡ false)) }
+        ensures synced { OnOk result
+            ((self.new.synced ≡ length self.new.appends) × (self.new.buffer.staged ≡ false)) }
         ensures same { OnErr result (Unchanged self.old self.new) }
         ensures refused { RefusesAppend tag.now entries.now self.old result }
         ensures steady { Steady self.old.buffer self.new.buffer result }
@@ -87,11 +92,15 @@ impl<D: Dir, A: Allocator + Copy> Booked<D, A> {
         entries: &Entries<A>,
     ) -> Result<Waits, BufferFault>
         requires some { 0 < length entries.now }
-        ensures noted { IfOk result (λ waits. Appends delivery waits.serial tag.now entries.now self.old self.new) }
+        ensures noted { IfOk result
+            (λ waits. Appends delivery waits.serial tag.now entries.now self.old self.new) }
         ensures number { IfOk result (λ waits. waits.place ≡ length self.old.appends) }
-        ensures waits { IfOk result (λ waits. IsWaiting self.new.waiting waits.place (record { delivery = delivery; serial = waits.serial; count = length entries.now })) }
+        ensures waits { IfOk result
+            (λ waits. IsWaiting self.new.waiting waits.place
+            (record { delivery = delivery; serial = waits.serial; count = length entries.now })) }
         // No line is written, and none is closed.
-        ensures lines { (self.new.lines ≡ self.old.lines) × SameLines self.old.pages self.new.pages }
+        ensures lines { (self.new.lines ≡ self.old.lines)
+            × SameLines self.old.pages self.new.pages }
         ensures syncs { Syncs self.old self.new }
         ensures same { OnErr result (Unchanged self.old self.new) }
         ensures refused { RefusesAppend tag.now entries.now self.old result }
@@ -139,11 +148,14 @@ impl<D: Dir, A: Allocator + Copy> Booked<D, A> {
     /// The first of `Failed` and `Fault` that applies. None changes the chunks or the book.
     pub fn sync(&mut self) -> Result<(), BufferFault>
         ensures chunks { self.new.buffer.chunks ≡ self.old.buffer.chunks }
-        ensures book { self.new ≡ record self.old { buffer = self.new.buffer; synced = self.new.synced } }
-        ensures synced { OnOk result ((self.new.synced ≡ length self.new.appends) × (self.new.buffer.staged ≡ false)) }
+        ensures book { self.new
+            ≡ record self.old { buffer = self.new.buffer; synced = self.new.synced } }
+        ensures synced { OnOk result
+            ((self.new.synced ≡ length self.new.appends) × (self.new.buffer.staged ≡ false)) }
         ensures count { OnErr result (self.new.synced ≡ self.old.synced) }
         ensures syncs { Syncs self.old self.new }
-        ensures only { OnErr result ((result ≡ Err BufferFault.Failed) ⊎ (result ≡ Err BufferFault.Fault)) }
+        ensures only { OnErr result
+            ((result ≡ Err BufferFault.Failed) ⊎ (result ≡ Err BufferFault.Fault)) }
         ensures steady { Steady self.old.buffer self.new.buffer result }
     {
         self.buffer.sync()?;
@@ -158,8 +170,15 @@ impl<D: Dir, A: Allocator + Copy> Booked<D, A> {
         requires synced { place < self.old.synced }
         ensures number { result ≡ length self.old.lines }
         ensures written { WritesLine place line self.old self.new }
-        ensures waiting { (other : ℕ) → waiting_at self.new.waiting other ≡ cond (is_at (nat_cmp place) other) None (waiting_at self.old.waiting other) }
-        ensures rest { self.new ≡ record self.old { lines = self.new.lines; pages = self.new.pages; waiting = self.new.waiting } }
+        ensures waiting { (other : ℕ)
+            → waiting_at self.new.waiting other
+            ≡ cond (is_at (nat_cmp place) other) None (waiting_at self.old.waiting other) }
+        ensures rest { self.new
+            ≡ record self.old {
+              lines = self.new.lines;
+              pages = self.new.pages;
+              waiting = self.new.waiting;
+            } }
     {
         let _ = self.waiting.remove(&place);
         self.past = self.past.then_line(&Written { place, line });
@@ -170,7 +189,8 @@ impl<D: Dir, A: Allocator + Copy> Booked<D, A> {
     /// its note.
     pub fn forget(&mut self, place: u64, line: &Line)
         ensures forgotten { IsWaiting self.old.waiting place line.now
-            → (other : ℕ) → waiting_at self.new.waiting other ≡ cond (is_at (nat_cmp place) other) None (waiting_at self.old.waiting other) }
+            → (other : ℕ) → waiting_at self.new.waiting other
+            ≡ cond (is_at (nat_cmp place) other) None (waiting_at self.old.waiting other) }
         ensures stranger { (IsWaiting self.old.waiting place line.now → ⊥) → self.new ≡ self.old }
         ensures rest { self.new ≡ record self.old { waiting = self.new.waiting } }
     {
@@ -184,10 +204,14 @@ impl<D: Dir, A: Allocator + Copy> Booked<D, A> {
     /// The first of `Failed`, `TooLarge`, `Full` and `LastSerial` that applies; `TooLarge` also for
     /// a tag of more than 1,024 bytes.
     pub fn plan<B: Allocator>(&self, tag: &[u8], entries: &Entries<B>) -> Result<u64, BufferFault>
-        ensures place { IfOk result (λ serial. planned self.now.buffer.limits self.now.buffer.chunks tag.now entries.now ≡ Ok serial) }
-        ensures can { IfOk result (λ serial. CanAppend self.now.buffer.chunks serial tag.now entries.now) }
+        ensures place { IfOk result
+            (λ serial. planned self.now.buffer.limits self.now.buffer.chunks tag.now entries.now
+            ≡ Ok serial) }
+        ensures can { IfOk result
+            (λ serial. CanAppend self.now.buffer.chunks serial tag.now entries.now) }
         ensures near { IfOk result (λ serial. serial ≤ self.now.buffer.chunks.next) }
-        ensures free { OnOk result (chunk_at self.now.buffer.chunks self.now.buffer.chunks.next ≡ None) }
+        ensures free { OnOk result
+            (chunk_at self.now.buffer.chunks self.now.buffer.chunks.next ≡ None) }
         ensures going { OnOk result (self.now.buffer.failed ≡ false) }
         ensures short { OnOk result (length tag.now ≤ longest_tag) }
         ensures number { OnOk result (length self.now.appends < 2 ^ 64 - 1) }

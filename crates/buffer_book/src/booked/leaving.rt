@@ -32,11 +32,18 @@ impl<D: Dir, A: Allocator + Copy> Booked<D, A> {
     ///
     /// The error is want of memory, and changes nothing: the order of the queue stays too.
     pub fn claim(&mut self, leaf: Leaf) -> Result<Option<Claim<A>>, AllocError>
-        ensures first { IfOk result (λ claim. option_map (λ c. c.serial) claim ≡ first_of self.old.buffer.chunks.queue) }
+        ensures first { IfOk result
+            (λ claim. option_map (λ c. c.serial) claim ≡ first_of self.old.buffer.chunks.queue) }
         ensures leaf { IfOk result (λ claim. IfSome claim (λ c. c.leaf ≡ leaf)) }
-        ensures copied { IfOk result (λ claim. IfSome claim (λ c. IsCopied c self.old.buffer.chunks)) }
-        ensures taken { IfOk result (λ claim. IfSome claim (λ c. IsAt Claimed self.new.buffer.chunks c.serial)) }
-        ensures state { OnOk result (self.new ≡ record self.old { buffer = record self.old.buffer { chunks = claimed self.old.buffer.chunks } }) }
+        ensures copied { IfOk result
+            (λ claim. IfSome claim (λ c. IsCopied c self.old.buffer.chunks)) }
+        ensures taken { IfOk result
+            (λ claim. IfSome claim (λ c. IsAt Claimed self.new.buffer.chunks c.serial)) }
+        ensures state { OnOk result
+            (self.new ≡ record self.old {
+              buffer = record
+                  self.old.buffer { chunks = claimed self.old.buffer.chunks };
+            }) }
         ensures err { OnErr result (self.new ≡ self.old) }
     {
         let Some(serial) = self.buffer.chunks().first() else {
@@ -58,19 +65,27 @@ impl<D: Dir, A: Allocator + Copy> Booked<D, A> {
     /// and count, `Fault` where a read failed, `Damaged` where the journal hasn't the bytes that
     /// were told. Each leaves the buffer as it was.
     pub fn body(&mut self, leaf: Leaf, claim: &Claim<A>) -> Result<Entries<A>, BufferFault>
-        ensures own { OnOk result ((claim.now.leaf ≡ leaf) × IsCopied claim.now self.old.buffer.chunks) }
+        ensures own { OnOk result
+            ((claim.now.leaf ≡ leaf) × IsCopied claim.now self.old.buffer.chunks) }
         ensures entries { BeganWell D.is_honest D.history self.old.buffer
-            → IfOk result (λ entries. IsSomeAnd (chunk_at self.old.buffer.chunks claim.now.serial) (λ chunk. entries ≡ chunk.entries)) }
+            → IfOk result (λ entries. IsSomeAnd (chunk_at self.old.buffer.chunks claim.now.serial)
+            (λ chunk. entries ≡ chunk.entries)) }
         // Over whatever folder there are as many as were appended.
         ensures counted { IfOk result (λ entries. length entries ≡ claim.now.count) }
-        ensures failed { (result ≡ Err BufferFault.Failed) ↔ ((claim.now.leaf ≡ leaf) × (self.old.buffer.failed ≡ true)) }
+        ensures failed { (result ≡ Err BufferFault.Failed)
+            ↔ ((claim.now.leaf ≡ leaf) × (self.old.buffer.failed ≡ true)) }
         ensures gone { (result ≡ Err BufferFault.Gone)
             ↔ ((claim.now.leaf ≢ leaf) ⊎ ((self.old.buffer.failed ≡ false) × (IsCopied claim.now self.old.buffer.chunks → ⊥))) }
-        ensures undamaged { BeganWell D.is_honest D.history self.old.buffer → result ≢ Err BufferFault.Damaged }
-        ensures only { OnErr result ((result ≡ Err BufferFault.Failed) ⊎ ((result ≡ Err BufferFault.Gone) ⊎ ((result ≡ Err BufferFault.Memory)
+        ensures undamaged { BeganWell D.is_honest D.history self.old.buffer
+            → result ≢ Err BufferFault.Damaged }
+        ensures only { OnErr result
+            ((result ≡ Err BufferFault.Failed)
+            ⊎ ((result ≡ Err BufferFault.Gone) ⊎ ((result ≡ Err BufferFault.Memory)
             ⊎ ((result ≡ Err BufferFault.Fault) ⊎ (result ≡ Err BufferFault.Damaged))))) }
-        ensures rest { self.new ≡ record self.old { buffer = record self.old.buffer { dir = self.new.buffer.dir } } }
-        ensures cause { result ≡ Err BufferFault.Fault → Rises (D.fault_count self.old.buffer.dir) (D.fault_count self.new.buffer.dir) }
+        ensures rest { self.new
+            ≡ record self.old { buffer = record self.old.buffer { dir = self.new.buffer.dir } } }
+        ensures cause { result ≡ Err BufferFault.Fault
+            → Rises (D.fault_count self.old.buffer.dir) (D.fault_count self.new.buffer.dir) }
     {
         if claim.leaf() != leaf {
             return Err(BufferFault::Gone);
@@ -90,8 +105,13 @@ impl<D: Dir, A: Allocator + Copy> Booked<D, A> {
     pub fn give_back(&mut self, leaf: Leaf, claim: Claim<A>)
         requires own { claim.leaf ≡ leaf }
         ensures back { IsAt Claimed self.old.buffer.chunks claim.serial
-            → self.new ≡ record self.old { buffer = record self.old.buffer { chunks = queued_last claim.serial self.old.buffer.chunks } } }
-        ensures other { (IsAt Claimed self.old.buffer.chunks claim.serial → ⊥) → self.new ≡ self.old }
+            → self.new ≡ record
+            self.old {
+              buffer = record
+                  self.old.buffer { chunks = queued_last claim.serial self.old.buffer.chunks };
+            } }
+        ensures other { (IsAt Claimed self.old.buffer.chunks claim.serial → ⊥)
+            → self.new ≡ self.old }
         // No claim ends with its chunk still claimed.
         ensures ended { IsAt Claimed self.new.buffer.chunks claim.serial → ⊥ }
     {
@@ -122,9 +142,11 @@ impl<D: Dir, A: Allocator + Copy> Booked<D, A> {
     ) -> Result<(), (PurgeFault, Claim<A>, Evidence<A>)>
         ensures meant { OnOk result (IsFor leaf takes.now claim evidence) }
         ensures like { OnOk result (ShowsLike self.old.buffer.chunks claim.serial evidence) }
-        ensures serves { CanCompare D.is_honest D.history self.old.buffer evidence → OnOk result (Serves leaf takes.now self.old.buffer.chunks claim evidence) }
+        ensures serves { CanCompare D.is_honest D.history self.old.buffer evidence
+            → OnOk result (Serves leaf takes.now self.old.buffer.chunks claim evidence) }
         ensures removes { OnOk result (Removes claim.serial self.old self.new) }
-        ensures refused { RefusesPurge D.is_honest D.history D.fault_count leaf takes.now claim evidence
+        ensures refused { RefusesPurge D.is_honest D.history D.fault_count leaf takes.now claim
+            evidence
             self.old.buffer self.new.buffer (answer_of result) }
         ensures back { IfErr result (λ e. (e.1 ≡ claim) × (e.2 ≡ evidence)) }
         ensures same { OnErr result (Unchanged self.old self.new) }
@@ -154,10 +176,14 @@ impl<D: Dir, A: Allocator + Copy> Booked<D, A> {
     /// queued, or where this buffer's chunks may not be dropped. None changes the chunks or the
     /// book.
     pub fn drop_oldest(&mut self, takes: &Takes<A>) -> Result<u64, BufferFault>
-        ensures oldest { IfOk result (λ serial. to_drop takes.now self.old.buffer.chunks ≡ Some serial) }
+        ensures oldest { IfOk result
+            (λ serial. to_drop takes.now self.old.buffer.chunks ≡ Some serial) }
         ensures removes { IfOk result (λ serial. Removes serial self.old self.new) }
-        ensures gone { (result ≡ Err BufferFault.Gone) ↔ ((self.old.buffer.failed ≡ false) × (to_drop takes.now self.old.buffer.chunks ≡ None)) }
-        ensures only { self.old.buffer.failed ≡ false → (serial : ℕ) → to_drop takes.now self.old.buffer.chunks ≡ Some serial
+        ensures gone { (result ≡ Err BufferFault.Gone)
+            ↔ ((self.old.buffer.failed ≡ false)
+            × (to_drop takes.now self.old.buffer.chunks ≡ None)) }
+        ensures only { self.old.buffer.failed ≡ false → (serial : ℕ)
+            → to_drop takes.now self.old.buffer.chunks ≡ Some serial
             → OnErr result ((result ≡ Err BufferFault.Memory) ⊎ (result ≡ Err BufferFault.Fault)) }
         ensures same { OnErr result (Unchanged self.old self.new) }
         ensures steady { Steady self.old.buffer self.new.buffer result }
@@ -183,18 +209,26 @@ impl<D: Dir, A: Allocator + Copy> Booked<D, A> {
         claim: &Claim<A>,
         evidence: &Evidence<A>,
     ) -> Result<bool, BufferFault>
-        ensures meant { IfOk result (λ serves. IsTrue serves → IsFor leaf takes.now claim.now evidence.now) }
-        ensures like { IfOk result (λ serves. IsTrue serves → ShowsLike self.old.buffer.chunks claim.now.serial evidence.now) }
+        ensures meant { IfOk result
+            (λ serves. IsTrue serves → IsFor leaf takes.now claim.now evidence.now) }
+        ensures like { IfOk result
+            (λ serves. IsTrue serves
+            → ShowsLike self.old.buffer.chunks claim.now.serial evidence.now) }
         ensures serves { CanCompare D.is_honest D.history self.old.buffer evidence.now
-            → IfOk result (λ serves. IsTrue serves ↔ Serves leaf takes.now self.old.buffer.chunks claim.now evidence.now) }
+            → IfOk result (λ serves. IsTrue serves
+            ↔ Serves leaf takes.now self.old.buffer.chunks claim.now evidence.now) }
         ensures astray { (IsFor leaf takes.now claim.now evidence.now → ⊥) → result ≡ Ok false }
         ensures read { OnErr result (IsSome (stored_of evidence.now) × IsUnread result) }
         ensures failed { result ≡ Err BufferFault.Failed → self.old.buffer.failed ≡ true }
-        ensures stopped { self.old.buffer.failed ≡ true → OnErr result (result ≡ Err BufferFault.Failed) }
-        ensures undamaged { CanCompare D.is_honest D.history self.old.buffer evidence.now → result ≢ Err BufferFault.Damaged }
-        ensures rest { self.new ≡ record self.old { buffer = record self.old.buffer { dir = self.new.buffer.dir } } }
+        ensures stopped { self.old.buffer.failed ≡ true
+            → OnErr result (result ≡ Err BufferFault.Failed) }
+        ensures undamaged { CanCompare D.is_honest D.history self.old.buffer evidence.now
+            → result ≢ Err BufferFault.Damaged }
+        ensures rest { self.new
+            ≡ record self.old { buffer = record self.old.buffer { dir = self.new.buffer.dir } } }
         ensures later { D.fault_count self.old.buffer.dir ≤ D.fault_count self.new.buffer.dir }
-        ensures cause { result ≡ Err BufferFault.Fault → Rises (D.fault_count self.old.buffer.dir) (D.fault_count self.new.buffer.dir) }
+        ensures cause { result ≡ Err BufferFault.Fault
+            → Rises (D.fault_count self.old.buffer.dir) (D.fault_count self.new.buffer.dir) }
     {
         if !evidence.is_for(leaf, takes, claim) {
             return Ok(false);
@@ -207,15 +241,22 @@ impl<D: Dir, A: Allocator + Copy> Booked<D, A> {
 
     // Whether what is in a sink are the tag and the entries of the live chunk of this serial.
     fn is_stored(&mut self, serial: u64, stored: &Stored<A>) -> Result<bool, BufferFault>
-        ensures whole { BeganWell D.is_honest D.history self.old.buffer → IfOk result (λ whole. IsTrue whole ↔ IsWhole self.old.buffer.chunks serial stored.now) }
-        ensures like { IfOk result (λ whole. IsTrue whole → IsLike self.old.buffer.chunks serial stored.now) }
+        ensures whole { BeganWell D.is_honest D.history self.old.buffer
+            → IfOk result (λ whole. IsTrue whole
+            ↔ IsWhole self.old.buffer.chunks serial stored.now) }
+        ensures like { IfOk result
+            (λ whole. IsTrue whole → IsLike self.old.buffer.chunks serial stored.now) }
         ensures read { OnErr result (IsUnread result) }
         ensures failed { result ≡ Err BufferFault.Failed → self.old.buffer.failed ≡ true }
-        ensures stopped { self.old.buffer.failed ≡ true → OnErr result (result ≡ Err BufferFault.Failed) }
-        ensures undamaged { BeganWell D.is_honest D.history self.old.buffer → result ≢ Err BufferFault.Damaged }
-        ensures rest { self.new ≡ record self.old { buffer = record self.old.buffer { dir = self.new.buffer.dir } } }
+        ensures stopped { self.old.buffer.failed ≡ true
+            → OnErr result (result ≡ Err BufferFault.Failed) }
+        ensures undamaged { BeganWell D.is_honest D.history self.old.buffer
+            → result ≢ Err BufferFault.Damaged }
+        ensures rest { self.new
+            ≡ record self.old { buffer = record self.old.buffer { dir = self.new.buffer.dir } } }
         ensures later { D.fault_count self.old.buffer.dir ≤ D.fault_count self.new.buffer.dir }
-        ensures cause { result ≡ Err BufferFault.Fault → Rises (D.fault_count self.old.buffer.dir) (D.fault_count self.new.buffer.dir) }
+        ensures cause { result ≡ Err BufferFault.Fault
+            → Rises (D.fault_count self.old.buffer.dir) (D.fault_count self.new.buffer.dir) }
     {
         let Some(facts) = self.buffer.chunks().facts(serial) else {
             return Ok(false);
@@ -230,12 +271,15 @@ impl<D: Dir, A: Allocator + Copy> Booked<D, A> {
     // Lets the claimed chunk of this serial go, and notes it.
     fn let_go(&mut self, serial: u64) -> Result<(), BufferFault>
         ensures removes { OnOk result (Removes serial self.old self.new) }
-        ensures gone { (result ≡ Err BufferFault.Gone) ↔ ((self.old.buffer.failed ≡ false) × (IsAt Claimed self.old.buffer.chunks serial → ⊥)) }
+        ensures gone { (result ≡ Err BufferFault.Gone)
+            ↔ ((self.old.buffer.failed ≡ false)
+            × (IsAt Claimed self.old.buffer.chunks serial → ⊥)) }
         ensures only { self.old.buffer.failed ≡ false → IsAt Claimed self.old.buffer.chunks serial
             → OnErr result ((result ≡ Err BufferFault.Memory) ⊎ (result ≡ Err BufferFault.Fault)) }
         ensures same { OnErr result (Unchanged self.old self.new) }
         ensures steady { Steady self.old.buffer self.new.buffer result }
-        ensures cause { result ≡ Err BufferFault.Fault → Rises (D.fault_count self.old.buffer.dir) (D.fault_count self.new.buffer.dir) }
+        ensures cause { result ≡ Err BufferFault.Fault
+            → Rises (D.fault_count self.old.buffer.dir) (D.fault_count self.new.buffer.dir) }
     {
         // No serial is that of two chunks.
         self.buffer.stays_in_order();

@@ -92,7 +92,8 @@ impl<A: Allocator + Copy> Known<A> {
     ) -> Judgement
         ensures serial { result.serial ≡ serial }
         ensures expires { result.expires ≡ expires }
-        ensures verdict { IsVerdict settings.now expires (map.get self.old.failures serial) self.new.latest result.verdict }
+        ensures verdict { IsVerdict settings.now expires
+            (map.get self.old.failures serial) self.new.latest result.verdict }
         ensures failed { result.others.failed ≡ map.len self.old.failures }
         ensures time { self.new.latest ≡ max self.old.latest (unwrap_or read 0) }
         ensures failures { self.new.failures ≡ self.old.failures }
@@ -158,7 +159,10 @@ impl<A: Allocator + Copy> Known<A> {
         read: Option<u64>,
     ) -> Result<Noted, AllocError>
         ensures serial { IfOk result (λ shown. shown.serial ≡ serial) }
-        ensures ok { IfOk result (λ shown. self.new.failures ≡ map.insert self.old.failures serial (noted self.new.latest (map.get self.old.failures serial))) }
+        ensures ok { IfOk result
+            (λ shown. self.new.failures
+            ≡ map.insert self.old.failures serial
+            (noted self.new.latest (map.get self.old.failures serial))) }
         ensures err { OnErr result (self.new.failures ≡ self.old.failures) }
         ensures first { OnErr result (map.get self.old.failures serial ≡ None) }
         ensures time { self.new.latest ≡ max self.old.latest (unwrap_or read 0) }
