@@ -4,4 +4,5 @@ pub mod Stays
 pub mod Writes
 pub mod Made
 pub mod Onward
+pub mod Caused
 pub mod Kept
