@@ -23,6 +23,7 @@ pub mod Fresh
 pub mod Strays
 pub mod OpeningMoments
 pub mod Reasons
+pub mod Wanting
 pub mod Heard
 pub mod Sourced
 pub mod Afresh

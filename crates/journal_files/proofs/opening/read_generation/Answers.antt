@@ -1,12 +1,14 @@
-use Rattle.std.proofs.Common.{◌≡◌, ℕ, List, Ok, ap, subst, ◌∙◌}
+use Rattle.std.proofs.Common.{◌≡◌, ℕ, List, Ok, None, refl, ap, subst, ◌∙◌}
 use Rattle.disk_files.specs.Disk.{reads}
 use Rattle.disk_files.specs.Moments.{now}
 use Rattle.chunk_journal.specs.Meaning.{EndsUnsealed, IsDamaged}
 use Rattle.journal_files.specs.Found.{IsMeant, IsSo}
+use Rattle.journal_files.specs.Faults.{dir_error}
 use Rattle.journal_files.specs.declared.error.JournalError.TheVariants as refusal
 use Rattle.journal_files.proofs.AllRead.{so_of, meant_of}
 use Rattle.file_pieces.proofs.ReadOn.{elapsed}
-use Rattle.journal_files.proofs.Reasons.{answered}
+use Rattle.journal_files.proofs.Reasons.{answered, reason_ok, reason_dir, reason_err, dir_undamaged, dir_numbered}
+use Rattle.journal_files.proofs.Wanting.{reason_memory, reason_quiet, no_value, no_ok, not_err}
 use Rattle.journal_files.proofs.Tags.{replayed_short, replayed_unclaimed}
 use Rattle.journal_files.proofs.opening.read_generation.Goals as goal
 
@@ -78,3 +80,109 @@ returns-in_err-outlined-clause-damaged g c = λ honest damaged.
     subst (λ (n : List ℕ). IsSo (reads old n) IsDamaged) name
     (so_of old mid c.deref.result.now (c.in_ok-file.ensures.same honest) (c.in_ok-file.ensures.ok honest) IsDamaged
     (λ bytes is. c.in_err-outlined.ensures.damaged bytes (c.in_ok-outline.ensures.all there c.deref.result.now bytes c.in_ok-file.ensures.opened is) (cc e)))
+
+pub returns-in_err-name-clause-meant : goal.returns-in_err-name-clause-meant
+returns-in_err-name-clause-meant g c = λ honest. no_value refusal.Memory c.from_residual.result _ (answered refusal.Memory c.from_residual.result c.from_residual.ensures.1)
+
+pub returns-in_err-name-clause-unsealed : goal.returns-in_err-name-clause-unsealed
+returns-in_err-name-clause-unsealed g c = λ honest is. no_ok refusal.Memory None c.from_residual.result _ (answered refusal.Memory c.from_residual.result c.from_residual.ensures.1) is
+
+pub returns-in_err-name-clause-open : goal.returns-in_err-name-clause-open
+returns-in_err-name-clause-open g c = no_value refusal.Memory c.from_residual.result _ (answered refusal.Memory c.from_residual.result c.from_residual.ensures.1)
+
+pub returns-in_err-name-clause-tags : goal.returns-in_err-name-clause-tags
+returns-in_err-name-clause-tags g c = no_value refusal.Memory c.from_residual.result _ (answered refusal.Memory c.from_residual.result c.from_residual.ensures.1)
+
+pub returns-in_err-name-clause-unclaimed : goal.returns-in_err-name-clause-unclaimed
+returns-in_err-name-clause-unclaimed g c = no_value refusal.Memory c.from_residual.result _ (answered refusal.Memory c.from_residual.result c.from_residual.ensures.1)
+
+pub returns-in_err-name-clause-damaged : goal.returns-in_err-name-clause-damaged
+returns-in_err-name-clause-damaged g c = λ honest is. absurd (not_err refusal.Memory refusal.Damaged c.from_residual.result (answered refusal.Memory c.from_residual.result c.from_residual.ensures.1) (λ e. cc e) is)
+
+pub returns-in_err-name-clause-not_last : goal.returns-in_err-name-clause-not_last
+returns-in_err-name-clause-not_last g c = not_err refusal.Memory refusal.LastGeneration c.from_residual.result (answered refusal.Memory c.from_residual.result c.from_residual.ensures.1) (λ e. cc e)
+
+pub returns-in_err-name-clause-cause : goal.returns-in_err-name-clause-cause
+returns-in_err-name-clause-cause g c = reason_memory _ _ c.from_residual.result refl (answered refusal.Memory c.from_residual.result c.from_residual.ensures.1)
+
+pub returns-in_err-file-clause-meant : goal.returns-in_err-file-clause-meant
+returns-in_err-file-clause-meant g c = λ honest. no_value (dir_error c.in_err-file.field-0.0) c.from_residual-in_err-file.result _ (answered (dir_error c.in_err-file.field-0.0) c.from_residual-in_err-file.result c.from_residual-in_err-file.ensures.1)
+
+pub returns-in_err-file-clause-unsealed : goal.returns-in_err-file-clause-unsealed
+returns-in_err-file-clause-unsealed g c = λ honest is. no_ok (dir_error c.in_err-file.field-0.0) None c.from_residual-in_err-file.result _ (answered (dir_error c.in_err-file.field-0.0) c.from_residual-in_err-file.result c.from_residual-in_err-file.ensures.1) is
+
+pub returns-in_err-file-clause-open : goal.returns-in_err-file-clause-open
+returns-in_err-file-clause-open g c = no_value (dir_error c.in_err-file.field-0.0) c.from_residual-in_err-file.result _ (answered (dir_error c.in_err-file.field-0.0) c.from_residual-in_err-file.result c.from_residual-in_err-file.ensures.1)
+
+pub returns-in_err-file-clause-tags : goal.returns-in_err-file-clause-tags
+returns-in_err-file-clause-tags g c = no_value (dir_error c.in_err-file.field-0.0) c.from_residual-in_err-file.result _ (answered (dir_error c.in_err-file.field-0.0) c.from_residual-in_err-file.result c.from_residual-in_err-file.ensures.1)
+
+pub returns-in_err-file-clause-unclaimed : goal.returns-in_err-file-clause-unclaimed
+returns-in_err-file-clause-unclaimed g c = no_value (dir_error c.in_err-file.field-0.0) c.from_residual-in_err-file.result _ (answered (dir_error c.in_err-file.field-0.0) c.from_residual-in_err-file.result c.from_residual-in_err-file.ensures.1)
+
+pub returns-in_err-file-clause-damaged : goal.returns-in_err-file-clause-damaged
+returns-in_err-file-clause-damaged g c = λ honest is. absurd (not_err (dir_error c.in_err-file.field-0.0) refusal.Damaged c.from_residual-in_err-file.result (answered (dir_error c.in_err-file.field-0.0) c.from_residual-in_err-file.result c.from_residual-in_err-file.ensures.1) (dir_undamaged c.in_err-file.field-0.0) is)
+
+pub returns-in_err-file-clause-not_last : goal.returns-in_err-file-clause-not_last
+returns-in_err-file-clause-not_last g c = not_err (dir_error c.in_err-file.field-0.0) refusal.LastGeneration c.from_residual-in_err-file.result (answered (dir_error c.in_err-file.field-0.0) c.from_residual-in_err-file.result c.from_residual-in_err-file.ensures.1) (dir_numbered c.in_err-file.field-0.0)
+
+pub returns-in_err-file-clause-cause : goal.returns-in_err-file-clause-cause
+returns-in_err-file-clause-cause g c = reason_dir _ _ _ c.in_err-file.field-0.0 c.from_residual-in_err-file.result refl c.in_err-file.ensures.device.cause (answered (dir_error c.in_err-file.field-0.0) c.from_residual-in_err-file.result c.from_residual-in_err-file.ensures.1)
+
+pub returns-in_err-outline-clause-meant : goal.returns-in_err-outline-clause-meant
+returns-in_err-outline-clause-meant g c = λ honest. no_value c.in_err-outline.field-0.0 c.from_residual-in_err-outline.result _ (answered c.in_err-outline.field-0.0 c.from_residual-in_err-outline.result c.from_residual-in_err-outline.ensures.1)
+
+pub returns-in_err-outline-clause-unsealed : goal.returns-in_err-outline-clause-unsealed
+returns-in_err-outline-clause-unsealed g c = λ honest is. no_ok c.in_err-outline.field-0.0 None c.from_residual-in_err-outline.result _ (answered c.in_err-outline.field-0.0 c.from_residual-in_err-outline.result c.from_residual-in_err-outline.ensures.1) is
+
+pub returns-in_err-outline-clause-open : goal.returns-in_err-outline-clause-open
+returns-in_err-outline-clause-open g c = no_value c.in_err-outline.field-0.0 c.from_residual-in_err-outline.result _ (answered c.in_err-outline.field-0.0 c.from_residual-in_err-outline.result c.from_residual-in_err-outline.ensures.1)
+
+pub returns-in_err-outline-clause-tags : goal.returns-in_err-outline-clause-tags
+returns-in_err-outline-clause-tags g c = no_value c.in_err-outline.field-0.0 c.from_residual-in_err-outline.result _ (answered c.in_err-outline.field-0.0 c.from_residual-in_err-outline.result c.from_residual-in_err-outline.ensures.1)
+
+pub returns-in_err-outline-clause-unclaimed : goal.returns-in_err-outline-clause-unclaimed
+returns-in_err-outline-clause-unclaimed g c = no_value c.in_err-outline.field-0.0 c.from_residual-in_err-outline.result _ (answered c.in_err-outline.field-0.0 c.from_residual-in_err-outline.result c.from_residual-in_err-outline.ensures.1)
+
+pub returns-in_err-outline-clause-not_last : goal.returns-in_err-outline-clause-not_last
+returns-in_err-outline-clause-not_last g c = not_err c.in_err-outline.field-0.0 refusal.LastGeneration c.from_residual-in_err-outline.result (answered c.in_err-outline.field-0.0 c.from_residual-in_err-outline.result c.from_residual-in_err-outline.ensures.1) (λ e. c.in_err-outline.ensures.not_last (cc e))
+
+pub returns-in_err-outline-clause-cause : goal.returns-in_err-outline-clause-cause
+returns-in_err-outline-clause-cause g c = reason_err _ _ _ c.in_err-outline.field-0.0 refusal.Fault c.from_residual-in_err-outline.result c.in_ok-file.ensures.device.cause.passed c.in_err-outline.ensures.cause (answered c.in_err-outline.field-0.0 c.from_residual-in_err-outline.result c.from_residual-in_err-outline.ensures.1)
+
+pub returns-in_err-outlined-clause-meant : goal.returns-in_err-outlined-clause-meant
+returns-in_err-outlined-clause-meant g c = λ honest. no_value c.in_err-outlined.field-0.0 c.from_residual-in_err-outlined.result _ (answered c.in_err-outlined.field-0.0 c.from_residual-in_err-outlined.result c.from_residual-in_err-outlined.ensures.1)
+
+pub returns-in_err-outlined-clause-unsealed : goal.returns-in_err-outlined-clause-unsealed
+returns-in_err-outlined-clause-unsealed g c = λ honest is. no_ok c.in_err-outlined.field-0.0 None c.from_residual-in_err-outlined.result _ (answered c.in_err-outlined.field-0.0 c.from_residual-in_err-outlined.result c.from_residual-in_err-outlined.ensures.1) is
+
+pub returns-in_err-outlined-clause-open : goal.returns-in_err-outlined-clause-open
+returns-in_err-outlined-clause-open g c = no_value c.in_err-outlined.field-0.0 c.from_residual-in_err-outlined.result _ (answered c.in_err-outlined.field-0.0 c.from_residual-in_err-outlined.result c.from_residual-in_err-outlined.ensures.1)
+
+pub returns-in_err-outlined-clause-tags : goal.returns-in_err-outlined-clause-tags
+returns-in_err-outlined-clause-tags g c = no_value c.in_err-outlined.field-0.0 c.from_residual-in_err-outlined.result _ (answered c.in_err-outlined.field-0.0 c.from_residual-in_err-outlined.result c.from_residual-in_err-outlined.ensures.1)
+
+pub returns-in_err-outlined-clause-unclaimed : goal.returns-in_err-outlined-clause-unclaimed
+returns-in_err-outlined-clause-unclaimed g c = no_value c.in_err-outlined.field-0.0 c.from_residual-in_err-outlined.result _ (answered c.in_err-outlined.field-0.0 c.from_residual-in_err-outlined.result c.from_residual-in_err-outlined.ensures.1)
+
+pub returns-in_err-outlined-clause-not_last : goal.returns-in_err-outlined-clause-not_last
+returns-in_err-outlined-clause-not_last g c = not_err c.in_err-outlined.field-0.0 refusal.LastGeneration c.from_residual-in_err-outlined.result (answered c.in_err-outlined.field-0.0 c.from_residual-in_err-outlined.result c.from_residual-in_err-outlined.ensures.1) (λ e. c.in_err-outlined.ensures.not_last (cc e))
+
+pub returns-in_err-outlined-clause-cause : goal.returns-in_err-outlined-clause-cause
+returns-in_err-outlined-clause-cause g c = reason_quiet _ _ c.in_err-outlined.field-0.0 c.from_residual-in_err-outlined.result (c.in_ok-outline.ensures.cause.passed ∙ c.in_ok-file.ensures.device.cause.passed) (λ e. c.in_err-outlined.ensures.no_fault (cc e)) (answered c.in_err-outlined.field-0.0 c.from_residual-in_err-outlined.result c.from_residual-in_err-outlined.ensures.1)
+
+pub returns-in_err-outline-clause-time : goal.returns-in_err-outline-clause-time
+returns-in_err-outline-clause-time g c = λ honest.
+    let there = c.in_ok-file.ensures.device.honest honest in
+    elapsed (g.D.Dir.history c.args.dir.now) (g.D.Dir.history c.open.new.self) (g.D.Dir.history c.feed_file.new.dir) (c.in_ok-file.ensures.device.time honest) (c.in_err-outline.ensures.time there) (c.in_err-outline.ensures.same there)
+
+pub returns-in_err-outlined-clause-time : goal.returns-in_err-outlined-clause-time
+returns-in_err-outlined-clause-time g c = λ honest.
+    let there = c.in_ok-file.ensures.device.honest honest in
+    elapsed (g.D.Dir.history c.args.dir.now) (g.D.Dir.history c.open.new.self) (g.D.Dir.history c.feed_file.new.dir) (c.in_ok-file.ensures.device.time honest) (c.in_ok-outline.ensures.time there) (c.in_ok-outline.ensures.same there)
+
+pub returns-in-Some-clause-cause : goal.returns-in-Some-clause-cause
+returns-in-Some-clause-cause g c = reason_ok _ _ _ refusal.Fault (c.in_ok-outline.ensures.cause.passed ∙ c.in_ok-file.ensures.device.cause.passed)
+
+pub returns-clause-cause : goal.returns-clause-cause
+returns-clause-cause g c = reason_ok _ _ _ refusal.Fault (c.in_ok-outline.ensures.cause.passed ∙ c.in_ok-file.ensures.device.cause.passed)

@@ -10,7 +10,8 @@ use Rattle.journal_files.specs.Leftovers.{IsGivenUp}
 use Rattle.journal_files.specs.declared.error.JournalError.TheVariants as refusal
 use Rattle.journal_files.proofs.Beginning.{can_open, making, sealing, ends, new_more, others_whole}
 use Rattle.journal_files.proofs.Begun.{gives, new_reads}
-use Rattle.journal_files.proofs.Reasons.{answered, reason_err, reason_dir}
+use Rattle.journal_files.proofs.Reasons.{answered, reason_err, reason_dir, reason_ok}
+use Rattle.journal_files.proofs.Wanting.{reason_memory, no_value, not_err}
 use Rattle.journal_files.proofs.GivenUp.{given_up, new_young, new_given_up, others_stay, new_elsewhere, other_file, reason_given, given_as, rises_so, fault_so}
 use Rattle.journal_files.proofs.Renewing.{is_some_name}
 use Rattle.journal_files.proofs.Steps.{any_err}
@@ -255,3 +256,168 @@ returns-in-Ok-clause-moments g c = λ honest t before none m source.
 pub returns-in-Ok-clause-state : goal.returns-in-Ok-clause-state
 returns-in-Ok-clause-state g c =
     (can_open c.args.chunks.now c.in_ok-told.ensures.told c.in_ok-told.ensures.records c.in_ok-told.ensures.next).leads
+
+pub returns-in_err-told-clause-ok : goal.returns-in_err-told-clause-ok
+returns-in_err-told-clause-ok g c = λ honest none source. no_value refusal.Memory c.from_residual.result _ (answered refusal.Memory c.from_residual.result c.from_residual.ensures.1)
+
+pub returns-in_err-told-clause-path : goal.returns-in_err-told-clause-path
+returns-in_err-told-clause-path g c = no_value refusal.Memory c.from_residual.result _ (answered refusal.Memory c.from_residual.result c.from_residual.ensures.1)
+
+pub returns-in_err-told-clause-number : goal.returns-in_err-told-clause-number
+returns-in_err-told-clause-number g c = no_value refusal.Memory c.from_residual.result _ (answered refusal.Memory c.from_residual.result c.from_residual.ensures.1)
+
+pub returns-in_err-told-clause-open : goal.returns-in_err-told-clause-open
+returns-in_err-told-clause-open g c = no_value refusal.Memory c.from_residual.result _ (answered refusal.Memory c.from_residual.result c.from_residual.ensures.1)
+
+pub returns-in_err-told-clause-whole : goal.returns-in_err-told-clause-whole
+returns-in_err-told-clause-whole g c = λ honest source is. not_err refusal.Memory refusal.Damaged c.from_residual.result (answered refusal.Memory c.from_residual.result c.from_residual.ensures.1) (λ e. cc e) is
+
+pub returns-in_err-told-clause-not_last : goal.returns-in_err-told-clause-not_last
+returns-in_err-told-clause-not_last g c = λ is. not_err refusal.Memory refusal.LastGeneration c.from_residual.result (answered refusal.Memory c.from_residual.result c.from_residual.ensures.1) (λ e. cc e) is
+
+pub returns-in_err-told-clause-cause : goal.returns-in_err-told-clause-cause
+returns-in_err-told-clause-cause g c = reason_memory _ _ c.from_residual.result refl (answered refusal.Memory c.from_residual.result c.from_residual.ensures.1)
+
+pub returns-in_err-told-clause-memory : goal.returns-in_err-told-clause-memory
+returns-in_err-told-clause-memory g c = λ honest is name. refl
+
+pub returns-in_err-told-clause-elsewhere : goal.returns-in_err-told-clause-elsewhere
+returns-in_err-told-clause-elsewhere g c = λ honest name differ. refl
+
+pub returns-in_err-told-clause-kept : goal.returns-in_err-told-clause-kept
+returns-in_err-told-clause-kept g c = λ other name is differ. is
+
+pub returns-in_err-kept-clause-ok : goal.returns-in_err-kept-clause-ok
+returns-in_err-kept-clause-ok g c = λ honest none source. no_value refusal.Memory c.from_residual-in_err-kept.result _ (answered refusal.Memory c.from_residual-in_err-kept.result c.from_residual-in_err-kept.ensures.1)
+
+pub returns-in_err-kept-clause-path : goal.returns-in_err-kept-clause-path
+returns-in_err-kept-clause-path g c = no_value refusal.Memory c.from_residual-in_err-kept.result _ (answered refusal.Memory c.from_residual-in_err-kept.result c.from_residual-in_err-kept.ensures.1)
+
+pub returns-in_err-kept-clause-number : goal.returns-in_err-kept-clause-number
+returns-in_err-kept-clause-number g c = no_value refusal.Memory c.from_residual-in_err-kept.result _ (answered refusal.Memory c.from_residual-in_err-kept.result c.from_residual-in_err-kept.ensures.1)
+
+pub returns-in_err-kept-clause-open : goal.returns-in_err-kept-clause-open
+returns-in_err-kept-clause-open g c = no_value refusal.Memory c.from_residual-in_err-kept.result _ (answered refusal.Memory c.from_residual-in_err-kept.result c.from_residual-in_err-kept.ensures.1)
+
+pub returns-in_err-kept-clause-whole : goal.returns-in_err-kept-clause-whole
+returns-in_err-kept-clause-whole g c = λ honest source is. not_err refusal.Memory refusal.Damaged c.from_residual-in_err-kept.result (answered refusal.Memory c.from_residual-in_err-kept.result c.from_residual-in_err-kept.ensures.1) (λ e. cc e) is
+
+pub returns-in_err-kept-clause-not_last : goal.returns-in_err-kept-clause-not_last
+returns-in_err-kept-clause-not_last g c = λ is. not_err refusal.Memory refusal.LastGeneration c.from_residual-in_err-kept.result (answered refusal.Memory c.from_residual-in_err-kept.result c.from_residual-in_err-kept.ensures.1) (λ e. cc e) is
+
+pub returns-in_err-kept-clause-cause : goal.returns-in_err-kept-clause-cause
+returns-in_err-kept-clause-cause g c = reason_memory _ _ c.from_residual-in_err-kept.result refl (answered refusal.Memory c.from_residual-in_err-kept.result c.from_residual-in_err-kept.ensures.1)
+
+pub returns-in_err-kept-clause-memory : goal.returns-in_err-kept-clause-memory
+returns-in_err-kept-clause-memory g c = λ honest is name. refl
+
+pub returns-in_err-kept-clause-elsewhere : goal.returns-in_err-kept-clause-elsewhere
+returns-in_err-kept-clause-elsewhere g c = λ honest name differ. refl
+
+pub returns-in_err-kept-clause-kept : goal.returns-in_err-kept-clause-kept
+returns-in_err-kept-clause-kept g c = λ other name is differ. is
+
+pub returns-in_err-name-clause-ok : goal.returns-in_err-name-clause-ok
+returns-in_err-name-clause-ok g c = λ honest none source. no_value refusal.Memory c.from_residual-in_err-name.result _ (answered refusal.Memory c.from_residual-in_err-name.result c.from_residual-in_err-name.ensures.1)
+
+pub returns-in_err-name-clause-path : goal.returns-in_err-name-clause-path
+returns-in_err-name-clause-path g c = no_value refusal.Memory c.from_residual-in_err-name.result _ (answered refusal.Memory c.from_residual-in_err-name.result c.from_residual-in_err-name.ensures.1)
+
+pub returns-in_err-name-clause-number : goal.returns-in_err-name-clause-number
+returns-in_err-name-clause-number g c = no_value refusal.Memory c.from_residual-in_err-name.result _ (answered refusal.Memory c.from_residual-in_err-name.result c.from_residual-in_err-name.ensures.1)
+
+pub returns-in_err-name-clause-open : goal.returns-in_err-name-clause-open
+returns-in_err-name-clause-open g c = no_value refusal.Memory c.from_residual-in_err-name.result _ (answered refusal.Memory c.from_residual-in_err-name.result c.from_residual-in_err-name.ensures.1)
+
+pub returns-in_err-name-clause-whole : goal.returns-in_err-name-clause-whole
+returns-in_err-name-clause-whole g c = λ honest source is. not_err refusal.Memory refusal.Damaged c.from_residual-in_err-name.result (answered refusal.Memory c.from_residual-in_err-name.result c.from_residual-in_err-name.ensures.1) (λ e. cc e) is
+
+pub returns-in_err-name-clause-not_last : goal.returns-in_err-name-clause-not_last
+returns-in_err-name-clause-not_last g c = λ is. not_err refusal.Memory refusal.LastGeneration c.from_residual-in_err-name.result (answered refusal.Memory c.from_residual-in_err-name.result c.from_residual-in_err-name.ensures.1) (λ e. cc e) is
+
+pub returns-in_err-name-clause-cause : goal.returns-in_err-name-clause-cause
+returns-in_err-name-clause-cause g c = reason_memory _ _ c.from_residual-in_err-name.result refl (answered refusal.Memory c.from_residual-in_err-name.result c.from_residual-in_err-name.ensures.1)
+
+pub returns-in_err-name-clause-memory : goal.returns-in_err-name-clause-memory
+returns-in_err-name-clause-memory g c = λ honest is name. refl
+
+pub returns-in_err-name-clause-elsewhere : goal.returns-in_err-name-clause-elsewhere
+returns-in_err-name-clause-elsewhere g c = λ honest name differ. refl
+
+pub returns-in_err-name-clause-kept : goal.returns-in_err-name-clause-kept
+returns-in_err-name-clause-kept g c = λ other name is differ. is
+
+pub returns-in_err-buffer-clause-ok : goal.returns-in_err-buffer-clause-ok
+returns-in_err-buffer-clause-ok g c = λ honest none source. no_value refusal.Memory c.from_residual-in_err-buffer.result _ (answered refusal.Memory c.from_residual-in_err-buffer.result c.from_residual-in_err-buffer.ensures.1)
+
+pub returns-in_err-buffer-clause-path : goal.returns-in_err-buffer-clause-path
+returns-in_err-buffer-clause-path g c = no_value refusal.Memory c.from_residual-in_err-buffer.result _ (answered refusal.Memory c.from_residual-in_err-buffer.result c.from_residual-in_err-buffer.ensures.1)
+
+pub returns-in_err-buffer-clause-number : goal.returns-in_err-buffer-clause-number
+returns-in_err-buffer-clause-number g c = no_value refusal.Memory c.from_residual-in_err-buffer.result _ (answered refusal.Memory c.from_residual-in_err-buffer.result c.from_residual-in_err-buffer.ensures.1)
+
+pub returns-in_err-buffer-clause-open : goal.returns-in_err-buffer-clause-open
+returns-in_err-buffer-clause-open g c = no_value refusal.Memory c.from_residual-in_err-buffer.result _ (answered refusal.Memory c.from_residual-in_err-buffer.result c.from_residual-in_err-buffer.ensures.1)
+
+pub returns-in_err-buffer-clause-whole : goal.returns-in_err-buffer-clause-whole
+returns-in_err-buffer-clause-whole g c = λ honest source is. not_err refusal.Memory refusal.Damaged c.from_residual-in_err-buffer.result (answered refusal.Memory c.from_residual-in_err-buffer.result c.from_residual-in_err-buffer.ensures.1) (λ e. cc e) is
+
+pub returns-in_err-buffer-clause-not_last : goal.returns-in_err-buffer-clause-not_last
+returns-in_err-buffer-clause-not_last g c = λ is. not_err refusal.Memory refusal.LastGeneration c.from_residual-in_err-buffer.result (answered refusal.Memory c.from_residual-in_err-buffer.result c.from_residual-in_err-buffer.ensures.1) (λ e. cc e) is
+
+pub returns-in_err-buffer-clause-cause : goal.returns-in_err-buffer-clause-cause
+returns-in_err-buffer-clause-cause g c = reason_memory _ _ c.from_residual-in_err-buffer.result refl (answered refusal.Memory c.from_residual-in_err-buffer.result c.from_residual-in_err-buffer.ensures.1)
+
+pub returns-in_err-buffer-clause-memory : goal.returns-in_err-buffer-clause-memory
+returns-in_err-buffer-clause-memory g c = λ honest is name. refl
+
+pub returns-in_err-buffer-clause-elsewhere : goal.returns-in_err-buffer-clause-elsewhere
+returns-in_err-buffer-clause-elsewhere g c = λ honest name differ. refl
+
+pub returns-in_err-buffer-clause-kept : goal.returns-in_err-buffer-clause-kept
+returns-in_err-buffer-clause-kept g c = λ other name is differ. is
+
+pub returns-in_err-len-clause-ok : goal.returns-in_err-len-clause-ok
+returns-in_err-len-clause-ok g c = λ honest none source. no_value refusal.Memory c.from_residual-in_err-len.result _ (answered refusal.Memory c.from_residual-in_err-len.result c.from_residual-in_err-len.ensures.1)
+
+pub returns-in_err-len-clause-path : goal.returns-in_err-len-clause-path
+returns-in_err-len-clause-path g c = no_value refusal.Memory c.from_residual-in_err-len.result _ (answered refusal.Memory c.from_residual-in_err-len.result c.from_residual-in_err-len.ensures.1)
+
+pub returns-in_err-len-clause-number : goal.returns-in_err-len-clause-number
+returns-in_err-len-clause-number g c = no_value refusal.Memory c.from_residual-in_err-len.result _ (answered refusal.Memory c.from_residual-in_err-len.result c.from_residual-in_err-len.ensures.1)
+
+pub returns-in_err-len-clause-open : goal.returns-in_err-len-clause-open
+returns-in_err-len-clause-open g c = no_value refusal.Memory c.from_residual-in_err-len.result _ (answered refusal.Memory c.from_residual-in_err-len.result c.from_residual-in_err-len.ensures.1)
+
+pub returns-in_err-len-clause-whole : goal.returns-in_err-len-clause-whole
+returns-in_err-len-clause-whole g c = λ honest source is. not_err refusal.Memory refusal.Damaged c.from_residual-in_err-len.result (answered refusal.Memory c.from_residual-in_err-len.result c.from_residual-in_err-len.ensures.1) (λ e. cc e) is
+
+pub returns-in_err-len-clause-not_last : goal.returns-in_err-len-clause-not_last
+returns-in_err-len-clause-not_last g c = λ is. not_err refusal.Memory refusal.LastGeneration c.from_residual-in_err-len.result (answered refusal.Memory c.from_residual-in_err-len.result c.from_residual-in_err-len.ensures.1) (λ e. cc e) is
+
+pub returns-in_err-len-clause-cause : goal.returns-in_err-len-clause-cause
+returns-in_err-len-clause-cause g c = reason_memory _ _ c.from_residual-in_err-len.result refl (answered refusal.Memory c.from_residual-in_err-len.result c.from_residual-in_err-len.ensures.1)
+
+pub returns-in_err-len-clause-memory : goal.returns-in_err-len-clause-memory
+returns-in_err-len-clause-memory g c = λ honest is name. refl
+
+pub returns-in_err-len-clause-elsewhere : goal.returns-in_err-len-clause-elsewhere
+returns-in_err-len-clause-elsewhere g c = λ honest name differ. refl
+
+pub returns-in_err-len-clause-kept : goal.returns-in_err-len-clause-kept
+returns-in_err-len-clause-kept g c = λ other name is differ. is
+
+pub returns-in_err-file-clause-ok : goal.returns-in_err-file-clause-ok
+returns-in_err-file-clause-ok g c = λ honest none source. no_value c.in_err-file.field-0.0 c.from_residual-in_err-file.result _ (answered c.in_err-file.field-0.0 c.from_residual-in_err-file.result c.from_residual-in_err-file.ensures.1)
+
+pub returns-in_err-file-clause-path : goal.returns-in_err-file-clause-path
+returns-in_err-file-clause-path g c = no_value c.in_err-file.field-0.0 c.from_residual-in_err-file.result _ (answered c.in_err-file.field-0.0 c.from_residual-in_err-file.result c.from_residual-in_err-file.ensures.1)
+
+pub returns-in_err-file-clause-number : goal.returns-in_err-file-clause-number
+returns-in_err-file-clause-number g c = no_value c.in_err-file.field-0.0 c.from_residual-in_err-file.result _ (answered c.in_err-file.field-0.0 c.from_residual-in_err-file.result c.from_residual-in_err-file.ensures.1)
+
+pub returns-in_err-file-clause-open : goal.returns-in_err-file-clause-open
+returns-in_err-file-clause-open g c = no_value c.in_err-file.field-0.0 c.from_residual-in_err-file.result _ (answered c.in_err-file.field-0.0 c.from_residual-in_err-file.result c.from_residual-in_err-file.ensures.1)
+
+pub returns-in-Ok-clause-cause : goal.returns-in-Ok-clause-cause
+returns-in-Ok-clause-cause g c = reason_ok _ _ _ refusal.Fault (c.in-Ok.ensures.cause.passed ∙ c.in_ok-file.ensures.cause.passed)
