@@ -1,10 +1,12 @@
 pub mod Answering
 pub mod Delivered
 pub mod Deliveries
+pub mod Forwarding
 pub mod Given
 pub mod Keeping
 pub mod Named
 pub mod Oldest
+pub mod Sendings
 pub mod StartingAgain
 pub mod Tellings
 pub mod Views

@@ -38,6 +38,10 @@ module _ {A : Type 0} (net : Network A) (w : World) (name : ChunkName) (found : 
   stage_is : (stage : Stage) → found.look.stage ≡ stage → f.chunk.stage ≡ stage
   stage_is stage e = ap (λ (l : Look). l.stage) (sym f.look_is) ∙ e
 
+  -- the chunk of the name is at this stage, and so is what was found
+  pub found_stage : (stage : Stage) (P : Chunk → Type 0) → OfChunk net w name stage P → found.look.stage ≡ stage
+  found_stage stage P h = ap (λ (l : Look). l.stage) f.look_is ∙ (rw named_is at h).0
+
   -- the chunk that was found, and what holds of it
   pub live : IsSome (chunk_of w found)
   live = rw f.chunk_is refl

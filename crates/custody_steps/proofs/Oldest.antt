@@ -1,13 +1,16 @@
 -- The oldest queued chunk of a buffer goes.
-use Rattle.std.proofs.Common.{◌≡◌, ℕ, zero, suc, ◌<◌, ◌==◌, ◌&&◌, not, Bool, true, false, cond, length, Option, Some, None, refl, ap, ◌∙◌, inl, inr, arith}
+use Rattle.std.proofs.Common.{◌≡◌, ℕ, zero, suc, ◌<◌, ◌==◌, ◌&&◌, not, Bool, true, false, cond, length, Option, Some, None, refl, sym, ap, ◌∙◌, inl, inr, arith, IsSomeAnd, IsTrue, ◌↔◌}
 use Rattle.std.specs.Option.{option_and_then}
-use Rattle.std.proofs.lemmas.Bool.{and_parts, eq-eqb, ne_eqb, cases_eq, cases_lt, not-true}
-use Rattle.custody_store.specs.Buffers.{Chunk, is_queued, none_queued_below, without_oldest}
+use Rattle.std.proofs.lemmas.Bool.{and_parts, eq-eqb, ne_eqb, cases_eq, cases_lt, not-true, false≢true}
+use Rattle.custody_store.specs.Buffers.{Chunk, is_queued, is_queued_at, none_queued_below, without_oldest}
 use Rattle.custody_store.specs.Contents.{Contents, chunk_at, changed, buffer_of}
 use Rattle.custody_store.specs.Places.{contents_at, IsChangedAt, AreSame}
+use Rattle.custody_store.specs.declared.chunk.Stage.{Stage}
+use Rattle.custody_store.specs.declared.chunk.Stage.TheVariants.{Staged, Queued, Claimed}
 use Rattle.custody_store.specs.declared.places.Places.{Places}
 use Rattle.custody_store.proofs.ChunksAt.{buffer_of-changed}
 use Rattle.message_book.specs.Book.{Book}
+use Rattle.custody_steps.specs.Steps.{HasQueued}
 use Rattle.custody_steps.specs.World.{World, with_buffer}
 use Rattle.custody_steps.specs.WorldOf.{world_from}
 use Rattle.custody_steps.proofs.Views.{changed_world, same_world}
@@ -73,3 +76,24 @@ oldest_world before mid after book place buffer serial same less queued none is 
     changed_world mid after place buffer _ is book without_oldest
     (oldest_buffer (contents_at mid place buffer) serial (rw e less) (rw e queued) (rw e none))
     ∙ ap (λ (w : World). with_buffer w place buffer without_oldest) (same_world before mid same book)
+
+-- Whether one is queued.
+
+never_queued : (o : Option Chunk) → is_queued o ≡ false → ¬ IsSomeAnd o (λ chunk. chunk.stage ≡ Queued)
+never_queued None e h = h
+never_queued (Some chunk) e h = let on = rw h at e in false≢true (sym on)
+
+queued_stage : (o : Option Chunk) → is_queued o ≡ true → IsSomeAnd o (λ chunk. chunk.stage ≡ Queued)
+queued_stage None e = absurd (false≢true e)
+queued_stage (Some chunk) e = by chunk.stage e
+  where
+    by : (stage : Stage) → is_queued_at stage ≡ true → stage ≡ Queued
+    by Staged e = absurd (false≢true e)
+    by Queued e = refl
+    by Claimed e = absurd (false≢true e)
+
+pub no_queued : (contents : Contents) → ((serial : ℕ) → is_queued (chunk_at contents.chunks serial) ≡ false) → IsTrue false ↔ HasQueued (buffer_of contents)
+no_queued contents none = (λ e. absurd (false≢true e), λ h. absurd (never_queued (chunk_at contents.chunks h.0) (none h.0) h.1))
+
+pub one_queued : (contents : Contents) (serial : ℕ) → is_queued (chunk_at contents.chunks serial) ≡ true → IsTrue true ↔ HasQueued (buffer_of contents)
+one_queued contents serial queued = (λ _. (serial, queued_stage (chunk_at contents.chunks serial) queued), λ _. refl)

@@ -1,5 +1,5 @@
-use Rattle.std.proofs.Common.{◌≡◌, true, refl, ap, ◌∙◌, arith}
-use Rattle.std.proofs.lemmas.Grind.{common_steps}
+use Rattle.std.proofs.Common.{◌≡◌, true, refl, sym, ap, ◌∙◌, arith}
+use Rattle.std.proofs.lemmas.Bool.{false≢true}
 use Rattle.std.proofs.lemmas.Result.{err_from_is_err_and}
 use Rattle.message_book.specs.Book.{changed_at, ended}
 use Rattle.custody_steps.specs.Steps.{CanAcknowledge, answered}
@@ -35,7 +35,7 @@ returns-then-not-branch-clause-answer g c =
     let w = c.args.self.now in
     let found = c.in-Some.found.now.delivery in (
       keeping.shown_there w.places w.book c.args.delivery found c.in-Some.ensures,
-      λ h. let yes = c.in_ok-can_acknowledge.ensures.ok.1 h in absurd (cc (yes, c.if-not-branch.true)),
+      λ h. false≢true (sym c.if-not-branch.true ∙ c.in_ok-can_acknowledge.ensures.ok.1 h),
       refl,
     )
 
@@ -43,8 +43,7 @@ pub returns-in_err-answer-clause-answer : goal.returns-in_err-answer-clause-answ
 returns-in_err-answer-clause-answer g c =
     let w = c.args.self.now in
     let found = c.in-Some.found.now.delivery in
-    let yes : c.in_ok-can_acknowledge.field-0 ≡ true = grind (arith, common_steps) in
-    let may = c.in_ok-can_acknowledge.ensures.ok.0 yes in
+    let may = c.in_ok-can_acknowledge.ensures.ok.0 c.if-not-branch.false in
     let p = err_from_is_err_and c.from_residual-in_err-answer.result c.from_residual-in_err-answer.ensures.1 in
     rw (p.1, p.2) (
       keeping.shown_there w.places w.book c.args.delivery found c.in-Some.ensures,
@@ -78,10 +77,9 @@ returns-clause-answer g c =
     let found = c.in-Some.found.now.delivery in
     let m = c.in-Some-message.sent.now in
     let sent = rw c.message-message.ensures at c.in-Some-message.ensures in
-    let e : world_of a ≡ answered (world_of w) found.message m = rw (c.message-message.ensures, ← sent) at c.in_ok-answer.ensures.ok in
-    let yes : c.in_ok-can_acknowledge.field-0 ≡ true = grind (arith, common_steps) in (
+    let e : world_of a ≡ answered (world_of w) found.message m = rw (c.message-message.ensures, ← sent) at c.in_ok-answer.ensures.ok in (
       keeping.shown_there w.places w.book number found c.in-Some.ensures,
-      c.in_ok-can_acknowledge.ensures.ok.0 yes,
+      c.in_ok-can_acknowledge.ensures.ok.0 c.if-not-branch.false,
       keeping.delivery_world a.places a.book c.end.new.self ended number a.book.room ended-along c.end.ensures
           ∙ ap (λ (x : World). record x { deliveries = changed_at x.deliveries number ended }) e
           ∙ rw (keeping.shown w.places w.book number found c.in-Some.ensures, ← sent) refl,

@@ -1,5 +1,5 @@
-use Rattle.std.proofs.Common.{◌≡◌, true, false, refl, arith, Contains, IsSome, is_some}
-use Rattle.std.proofs.lemmas.Grind.{common_steps}
+use Rattle.std.proofs.Common.{◌≡◌, true, false, refl, sym, ◌∙◌, Contains, IsSome, is_some}
+use Rattle.std.proofs.lemmas.Bool.{false≢true}
 use Rattle.std.proofs.lemmas.Result.{err_from_is_err_and}
 use Rattle.custody_store.specs.Buffers.{CanTake}
 use Rattle.message_book.specs.Book.{Message, Delivery}
@@ -39,7 +39,7 @@ returns-then-not-branch-clause-answer g c =
     let shown = keeping.shown w.places w.book c.args.delivery found c.in-Some.ensures in
     let some : is_some c.output.result ≡ true = c.if-is_none.ensures in
     let there = keeping.present c.output.result _ some (rw c.entrance.ensures at c.output.ensures) in
-    (rw shown there, λ h. let yes = c.in_ok-can_append.ensures.ok.1 h in absurd (cc (yes, c.if-not-branch.true)), refl)
+    (rw shown there, λ h. false≢true (sym c.if-not-branch.true ∙ c.in_ok-can_append.ensures.ok.1 h), refl)
 
 pub returns-in_err-take_in-clause-answer : goal.returns-in_err-take_in-clause-answer
 returns-in_err-take_in-clause-answer g c =
@@ -48,8 +48,7 @@ returns-in_err-take_in-clause-answer g c =
     let shown = keeping.shown w.places w.book c.args.delivery found c.in-Some.ensures in
     let some : is_some c.output.result ≡ true = c.if-is_none.ensures in
     let there = keeping.present c.output.result _ some (rw c.entrance.ensures at c.output.ensures) in
-    let yes : c.in_ok-can_append.field-0 ≡ true = grind (arith, common_steps) in
-    let may = c.in_ok-can_append.ensures.ok.0 yes in
+    let may = c.in_ok-can_append.ensures.ok.0 c.if-not-branch.false in
     let P : Delivery → Message → Type 0 = λ d m. CanAppend w.net.now (world_of w) d m c.args.buffer c.args.serial in
     let Q : Delivery → Message → Type 0 = λ d m. (d.is_open ≡ true) × (¬ Contains d.appended c.args.buffer) × CanTake ((world_of w).buffers d.entrance.relay c.args.buffer) d.tag c.args.serial in
     let p = err_from_is_err_and c.from_residual-in_err-take_in.result c.from_residual-in_err-take_in.ensures.1 in
@@ -62,5 +61,4 @@ returns-clause-answer g c =
     let shown = keeping.shown w.places w.book c.args.delivery found c.in-Some.ensures in
     let some : is_some c.output.result ≡ true = c.if-is_none.ensures in
     let there = keeping.present c.output.result _ some (rw c.entrance.ensures at c.output.ensures) in
-    let yes : c.in_ok-can_append.field-0 ≡ true = grind (arith, common_steps) in
-    (rw shown there, c.in_ok-can_append.ensures.ok.0 yes, c.in_ok-take_in.ensures.ok)
+    (rw shown there, c.in_ok-can_append.ensures.ok.0 c.if-not-branch.false, c.in_ok-take_in.ensures.ok)

@@ -5,8 +5,9 @@ use Rattle.std.proofs.lemmas.Result.{err_from_is_err_and}
 use Rattle.message_book.specs.Book.{Delivery}
 use Rattle.relay_net.specs.Ways.{HasLoop}
 use Rattle.custody_steps.specs.Steps.{tag_of}
-use Rattle.custody_steps.specs.WorldOf.{world_from}
+use Rattle.custody_steps.specs.WorldOf.{world_from, world_of}
 use Rattle.custody_steps.proofs.Keeping as keeping
+use Rattle.custody_steps.proofs.Sendings.{none_begins, nowhere, no_room, too_long, loops}
 use Rattle.custody_steps.proofs.world.World.begin.Goals as goal
 use Rattle.tag_pattern.specs.Parts.{most_tag_bytes}
 
@@ -51,3 +52,33 @@ returns-clause-answer g c =
       rw (at, ← c.in-Some-entrance.ensures) (short, rw tag_is at no),
       keeping.opened_world w.places w.book c.begin.new.self d (w.book.room ++ 0 ∷ []) (w.closed c.in-Some-entrance.at.relay) c.in_ok-begin.ensures.ok ∙ rw (at, ← c.in-Some-entrance.ensures, ← tag_is) refl,
     )
+
+pub returns-in_default-clause-answer : goal.returns-in_default-clause-answer
+returns-in_default-clause-answer g c = none_begins c.args.self.now.net.now (world_of c.args.self.now) c.args.message c.in_default.ensures
+
+pub returns-in_default-entrance-clause-answer : goal.returns-in_default-entrance-clause-answer
+returns-in_default-entrance-clause-answer g c =
+    let w = c.args.self.now in
+    nowhere w.net.now (world_of w) c.args.message c.in-Some.found.now c.in-Some.ensures c.in_default-entrance.ensures
+
+pub returns-in-Err-TagTooLong-clause-answer : goal.returns-in-Err-TagTooLong-clause-answer
+returns-in-Err-TagTooLong-clause-answer g c =
+    let w = c.args.self.now in
+    too_long w.net.now (world_of w) c.args.message c.in-Some.found.now c.in-Some.ensures c.in-Some-entrance.at c.in-Some-entrance.ensures ((rw c.in-Err-TagTooLong.field-0-is at c.in-Err-TagTooLong.ensures.too_long).0 refl)
+
+pub returns-in-Err-Memory-clause-answer : goal.returns-in-Err-Memory-clause-answer
+returns-in-Err-Memory-clause-answer g c =
+    let w = c.args.self.now in
+    no_room w.net.now (world_of w) c.args.message c.in-Some.found.now c.in-Some.ensures c.in-Some-entrance.at c.in-Some-entrance.ensures
+
+pub returns-in_err-has_loop-clause-answer : goal.returns-in_err-has_loop-clause-answer
+returns-in_err-has_loop-clause-answer g c =
+    let w = c.args.self.now in
+    let p = err_from_is_err_and c.from_residual.result c.from_residual.ensures.1 in
+    rw (p.1, p.2) (no_room w.net.now (world_of w) c.args.message c.in-Some.found.now c.in-Some.ensures c.in-Some-entrance.at c.in-Some-entrance.ensures)
+
+pub returns-then-branch-clause-answer : goal.returns-then-branch-clause-answer
+returns-then-branch-clause-answer g c =
+    let w = c.args.self.now in
+    let loop = rw c.in-Ok.ensures.tag at (c.in_ok-has_loop.ensures.0 c.if-branch.true) in
+    loops w.net.now (world_of w) c.args.message c.in-Some.found.now c.in-Some.ensures c.in-Some-entrance.at c.in-Some-entrance.ensures loop

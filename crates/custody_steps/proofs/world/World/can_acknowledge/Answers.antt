@@ -1,5 +1,5 @@
-use Rattle.std.proofs.Common.{◌≡◌, ℕ, true, sym, arith, Contains, IsTrue, ◌↔◌}
-use Rattle.std.proofs.lemmas.Grind.{common_steps}
+use Rattle.std.proofs.Common.{◌≡◌, ℕ, true, sym, ◌∙◌, Contains, IsTrue, ◌↔◌}
+use Rattle.std.proofs.lemmas.Bool.{false≢true}
 use Rattle.std.proofs.lemmas.Result.{IfOk-weaker}
 use Rattle.message_book.specs.Book.{Message, Delivery}
 use Rattle.relay_net.specs.Ways.{HasLeaf}
@@ -25,7 +25,7 @@ returns-then-not-is_open-clause-ok g c =
     let m = c.in-Some-message.message.now in
     let sent = rw c.message.ensures at c.in-Some-message.ensures in
     keeping.never _ (λ o. let may = keeping.both_of w.places w.book c.args.number found c.in-Some.ensures m sent (CanAcknowledge w.net.now) o in
-    let e = may.is_open in absurd (cc (e, c.if-not-is_open.true, c.is_open.ensures)))
+    let e = may.is_open in false≢true (sym c.if-not-is_open.true ∙ (c.is_open.ensures ∙ e)))
 
 pub is_whole-requires : goal.is_whole-requires
 is_whole-requires g c =
@@ -41,10 +41,9 @@ returns-clause-ok g c =
     let m = c.in-Some-message.message.now in
     let sent = rw c.message.ensures at c.in-Some-message.ensures in
     let P : Delivery → Message → Type 0 = CanAcknowledge w.net.now in
-    let open_now : c.is_open.result ≡ true = grind (arith, common_steps) in
     IfOk-weaker c.is_whole.result (λ x. IsTrue x ↔ ((buffer : ℕ) → HasLeaf w.net.now found.entrance found.tag m.entries buffer → Contains found.appended buffer)) (λ x. IsTrue x ↔ OfDelivery (world_of w) c.args.number P)
     (λ x is. (
-      λ e. keeping.of_both w.places w.book c.args.number found c.in-Some.ensures m sent P (record { is_open = cc (open_now, c.is_open.ensures); is_whole = is.0 e }),
+      λ e. keeping.of_both w.places w.book c.args.number found c.in-Some.ensures m sent P (record { is_open = sym c.is_open.ensures ∙ c.if-not-is_open.false; is_whole = is.0 e }),
       λ o. is.1 (keeping.both_of w.places w.book c.args.number found c.in-Some.ensures m sent P o).is_whole,
     )) c.is_whole.ensures
 
@@ -55,5 +54,4 @@ returns-clause-err g c =
     let m = c.in-Some-message.message.now in
     let sent = rw c.message.ensures at c.in-Some-message.ensures in
     let Q : Delivery → Message → Type 0 = λ d x. d.is_open ≡ true in
-    let open_now : c.is_open.result ≡ true = grind (arith, common_steps) in
-    keeping.at_error c.is_whole.result (keeping.of_both w.places w.book c.args.number found c.in-Some.ensures m sent Q (cc (open_now, c.is_open.ensures)))
+    keeping.at_error c.is_whole.result (keeping.of_both w.places w.book c.args.number found c.in-Some.ensures m sent Q (sym c.is_open.ensures ∙ c.if-not-is_open.false))

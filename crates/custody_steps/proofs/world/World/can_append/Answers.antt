@@ -1,5 +1,5 @@
-use Rattle.std.proofs.Common.{◌≡◌, true, sym, arith, Contains, IsTrue, ◌↔◌}
-use Rattle.std.proofs.lemmas.Grind.{common_steps}
+use Rattle.std.proofs.Common.{◌≡◌, true, sym, ◌∙◌, Contains, IsTrue, ◌↔◌}
+use Rattle.std.proofs.lemmas.Bool.{false≢true}
 use Rattle.std.proofs.lemmas.Result.{IfOk-weaker}
 use Rattle.custody_store.specs.Buffers.{CanTake}
 use Rattle.message_book.specs.Book.{Message, Delivery}
@@ -31,7 +31,7 @@ returns-then-not-is_open-clause-ok g c =
     let P : Delivery → Message → Type 0 = λ d x. CanAppend w.net.now (world_of w) d x c.args.buffer c.args.serial in
     keeping.never _ (λ o. let may = keeping.both_of w.places w.book c.args.number found c.in-Some.ensures m sent P o in
     elim c.then-not-is_open.branch [
-      | then-not-is_open-via-then-not-is_open x ↦ let e = may.is_open in absurd (cc (e, x.if-not-is_open.true, c.is_open.ensures))
+      | then-not-is_open-via-then-not-is_open x ↦ let e = may.is_open in false≢true (sym x.if-not-is_open.true ∙ (c.is_open.ensures ∙ e))
       | then-not-is_open-via-else-not-is_open+then-has_appended x ↦ may.is_new (x.has_appended.ensures.0 x.if-has_appended.true)
     ])
 
@@ -44,7 +44,7 @@ returns-then-not-takes-clause-ok g c =
     let P : Delivery → Message → Type 0 = λ d x. CanAppend w.net.now (world_of w) d x c.args.buffer c.args.serial in
     keeping.never _ (λ o. let may = keeping.both_of w.places w.book c.args.number found c.in-Some.ensures m sent P o in
     let told = rw (c.as_bytes.ensures.bytes, c.tag.ensures, c.entrance-at.ensures) at c.takes.ensures in
-    let yes = told.1 may.can_take in absurd (cc (yes, c.if-not-takes.true)))
+    false≢true (sym c.if-not-takes.true ∙ told.1 may.can_take))
 
 pub has_leaf-requires : goal.has_leaf-requires
 has_leaf-requires g c =
@@ -61,13 +61,11 @@ returns-clause-ok g c =
     let m = c.in-Some-message.message.now in
     let sent = rw c.message.ensures at c.in-Some-message.ensures in
     let P : Delivery → Message → Type 0 = λ d x. CanAppend w.net.now (world_of w) d x c.args.buffer c.args.serial in
-    let open_now : c.is_open.result ≡ true = grind (arith, common_steps) in
-    let fresh : ¬ Contains found.appended c.args.buffer = λ h. let yes = c.has_appended.ensures.1 h in absurd (cc (yes, c.if-has_appended.false)) in
-    let yes : c.takes.result ≡ true = grind (arith, common_steps) in
+    let fresh : ¬ Contains found.appended c.args.buffer = λ h. false≢true (sym c.if-has_appended.false ∙ c.has_appended.ensures.1 h) in
     let told = rw (c.as_bytes.ensures.bytes, c.tag.ensures, c.entrance-at.ensures) at c.takes.ensures in
     IfOk-weaker c.has_leaf.result (λ x. IsTrue x ↔ HasLeaf w.net.now found.entrance found.tag m.entries c.args.buffer) (λ x. IsTrue x ↔ OfDelivery (world_of w) c.args.number P)
     (λ x is. (
-      λ e. keeping.of_both w.places w.book c.args.number found c.in-Some.ensures m sent P (record { is_open = cc (open_now, c.is_open.ensures); is_leaf = is.0 e; is_new = fresh; can_take = told.0 yes }),
+      λ e. keeping.of_both w.places w.book c.args.number found c.in-Some.ensures m sent P (record { is_open = sym c.is_open.ensures ∙ c.if-not-is_open.false; is_leaf = is.0 e; is_new = fresh; can_take = told.0 c.if-not-takes.false }),
       λ o. is.1 (keeping.both_of w.places w.book c.args.number found c.in-Some.ensures m sent P o).is_leaf,
     )) c.has_leaf.ensures
 
@@ -78,8 +76,6 @@ returns-clause-err g c =
     let m = c.in-Some-message.message.now in
     let sent = rw c.message.ensures at c.in-Some-message.ensures in
     let Q : Delivery → Message → Type 0 = λ d x. (d.is_open ≡ true) × (¬ Contains d.appended c.args.buffer) × CanTake ((world_of w).buffers d.entrance.relay c.args.buffer) d.tag c.args.serial in
-    let open_now : c.is_open.result ≡ true = grind (arith, common_steps) in
-    let fresh : ¬ Contains found.appended c.args.buffer = λ h. let yes = c.has_appended.ensures.1 h in absurd (cc (yes, c.if-has_appended.false)) in
-    let yes : c.takes.result ≡ true = grind (arith, common_steps) in
+    let fresh : ¬ Contains found.appended c.args.buffer = λ h. false≢true (sym c.if-has_appended.false ∙ c.has_appended.ensures.1 h) in
     let told = rw (c.as_bytes.ensures.bytes, c.tag.ensures, c.entrance-at.ensures) at c.takes.ensures in
-    keeping.at_error c.has_leaf.result (keeping.of_both w.places w.book c.args.number found c.in-Some.ensures m sent Q (cc (open_now, c.is_open.ensures), fresh, told.0 yes))
+    keeping.at_error c.has_leaf.result (keeping.of_both w.places w.book c.args.number found c.in-Some.ensures m sent Q (sym c.is_open.ensures ∙ c.if-not-is_open.false, fresh, told.0 c.if-not-takes.false))
