@@ -1,5 +1,5 @@
 -- What is new among relays and sources.
-use Rattle.std.proofs.Common.{◌≡◌, ℕ, ◌+◌, ◌<◌, ◌≤◌, List, [], ◌∷◌, Some, slice_get, length, refl, sym, ap, subst, ◌∙◌, arith, ◌⊎◌, inl, inr, string_bytes, ◌↔◌, IsTrue, true, false}
+use Rattle.std.proofs.Common.{◌≡◌, ℕ, ◌+◌, ◌<◌, ◌≤◌, List, [], ◌∷◌, Some, slice_get, get_or, length, refl, sym, ap, subst, ◌∙◌, arith, ◌⊎◌, inl, inr, string_bytes, ◌↔◌, IsTrue, true, false}
 use Rattle.std.specs.Option.{option_and_then}
 use Rattle.std.proofs.lemmas.Bool.{cases_lt}
 use Rattle.std.proofs.lemmas.Option.{slice_get_within, slice_get_read, get_or_from_slice_get, same_Some, option_and_then_some}
@@ -23,6 +23,18 @@ pub of_pair : {X : Type 0} (xs : List X) (i j : ℕ) (a b : X) (P : X → X → 
 of_pair {X} xs i j a b P a_is b_is p one two one_is two_is =
     let Q : X → Type 0 = λ x. P x b in
     subst (P one) (same_Some b two (sym b_is ∙ two_is)) (subst Q (same_Some a one (sym a_is ∙ one_is)) p)
+
+-- What a slice of the list gives at a place within it.
+
+pub before_too : (a b n : ℕ) → a < b → b < n → a < n
+before_too a b n less h = omega arith
+
+module _ {X : Type 0} (xs ys : List X) (same : ys ≡ xs) (place : ℕ) (within : place < length xs) where
+  pub shown_within : place < length ys
+  shown_within = subst (λ (l : List X). place < length l) (sym same) within
+
+  pub read_there : (x : X) → x ≡ get_or ys place x → slice_get xs place ≡ Some x
+  read_there x is = subst (λ (l : List X). slice_get l place ≡ Some x) same (slice_get_read ys _ place x refl shown_within is)
 
 -- Searches before a place.
 

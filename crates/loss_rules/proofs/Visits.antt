@@ -1,7 +1,7 @@
 -- What holds while it is looked for what a scope leads to.
-use Rattle.std.proofs.Common.{◌≡◌, ◌≢◌, ◌∙◌, ℕ, ◌<◌, Bool, true, false, List, [], ◌∷◌, ◌++◌, length, map, replicate, slice_set, sym, subst, ◌⊎◌, inl, inr, arith, Contains, ◌↔◌}
+use Rattle.std.proofs.Common.{◌≡◌, ◌≢◌, ◌∙◌, ℕ, ◌+◌, ◌<◌, Bool, true, false, List, [], ◌∷◌, ◌++◌, length, map, take, get_or, replicate, slice_set, sym, ap, subst, ◌⊎◌, inl, inr, arith, Contains, ◌↔◌}
 use Rattle.std.proofs.lemmas.Bool.{cases_eq, cases_lt}
-use Rattle.std.proofs.lemmas.List.{length-set, length-replicate, get_or-replicate, get_or_past, get_or-set_other, get_or-set_same}
+use Rattle.std.proofs.lemmas.List.{append_assoc, map_more, length-set, length-replicate, get_or-replicate, get_or_past, get_or-set_other, get_or-set_same}
 use Rattle.std.proofs.lemmas.List.Elements.{Contains-append_left, Contains-append_right, Contains-append_cases, Contains-push_cases}
 use Rattle.loss_rules.specs.Graphs.{relabels_at, HasRelabel, Leads}
 use Rattle.loss_rules.specs.Visits.{mark_at}
@@ -20,6 +20,16 @@ pub record IsVisit (graph : List (List Relabel)) (start : ℕ) (marks : List Boo
   pub coming : (scope : ℕ) → Contains ahead scope → Chain (Leads graph) start scope
   pub closed : (scope target : ℕ) → mark_at marks scope ≡ true → Leads graph scope target → (mark_at marks target ≡ true) ⊎ Contains ahead target
   pub begun : (mark_at marks start ≡ true) ⊎ Contains ahead start
+
+-- The target of one relabel more is to come.
+pub followed : (old ahead new : List ℕ) (relabels : List Relabel) (i : ℕ) (d : Relabel) → i < length relabels → ahead ≡ old ++ map (λ relabel. relabel.target) (take i relabels) → new ≡ ahead ++ (get_or relabels i d).target ∷ []
+    → new ≡ old ++ map (λ relabel. relabel.target) (take (i + 1) relabels)
+followed old ahead new relabels i d less before put =
+    let target : Relabel → ℕ = λ relabel. relabel.target in
+    put
+    ∙ ap (λ (l : List ℕ). l ++ (get_or relabels i d).target ∷ []) before
+    ∙ append_assoc old (map target (take i relabels)) ((get_or relabels i d).target ∷ [])
+    ∙ ap (λ (l : List ℕ). old ++ l) (sym (map_more target relabels i d less))
 
 -- ---- marks
 

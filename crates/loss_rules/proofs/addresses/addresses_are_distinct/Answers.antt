@@ -1,16 +1,23 @@
-use Rattle.std.proofs.Common.{◌≡◌, ◌++◌, Some, slice_get, length, refl, ap, sym, subst, ◌∙◌, arith}
-use Rattle.std.proofs.lemmas.Option.{slice_get_read}
+use Rattle.std.proofs.Common.{◌≡◌, ℕ, ◌<◌, ◌++◌, Some, slice_get, length, refl, ap, sym, subst, ◌∙◌, arith}
 use Rattle.std.proofs.lemmas.List.{append_assoc, take_all}
 use Rattle.loss_rules.specs.Everywhere.{AreByRelays, AreTwiceInRelay, conf_places}
 use Rattle.loss_rules.proofs.Lines.{no_conf_lines}
-use Rattle.loss_rules.proofs.News.{new_more, all_new, own_is_new}
+use Rattle.loss_rules.proofs.News.{new_more, all_new, own_is_new, shown_within, read_there}
 use Rattle.loss_rules.proofs.Relays.{next_relay, none_left, none_right}
 use Rattle.loss_rules.proofs.addresses.addresses_are_distinct.Goals as goal
 
+pub put_own_place-requires : goal.put_own_place-requires
+put_own_place-requires g c =
+    let within : c.loop-place.place < length c.args.net.now.relays = shown_within c.relays-node-items.result.now c.args.net.now.relays (sym c.relays-node-items.ensures) c.loop-place.place c.loop-place-test.true in
+    record { relay = within; line = subst (λ (n : ℕ). c.loop-place.place < n) (sym c.requires) within }
+
+pub source_lines-requires : goal.source_lines-requires
+source_lines-requires g c = shown_within c.relays-node-items.result.now c.args.net.now.relays (sym c.relays-node-items.ensures) c.loop-place.place c.loop-place-test.true
+
 pub loop-place-preserved : goal.loop-place-preserved
 loop-place-preserved g c =
-    let size : length c.relays-node-items.result.now ≡ length c.args.net.now.relays = ap length c.relays-node-items.ensures in
-    let is : slice_get c.args.net.now.relays c.loop-place.place ≡ Some c.node-item.result = rw (← c.relays-node-items.ensures) (slice_get_read c.relays-node-items.result.now _ c.loop-place.place c.node-item.result refl (omega arith) c.node-item.is) in
+    let within : c.loop-place.place < length c.args.net.now.relays = shown_within c.relays-node-items.result.now c.args.net.now.relays (sym c.relays-node-items.ensures) c.loop-place.place c.loop-place-test.true in
+    let is : slice_get c.args.net.now.relays c.loop-place.place ≡ Some c.node-item.result = read_there c.args.net.now.relays c.relays-node-items.result.now c.relays-node-items.ensures c.loop-place.place within c.node-item.result c.node-item.is in
     let at = c.loop-place.place in
     let own = c.in_ok-put_own_place.ensures in
     let sources = conf_places c.node-item.result.number c.in_ok-lines.lines.items in

@@ -1,4 +1,4 @@
-use Rattle.std.proofs.Common.{◌≡◌, ℕ, [], List, Some, slice_get, length, refl, ap, subst, arith}
+use Rattle.std.proofs.Common.{◌≡◌, ℕ, [], List, Some, slice_get, refl, subst, arith}
 use Rattle.std.proofs.lemmas.Option.{slice_get_read}
 use Rattle.relay_conf.specs.declared.relay.Source.{Source}
 use Rattle.loss_rules.specs.Breaks.{BreaksAtSource}
@@ -6,13 +6,15 @@ use Rattle.loss_rules.specs.Everywhere.{AreLines}
 use Rattle.loss_rules.specs.Lines.{Adds, KeptInList, BrokenInList}
 use Rattle.loss_rules.specs.Rules.{SourceIsNew}
 use Rattle.loss_rules.proofs.Lines.{none_added, one_more, all_of, one_adds, lines_are}
-use Rattle.loss_rules.proofs.News.{source_there, source_adds, sources_new}
+use Rattle.loss_rules.proofs.News.{source_there, source_adds, sources_new, shown_within, read_there}
 use Rattle.loss_rules.proofs.addresses.source_lines.Goals as goal
+
+pub bounds-relays-place : goal.bounds-relays-place
+bounds-relays-place g c = shown_within c.args.net.now.relays c.relays.result.now c.relays.ensures c.args.place c.requires
 
 pub source_is_new-is_new-requires : goal.source_is_new-is_new-requires
 source_is_new-is_new-requires g c =
-    let size : length c.relays.result.now ≡ length c.args.net.now.relays = ap length c.relays.ensures in
-    let node_is : slice_get c.args.net.now.relays c.args.place ≡ Some c.index-relays-place.result = rw (← c.relays.ensures) (slice_get_read c.relays.result.now _ c.args.place c.index-relays-place.result refl (omega arith) c.index-relays-place.is) in
+    let node_is : slice_get c.args.net.now.relays c.args.place ≡ Some c.index-relays-place.result = read_there c.args.net.now.relays c.relays.result.now c.relays.ensures c.args.place c.requires c.index-relays-place.result c.index-relays-place.is in
     let P : List (Source g.row.A.Denot) → Type 0 = λ xs. slice_get xs c.loop-number.number ≡ Some c.source-item.result in
     (c.source-item.result, source_there c.args.net.now c.args.place c.loop-number.number c.index-relays-place.result c.source-item.result node_is (subst P c.deref-source-items.ensures.value (slice_get_read c.deref-source-items.result.now _ c.loop-number.number c.source-item.result refl (omega arith) c.source-item.is)))
 
@@ -24,8 +26,7 @@ loop-number-preserved g c = one_more (λ number source. SourceIsNew c.args.net.n
 
 pub returns-clause-lines : goal.returns-clause-lines
 returns-clause-lines g c =
-    let size : length c.relays.result.now ≡ length c.args.net.now.relays = ap length c.relays.ensures in
-    let node_is : slice_get c.args.net.now.relays c.args.place ≡ Some c.index-relays-place.result = rw (← c.relays.ensures) (slice_get_read c.relays.result.now _ c.args.place c.index-relays-place.result refl (omega arith) c.index-relays-place.is) in
+    let node_is : slice_get c.args.net.now.relays c.args.place ≡ Some c.index-relays-place.result = read_there c.args.net.now.relays c.relays.result.now c.relays.ensures c.args.place c.requires c.index-relays-place.result c.index-relays-place.is in
     let P : List (Source g.row.A.Denot) → Type 0 = λ xs. Adds (KeptInList (λ number source. SourceIsNew c.args.net.now c.args.place number) xs) (BrokenInList (λ number source line. (source.line ≡ line) × ¬ SourceIsNew c.args.net.now c.args.place number) xs) [] c.loop-number.lines.items in
     let added = source_adds c.args.net.now c.args.place c.index-relays-place.result _ _ node_is (subst P c.deref-source-items.ensures.value (all_of (λ number source. SourceIsNew c.args.net.now c.args.place number) (λ number source line. (source.line ≡ line) × ¬ SourceIsNew c.args.net.now c.args.place number) c.deref-source-items.result.now c.loop-number.number _ _ (omega arith) c.loop-number.invariant)) in
     lines_are (BreaksAtSource c.args.net.now c.args.place) _ _ added.lines c.put_in_order.ensures.rise c.put_in_order.ensures.same
