@@ -1,13 +1,30 @@
-use Rattle.std.proofs.Common.{ℕ, ◌≡◌, ◌≤◌, List, ◌++◌, length, false, Some, refl, sym, subst, ◌∙◌, ap}
-use Rattle.disk_files.specs.Moments.{LeavesOnly, now}
+use Rattle.std.proofs.Common.{ℕ, ◌≡◌, ◌⊎◌, ⊎_elim, ◌≤◌, arith, List, ◌++◌, length, false, Some, refl, sym, subst, ◌∙◌, ap}
+use Rattle.disk_files.specs.Moments.{History, Elapses, LeavesOnly, now}
 use Rattle.sink_series.specs.Events.{Event, run_of, under, written_by}
-use Rattle.disk_files.specs.Disk.{kept_file}
+use Rattle.disk_files.specs.Disk.{SameDisk, kept_file}
 use Rattle.sink_series.specs.Names.{sink_name}
-use Rattle.sink_series.specs.Views.{newest}
+use Rattle.sink_series.specs.Views.{SeriesView, StoredView, newest}
 use Rattle.sink_series.specs.Keeping.{IsSafe, StaysSafe, OthersStay, IsBeginning, Keeps}
 use Rattle.sink_series.proofs.Writes.{safe_here, others_here, others_rest, begun_rests, begun_joined, begun_next, sound_next, written_file, kept_safe, is_some_of}
+use Rattle.std.specs.Prelude.{Err}
+use Rattle.std.proofs.lemmas.Bool.{true≢false, cases_lt}
+use Rattle.disk_files.specs.declared.dir.DirError.TheVariants as dir
+use Rattle.sink_series.specs.Faults.{fault_of}
+use Rattle.sink_series.specs.declared.fault.SeriesFault.TheVariants as series
+use Rattle.sink_series.proofs.Caused.{told, never, refused_cause, memory_cause, ok_cause}
 use Rattle.sink_series.proofs.Kept.{passes_rest, begins_rest, begins_write, wrote, keeps_on, keeps_more}
 use Rattle.sink_series.proofs.series.Series.write_all_entries.Goals as goal
+
+-- a call that leaves the disk as it was, and one that leaves all files but one
+others_behind : (old mid new : History) (own : List ℕ) → Elapses old mid → SameDisk (now mid) (now old) → OthersStay mid new own → OthersStay old new own
+others_behind old mid new own time same rest = record {
+  later = omega (arith, time.later, rest.later);
+  past = λ t le q. rest.past t (omega (arith, le, time.later)) q ∙ time.past t le q;
+  each = λ t above below name other. ⊎_elim
+      (λ after. rest.each t (omega (arith, after)) below name other ∙ same name)
+      (λ before. rest.past t before name ∙ (others_rest old mid own time same).each t above before name other)
+      (cases_lt mid.moment t);
+}
 
 -- a sink that had failed
 
@@ -208,3 +225,74 @@ returns-in-Err-clause-moments g c =
     let w = k.written ready in
     begun_joined _ _ _ name begun events (begun_rests _ _ name begun events w.0 w.1 sound.each (p.time k.dir) (p.same k.dir))
     (c.in-Err.ensures.moments (p.honest k.dir) name begun events w.0 (p.opened c.self.inside.file ∙ sound.named) (p.same k.dir name ∙ w.1) sound.each p.events (c.bytes.ensures ∙ p.bytes)))
+
+pub returns-then-self-clause-failed : goal.returns-then-self-clause-failed
+returns-then-self-clause-failed g c = ((λ _. sym (ap (λ (s : SeriesView g.row.D.Denot). s.has_failed) c.self.view_is) ∙ c.if-self.true), (λ _. refl))
+
+pub returns-then-self-clause-fault : goal.returns-then-self-clause-fault
+returns-then-self-clause-fault g c = λ e. absurd (cc e)
+
+pub returns-then-self-clause-moments : goal.returns-then-self-clause-moments
+returns-then-self-clause-moments g c = λ honest ready. absurd (true≢false (sym c.if-self.true ∙ (ap (λ (s : SeriesView g.row.D.Denot). s.has_failed) c.self.view_is ∙ ready)))
+
+pub returns-then-self-clause-same : goal.returns-then-self-clause-same
+returns-then-self-clause-same g c = λ honest _ name. refl
+
+pub returns-then-self-clause-never_last : goal.returns-then-self-clause-never_last
+returns-then-self-clause-never_last g c = λ e. cc e
+
+pub returns-in_err-write-clause-failed : goal.returns-in_err-write-clause-failed
+returns-in_err-write-clause-failed g c = ((λ e. absurd (never series.Memory series.Failed c.from_residual.result (told series.Memory c.from_residual.result c.from_residual.ensures.1) (λ q. cc q) e)), (λ t. absurd (true≢false (sym t ∙ (sym (ap (λ (s : SeriesView g.row.D.Denot). s.has_failed) c.self.view_is) ∙ c.if-self.false)))))
+
+pub returns-in_err-write-clause-fault : goal.returns-in_err-write-clause-fault
+returns-in_err-write-clause-fault g c = λ e. absurd (never series.Memory series.Fault c.from_residual.result (told series.Memory c.from_residual.result c.from_residual.ensures.1) (λ q. cc q) e)
+
+pub returns-in_err-write-clause-never_last : goal.returns-in_err-write-clause-never_last
+returns-in_err-write-clause-never_last g c = never series.Memory series.LastNumber c.from_residual.result (told series.Memory c.from_residual.result c.from_residual.ensures.1) (λ q. cc q)
+
+pub returns-in_err-write-clause-refused : goal.returns-in_err-write-clause-refused
+returns-in_err-write-clause-refused g c = λ _. ap (λ (s : SeriesView g.row.D.Denot). record s { dir = c.prepare.new.dir }) c.self.view_is
+
+pub returns-in_err-write-clause-same : goal.returns-in_err-write-clause-same
+returns-in_err-write-clause-same g c = subst (λ s. g.D.Dir.is_honest s.opening → (c.from_residual.result ≡ Err series.Failed) ⊎ (c.from_residual.result ≡ Err series.Memory) → SameDisk (now (g.D.Dir.history c.prepare.new.dir)) (now (g.D.Dir.history s.dir))) c.self.view_is (λ honest _. c.in_err-write.ensures.same (c.self.invariant.kept honest).honest.dir)
+
+pub returns-in_err-write-clause-cause : goal.returns-in_err-write-clause-cause
+returns-in_err-write-clause-cause g c = memory_cause _ _ c.from_residual.result (c.in_err-write.ensures.cause ∙ ap (λ (s : SeriesView g.row.D.Denot). g.D.Dir.fault_count s.dir) c.self.view_is) (told series.Memory c.from_residual.result c.from_residual.ensures.1)
+
+pub returns-in-Ok-clause-stored : goal.returns-in-Ok-clause-stored
+returns-in-Ok-clause-stored g c = let Of : List ℕ → StoredView = λ q. record { path = q; tag = c.args.tag.now; entries = c.args.entries.now } in c.into_stored-stored.ensures ∙ (c.in_ok-write.ensures.stored ∙ (ap Of c.deref.ensures.value ∙ ap (λ (s : SeriesView g.row.D.Denot). Of s.path) c.self.view_is))
+
+pub returns-in-Ok-clause-failed : goal.returns-in-Ok-clause-failed
+returns-in-Ok-clause-failed g c = ((λ e. absurd (cc e)), (λ t. absurd (true≢false (sym t ∙ (sym (ap (λ (s : SeriesView g.row.D.Denot). s.has_failed) c.self.view_is) ∙ c.if-self.false)))))
+
+pub returns-in-Ok-clause-cause : goal.returns-in-Ok-clause-cause
+returns-in-Ok-clause-cause g c = ok_cause _ _ _ (c.in-Ok.ensures.cause.passed ∙ (c.in_ok-write.ensures.cause ∙ ap (λ (s : SeriesView g.row.D.Denot). g.D.Dir.fault_count s.dir) c.self.view_is))
+
+pub returns-in-Err-clause-failed : goal.returns-in-Err-clause-failed
+returns-in-Err-clause-failed g c = ((λ q. absurd ((never series.Fault series.Failed (Err c.into.result) (ap Err (c.into.ensures ∙ (let e : c.in-Err.error ≡ dir.Fault = cc c.in-Err.ensures.only in ap fault_of e))) (λ q. cc q)) q)), (λ t. absurd (true≢false (sym t ∙ (sym (ap (λ (s : SeriesView g.row.D.Denot). s.has_failed) c.self.view_is) ∙ c.if-self.false)))))
+
+pub returns-in-Err-clause-refused : goal.returns-in-Err-clause-refused
+returns-in-Err-clause-refused g c = λ q. absurd (⊎_elim (never series.Fault series.Failed (Err c.into.result) (ap Err (c.into.ensures ∙ (let e : c.in-Err.error ≡ dir.Fault = cc c.in-Err.ensures.only in ap fault_of e))) (λ q. cc q)) (never series.Fault series.Memory (Err c.into.result) (ap Err (c.into.ensures ∙ (let e : c.in-Err.error ≡ dir.Fault = cc c.in-Err.ensures.only in ap fault_of e))) (λ q. cc q)) q)
+
+pub returns-in-Err-clause-same : goal.returns-in-Err-clause-same
+returns-in-Err-clause-same g c = λ honest q. absurd (⊎_elim (never series.Fault series.Failed (Err c.into.result) (ap Err (c.into.ensures ∙ (let e : c.in-Err.error ≡ dir.Fault = cc c.in-Err.ensures.only in ap fault_of e))) (λ q. cc q)) (never series.Fault series.Memory (Err c.into.result) (ap Err (c.into.ensures ∙ (let e : c.in-Err.error ≡ dir.Fault = cc c.in-Err.ensures.only in ap fault_of e))) (λ q. cc q)) q)
+
+pub returns-in-Err-clause-never_last : goal.returns-in-Err-clause-never_last
+returns-in-Err-clause-never_last g c = (never series.Fault series.LastNumber (Err c.into.result) (ap Err (c.into.ensures ∙ (let e : c.in-Err.error ≡ dir.Fault = cc c.in-Err.ensures.only in ap fault_of e))) (λ q. cc q))
+
+pub returns-in-Err-clause-cause : goal.returns-in-Err-clause-cause
+returns-in-Err-clause-cause g c = refused_cause _ _ _ _ c.in-Err.error (Err c.into.result) c.in-Err.ensures.cause (c.in_ok-write.ensures.cause ∙ ap (λ (s : SeriesView g.row.D.Denot). g.D.Dir.fault_count s.dir) c.self.view_is) refl (ap Err c.into.ensures)
+
+pub returns-in-Ok-clause-others : goal.returns-in-Ok-clause-others
+returns-in-Ok-clause-others g c =
+    let p = c.in_ok-write.ensures in
+    let named = p.opened c.self.inside.file ∙ c.self.invariant.sound.named in
+    subst (λ s. g.D.Dir.is_honest s.opening → OthersStay (g.D.Dir.history s.dir) (g.D.Dir.history c.put_synced.new.dir) (newest s)) c.self.view_is
+    (λ honest. let h = (c.self.invariant.kept honest).honest.dir in others_behind _ _ _ _ (p.time h) (p.same h) (c.in-Ok.ensures.others (p.honest h) _ named))
+
+pub returns-in-Err-clause-others : goal.returns-in-Err-clause-others
+returns-in-Err-clause-others g c =
+    let p = c.in_ok-write.ensures in
+    let named = p.opened c.self.inside.file ∙ c.self.invariant.sound.named in
+    subst (λ s. g.D.Dir.is_honest s.opening → OthersStay (g.D.Dir.history s.dir) (g.D.Dir.history c.put_synced.new.dir) (newest s)) c.self.view_is
+    (λ honest. let h = (c.self.invariant.kept honest).honest.dir in others_behind _ _ _ _ (p.time h) (p.same h) (c.in-Err.ensures.others (p.honest h) _ named))
