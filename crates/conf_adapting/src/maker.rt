@@ -58,7 +58,7 @@ impl<'a, A: Allocator + Copy> Maker<'a, A> {
         let subject = heading(alloc, element)?;
         let mut notes = Notes::new(alloc);
         let mut lines = Vec::new(alloc);
-        let place = self.open(spot, element, &mut notes, &mut lines)?;
+        let place = open(alloc, spot, element, &mut notes, &mut lines)?;
         let row = notes.into_row(alloc, spot.depth, line_of(element), subject, &lines)?;
         Ok((spot_in(spot, place, element), row))
     }
@@ -83,65 +83,10 @@ impl<'a, A: Allocator + Copy> Maker<'a, A> {
         }
         if matches!(inside.place, Place::Output(_)) && !self.moved.is_empty() {
             let moved = mem::replace(&mut self.moved, Vec::new(alloc));
-            put_opening(&mut lines, inside.depth, b"buffer", b"")?;
-            lines.extend_from_slice(&moved)?;
-            put_end(&mut lines, inside.depth, b"buffer")?;
+            put_buffer(&mut lines, inside.depth, &moved)?;
         }
         put_end(&mut lines, inside.depth.saturating_sub(1), name)?;
         Ok(lines)
-    }
-
-    // Adds the lines of a section's opening, and says what the section is.
-    fn open(
-        &mut self,
-        spot: Spot,
-        element: &Element<A>,
-        notes: &mut Notes<A>,
-        lines: &mut Vec<u8, A>,
-    ) -> Result<Place, AllocError> {
-        let alloc = self.values.alloc;
-        match opening_of(spot.place, element) {
-            Becomes::Is(Place::Outside) => Ok(Place::Outside),
-            Becomes::Is(place) => {
-                let argument = element.argument.as_bytes();
-                put_opening(lines, spot.depth, element.name.as_bytes(), argument)?;
-                Ok(place)
-            }
-            Becomes::Match(place) => {
-                put_argument(alloc, spot, element, notes, lines)?;
-                Ok(place)
-            }
-            Becomes::Store(place) => {
-                put_argument(alloc, spot, element, notes, lines)?;
-                Ok(place)
-            }
-            Becomes::Label => {
-                put_argument(alloc, spot, element, notes, lines)?;
-                Ok(Place::Label)
-            }
-            Becomes::Buffer => {
-                put_argument(alloc, spot, element, notes, lines)?;
-                Ok(Place::Buffer)
-            }
-            Becomes::Null => {
-                notes.decide(alloc, Decision::OutputType)?;
-                put_argument(alloc, spot, element, notes, lines)?;
-                put_setting(lines, spot.depth.saturating_add(1), b"@type", b"null")?;
-                put_end(lines, spot.depth, element.name.as_bytes())?;
-                Ok(Place::LeftOut)
-            }
-            Becomes::Gone => left_out(notes, b"left out with the section round it"),
-            Becomes::Harmless => left_out(notes, b"left out, it has no bearing on loss"),
-            Becomes::Decided(decision) => {
-                notes.say(&[b"left out"])?;
-                notes.decide(alloc, decision)?;
-                Ok(Place::LeftOut)
-            }
-            Becomes::Unknown => {
-                notes.ask(alloc, element.name.as_bytes())?;
-                left_out(notes, b"left out, no such section is known here")
-            }
-        }
     }
 
     // The lines that stand for a parameter.
@@ -207,18 +152,26 @@ impl<'a, A: Allocator + Copy> Maker<'a, A> {
         pair: &Pair<A>,
         notes: &mut Notes<A>,
     ) -> Result<Vec<u8, A>, AllocError> {
-        let nothing = Vec::new(self.values.alloc);
         if spot.has_buffer {
             notes.say(&[b"left out, it has no effect beside a `<buffer>`"])?;
-            return Ok(nothing);
+        } else {
+            self.put_moved(spot.depth.saturating_add(1), new.as_bytes(), pair, notes)?;
         }
-        let name = new.as_bytes();
+        Ok(Vec::new(self.values.alloc))
+    }
+
+    // Adds the line of a parameter to the buffer that is added.
+    fn put_moved(
+        &mut self,
+        depth: usize,
+        name: &[u8],
+        pair: &Pair<A>,
+        notes: &mut Notes<A>,
+    ) -> Result<(), AllocError> {
         let rule = rule_at(Place::Buffer, name).unwrap_or(Rule::Harmless);
         notes.say(&[b"it is `", name, b"` in a `<buffer>` now"])?;
-        let depth = spot.depth.saturating_add(1);
         let lines = self.placed(depth, rule, name, pair, notes)?;
-        self.moved.extend_from_slice(&lines)?;
-        Ok(nothing)
+        self.moved.extend_from_slice(&lines)
     }
 
     // The line of a parameter under a name, by its rule.
@@ -277,6 +230,102 @@ fn name_of<A: Allocator>(element: &Element<A>) -> &str
     element.name.as_str()
 }
 
+// Adds the lines of a section's opening, and says what the section is.
+fn open<A: Allocator + Copy>(
+    alloc: A,
+    spot: Spot,
+    element: &Element<A>,
+    notes: &mut Notes<A>,
+    lines: &mut Vec<u8, A>,
+) -> Result<Place, AllocError> {
+    match opening_of(spot.place, element) {
+        Becomes::Is(place) => put_as_it_was(spot, place, element, lines),
+        Becomes::Match(place) => put_adapted(alloc, spot, place, element, notes, lines),
+        Becomes::Store(place) => put_adapted(alloc, spot, place, element, notes, lines),
+        Becomes::Label => put_adapted(alloc, spot, Place::Label, element, notes, lines),
+        Becomes::Buffer => put_adapted(alloc, spot, Place::Buffer, element, notes, lines),
+        Becomes::Null => put_null(alloc, spot, element, notes, lines),
+        Becomes::Gone => left_out(notes, b"left out with the section round it"),
+        Becomes::Harmless => left_out(notes, b"left out, it has no bearing on loss"),
+        Becomes::Decided(decision) => left_out_if(alloc, decision, notes),
+        Becomes::Unknown => left_out_unknown(alloc, element.name.as_bytes(), notes),
+    }
+}
+
+// A section stands as it was; the whole configuration has no line of its own.
+fn put_as_it_was<A: Allocator>(
+    spot: Spot,
+    place: Place,
+    element: &Element<A>,
+    lines: &mut Vec<u8, A>,
+) -> Result<Place, AllocError> {
+    if place != Place::Outside {
+        let argument = element.argument.as_bytes();
+        put_opening(lines, spot.depth, element.name.as_bytes(), argument)?;
+    }
+    Ok(place)
+}
+
+// A section stands, with the argument that the profile has for it.
+fn put_adapted<A: Allocator + Copy>(
+    alloc: A,
+    spot: Spot,
+    place: Place,
+    element: &Element<A>,
+    notes: &mut Notes<A>,
+    lines: &mut Vec<u8, A>,
+) -> Result<Place, AllocError> {
+    put_argument(alloc, spot, element, notes, lines)?;
+    Ok(place)
+}
+
+// An output of a type that no relay has becomes one that drops what it takes.
+fn put_null<A: Allocator + Copy>(
+    alloc: A,
+    spot: Spot,
+    element: &Element<A>,
+    notes: &mut Notes<A>,
+    lines: &mut Vec<u8, A>,
+) -> Result<Place, AllocError> {
+    notes.decide(alloc, Decision::OutputType)?;
+    put_argument(alloc, spot, element, notes, lines)?;
+    put_setting(lines, spot.depth.saturating_add(1), b"@type", b"null")?;
+    put_end(lines, spot.depth, element.name.as_bytes())?;
+    Ok(Place::LeftOut)
+}
+
+// Adds a buffer with these lines.
+fn put_buffer<A: Allocator>(
+    lines: &mut Vec<u8, A>,
+    depth: usize,
+    moved: &[u8],
+) -> Result<(), AllocError> {
+    put_opening(lines, depth, b"buffer", b"")?;
+    lines.extend_from_slice(moved)?;
+    put_end(lines, depth, b"buffer")
+}
+
+// A section is left out, if that is accepted.
+fn left_out_if<A: Allocator + Copy>(
+    alloc: A,
+    decision: Decision,
+    notes: &mut Notes<A>,
+) -> Result<Place, AllocError> {
+    notes.say(&[b"left out"])?;
+    notes.decide(alloc, decision)?;
+    Ok(Place::LeftOut)
+}
+
+// A section that isn't known there is left out, if that is accepted.
+fn left_out_unknown<A: Allocator + Copy>(
+    alloc: A,
+    name: &[u8],
+    notes: &mut Notes<A>,
+) -> Result<Place, AllocError> {
+    notes.ask(alloc, name)?;
+    left_out(notes, b"left out, no such section is known here")
+}
+
 // A section is left out.
 fn left_out<A: Allocator + Copy>(notes: &mut Notes<A>, why: &[u8]) -> Result<Place, AllocError> {
     notes.say(&[why])?;
@@ -322,21 +371,54 @@ fn adapted_argument<A: Allocator + Copy>(
     notes: &mut Notes<A>,
 ) -> Result<Vec<u8, A>, AllocError> {
     let old = element.argument.as_bytes();
-    match (element.name.as_bytes(), old) {
-        (b"match", _) => patterns(alloc, element.argument.as_str(), notes),
-        (b"label", _) if !is_label_name(old) => {
-            notes.say(&[b"a label's name has letters, digits and `_`"])?;
-            label_name(alloc, old)
-        }
-        (b"store", b"ignore_error") => {
+    match element.name.as_bytes() {
+        b"match" => patterns(alloc, element.argument.as_str(), notes),
+        b"label" => label_argument(alloc, old, notes),
+        b"store" => store_argument(alloc, old, notes),
+        b"buffer" => buffer_argument(alloc, old, notes),
+        _ => Vec::from_slice(alloc, old),
+    }
+}
+
+// The name that the profile has for that of a label.
+fn label_argument<A: Allocator + Copy>(
+    alloc: A,
+    old: &[u8],
+    notes: &mut Notes<A>,
+) -> Result<Vec<u8, A>, AllocError> {
+    if is_label_name(old) {
+        return Vec::from_slice(alloc, old);
+    }
+    notes.say(&[b"a label's name has letters, digits and `_`"])?;
+    label_name(alloc, old)
+}
+
+// The argument of a store: its failures count.
+fn store_argument<A: Allocator + Copy>(
+    alloc: A,
+    old: &[u8],
+    notes: &mut Notes<A>,
+) -> Result<Vec<u8, A>, AllocError> {
+    match old {
+        b"ignore_error" => {
             notes.decide(alloc, Decision::IgnoreError)?;
             Ok(Vec::new(alloc))
         }
-        (b"buffer", b"" | b"tag") => Vec::from_slice(alloc, old),
-        (b"buffer", _) => {
+        _ => Vec::from_slice(alloc, old),
+    }
+}
+
+// The argument of a buffer: its chunks are by tag alone.
+fn buffer_argument<A: Allocator + Copy>(
+    alloc: A,
+    old: &[u8],
+    notes: &mut Notes<A>,
+) -> Result<Vec<u8, A>, AllocError> {
+    match old {
+        b"" | b"tag" => Vec::from_slice(alloc, old),
+        _ => {
             notes.say(&[b"chunks are by tag alone"])?;
             Vec::from_slice(alloc, b"tag")
         }
-        _ => Vec::from_slice(alloc, old),
     }
 }

@@ -13,16 +13,27 @@ pub(crate) fn patterns<A: Allocator + Copy>(
 ) -> Result<Vec<u8, A>, AllocError> {
     let mut found = Vec::new(alloc);
     for word in argument.split_whitespace() {
-        if !found.is_empty() {
-            found.extend_from_slice(b" ")?;
-        }
-        found.extend_from_slice(&one_pattern(alloc, word, notes)?)?;
+        put_pattern(alloc, word, notes, &mut found)?;
     }
     if found.is_empty() {
-        found.extend_from_slice(b"**")?;
         notes.say(&[b"a match without a pattern takes each tag"])?;
+        return Vec::from_slice(alloc, b"**");
     }
     Ok(found)
+}
+
+// Adds a pattern behind those that were found.
+fn put_pattern<A: Allocator + Copy>(
+    alloc: A,
+    word: &str,
+    notes: &mut Notes<A>,
+    found: &mut Vec<u8, A>,
+) -> Result<(), AllocError> {
+    if !found.is_empty() {
+        found.extend_from_slice(b" ")?;
+    }
+    let pattern = one_pattern(alloc, word, notes)?;
+    found.extend_from_slice(&pattern)
 }
 
 // A pattern, made wider where the profile doesn't have it.
@@ -57,17 +68,28 @@ fn widened<A: Allocator + Copy>(alloc: A, word: &[u8]) -> Result<Vec<u8, A>, All
     let mut part = Vec::new(alloc);
     let mut braces = 0usize;
     for byte in word {
-        if *byte == b'.' && braces == 0 {
-            found.extend_from_slice(wide_part(&part))?;
-            found.extend_from_slice(b".")?;
-            part.clear();
-        } else {
-            part.push(*byte)?;
-        }
+        put_byte(*byte, braces, &mut part, &mut found)?;
         braces = braces_behind(braces, *byte);
     }
     found.extend_from_slice(wide_part(&part))?;
     Ok(found)
+}
+
+// Adds a byte to the part; or, where it ends the part, that to what was found.
+fn put_byte<A: Allocator>(
+    byte: u8,
+    braces: usize,
+    part: &mut Vec<u8, A>,
+    found: &mut Vec<u8, A>,
+) -> Result<(), AllocError> {
+    if byte == b'.' && braces == 0 {
+        found.extend_from_slice(wide_part(part))?;
+        found.extend_from_slice(b".")?;
+        part.clear();
+    } else {
+        part.push(byte)?;
+    }
+    Ok(())
 }
 
 // How many braces are open behind a byte.

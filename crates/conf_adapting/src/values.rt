@@ -133,10 +133,18 @@ fn counted<A: Allocator + Copy>(
 
 // The profile's word for a word of Fluentd.
 fn word_for(rule: Rule, value: &[u8]) -> &[u8] {
-    match (rule, value) {
-        (Rule::FlushMode, b"lazy") => b"default",
-        (Rule::Overflow, b"exception") => b"throw_exception",
-        (Rule::BufferType, b"file_single") => b"file",
+    match rule {
+        Rule::FlushMode => renamed(b"lazy", b"default", value),
+        Rule::Overflow => renamed(b"exception", b"throw_exception", value),
+        Rule::BufferType => renamed(b"file_single", b"file", value),
         _ => value,
     }
+}
+
+// The new word, if the value is the old one; else the value.
+fn renamed<'a>(old: &[u8], new: &'a [u8], value: &'a [u8]) -> &'a [u8] {
+    if value == old {
+        return new;
+    }
+    value
 }
