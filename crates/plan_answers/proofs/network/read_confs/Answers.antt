@@ -1,7 +1,7 @@
 use Rattle.std.proofs.Common.{◌+◌, ◌∷◌, [], List, ℕ, length, ap, ◌∙◌}
 use Rattle.std.specs.Borrow.{Bor}
 use Rattle.std.specs.declared.vec.Vec.{Vec}
-use Rattle.std.proofs.lemmas.List.{length-append, map_more, map_push}
+use Rattle.std.proofs.lemmas.List.{length-append, map_more, map_push, take_all}
 use Rattle.std.proofs.lemmas.List.Elements.{AllZip-push}
 use Rattle.program_text.specs.Texts.{IsTextOf}
 use Rattle.plan_answers.proofs.network.read_confs.Goals as goal
@@ -15,3 +15,6 @@ loop-name-preserved g c =
           rw (map_more (λ (name : Bor (List ℕ)). name.now) c.args.names.now c.loop-name.name-index (record { ref_ptr = (0, 0); now = [] }) c.loop-name-test.true, c.in_ok-push.ensures.items, map_push (λ (conf : Vec ℕ g.row.A.Denot). conf.items) confs c.in_ok-conf.conf)
           (AllZip-push (λ name conf. IsTextOf (g.O.Open.text_of c.args.files.now name) conf) _ _ _ _ c.loop-name.invariant.texts c.in_ok-conf.ensures);
     }
+
+pub returns-clause-texts : goal.returns-clause-texts
+returns-clause-texts g c = rw (take_all c.loop-name.name-index c.args.names.now c.loop-name-test.false) at c.loop-name.invariant.texts
