@@ -1,5 +1,5 @@
 -- Names of pairs, one after another.
-use Rattle.std.proofs.Common.{ℕ, ◌≡◌, ◌*◌, ◌≤◌, Bool, false, List, [], ◌∷◌, Option, Some, None, MatchOption, Bor, refl, ap, sym, subst, ◌∙◌, arith}
+use Rattle.std.proofs.Common.{ℕ, ◌≡◌, ◌*◌, ◌≤◌, IsTrue, Bool, false, List, [], ◌∷◌, Option, Some, None, MatchOption, Bor, refl, ap, sym, subst, ◌∙◌, arith}
 use Rattle.std.specs.Option.{is_some}
 use Rattle.std.specs.List.{AllByRecursion}
 use Rattle.msgpack_bytes.specs.Containers.{Pair}
@@ -17,3 +17,6 @@ named_first ps qs p e a = (subst (AllByRecursion IsNamed) e a).0
 
 pub none_left : (n : ℕ) (bytes : List ℕ) → n ≤ 0 → pairs_of n bytes ≡ []
 none_left n bytes h = let z : 2 * n ≡ 0 = omega arith in ap (λ (k : ℕ). pairs_from (items_of k bytes)) z ∙ ap pairs_from (no_items bytes)
+
+pub not_true : IsTrue false → ⊥
+not_true e = absurd cc

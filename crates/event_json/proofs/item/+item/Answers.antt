@@ -6,10 +6,10 @@ use Rattle.msgpack_bytes.specs.Answers.{IsHead}
 use Rattle.event_modes.specs.Rows.{items_of}
 use Rattle.event_modes.proofs.Heads.{has_head}
 use Rattle.event_json.specs.Json.{AreJson, AreMembers, ArePairs, IsJsonWithin, IsNamed, IsScalarJson}
-use Rattle.event_json.specs.Walking.{pairs_of, IsArrayOf, IsMapOf, IsObjectOf, IsPairOf, IsPairsOf}
+use Rattle.event_json.specs.Walking.{pairs_of, IsArrayOf, IsMapOf, IsObjectOf, IsPairOf, IsPairsOf, Object, Pairs}
 use Rattle.event_json.proofs.Deeper.{deeper, scalar_within, array_within, map_within}
 use Rattle.event_json.proofs.Members.{behind_all, ended, goes_to, map_json, member_more, no_items_left, pair_more, value_more}
-use Rattle.event_json.proofs.Naming.{named_first, none_left}
+use Rattle.event_json.proofs.Naming.{named_first, none_left, not_true}
 use Rattle.event_json.proofs.Steps.{adds_as}
 use Rattle.event_json.proofs.item.+item.Goals as goal
 
@@ -74,6 +74,18 @@ put_array-returns g t c =
       each = goes_to (AreJson Is) all (items_of c.loop-left.left c.loop-left.rest.now) so_far.values (no_items_left c.loop-left.left c.loop-left.rest.now c.loop-left-test.false) refl so_far.goes;
       whole = refl;
     })
+
+pub put_map-returns-then-have_names : goal.put_map-returns-then-have_names
+put_map-returns-then-have_names g t c =
+    let Is = IsJsonWithin (length c.args.pairs.now) in
+    let all = pairs_of c.args.count c.args.pairs.now in
+    adds_as c.put_object.result (IsObjectOf Is all) (IsMapOf Is all) c.args.writer.now c.put_object.new.writer (λ ts object. Object object) c.put_object.ensures
+
+pub put_map-returns-else-have_names : goal.put_map-returns-else-have_names
+put_map-returns-else-have_names g t c =
+    let Is = IsJsonWithin (length c.args.pairs.now) in
+    let all = pairs_of c.args.count c.args.pairs.now in
+    adds_as c.put_pairs.result (IsPairsOf Is all) (IsMapOf Is all) c.args.writer.now c.put_pairs.new.writer (λ ts pairs. Pairs (λ named. not_true (c.if-have_names.ensures.1 named)) pairs) c.put_pairs.ensures
 
 pub put_object-unreachable-requires : goal.put_object-unreachable-requires
 put_object-unreachable-requires g t c =
