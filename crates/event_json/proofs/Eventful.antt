@@ -1,10 +1,11 @@
 -- The tokens of an event's object, written one behind another.
-use Rattle.std.proofs.Common.{ℕ, ◌≡◌, List, [], ◌∷◌, ◌++◌, Result, Ok, Err, OnOk, ap, subst, ◌∙◌, append_assoc}
+use Rattle.std.proofs.Common.{ℕ, ◌≡◌, List, [], ◌∷◌, ◌++◌, Result, Ok, Err, OnOk, refl, ap, subst, ◌∙◌, append_assoc}
 use Rattle.std.specs.Prelude.{codes}
+use Rattle.json.specs.Print.{print}
 use Rattle.json.specs.Token.{Token, begin_object, end_object, key}
 use Rattle.json.specs.Written.{Written}
 use Rattle.event_modes.specs.Rows.{IsStored}
-use Rattle.event_json.specs.Events.{IsEventJson, IsTimeJson}
+use Rattle.event_json.specs.Events.{IsEventJson, IsTimeJson, IsEventLine}
 use Rattle.event_json.specs.Json.{IsJsonWithin, IsTextJson}
 use Rattle.event_json.specs.Walking.{Adds}
 
@@ -46,3 +47,13 @@ event_written (Ok u) tag entry time fields depth tags times values old mid new s
       appends = record { before = still ∙ b; tokens_are = all };
     }
 event_written (Err e) tag entry time fields depth tags times values old mid new s t f tag_is time_is value_is written b last still = tt
+
+-- the line of an event behind others, from the tokens that are written behind none
+pub lined : (tag entry lines all pushed : List ℕ) (old new : Written) → old.before ≡ lines → old.tokens ≡ [] → Adds (IsEventJson tag entry) old new → all ≡ new.before ++ print new.tokens → pushed ≡ all ++ 10 ∷ []
+    → (line : List ℕ) × IsEventLine tag entry line × (pushed ≡ lines ++ line)
+lined tag entry lines all pushed old new before none added printed ended =
+    let tokens : new.tokens ≡ added.tokens = added.appends.tokens_are ∙ ap (λ z. z ++ added.tokens) none in (
+      print added.tokens ++ 10 ∷ [],
+      record { tokens = added.tokens; is = added.is; line_is = refl },
+      ended ∙ ap (λ z. z ++ 10 ∷ []) (printed ∙ ap (λ z. z ++ print new.tokens) (added.appends.before ∙ before) ∙ ap (λ z. lines ++ print z) tokens) ∙ append_assoc lines (print added.tokens) (10 ∷ []),
+    )
