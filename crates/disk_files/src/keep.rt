@@ -1,7 +1,7 @@
 //! How much a stop keeps.
 
 /// How much a stop of a folder in memory keeps. A removed file is gone in each case.
-#[derive(Clone, Copy, PartialEq, Eq)]
+#[derive(Clone, Copy, Debug, PartialEq, Eq)]
 pub enum Keep {
     /// Of each file what was synced, and no file that was never synced.
     Least,

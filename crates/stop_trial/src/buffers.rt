@@ -46,7 +46,7 @@ fn sit<D: Dir>(alloc: Global, dir: D, table: &mut Table, acts: &[Act]) -> (Went,
 
 // How many acts are done first, on a device that fails nothing; which of its calls fail then, in
 // another opening and the other acts; and which stop comes.
-#[derive(Clone, Copy)]
+#[derive(Clone, Copy, Debug)]
 struct Run {
     before: usize,
     calls: Failing,

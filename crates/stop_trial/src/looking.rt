@@ -8,7 +8,7 @@ use disk_files::Dir;
 use std::alloc::Global;
 
 /// What is wrong.
-#[derive(Clone, Copy, PartialEq, Eq)]
+#[derive(Clone, Copy, Debug, PartialEq, Eq)]
 pub enum Wrong {
     /// A call was answered otherwise than it ought to be.
     Answer,

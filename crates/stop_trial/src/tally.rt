@@ -5,7 +5,7 @@ use disk_files::{Dir, Fuse, Keep, MemoryDir};
 use std::alloc::Global;
 
 /// Which calls of a device fail.
-#[derive(Clone, Copy)]
+#[derive(Clone, Copy, Debug)]
 pub enum Failing {
     /// All behind so many.
     Past(u64),
@@ -22,7 +22,7 @@ pub fn on_device(dir: MemoryDir<Global>, calls: Failing) -> Fuse<MemoryDir<Globa
 }
 
 /// What becomes of the folder behind the calls.
-#[derive(Clone, Copy)]
+#[derive(Clone, Copy, Debug)]
 pub enum Stop {
     /// It is opened as it is.
     Never,
