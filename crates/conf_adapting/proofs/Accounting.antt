@@ -6,7 +6,7 @@ use Rattle.conf_text.specs.declared.element.Pair.{Pair}
 use Rattle.conf_text.specs.Trees.{Setting, Tree, trees}
 use Rattle.conf_text.specs.Views.{setting, tree_of}
 use Rattle.conf_text.proofs.Elements.{tree_of_out}
-use Rattle.relay_faults.specs.Elements.{heading_of, settings_of}
+use Rattle.relay_conf.specs.Elements.{heading_of, settings_of}
 use Rattle.conf_adapting.specs.Items.{Item, all_stand_for, item_of, items_in, items_of, parameter_item, section_item, stands_for}
 use Rattle.conf_adapting.specs.declared.adapted.Entry.{Entry}
 use Rattle.conf_adapting.specs.declared.adapted.Entry.TheVariants as entry

@@ -3,14 +3,14 @@
 ghost use Rattle.std.specs.Prelude.{◌≡◌, [], ◌∷◌, ◌++◌, map, IfOk, OnOk};
 ghost use Rattle.conf_text.specs.Trees.{trees};
 ghost use Rattle.conf_text.specs.Views.{setting, tree_of};
-ghost use Rattle.relay_faults.specs.Elements.{heading_of};
+ghost use Rattle.relay_conf.specs.Elements.{heading_of};
 ghost use Rattle.conf_adapting.specs.Items.{all_stand_for, items_in, items_of, parameter_item, section_item};
 
 use crate::adapted::{Adapted, Entry};
 use crate::maker::Maker;
 use crate::place::{Place, Spot};
 use conf_text::{Element, Pair};
-use relay_faults::{line_of, pairs_of};
+use relay_conf::{line_of, pairs_of};
 use std::alloc::{AllocError, Allocator};
 
 /// The configuration of these elements, adapted to the profile: a row for each section and each

@@ -2,7 +2,7 @@
 
 ghost use Rattle.std.specs.Prelude.{◌≡◌, IfOk};
 ghost use Rattle.conf_text.specs.Views.{setting, tree_of};
-ghost use Rattle.relay_faults.specs.Elements.{heading_of};
+ghost use Rattle.relay_conf.specs.Elements.{heading_of};
 ghost use Rattle.conf_adapting.specs.Items.{item_of, parameter_item, section_item};
 
 use crate::adapted::Row;
@@ -19,7 +19,7 @@ use crate::rules::{Rule, buffer_name, rule_at, since_named};
 use crate::values::{Value, Values};
 use conf_text::{Element, Pair};
 use conf_values::is_label_name;
-use relay_faults::{argument_of, line_of};
+use relay_conf::{argument_of, line_of};
 use std::alloc::{AllocError, Allocator};
 use std::mem;
 

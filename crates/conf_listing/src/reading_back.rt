@@ -7,8 +7,7 @@ ghost use Rattle.conf_listing.specs.Adapting.{AreOneKind, IsStopOfLines};
 
 use conf_adapting::Adapted;
 use conf_text::ConfFault;
-use relay_conf::Relay;
-use relay_faults::RelayFault;
+use relay_conf::{Relay, RelayFault};
 use relay_reading::{ConfStop, read_relay};
 use std::alloc::Allocator;
 

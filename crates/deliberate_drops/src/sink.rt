@@ -3,16 +3,11 @@
 ghost use Rattle.std.specs.Prelude.{◌≡◌, IfOk};
 ghost use Rattle.std.specs.List.{list_all};
 ghost use Rattle.std.specs.Option.{option_copied};
-ghost use Rattle.relay_net.specs.Outputs.{KeepsChunks};
 ghost use Rattle.deliberate_drops.specs.Clashes.{clash as clash_of, are_apart, same_number as same_number_of, same_path as same_path_of, is_free_rule, is_free_scope, is_free as is_free_of, IsOwnSink};
 ghost use Rattle.deliberate_drops.specs.Sinks.{IsKeepingSink};
 
 use loss_rules::{buffer_path, sink_path};
-use relay_conf::{
-    BufferKind, BufferNo, BufferSettings, DEFAULT_FILE_CHUNK_LIMIT, DEFAULT_FILE_TOTAL_LIMIT,
-    DEFAULT_FLUSH_INTERVAL, DEFAULT_FLUSH_THREADS, DEFAULT_RETRY_BASE, DEFAULT_RETRY_TIMEOUT,
-    FileSettings, FlushMode, MatchRule, Output, OverflowAction, Relay, RetrySettings, Scope,
-};
+use relay_conf::{BufferNo, BufferSettings, FileSettings, MatchRule, Output, Relay, Scope};
 use relay_net::buffer_number;
 use std::alloc::{AllocError, Allocator};
 
@@ -47,33 +42,10 @@ fn sink_of<A: Allocator + Copy>(
     let path = format!(in alloc; "dropped-{number}")?;
     let settings = FileSettings {
         path: format!(in alloc; "dropped-{number}")?,
-        buffer: keeping(path),
+        buffer: BufferSettings::keeping(path),
         number: BufferNo(number),
     };
     Ok(Output::File { settings, line })
-}
-
-// A buffer in files of this name that lets no chunk go before it is delivered.
-fn keeping<A: Allocator>(path: String<A>) -> BufferSettings<A>
-    ensures { KeepsChunks result }
-{
-    BufferSettings {
-        kind: BufferKind::File { path },
-        flush_mode: FlushMode::Interval,
-        flush_interval: DEFAULT_FLUSH_INTERVAL,
-        flush_thread_count: DEFAULT_FLUSH_THREADS,
-        retry: RetrySettings {
-            wait: 1,
-            exponential_backoff_base: DEFAULT_RETRY_BASE,
-            max_interval: None,
-            max_times: None,
-            timeout: DEFAULT_RETRY_TIMEOUT,
-            forever: true,
-        },
-        overflow_action: OverflowAction::ThrowException,
-        chunk_limit_size: DEFAULT_FILE_CHUNK_LIMIT,
-        total_limit_size: DEFAULT_FILE_TOTAL_LIMIT,
-    }
 }
 
 // Whether no output of the relay clashes with this one.

@@ -8,7 +8,7 @@ use Rattle.std.proofs.lemmas.List.Elements.{All-head, All-tail}
 use Rattle.loss_rules.specs.Breaks.{Subject}
 use Rattle.plan_lines.specs.Forms.{LineForm, nothing, a_relay, a_client, a_label, a_reach, a_duty, no_form, form_of, line_form, label_form, reach_form}
 use Rattle.plan_lines.specs.Plans.{Adds, Say, none, one_more}
-use Rattle.relay_faults.specs.Examined.{words_of}
+use Rattle.relay_conf.specs.Examined.{words_of}
 use Rattle.label_plan.specs.Labelling.{Extends}
 use Rattle.label_plan.specs.Lines.{are_label_words, IsLabelLine}
 

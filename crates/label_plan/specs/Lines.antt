@@ -1,7 +1,7 @@
 -- Lines of labels and reaches.
 use Rattle.std.specs.Prelude.{◌≡◌, ◌++◌, ◌||◌, ℕ, List, [], ◌∷◌, codes, All, Bool, true, false, filter, flat_map, if◌then◌else◌}
 use Rattle.std.specs.Str.{bytes_eq, is_utf8}
-use Rattle.relay_faults.specs.Examined.{words_of}
+use Rattle.relay_conf.specs.Examined.{words_of}
 use Rattle.text_lines.specs.Lines.{text_lines}
 
 -- whether there are no words, or the first of them is `label` or `reach`

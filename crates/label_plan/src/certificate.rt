@@ -4,14 +4,14 @@
 ghost use Rattle.std.specs.Prelude.{◌≡◌, ◌≤◌, IfOk, IsTrue, All, map, length, take};
 ghost use Rattle.label_plan.specs.Labelling.{IsClosed};
 ghost use Rattle.label_plan.specs.Lines.{IsLabelLine, OnlyAdds, are_label_words};
-ghost use Rattle.relay_faults.specs.Examined.{words_of};
+ghost use Rattle.relay_conf.specs.Examined.{words_of};
 
 use loss_rules::{
     Label, Labels, Reaches, clients_are_labelled, forwards_are_labelled, labels_are_matched,
     no_relabel_cycle, reached_matches_keep, reaches_cover, relabels_are_labelled,
 };
 use plan_lines::Plan;
-use relay_faults::words;
+use relay_conf::words;
 use relay_net::Net;
 use std::alloc::{AllocError, Allocator};
 use std::str;

@@ -3,7 +3,7 @@
 ghost use Rattle.std.specs.Prelude.{◌≡◌, ◌++◌, [], ◌∷◌, map, IfOk, OnOk};
 ghost use Rattle.label_plan.specs.Lines.{is_kept_line, kept_lines, lines_without_labels, say_else as say_else_of};
 
-use relay_faults::words;
+use relay_conf::words;
 use std::alloc::{AllocError, Allocator};
 use std::str;
 use text_lines::lines;

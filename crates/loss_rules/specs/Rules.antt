@@ -2,7 +2,7 @@
 -- compare patterns, and know no tags, steps or buffers' contents.
 use Rattle.std.specs.Prelude.{◌≡◌, ◌≢◌, ◌<◌, ℕ, List, Option, Some, None, slice_get, string_bytes, All, Any, IsSome, IsSomeAnd, ◌⊎◌}
 use Rattle.std.specs.Option.{option_and_then}
-use Rattle.relay_conf.specs.Views.{kind_view}
+use Rattle.relay_conf.specs.BufferSection.{kind_view}
 use Rattle.relay_conf.specs.declared.output.Output.{Output}
 use Rattle.relay_conf.specs.declared.output.Output.TheVariants as output
 use Rattle.relay_conf.specs.declared.relay.MatchRule.{MatchRule}

@@ -5,7 +5,7 @@ use Rattle.std.specs.Str.{bytes_eq, is_utf8}
 use Rattle.std.proofs.lemmas.Bool.{false≢true, eqb-true}
 use Rattle.std.proofs.lemmas.List.{length-append}
 use Rattle.std.proofs.lemmas.List.Elements.{filter_map-append}
-use Rattle.relay_faults.specs.Examined.{words_of}
+use Rattle.relay_conf.specs.Examined.{words_of}
 use Rattle.loss_rules.specs.declared.label.Duty.TheVariants.{Any, Every}
 use Rattle.plan_lines.specs.Drafts.{HasItsConf}
 use Rattle.plan_lines.specs.Forms.{LineForm, nothing, a_relay, a_client, a_label, a_reach, a_duty, no_form, is_folder, is_comment, relay_form, client_form, label_form, reach_form, duty_form, named_form, form_of, line_form, conf_field, conf_named}

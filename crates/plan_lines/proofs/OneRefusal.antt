@@ -4,7 +4,7 @@ use Rattle.std.proofs.lemmas.Option.{none-some, same_Some}
 use Rattle.conf_text.specs.Grammar.{HasFault as HasTextFault}
 use Rattle.conf_text.proofs.Whole.{one_fault}
 use Rattle.conf_text.specs.declared.fault.ConfFault.{ConfFault}
-use Rattle.relay_faults.specs.declared.fault.RelayFault.{RelayFault}
+use Rattle.relay_conf.specs.declared.fault.RelayFault.{RelayFault}
 use Rattle.loss_rules.specs.Breaks.{Subject}
 use Rattle.plan_lines.specs.declared.error.PlanError.{PlanError}
 use Rattle.plan_lines.specs.declared.error.PlanError.TheVariants as error

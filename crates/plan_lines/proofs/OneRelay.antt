@@ -8,11 +8,11 @@ use Rattle.conf_text.proofs.Whole.{one_reading, faultless}
 use Rattle.tag_pattern.specs.Items.{Item}
 use Rattle.tag_pattern.specs.Grammar.{plain_patterns}
 use Rattle.tag_pattern.proofs.SlotCuts.{slots_unique}
-use Rattle.relay_faults.specs.Elements.{heading_of, children_of}
-use Rattle.relay_faults.specs.Examined.{words_of}
-use Rattle.relay_faults.specs.Faults.{all_found}
-use Rattle.relay_faults.specs.Findings.{Finding, a_fault, a_pattern, Passes, Stands, AllPass, FirstStands}
-use Rattle.relay_faults.specs.declared.fault.RelayFault.{RelayFault}
+use Rattle.relay_conf.specs.Elements.{heading_of, children_of}
+use Rattle.relay_conf.specs.Examined.{words_of}
+use Rattle.relay_conf.specs.Faults.{all_found}
+use Rattle.relay_conf.specs.Findings.{Finding, a_fault, a_pattern, Passes, Stands, AllPass, FirstStands}
+use Rattle.relay_conf.specs.declared.fault.RelayFault.{RelayFault}
 use Rattle.relay_conf.specs.declared.relay.MatchRule.{MatchRule}
 use Rattle.relay_conf.specs.declared.relay.Relay.{Relay}
 use Rattle.relay_conf.specs.declared.relay.Scope.{Scope}

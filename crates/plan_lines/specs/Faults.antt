@@ -5,9 +5,9 @@ use Rattle.conf_text.specs.Grammar.{IsConfiguration}
 use Rattle.conf_text.specs.Grammar.{HasFault as HasTextFault}
 use Rattle.conf_text.specs.Trees.{Tree}
 use Rattle.conf_values.specs.Numbers.{number_of}
-use Rattle.relay_faults.specs.Faults.{IsRefusal as IsRelayRefusal}
-use Rattle.relay_faults.specs.declared.fault.RelayError.TheVariants as relay_error
-use Rattle.relay_faults.specs.declared.fault.RelayFault.{RelayFault}
+use Rattle.relay_conf.specs.Faults.{IsRefusal as IsRelayRefusal}
+use Rattle.relay_conf.specs.declared.fault.RelayError.TheVariants as relay_error
+use Rattle.relay_conf.specs.declared.fault.RelayFault.{RelayFault}
 use Rattle.relay_net.specs.Network.{Network, place_among, node_of, source_of_port}
 use Rattle.relay_net.specs.declared.node.Node.{Node}
 use Rattle.tag_pattern.specs.Grammar.{Slot, IsPattern, AnyByRecursion}

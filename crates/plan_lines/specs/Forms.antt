@@ -7,7 +7,7 @@ use Rattle.std.specs.Str.{bytes_eq, is_utf8}
 use Rattle.conf_values.specs.Numbers.{number_of}
 use Rattle.loss_rules.specs.declared.label.Duty.{Duty}
 use Rattle.loss_rules.specs.declared.label.Duty.TheVariants.{Any, Every}
-use Rattle.relay_faults.specs.Examined.{words_of}
+use Rattle.relay_conf.specs.Examined.{words_of}
 use Rattle.text_lines.specs.Lines.{text_lines}
 
 -- What a line is by its fields: it says nothing, names a relay, a client, tags that may reach a

@@ -6,7 +6,7 @@ use Rattle.std.specs.declared.vec.Vec.{Vec}
 use Rattle.conf_text.specs.Grammar.{IsConfiguration}
 use Rattle.conf_text.specs.Trees.{Tree}
 use Rattle.conf_values.specs.Numbers.{number_of}
-use Rattle.relay_faults.specs.Faults.{HasNoFault}
+use Rattle.relay_conf.specs.Faults.{HasNoFault}
 use Rattle.relay_conf.specs.declared.relay.Relay.{Relay}
 use Rattle.relay_conf.specs.Relays.{IsRelayOf, AreOfWords}
 use Rattle.relay_net.specs.Network.{Network, place_among, enters}

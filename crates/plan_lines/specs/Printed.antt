@@ -2,7 +2,7 @@
 use Rattle.std.specs.Prelude.{ℕ, List, ◌++◌, codes}
 use Rattle.std.specs.Fmt.{decimal}
 use Rattle.conf_text.specs.Printed.{fault_text as conf_fault_text}
-use Rattle.relay_faults.specs.Printed.{fault_text as relay_fault_text}
+use Rattle.relay_conf.specs.Printed.{fault_text as relay_fault_text}
 use Rattle.plan_lines.specs.declared.error.PlanError.{PlanError}
 use Rattle.plan_lines.specs.declared.error.PlanError.TheVariants as errors
 

@@ -3,7 +3,7 @@
 ghost use Rattle.std.specs.Prelude.{◌≡◌, ℕ, List, [], ◌∷◌, ◌<◌, map, length, position, slice_get, string_bytes, IfOk, IfErr, OnOk, Some, option_map};
 ghost use Rattle.std.specs.Str.{bytes_eq};
 ghost use Rattle.std.specs.Option.{option_and_then, option_copied};
-ghost use Rattle.relay_faults.specs.Examined.{words_of};
+ghost use Rattle.relay_conf.specs.Examined.{words_of};
 ghost use Rattle.relay_conf.specs.Relays.{AreOfWord, AreOfWords};
 ghost use Rattle.relay_net.specs.Network.{node_of, source_of_port};
 ghost use Rattle.loss_rules.specs.Sites.{rule_at};
@@ -19,8 +19,7 @@ use crate::relays::Relays;
 use conf_text::ConfError;
 use conf_values::whole_number;
 use loss_rules::{Duty, Label, Reach, RelayLine};
-use relay_conf::{Relay, RelayError, Scope, Source};
-use relay_faults::words;
+use relay_conf::{Relay, RelayError, Scope, Source, words};
 use relay_net::{Client, Node};
 use std::alloc::Allocator;
 use std::str;

@@ -5,7 +5,7 @@ ghost use Rattle.std.specs.List.{filter_map};
 ghost use Rattle.std.specs.Option.{option_copied};
 ghost use Rattle.plan_lines.specs.Forms.{conf_field as field_of_conf, conf_named as named_conf, confs_named};
 
-use relay_faults::words;
+use relay_conf::words;
 use std::alloc::{AllocError, Allocator};
 use std::str;
 use text_lines::lines;

@@ -5,7 +5,7 @@ use Rattle.conf_text.specs.declared.element.Element.{Element, out-Element}
 use Rattle.conf_text.specs.Trees.{Heading, Setting, Tree, tree, trees}
 use Rattle.conf_text.specs.Views.{tree_of}
 use Rattle.conf_text.proofs.Elements.{tree_of_out}
-use Rattle.relay_faults.specs.Elements.{heading_of, settings_of, is_named}
+use Rattle.relay_conf.specs.Elements.{heading_of, settings_of, is_named}
 use Rattle.relay_conf.specs.Meaning.{one_if, has_buffer, tree_buffers, trees_buffers}
 
 buffers_at : (t : Tree) (h : Heading) (s : List Setting) (kids : List Tree) → t ≡ tree h s (trees kids) → is_named (codes "system") t ≡ false

@@ -1,3 +1,13 @@
+pub mod Drops
+pub mod Trees
+pub mod Findings
+pub mod Pieces
+pub mod Examining
+pub mod Labelling
+pub mod Refusals
+pub mod Going
+pub mod Parameters
+pub mod LastValues
 pub mod Counting
 pub mod Numbering
 pub mod OwnBuffers

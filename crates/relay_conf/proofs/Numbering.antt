@@ -2,7 +2,7 @@
 use Rattle.std.proofs.Common.{◌≡◌, ◌∙◌, ◌+◌, ℕ, Bool, true, false, List, [], ◌∷◌, ◌++◌, sym, ap, map, refl, append_assoc}
 use Rattle.std.specs.Prelude.{filter}
 use Rattle.conf_text.specs.Trees.{Tree}
-use Rattle.relay_faults.specs.Elements.{is_named}
+use Rattle.relay_conf.specs.Elements.{is_named}
 use Rattle.relay_conf.specs.Meaning.{OutputMeaning, output_of, numbered, tree_buffers}
 
 -- the element passes, and what it means is taken

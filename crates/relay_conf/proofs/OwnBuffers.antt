@@ -7,9 +7,9 @@ use Rattle.std.specs.Str.{bytes_eq}
 use Rattle.std.proofs.lemmas.Bool.{eq-eqb, eqb-true, false≢true}
 use Rattle.std.proofs.lemmas.Slice.Eq.{bytes_eq-Decides}
 use Rattle.conf_text.specs.Trees.{Heading, Setting, Tree, tree, Trees, no_trees, more_trees}
-use Rattle.relay_faults.specs.Elements.{heading_of, children_of, tree_list, is_named}
-use Rattle.relay_faults.specs.declared.form.OutputType.{OutputType}
-use Rattle.relay_faults.specs.declared.form.OutputType.TheVariants as outputs
+use Rattle.relay_conf.specs.Elements.{heading_of, children_of, tree_list, is_named}
+use Rattle.relay_conf.specs.declared.form.OutputType.{OutputType}
+use Rattle.relay_conf.specs.declared.form.OutputType.TheVariants as outputs
 use Rattle.relay_conf.specs.declared.output.Output.{Output}
 use Rattle.relay_conf.specs.declared.output.Output.TheVariants as output
 use Rattle.relay_conf.specs.declared.relay.MatchRule.{MatchRule}

@@ -1,4 +1,14 @@
-pub mod Values
+pub mod Printed
+pub mod Elements
+pub mod Rows
+pub mod BufferSection
+pub mod Words
+pub mod Forms
+pub mod Sections
+pub mod Findings
+pub mod Examined
+pub mod Labels
+pub mod Faults
 pub mod Targets
 pub mod Meaning
 pub mod Views

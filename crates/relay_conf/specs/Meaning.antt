@@ -1,23 +1,17 @@
 -- What the elements of a configuration mean: each value is that of its last line, or the default.
-use Rattle.std.specs.Prelude.{ℕ, ◌+◌, ◌*◌, ◌^◌, ◌&&◌, ◌||◌, Bool, true, false, List, [], ◌∷◌, codes, map, filter, Option, Some, None, unwrap_or, option_and_then, if◌then◌else◌}
+use Rattle.std.specs.Prelude.{ℕ, ◌+◌, ◌&&◌, ◌||◌, Bool, true, false, List, [], ◌∷◌, codes, map, filter, Option, Some, None, unwrap_or, option_and_then, if◌then◌else◌}
 use Rattle.std.specs.Option.{option_map}
 use Rattle.std.specs.Str.{bytes_eq}
 use Rattle.conf_text.specs.Trees.{Heading, Setting, Tree, tree, Trees, no_trees, more_trees}
-use Rattle.conf_values.specs.Numbers.{number_of, port_of}
-use Rattle.conf_values.specs.Amounts.{size_of, seconds_of}
+use Rattle.conf_values.specs.Numbers.{port_of}
+use Rattle.conf_values.specs.Amounts.{seconds_of}
 use Rattle.conf_values.specs.Words.{boolean_of}
-use Rattle.relay_conf.specs.declared.buffer.FlushMode.{FlushMode}
-use Rattle.relay_conf.specs.declared.buffer.FlushMode.TheVariants.{Interval}
-use Rattle.relay_conf.specs.declared.buffer.OverflowAction.{OverflowAction}
-use Rattle.relay_conf.specs.declared.buffer.OverflowAction.TheVariants.{ThrowException}
-use Rattle.retry_waits.specs.declared.settings.RetrySettings.{RetrySettings}
-use Rattle.relay_faults.specs.declared.form.OutputType.{OutputType}
-use Rattle.relay_faults.specs.declared.form.OutputType.TheVariants as outputs
-use Rattle.relay_faults.specs.Elements.{heading_of, settings_of, children_of, value_of, or_else, is_named}
-use Rattle.relay_faults.specs.Values.{threads_of, output_type_of}
-use Rattle.relay_conf.specs.Values.{flush_mode_of, overflow_of, prefix_of}
-use Rattle.relay_faults.specs.Examined.{has_files}
+use Rattle.relay_conf.specs.declared.form.OutputType.{OutputType}
+use Rattle.relay_conf.specs.declared.form.OutputType.TheVariants as outputs
+use Rattle.relay_conf.specs.Elements.{heading_of, settings_of, children_of, value_of, is_named, last_child, read_or}
+use Rattle.relay_conf.specs.BufferSection.{BufferMeaning, buffer_in}
 use Rattle.relay_conf.specs.Targets.{target_of}
+use Rattle.relay_conf.specs.Words.{output_type_of, prefix_of}
 
 -- what a security section says
 pub record SecurityMeaning : Type 0 where
@@ -38,17 +32,6 @@ pub record ServerMeaning : Type 0 where
   pub host : List ℕ
   pub port : ℕ
   pub line : ℕ
-
--- what a buffer says; without a path its chunks are in memory
-pub record BufferMeaning : Type 0 where
-  pub path : Option (List ℕ)
-  pub flush_mode : FlushMode
-  pub flush_interval : ℕ
-  pub flush_thread_count : ℕ
-  pub retry : RetrySettings
-  pub overflow_action : OverflowAction
-  pub chunk_limit_size : ℕ
-  pub total_limit_size : ℕ
 
 -- what a forward output says
 pub record ForwardMeaning : Type 0 where
@@ -71,20 +54,6 @@ pub data OutputMeaning : Type 0 where
   to_scope : ℕ → ℕ → OutputMeaning
   to_relays : ForwardMeaning → ℕ → OutputMeaning
   to_sink : FileMeaning → ℕ → OutputMeaning
-
--- a value as f reads it, or the default
-abbrev pub read_or : {X : Type 0} → (List ℕ → Option X) → X → Option (List ℕ) → X
-read_or f default value = unwrap_or (option_and_then f value) default
-
--- the last of the elements of this name, if there is one
-abbrev pub last_child : List ℕ → List Tree → Option Tree
-last_child name [] = None
-last_child name (t ∷ rest) = or_else (last_child name rest) (if is_named name t then Some t else None)
-
--- the parameters of an element, if there is one
-abbrev pub settings_in : Option Tree → List Setting
-settings_in None = []
-settings_in (Some t) = settings_of t
 
 -- a security section
 abbrev pub security_of : List Setting → SecurityMeaning
@@ -116,46 +85,6 @@ server_of t = record {
   port = read_or port_of 24224 (value_of (codes "port") (settings_of t));
   line = (heading_of t).line;
 }
-
--- when a delivery is tried again: after 1 s, then twice as long each time, for 72 hours
-abbrev pub retry_of : List Setting → RetrySettings
-retry_of settings = record {
-  wait = read_or seconds_of 1 (value_of (codes "retry_wait") settings);
-  exponential_backoff_base = read_or number_of 2 (value_of (codes "retry_exponential_backoff_base") settings);
-  max_interval = option_and_then seconds_of (value_of (codes "retry_max_interval") settings);
-  max_times = option_and_then number_of (value_of (codes "retry_max_times") settings);
-  timeout = read_or seconds_of (72 * 60 * 60) (value_of (codes "retry_timeout") settings);
-  forever = read_or boolean_of false (value_of (codes "retry_forever") settings);
-}
-
--- a buffer's files, or none where it is in memory
-abbrev pub path_of : List Setting → Option (List ℕ)
-path_of settings = if has_files settings then Some (unwrap_or (value_of (codes "path") settings) []) else None
-
--- how much a chunk may have: 8 MB in memory, 256 MB in a file
-abbrev pub chunk_limit : Bool → ℕ
-chunk_limit in_files = if in_files then 256 * 1024 ^ 2 else 8 * 1024 ^ 2
-
--- how much a buffer may have: 512 MB in memory, 64 GB in files
-abbrev pub total_limit : Bool → ℕ
-total_limit in_files = if in_files then 64 * 1024 ^ 3 else 512 * 1024 ^ 2
-
--- a buffer
-abbrev pub buffer_of : List Setting → BufferMeaning
-buffer_of settings = record {
-  path = path_of settings;
-  flush_mode = read_or flush_mode_of Interval (value_of (codes "flush_mode") settings);
-  flush_interval = read_or seconds_of 60 (value_of (codes "flush_interval") settings);
-  flush_thread_count = read_or threads_of 1 (value_of (codes "flush_thread_count") settings);
-  retry = retry_of settings;
-  overflow_action = read_or overflow_of ThrowException (value_of (codes "overflow_action") settings);
-  chunk_limit_size = read_or size_of (chunk_limit (has_files settings)) (value_of (codes "chunk_limit_size") settings);
-  total_limit_size = read_or size_of (total_limit (has_files settings)) (value_of (codes "total_limit_size") settings);
-}
-
--- the last buffer section, or all defaults where there is none
-abbrev pub buffer_in : List Tree → BufferMeaning
-buffer_in children = buffer_of (settings_in (last_child (codes "buffer") children))
 
 -- a forward output, whose buffer has this number
 abbrev pub forward_of : ℕ → Tree → ForwardMeaning

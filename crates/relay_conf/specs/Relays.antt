@@ -7,8 +7,8 @@ use Rattle.tag_pattern.specs.Grammar.{Slot, IsPattern, plain_patterns}
 use Rattle.relay_conf.specs.declared.relay.Relay.{Relay}
 use Rattle.relay_conf.specs.declared.relay.Scope.{Scope}
 use Rattle.relay_conf.specs.declared.relay.MatchRule.{MatchRule}
-use Rattle.relay_faults.specs.Elements.{heading_of, children_of, is_named}
-use Rattle.relay_faults.specs.Examined.{words_of}
+use Rattle.relay_conf.specs.Elements.{heading_of, children_of, is_named}
+use Rattle.relay_conf.specs.Examined.{words_of}
 use Rattle.relay_conf.specs.Meaning.{source_of, outputs_of, numbered}
 use Rattle.relay_conf.specs.Views.{source_view, output_view}
 

@@ -3,8 +3,8 @@ use Rattle.std.specs.Prelude.{ℕ, ◌+◌, List, map, filter, Option, Some, Non
 use Rattle.std.specs.List.{position_or_len}
 use Rattle.std.specs.Str.{bytes_eq}
 use Rattle.conf_text.specs.Trees.{Tree}
-use Rattle.relay_faults.specs.Elements.{heading_of}
-use Rattle.relay_faults.specs.Labels.{is_label}
+use Rattle.relay_conf.specs.Elements.{heading_of}
+use Rattle.relay_conf.specs.Labels.{is_label}
 
 -- the labels that sections have, in the order of the text
 abbrev pub labels_of : List Tree → List (List ℕ)

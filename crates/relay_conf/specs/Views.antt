@@ -1,9 +1,6 @@
 -- What a relay says, without where it lies in memory.
-use Rattle.std.specs.Prelude.{ℕ, List, Option, Some, None, map, string_bytes}
+use Rattle.std.specs.Prelude.{map, string_bytes}
 use Rattle.std.specs.Option.{option_map}
-use Rattle.relay_conf.specs.declared.buffer.BufferKind.{BufferKind}
-use Rattle.relay_conf.specs.declared.buffer.BufferKind.TheVariants as buffers
-use Rattle.relay_conf.specs.declared.buffer.BufferSettings.{BufferSettings}
 use Rattle.relay_conf.specs.declared.output.ForwardSettings.{ForwardSettings}
 use Rattle.relay_conf.specs.declared.output.FileSettings.{FileSettings}
 use Rattle.relay_conf.specs.declared.output.Server.{Server}
@@ -11,7 +8,8 @@ use Rattle.relay_conf.specs.declared.output.Output.{Output}
 use Rattle.relay_conf.specs.declared.output.Output.TheVariants as output
 use Rattle.relay_conf.specs.declared.relay.Security.{Security}
 use Rattle.relay_conf.specs.declared.relay.Source.{Source}
-use Rattle.relay_conf.specs.Meaning.{SecurityMeaning, SourceMeaning, ServerMeaning, BufferMeaning, ForwardMeaning, FileMeaning, OutputMeaning, to_nowhere, to_scope, to_relays, to_sink}
+use Rattle.relay_conf.specs.BufferSection.{buffer_view}
+use Rattle.relay_conf.specs.Meaning.{SecurityMeaning, SourceMeaning, ServerMeaning, ForwardMeaning, FileMeaning, OutputMeaning, to_nowhere, to_scope, to_relays, to_sink}
 
 -- a security section
 abbrev pub security_view : {A : Type 0} → Security A → SecurityMeaning
@@ -24,24 +22,6 @@ source_view s = record { port = s.port; bind = string_bytes s.bind; label = s.la
 -- a server
 abbrev pub server_view : {A : Type 0} → Server A → ServerMeaning
 server_view s = record { host = string_bytes s.host; port = s.port; line = s.line }
-
--- the path of a buffer's files
-abbrev pub kind_view : {A : Type 0} → BufferKind A → Option (List ℕ)
-kind_view buffers.Memory = None
-kind_view (buffers.File path) = Some (string_bytes path)
-
--- a buffer
-abbrev pub buffer_view : {A : Type 0} → BufferSettings A → BufferMeaning
-buffer_view b = record {
-  path = kind_view b.kind;
-  flush_mode = b.flush_mode;
-  flush_interval = b.flush_interval;
-  flush_thread_count = b.flush_thread_count;
-  retry = b.retry;
-  overflow_action = b.overflow_action;
-  chunk_limit_size = b.chunk_limit_size;
-  total_limit_size = b.total_limit_size;
-}
 
 -- a forward output
 abbrev pub forward_view : {A : Type 0} → ForwardSettings A → ForwardMeaning

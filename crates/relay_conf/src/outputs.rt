@@ -3,23 +3,23 @@
 
 ghost use Rattle.std.specs.Prelude.{◌≡◌, ◌&&◌, ◌||◌, map, filter, IfOk, codes, string_bytes, ◌+◌};
 ghost use Rattle.conf_text.specs.Views.{setting, tree_of};
-ghost use Rattle.relay_faults.specs.Elements.{heading_of, settings_of, children_of, is_named};
+ghost use Rattle.relay_conf.specs.Elements.{heading_of, settings_of, children_of, is_named};
 ghost use Rattle.relay_conf.specs.Meaning.{one_if, forward_of, file_of, kind_of, output_of, is_buffered, has_buffer, tree_buffers, is_copy, outputs_of, numbered};
 ghost use Rattle.relay_conf.specs.Views.{forward_view, file_view, output_view};
-ghost use Rattle.relay_faults.specs.Examined.{words_of};
+ghost use Rattle.relay_conf.specs.Examined.{words_of};
 ghost use Rattle.relay_conf.specs.Relays.{AreOfWord, AreOfWords, IsMatchOf, AreMatchesOf, IsScopeOf, AreScopesOf};
 
+use crate::buffer::buffer_in;
 use crate::defaults::{DEFAULT_ACK_RESPONSE_TIMEOUT, DEFAULT_REQUIRE_ACK_RESPONSE};
+use crate::element::{argument_of, children_of, is_named, line_of, pairs_of, value_of};
+use crate::form::{OutputType, output_type};
 use crate::output::{BufferNo, FileSettings, ForwardSettings, Output};
 use crate::patterns::patterns;
 use crate::relay::{MatchRule, Scope};
-use crate::settings::{buffer_in, security_in, servers};
+use crate::settings::{security_in, servers};
 use crate::target::target;
 use crate::values::{flag_or, text_or, time_or};
 use conf_text::{Element, Pair};
-use relay_faults::{
-    OutputType, argument_of, children_of, is_named, line_of, output_type, pairs_of, value_of,
-};
 use std::alloc::{AllocError, Allocator};
 
 fn forward<A: Allocator + Copy>(

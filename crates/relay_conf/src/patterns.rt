@@ -1,10 +1,10 @@
 //! The plain patterns of a match's argument.
 
 ghost use Rattle.std.specs.Prelude.{map, IfOk};
-ghost use Rattle.relay_faults.specs.Examined.{words_of};
+ghost use Rattle.relay_conf.specs.Examined.{words_of};
 ghost use Rattle.relay_conf.specs.Relays.{AreOfWord, AreOfWords};
 
-use relay_faults::words;
+use crate::pattern_words::words;
 use std::alloc::{AllocError, Allocator};
 use tag_pattern::{Pattern, Plain};
 

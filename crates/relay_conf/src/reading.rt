@@ -2,23 +2,23 @@
 
 ghost use Rattle.std.specs.Prelude.{◌≡◌, ◌++◌, ⊤, map, filter, codes, IfOk, IfErr, MatchResult};
 ghost use Rattle.conf_text.specs.Views.{tree_of};
-ghost use Rattle.relay_faults.specs.Elements.{is_named};
-ghost use Rattle.relay_faults.specs.Faults.{HasFault, HasNoFault, IsRefusal};
+ghost use Rattle.relay_conf.specs.Elements.{is_named};
+ghost use Rattle.relay_conf.specs.Faults.{HasFault, HasNoFault, IsRefusal};
 ghost use Rattle.relay_conf.specs.Meaning.{source_of};
 ghost use Rattle.relay_conf.specs.Views.{source_view};
 ghost use Rattle.relay_conf.specs.Relays.{IsRelayOf};
 ghost use Rattle.relay_conf.specs.Buffers.{HaveOwnBuffers};
 
+use crate::configuration::examine_elements;
 use crate::defaults::{DEFAULT_BIND, DEFAULT_PORT};
+use crate::element::{children_of, is_named, line_of, pairs_of, value_of};
+use crate::fault::{RelayError, RelayFault};
 use crate::outputs::{label_scopes, matches_in};
 use crate::relay::{Relay, Scope, Source};
 use crate::settings::security_in;
 use crate::target::target;
 use crate::values::{port_or, prefix, text_or};
 use conf_text::Element;
-use relay_faults::{
-    RelayError, RelayFault, children_of, examine_elements, is_named, line_of, pairs_of, value_of,
-};
 use std::alloc::{AllocError, Allocator};
 
 impl<A: Allocator + Copy> Relay<A> {

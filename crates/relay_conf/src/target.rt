@@ -3,13 +3,13 @@
 ghost use Rattle.std.specs.Prelude.{◌≡◌, map};
 ghost use Rattle.std.specs.Option.{option_copied};
 ghost use Rattle.conf_text.specs.Views.{tree_of};
-ghost use Rattle.relay_faults.specs.Elements.{heading_of};
-ghost use Rattle.relay_faults.specs.Labels.{is_label};
+ghost use Rattle.relay_conf.specs.Elements.{heading_of};
+ghost use Rattle.relay_conf.specs.Labels.{is_label};
 ghost use Rattle.relay_conf.specs.Targets.{scope_of, target_of};
 
+use crate::element::{argument_of, is_named};
 use crate::relay::ScopeNo;
 use conf_text::Element;
-use relay_faults::{argument_of, is_named};
 use std::alloc::Allocator;
 
 /// The scope that events go to: a label's, or the main one where none is named.

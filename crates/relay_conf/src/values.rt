@@ -1,20 +1,16 @@
 //! The values of parameters: those of their last lines, or the defaults.
 
-ghost use Rattle.std.specs.Prelude.{◌≡◌, map, IfOk, string_bytes, unwrap_or, option_and_then, is_some};
-ghost use Rattle.std.specs.Option.{option_map};
-ghost use Rattle.conf_text.specs.Views.{setting, tree_of};
+ghost use Rattle.std.specs.Prelude.{◌≡◌, map, IfOk, string_bytes, unwrap_or, option_and_then};
+ghost use Rattle.conf_text.specs.Views.{setting};
 ghost use Rattle.conf_values.specs.Numbers.{number_of, port_of};
 ghost use Rattle.conf_values.specs.Amounts.{size_of, seconds_of};
 ghost use Rattle.conf_values.specs.Words.{boolean_of};
-ghost use Rattle.relay_faults.specs.Elements.{value_of};
-ghost use Rattle.relay_faults.specs.Values.{threads_of, is_flush_mode, is_overflow};
-ghost use Rattle.relay_conf.specs.Values.{flush_mode_of, overflow_of, prefix_of};
-ghost use Rattle.relay_conf.specs.Meaning.{read_or, last_child};
+ghost use Rattle.relay_conf.specs.Elements.{read_or, value_of};
+ghost use Rattle.relay_conf.specs.Words.{prefix_of};
 
-use crate::buffer::{FlushMode, OverflowAction};
-use conf_text::{Element, Pair};
+use crate::element::value_of;
+use conf_text::Pair;
 use conf_values::{boolean, port, seconds, size, whole_number};
-use relay_faults::{is_named, threads, value_of};
 use std::alloc::{AllocError, Allocator};
 use tag_pattern::{Prefix, PrefixError};
 
@@ -99,16 +95,6 @@ pub(crate) fn port_or<A: Allocator>(pairs: &[Pair<A>], name: &str, default: u16)
     }
 }
 
-/// A number of threads.
-pub(crate) fn threads_or<A: Allocator>(pairs: &[Pair<A>], name: &str, default: usize) -> usize
-    ensures { result ≡ read_or threads_of default (value_of name.now (map setting pairs.now)) }
-{
-    match value_of(pairs, name) {
-        None => default,
-        Some(value) => threads(value.as_bytes()).unwrap_or(default),
-    }
-}
-
 /// A prefix, if there is one.
 pub(crate) fn prefix<A: Allocator>(
     alloc: A,
@@ -126,77 +112,4 @@ pub(crate) fn prefix<A: Allocator>(
         Err(PrefixError::BadPrefix) => Ok(None),
         Err(PrefixError::Memory) => Err(AllocError),
     }
-}
-
-/// When a staged chunk is queued.
-pub(crate) fn flush_mode_or<A: Allocator>(
-    pairs: &[Pair<A>],
-    name: &str,
-    default: FlushMode,
-) -> FlushMode
-    ensures { result ≡ read_or flush_mode_of default (value_of name.now (map setting pairs.now)) }
-{
-    match value_of(pairs, name) {
-        None => default,
-        Some(value) => flush_mode(value).unwrap_or(default),
-    }
-}
-
-/// What follows where a buffer is full.
-pub(crate) fn overflow_or<A: Allocator>(
-    pairs: &[Pair<A>],
-    name: &str,
-    default: OverflowAction,
-) -> OverflowAction
-    ensures { result ≡ read_or overflow_of default (value_of name.now (map setting pairs.now)) }
-{
-    match value_of(pairs, name) {
-        None => default,
-        Some(value) => overflow(value).unwrap_or(default),
-    }
-}
-
-// When a staged chunk is queued.
-fn flush_mode(value: &str) -> Option<FlushMode>
-    ensures meaning { result ≡ flush_mode_of value.now }
-    ensures known { is_some result ≡ is_flush_mode value.now }
-{
-    if value == "default" || value == "interval" {
-        return Some(FlushMode::Interval);
-    }
-    if value == "immediate" {
-        return Some(FlushMode::Immediate);
-    }
-    None
-}
-
-// What follows where a buffer is full.
-fn overflow(value: &str) -> Option<OverflowAction>
-    ensures meaning { result ≡ overflow_of value.now }
-    ensures known { is_some result ≡ is_overflow value.now }
-{
-    if value == "throw_exception" {
-        return Some(OverflowAction::ThrowException);
-    }
-    if value == "drop_oldest_chunk" {
-        return Some(OverflowAction::DropOldestChunk);
-    }
-    None
-}
-
-/// The last of the elements of this name, if there is one.
-pub(crate) fn last_child<'a, A: Allocator>(
-    children: &'a [Element<A>],
-    name: &str,
-) -> Option<&'a Element<A>>
-    ensures { option_map (λ e. tree_of e.now) result
-        ≡ last_child name.now (map tree_of children.now) }
-{
-    let mut found = None;
-    for child in children {
-        if is_named(child, name) {
-            found = Some(child);
-        }
-    }
-    found
 }

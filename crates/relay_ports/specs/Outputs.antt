@@ -4,8 +4,7 @@ use Rattle.std.specs.List.{flat_map}
 use Rattle.buffer_book.specs.declared.takes.Basis.{Basis}
 use Rattle.buffer_book.specs.declared.takes.Basis.TheVariants.{Acknowledged, Stored, Written}
 use Rattle.buffer_book.specs.declared.takes.Takes.{Takes}
-use Rattle.relay_conf.specs.declared.buffer.BufferKind.{BufferKind}
-use Rattle.relay_conf.specs.declared.buffer.BufferKind.TheVariants as kind
+use Rattle.relay_conf.specs.BufferSection.{kind_view}
 use Rattle.relay_conf.specs.declared.buffer.BufferSettings.{BufferSettings}
 use Rattle.relay_conf.specs.declared.buffer.OverflowAction.TheVariants.{DropOldestChunk}
 use Rattle.relay_conf.specs.declared.output.Output.{Output}
@@ -52,14 +51,9 @@ outputs_in scopes = flat_map of_scope scopes
 abbrev pub AreInOrder : {A : Type 0} → List (BufferedOutput A) → Type 0
 AreInOrder outputs = (place : ℕ) → IfSome (slice_get outputs place) (λ found. number_of found ≡ place)
 
--- the path of a buffer, if it has files
-abbrev pub kind_path : {A : Type 0} → BufferKind A → Option (List ℕ)
-kind_path kind.Memory = None
-kind_path (kind.File path) = Some (string_bytes path)
-
 -- the path of an output's buffer, if it has one that has files
 abbrev pub buffer_path : {A : Type 0} → BufferedOutput A → Option (List ℕ)
-buffer_path found = kind_path (settings_of found).kind
+buffer_path found = kind_view (settings_of found).kind
 
 -- the path of its sink, if it has one
 abbrev pub sink_path : {A : Type 0} → BufferedOutput A → Option (List ℕ)

@@ -2,13 +2,13 @@
 
 ghost use Rattle.std.specs.Prelude.{◌≡◌, ◌≢◌, ◌↔◌, All, IsTrue};
 ghost use Rattle.std.specs.Option.{option_copied};
+ghost use Rattle.relay_conf.specs.BufferSection.{kind_view};
 ghost use Rattle.relay_ports.specs.Outputs.{
   AreInOrder,
   AreOther,
   HaveOther,
   HaveOwnPaths,
   buffer_path as path_of_buffer,
-  kind_path,
   number_of,
   sink_path as path_of_sink,
 };
@@ -94,7 +94,7 @@ fn buffer_path<A: Allocator>(output: &BufferedOutput<A>) -> Option<&[u8]>
 
 // The path of a buffer, if it has files.
 fn path_in<A: Allocator>(kind: &BufferKind<A>) -> Option<&[u8]>
-    ensures { option_copied result ≡ kind_path kind.now }
+    ensures { option_copied result ≡ kind_view kind.now }
 {
     match kind {
         BufferKind::Memory => None,

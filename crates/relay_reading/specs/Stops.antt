@@ -2,7 +2,7 @@
 use Rattle.std.specs.Prelude.{◌≡◌, ◌⊎◌, ℕ, List, ◌++◌, codes, Option}
 use Rattle.conf_text.specs.Grammar.{HasFault as HasTextFault}
 use Rattle.conf_text.specs.Printed.{fault_text as text_fault_text}
-use Rattle.relay_faults.specs.Printed.{fault_text as relay_fault_text}
+use Rattle.relay_conf.specs.Printed.{fault_text as relay_fault_text}
 use Rattle.relay_conf.specs.declared.relay.Relay.{Relay}
 use Rattle.plan_lines.specs.Plans.{IsRelayOfText}
 use Rattle.plan_lines.specs.Faults.{HasRelayFault}

@@ -9,7 +9,7 @@ ghost use Rattle.relayctl.specs.Faults.{IsFaultLeft};
 use crate::blanks::{Blank, Rest, is_blank, last_of_section, left};
 use loss_checker::{PlanError, conf_names};
 use plan_lines::Plan;
-use relay_faults::{RelayFault, RelayFaultKind, words};
+use relay_conf::{RelayFault, RelayFaultKind, words};
 use std::alloc::{AllocError, Allocator};
 use std::str;
 use text_lines::lines;

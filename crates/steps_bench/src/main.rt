@@ -4,10 +4,8 @@
 
 use custody_core::{Step, run};
 use relay_conf::{
-    BufferKind, BufferNo, BufferSettings, DEFAULT_BIND, DEFAULT_FILE_CHUNK_LIMIT,
-    DEFAULT_FILE_TOTAL_LIMIT, DEFAULT_FLUSH_INTERVAL, DEFAULT_FLUSH_THREADS, DEFAULT_RETRY_BASE,
-    DEFAULT_RETRY_TIMEOUT, DEFAULT_RETRY_WAIT, FileSettings, FlushMode, MatchRule, Output,
-    OverflowAction, Relay, RetrySettings, Scope, ScopeNo, Source,
+    BufferNo, BufferSettings, DEFAULT_BIND, FileSettings, MatchRule, Output, Relay, Scope, ScopeNo,
+    Source,
 };
 use relay_net::{Client, Net, Node, enter};
 use std::alloc::{AllocError, Global};
@@ -16,35 +14,12 @@ use tag_pattern::{Pattern, Plain};
 
 const PORT: u16 = 24225;
 
-// A file buffer that retries for ever, with all else by default.
-fn store(alloc: Global) -> Result<BufferSettings<Global>, AllocError> {
-    Ok(BufferSettings {
-        kind: BufferKind::File {
-            path: String::from_str(alloc, "store")?,
-        },
-        flush_mode: FlushMode::Interval,
-        flush_interval: DEFAULT_FLUSH_INTERVAL,
-        flush_thread_count: DEFAULT_FLUSH_THREADS,
-        retry: RetrySettings {
-            wait: DEFAULT_RETRY_WAIT,
-            exponential_backoff_base: DEFAULT_RETRY_BASE,
-            max_interval: None,
-            max_times: None,
-            timeout: DEFAULT_RETRY_TIMEOUT,
-            forever: true,
-        },
-        overflow_action: OverflowAction::ThrowException,
-        chunk_limit_size: DEFAULT_FILE_CHUNK_LIMIT,
-        total_limit_size: DEFAULT_FILE_TOTAL_LIMIT,
-    })
-}
-
 // Stores what these patterns take.
 fn hub(alloc: Global, patterns: Vec<Plain<Global>>) -> Result<Relay<Global>, AllocError> {
     let file = Output::File {
         settings: FileSettings {
             path: String::from_str(alloc, "all")?,
-            buffer: store(alloc)?,
+            buffer: BufferSettings::keeping(String::from_str(alloc, "store")?),
             number: BufferNo(0),
         },
         line: 5,

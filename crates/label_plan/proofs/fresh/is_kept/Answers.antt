@@ -1,7 +1,7 @@
 use Rattle.std.proofs.Common.{ℕ, List, map, ap, ◌∙◌, refl}
 use Rattle.std.specs.Borrow.{Bor}
 use Rattle.std.proofs.lemmas.Str.{is_utf8-from_IsUtf8}
-use Rattle.relay_faults.specs.Examined.{words_of}
+use Rattle.relay_conf.specs.Examined.{words_of}
 use Rattle.plan_lines.proofs.Texts.{not_utf8}
 use Rattle.label_plan.specs.Lines.{say_else}
 use Rattle.label_plan.proofs.fresh.is_kept.Goals as goal

@@ -1,6 +1,6 @@
 use Rattle.std.proofs.Common.{◌++◌, [], refl, append_assoc}
 use Rattle.std.proofs.lemmas.List.{drop_all, append-nil}
-use Rattle.relay_faults.proofs.Drops.{drop_here}
+use Rattle.relay_conf.proofs.Drops.{drop_here}
 use Rattle.plan_lines.proofs.Words.{no_word, fault_among}
 use Rattle.plan_lines.proofs.draft.patterns_of.Goals as goal
 

@@ -2,7 +2,7 @@ use Rattle.std.proofs.Common.{◌∙◌, ◌+◌, [], ◌∷◌, sym, map, drop,
 use Rattle.std.specs.Prelude.{codes}
 use Rattle.std.proofs.lemmas.List.{append-nil, drop_all}
 use Rattle.conf_text.specs.Views.{tree_of}
-use Rattle.relay_faults.proofs.Drops.{drop_is}
+use Rattle.relay_conf.proofs.Drops.{drop_is}
 use Rattle.relay_conf.proofs.Numbering.{numbered_here, numbered_behind}
 use Rattle.relay_conf.proofs.outputs.matches_in.Goals as goal
 use Rattle.relay_conf.proofs.outputs.matches_in.Goals.{then-is_named+in_ok-match_rule+in_ok-push, else-is_named}

@@ -1,8 +1,8 @@
 use Rattle.std.proofs.Common.{◌≡◌, ◌∙◌, Some, sym, ap, refl}
 use Rattle.conf_text.specs.Views.{tree_of}
-use Rattle.relay_faults.specs.Elements.{settings_of}
+use Rattle.relay_conf.specs.Elements.{settings_of}
 use Rattle.relay_conf.specs.Meaning.{kind_of}
-use Rattle.relay_faults.specs.declared.form.OutputType.TheVariants as outputs
+use Rattle.relay_conf.specs.declared.form.OutputType.TheVariants as outputs
 use Rattle.relay_conf.proofs.outputs.output.Goals as goal
 
 pub returns-in-Some-Relabel : goal.returns-in-Some-Relabel

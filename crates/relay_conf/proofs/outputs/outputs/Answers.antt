@@ -1,6 +1,6 @@
 use Rattle.std.proofs.Common.{◌≡◌, ◌∙◌, true, false, [], ◌∷◌, sym, ap}
 use Rattle.conf_text.specs.Views.{tree_of}
-use Rattle.relay_faults.specs.Elements.{settings_of}
+use Rattle.relay_conf.specs.Elements.{settings_of}
 use Rattle.relay_conf.specs.Meaning.{OutputMeaning, kind_of, is_copy}
 use Rattle.relay_conf.proofs.outputs.outputs.Goals as goal
 

@@ -2,7 +2,7 @@ use Rattle.std.proofs.Common.{◌∙◌, ◌+◌, sym, map, drop}
 use Rattle.std.specs.Prelude.{codes}
 use Rattle.std.proofs.lemmas.List.{map-append, append-nil, drop_all}
 use Rattle.conf_text.specs.Views.{tree_of}
-use Rattle.relay_faults.proofs.Drops.{drop_is}
+use Rattle.relay_conf.proofs.Drops.{drop_is}
 use Rattle.relay_conf.proofs.Numbering.{output_taken, output_passed}
 use Rattle.relay_conf.specs.Views.{output_view}
 use Rattle.relay_conf.proofs.outputs.stores.Goals as goal

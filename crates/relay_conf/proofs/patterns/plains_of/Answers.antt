@@ -2,7 +2,7 @@ use Rattle.std.proofs.Common.{◌++◌, [], refl, append_assoc}
 use Rattle.std.specs.Borrow.{Bor}
 use Rattle.std.proofs.Common.{ℕ, List}
 use Rattle.std.proofs.lemmas.List.{drop_all, append-nil}
-use Rattle.relay_faults.proofs.Drops.{drop_here}
+use Rattle.relay_conf.proofs.Drops.{drop_here}
 use Rattle.relay_conf.proofs.patterns.plains_of.Goals as goal
 
 no_word : Bor (List ℕ)

@@ -2,10 +2,10 @@ use Rattle.std.proofs.Common.{◌∙◌, ◌+◌, sym, map, drop}
 use Rattle.std.specs.Prelude.{codes}
 use Rattle.std.proofs.lemmas.List.{map-append, append-nil, drop_all}
 use Rattle.conf_text.specs.Views.{tree_of}
-use Rattle.relay_faults.specs.Elements.{is_named}
+use Rattle.relay_conf.specs.Elements.{is_named}
 use Rattle.relay_conf.specs.Meaning.{source_of}
 use Rattle.relay_conf.specs.Views.{source_view}
-use Rattle.relay_faults.proofs.Drops.{drop_is}
+use Rattle.relay_conf.proofs.Drops.{drop_is}
 use Rattle.relay_conf.proofs.Numbering.{one_taken, one_passed}
 use Rattle.relay_conf.proofs.reading.sources.Goals as goal
 use Rattle.relay_conf.proofs.reading.sources.Goals.{then-is_named+in_ok-source+in_ok-push, else-is_named}

@@ -1,7 +1,7 @@
 use Rattle.std.proofs.Common.{◌≡◌, ◌++◌, drop, map}
 use Rattle.std.specs.Prelude.{filter, codes}
 use Rattle.conf_text.specs.Views.{tree_of}
-use Rattle.relay_faults.specs.Elements.{is_named}
+use Rattle.relay_conf.specs.Elements.{is_named}
 use Rattle.relay_conf.specs.Meaning.{source_of}
 use Rattle.relay_conf.specs.Views.{source_view}
 use Rattle.relay_conf.proofs.reading.sources.Given as goal

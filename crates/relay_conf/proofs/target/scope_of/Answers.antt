@@ -5,10 +5,10 @@ use Rattle.std.proofs.lemmas.List.{drop_all}
 use Rattle.conf_text.specs.Trees.{Tree}
 use Rattle.conf_text.specs.declared.element.Element.{Element}
 use Rattle.conf_text.specs.Views.{tree_of}
-use Rattle.relay_faults.specs.Elements.{heading_of}
-use Rattle.relay_faults.specs.Labels.{is_label}
+use Rattle.relay_conf.specs.Elements.{heading_of}
+use Rattle.relay_conf.specs.Labels.{is_label}
 use Rattle.relay_conf.specs.Targets.{labels_of}
-use Rattle.relay_faults.proofs.Drops.{drop_is}
+use Rattle.relay_conf.proofs.Drops.{drop_is}
 use Rattle.relay_conf.proofs.target.scope_of.Goals as goal
 use Rattle.relay_conf.proofs.target.scope_of.Goals.{then-is_named+else-eq, else-is_named}
 

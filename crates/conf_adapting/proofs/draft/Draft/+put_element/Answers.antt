@@ -2,7 +2,7 @@ use Rattle.std.proofs.Common.{List, ◌∷◌, ◌++◌, ◌∙◌, ap, map, sym
 use Rattle.std.proofs.lemmas.Result.{on_ok_weaker}
 use Rattle.conf_text.specs.Trees.{trees}
 use Rattle.conf_text.specs.Views.{tree_of}
-use Rattle.relay_faults.specs.Elements.{heading_of, settings_of}
+use Rattle.relay_conf.specs.Elements.{heading_of, settings_of}
 use Rattle.conf_adapting.specs.Items.{Item, all_stand_for, items_in, items_of, parameter_item, section_item}
 use Rattle.conf_adapting.proofs.Accounting.{all_items, items_more, put_behind}
 use Rattle.conf_adapting.proofs.draft.Draft.+put_element.Goals as goal

@@ -1,7 +1,7 @@
 use Rattle.std.proofs.Common.{◌≡◌, ◌++◌, ◌∷◌, map, take}
 use Rattle.conf_text.specs.Trees.{trees}
 use Rattle.conf_text.specs.Views.{tree_of}
-use Rattle.relay_faults.specs.Elements.{heading_of, settings_of}
+use Rattle.relay_conf.specs.Elements.{heading_of, settings_of}
 use Rattle.conf_adapting.specs.Items.{all_stand_for, items_of, parameter_item, section_item}
 use Rattle.conf_adapting.proofs.draft.Draft.+put_element.Given as goal
 

@@ -1,7 +1,7 @@
 use Rattle.std.proofs.Common.{◌≡◌, ℕ, List, length, sym, ap, subst, refl}
 use Rattle.std.specs.Prelude.{OnOk, IfErr}
 use Rattle.std.proofs.lemmas.Str.{is_utf8-from_IsUtf8}
-use Rattle.relay_faults.specs.Examined.{words_of}
+use Rattle.relay_conf.specs.Examined.{words_of}
 use Rattle.plan_lines.specs.Drafts.{draft_of, HasItsConf}
 use Rattle.plan_lines.specs.Faults.{Refuses}
 use Rattle.plan_lines.specs.Forms.{form_of, line_form}

@@ -1,7 +1,7 @@
 use Rattle.std.proofs.Common.{◌≡◌, ◌∙◌, ℕ, List, length, map, sym, ap, subst}
 use Rattle.std.specs.Borrow.{Bor}
 use Rattle.std.specs.Prelude.{OnOk, IfErr}
-use Rattle.relay_faults.specs.Examined.{words_of}
+use Rattle.relay_conf.specs.Examined.{words_of}
 use Rattle.plan_lines.specs.Drafts.{draft_of, HasItsConf}
 use Rattle.plan_lines.specs.Faults.{Refuses}
 use Rattle.plan_lines.specs.Forms.{form_of}

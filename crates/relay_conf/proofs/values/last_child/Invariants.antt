@@ -1,9 +1,0 @@
-use Rattle.std.proofs.Common.{◌≡◌, drop, map}
-use Rattle.std.specs.Option.{option_map}
-use Rattle.conf_text.specs.Views.{tree_of}
-use Rattle.relay_faults.specs.Elements.{or_else}
-use Rattle.relay_conf.specs.Meaning.{last_child}
-use Rattle.relay_conf.proofs.values.last_child.Given as goal
-
-abbrev pub invariant-loop-child : goal.invariant-loop-child
-invariant-loop-child g l = or_else (last_child l.name (map tree_of (drop l.child-index l.children))) (option_map (λ e. tree_of e.now) l.found) ≡ last_child l.name (map tree_of l.children)

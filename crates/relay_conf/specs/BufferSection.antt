@@ -1,0 +1,138 @@
+-- The section of a buffer (Fluentd, "Config: Buffer Section"): its parameters, what their words mean,
+-- and what a section says, where each value is that of its last line, or the default.
+use Rattle.std.specs.Prelude.{ℕ, ◌*◌, ◌^◌, ◌||◌, Bool, true, false, List, [], ◌∷◌, codes, Option, Some, None, unwrap_or, option_and_then, if◌then◌else◌, string_bytes}
+use Rattle.std.specs.Int.{is_in_range}
+use Rattle.std.specs.Str.{bytes_eq}
+use Rattle.conf_text.specs.Trees.{Setting, Tree}
+use Rattle.conf_values.specs.Numbers.{number_of}
+use Rattle.conf_values.specs.Amounts.{size_of, seconds_of}
+use Rattle.conf_values.specs.Words.{boolean_of}
+use Rattle.retry_waits.specs.declared.settings.RetrySettings.{RetrySettings}
+use Rattle.relay_conf.specs.declared.buffer.BufferKind.{BufferKind}
+use Rattle.relay_conf.specs.declared.buffer.BufferKind.TheVariants as kind
+use Rattle.relay_conf.specs.declared.buffer.BufferSettings.{BufferSettings}
+use Rattle.relay_conf.specs.declared.buffer.FlushMode.{FlushMode}
+use Rattle.relay_conf.specs.declared.buffer.FlushMode.TheVariants.{Interval, Immediate}
+use Rattle.relay_conf.specs.declared.buffer.OverflowAction.{OverflowAction}
+use Rattle.relay_conf.specs.declared.buffer.OverflowAction.TheVariants.{ThrowException, DropOldestChunk}
+use Rattle.relay_conf.specs.declared.form.Form.TheVariants as form
+use Rattle.relay_conf.specs.Elements.{last_child, read_or, settings_in, value_of}
+use Rattle.relay_conf.specs.Rows.{NamedForm, row}
+
+-- the parameters, beside the type
+abbrev pub buffer_rows : List NamedForm
+buffer_rows =
+    row (codes "path") form.Path
+    ∷ row (codes "flush_mode") form.FlushMode
+    ∷ row (codes "flush_interval") form.Time
+    ∷ row (codes "flush_thread_count") form.Threads
+    ∷ row (codes "flush_at_shutdown") form.Text
+    ∷ row (codes "retry_type") form.RetryType
+    ∷ row (codes "retry_wait") form.Time
+    ∷ row (codes "retry_exponential_backoff_base") form.Number
+    ∷ row (codes "retry_max_interval") form.Time
+    ∷ row (codes "retry_max_times") form.Number
+    ∷ row (codes "retry_timeout") form.Time
+    ∷ row (codes "retry_forever") form.Flag
+    ∷ row (codes "retry_randomize") form.Text
+    ∷ row (codes "overflow_action") form.Overflow
+    ∷ row (codes "chunk_limit_size") form.Size
+    ∷ row (codes "total_limit_size") form.Size
+    ∷ []
+
+-- what a buffer says; without a path its chunks are in memory
+pub record BufferMeaning : Type 0 where
+  pub path : Option (List ℕ)
+  pub flush_mode : FlushMode
+  pub flush_interval : ℕ
+  pub flush_thread_count : ℕ
+  pub retry : RetrySettings
+  pub overflow_action : OverflowAction
+  pub chunk_limit_size : ℕ
+  pub total_limit_size : ℕ
+
+-- the default acts as the interval, since tags alone tell chunks apart
+abbrev pub flush_mode_of : List ℕ → Option FlushMode
+flush_mode_of text = if bytes_eq text (codes "default") || bytes_eq text (codes "interval") then Some Interval else (if bytes_eq text (codes "immediate") then Some Immediate else None)
+
+-- what follows where a buffer is full
+abbrev pub overflow_of : List ℕ → Option OverflowAction
+overflow_of text = if bytes_eq text (codes "throw_exception") then Some ThrowException else (if bytes_eq text (codes "drop_oldest_chunk") then Some DropOldestChunk else None)
+
+-- a number of threads is a whole number from 1 to 64
+abbrev pub few_threads : ℕ → Option ℕ
+few_threads n = if is_in_range 1 64 n then Some n else None
+
+-- the number of threads that a text spells
+abbrev pub threads_of : List ℕ → Option ℕ
+threads_of text = option_and_then few_threads (number_of text)
+
+-- the only way in which waits grow
+abbrev pub is_retry_type : List ℕ → Bool
+is_retry_type text = bytes_eq text (codes "exponential_backoff")
+
+-- whether a buffer's chunks are in files
+abbrev pub is_file_of : List ℕ → Option Bool
+is_file_of text = if bytes_eq text (codes "file") then Some true else (if bytes_eq text (codes "memory") then Some false else None)
+
+-- whether the chunks are in files: in memory, where the section has no type
+abbrev pub has_files : List Setting → Bool
+has_files settings = unwrap_or (option_and_then is_file_of (value_of (codes "@type") settings)) false
+
+-- when a delivery is tried again: after 1 s, then twice as long each time, for 72 hours
+abbrev pub retry_of : List Setting → RetrySettings
+retry_of settings = record {
+  wait = read_or seconds_of 1 (value_of (codes "retry_wait") settings);
+  exponential_backoff_base = read_or number_of 2 (value_of (codes "retry_exponential_backoff_base") settings);
+  max_interval = option_and_then seconds_of (value_of (codes "retry_max_interval") settings);
+  max_times = option_and_then number_of (value_of (codes "retry_max_times") settings);
+  timeout = read_or seconds_of (72 * 60 * 60) (value_of (codes "retry_timeout") settings);
+  forever = read_or boolean_of false (value_of (codes "retry_forever") settings);
+}
+
+-- a buffer's files, or none where it is in memory
+abbrev pub path_of : List Setting → Option (List ℕ)
+path_of settings = if has_files settings then Some (unwrap_or (value_of (codes "path") settings) []) else None
+
+-- how much a chunk may have: 8 MB in memory, 256 MB in a file
+abbrev pub chunk_limit : Bool → ℕ
+chunk_limit in_files = if in_files then 256 * 1024 ^ 2 else 8 * 1024 ^ 2
+
+-- how much a buffer may have: 512 MB in memory, 64 GB in files
+abbrev pub total_limit : Bool → ℕ
+total_limit in_files = if in_files then 64 * 1024 ^ 3 else 512 * 1024 ^ 2
+
+-- a buffer
+abbrev pub buffer_of : List Setting → BufferMeaning
+buffer_of settings = record {
+  path = path_of settings;
+  flush_mode = read_or flush_mode_of Interval (value_of (codes "flush_mode") settings);
+  flush_interval = read_or seconds_of 60 (value_of (codes "flush_interval") settings);
+  flush_thread_count = read_or threads_of 1 (value_of (codes "flush_thread_count") settings);
+  retry = retry_of settings;
+  overflow_action = read_or overflow_of ThrowException (value_of (codes "overflow_action") settings);
+  chunk_limit_size = read_or size_of (chunk_limit (has_files settings)) (value_of (codes "chunk_limit_size") settings);
+  total_limit_size = read_or size_of (total_limit (has_files settings)) (value_of (codes "total_limit_size") settings);
+}
+
+-- the last buffer section, or all defaults where there is none
+abbrev pub buffer_in : List Tree → BufferMeaning
+buffer_in children = buffer_of (settings_in (last_child (codes "buffer") children))
+
+-- the path of a buffer's files
+abbrev pub kind_view : {A : Type 0} → BufferKind A → Option (List ℕ)
+kind_view kind.Memory = None
+kind_view (kind.File path) = Some (string_bytes path)
+
+-- a buffer
+abbrev pub buffer_view : {A : Type 0} → BufferSettings A → BufferMeaning
+buffer_view b = record {
+  path = kind_view b.kind;
+  flush_mode = b.flush_mode;
+  flush_interval = b.flush_interval;
+  flush_thread_count = b.flush_thread_count;
+  retry = b.retry;
+  overflow_action = b.overflow_action;
+  chunk_limit_size = b.chunk_limit_size;
+  total_limit_size = b.total_limit_size;
+}

@@ -1,0 +1,53 @@
+-- The parts of an element, and the values of its parameters.
+use Rattle.std.specs.Prelude.{ℕ, Bool, List, [], ◌∷◌, Option, Some, None, if◌then◌else◌, option_and_then, unwrap_or}
+use Rattle.std.specs.Str.{bytes_eq}
+use Rattle.conf_text.specs.Trees.{Heading, Setting, Tree, tree, Trees, no_trees, more_trees}
+
+-- a list of elements, from the children of one
+abbrev pub tree_list : Trees → List Tree
+tree_list no_trees = []
+tree_list (more_trees t ts) = t ∷ tree_list ts
+
+-- how an element begins
+abbrev pub heading_of : Tree → Heading
+heading_of (tree heading settings children) = heading
+
+-- its parameters
+abbrev pub settings_of : Tree → List Setting
+settings_of (tree heading settings children) = settings
+
+-- the elements in it
+abbrev pub children_of : Tree → List Tree
+children_of (tree heading settings children) = tree_list children
+
+-- whether it has this name
+abbrev pub is_named : List ℕ → Tree → Bool
+is_named name t = bytes_eq (heading_of t).name name
+
+-- the first if there is one, else the second
+abbrev pub or_else : {X : Type 0} → Option X → Option X → Option X
+or_else (Some x) other = Some x
+or_else None other = other
+
+-- the value in a parameter's line, if it has this name
+abbrev pub value_in : List ℕ → Setting → Option (List ℕ)
+value_in name s = if bytes_eq s.name name then Some s.value else None
+
+-- the value of the last line of this name, if there is one
+abbrev pub value_of : List ℕ → List Setting → Option (List ℕ)
+value_of name [] = None
+value_of name (s ∷ rest) = or_else (value_of name rest) (value_in name s)
+
+-- a value as f reads it, or the default
+abbrev pub read_or : {X : Type 0} → (List ℕ → Option X) → X → Option (List ℕ) → X
+read_or f default value = unwrap_or (option_and_then f value) default
+
+-- the last of the elements of this name, if there is one
+abbrev pub last_child : List ℕ → List Tree → Option Tree
+last_child name [] = None
+last_child name (t ∷ rest) = or_else (last_child name rest) (if is_named name t then Some t else None)
+
+-- the parameters of an element, if there is one
+abbrev pub settings_in : Option Tree → List Setting
+settings_in None = []
+settings_in (Some t) = settings_of t

@@ -1,0 +1,166 @@
+-- The faults that the sections of a configuration may have, in the order in which they are looked
+-- for.
+use Rattle.std.specs.Prelude.{ℕ, ◌||◌, ◌&&◌, ◌==◌, not, Bool, true, false, List, [], ◌∷◌, ◌++◌, codes, filter, length, Option, Some, None, is_none, if◌then◌else◌}
+use Rattle.std.specs.List.{list_any, flat_map, slice_split}
+use Rattle.std.specs.Str.{bytes_eq}
+use Rattle.conf_text.specs.Trees.{Heading, Setting, Tree, tree, Trees, no_trees, more_trees}
+use Rattle.conf_values.specs.Words.{is_label_name}
+use Rattle.relay_conf.specs.declared.fault.RelayFaultKind.{RelayFaultKind}
+use Rattle.relay_conf.specs.declared.fault.RelayFaultKind.TheVariants as kinds
+use Rattle.relay_conf.specs.declared.form.OutputType.{OutputType}
+use Rattle.relay_conf.specs.declared.form.OutputType.TheVariants as outputs
+use Rattle.relay_conf.specs.declared.section.Section.{Section}
+use Rattle.relay_conf.specs.declared.section.Section.TheVariants as sections
+use Rattle.relay_conf.specs.declared.section.Opening.{Opening}
+use Rattle.relay_conf.specs.declared.section.Opening.TheVariants as opening
+use Rattle.relay_conf.specs.Elements.{value_of, is_named, tree_list}
+use Rattle.relay_conf.specs.Words.{output_type_of, store_type_of}
+use Rattle.relay_conf.specs.BufferSection.{has_files}
+use Rattle.relay_conf.specs.Sections.{setting_fault, opening_in, refusal}
+use Rattle.relay_conf.specs.Findings.{Finding, a_fault, a_pattern}
+
+-- a fault of this line, where there is one
+abbrev pub found_at : ℕ → Option RelayFaultKind → List Finding
+found_at line None = []
+found_at line (Some kind) = a_fault kind line ∷ []
+
+-- a fault of this line, where the test holds
+abbrev pub found_if : Bool → RelayFaultKind → ℕ → List Finding
+found_if b kind line = if b then a_fault kind line ∷ [] else []
+
+-- whether a text isn't empty
+abbrev pub is_word : List ℕ → Bool
+is_word text = not (length text == 0)
+
+-- what tabs separate
+abbrev pub tab_words : List ℕ → List (List ℕ)
+tab_words text = filter is_word (slice_split (λ b. b == 9) text)
+
+-- the words of a section's argument: what its spaces and tabs separate
+unfoldable pub words_of : List ℕ → List (List ℕ)
+words_of text = flat_map tab_words (slice_split (λ b. b == 32) text)
+
+-- whether a text begins with `/`, as Fluentd's regular expressions do
+abbrev pub begins_with_slash : List ℕ → Bool
+begins_with_slash [] = false
+begins_with_slash (b ∷ rest) = b == 47
+
+-- each of the texts must be a pattern
+abbrev pub patterns_in : ℕ → List (List ℕ) → List Finding
+patterns_in line [] = []
+patterns_in line (word ∷ words) = a_pattern word line ∷ patterns_in line words
+
+-- a match has patterns, none of which begins with `/`
+abbrev pub patterns_found : List (List ℕ) → ℕ → List Finding
+patterns_found words line = found_if (length words == 0 || list_any begins_with_slash words) kinds.OutOfProfile line ++ patterns_in line words
+
+-- a buffer's chunk key is the tag, written or not
+abbrev pub is_chunk_key : List ℕ → Bool
+is_chunk_key argument = bytes_eq argument [] || bytes_eq argument (codes "tag")
+
+-- what is wrong with the way a section opens, by its place, name and argument
+abbrev pub opening_found : Option Opening → Heading → List Finding
+opening_found None h = a_fault (refusal h.name) h.line ∷ []
+opening_found (Some opening.Match) h = patterns_found (words_of h.argument) h.line
+opening_found (Some (opening.Plain sections.Label)) h = found_if (not (is_label_name h.argument)) kinds.BadValue h.line
+opening_found (Some (opening.Plain sections.Buffer)) h = found_if (not (is_chunk_key h.argument)) kinds.OutOfProfile h.line
+opening_found (Some _) h = []
+
+-- a section that must have a type
+abbrev pub needs_type : Option Opening → Bool
+needs_type (Some opening.Match) = true
+needs_type (Some opening.Store) = true
+needs_type (Some (opening.Plain sections.Source)) = true
+needs_type _ = false
+
+-- a match of this type
+abbrev pub match_section : Option OutputType → Section
+match_section None = sections.OtherMatch
+match_section (Some kind) = sections.Match kind
+
+-- a store of this type
+abbrev pub store_section : Option OutputType → Section
+store_section None = sections.OtherStore
+store_section (Some kind) = sections.Store kind
+
+-- a match or a store by its last type; one that has none is gone through no further
+abbrev pub typed : (List ℕ → Section) → Option (List ℕ) → Section
+typed section None = sections.Passed
+typed section (Some kind) = section kind
+
+-- the section that an opening and a last type make
+abbrev pub section_of : Option Opening → Option (List ℕ) → Section
+section_of None kind = sections.Passed
+section_of (Some (opening.Plain section)) kind = section
+section_of (Some opening.Match) kind = typed (λ k. match_section (output_type_of k)) kind
+section_of (Some opening.Store) kind = typed (λ k. store_section (store_type_of k)) kind
+
+-- what is passed over isn't looked at
+abbrev pub is_passed : Section → Bool
+is_passed sections.Passed = true
+is_passed _ = false
+
+-- what is wrong with a parameter in a section
+abbrev pub setting_found : Section → Setting → List Finding
+setting_found section s = found_at s.line (setting_fault section s.name s.value)
+
+-- what is wrong with the parameters of a section
+abbrev pub settings_found : Section → List Setting → List Finding
+settings_found section [] = []
+settings_found section (s ∷ rest) = setting_found section s ++ settings_found section rest
+
+-- the same, where the section isn't passed over
+abbrev pub looked_at : Section → List Setting → List Finding
+looked_at section settings = if is_passed section then [] else settings_found section settings
+
+-- whether no parameter has this name
+abbrev pub lacks : List ℕ → List Setting → Bool
+lacks name settings = is_none (value_of name settings)
+
+-- whether none of the elements has this name
+abbrev pub lacks_child : List ℕ → List Tree → Bool
+lacks_child name children = not (list_any (is_named name) children)
+
+-- whether an output lacks what its type asks for
+abbrev pub output_lacks : OutputType → List Setting → List Tree → Bool
+output_lacks outputs.Forward settings children = lacks_child (codes "server") children
+output_lacks outputs.File settings children = lacks (codes "path") settings
+output_lacks outputs.Copy settings children = lacks_child (codes "store") children
+output_lacks outputs.Relabel settings children = lacks (codes "@label") settings
+output_lacks outputs.Null settings children = false
+
+-- whether a section lacks what it must have
+abbrev pub section_lacks : Section → List Setting → List Tree → Bool
+section_lacks sections.Server settings children = lacks (codes "host") settings
+section_lacks sections.Security settings children = lacks (codes "self_hostname") settings || lacks (codes "shared_key") settings
+section_lacks sections.Buffer settings children = has_files settings && lacks (codes "path") settings
+section_lacks (sections.Match kind) settings children = output_lacks kind settings children
+section_lacks (sections.Store kind) settings children = output_lacks kind settings children
+section_lacks _ settings children = false
+
+-- what is wrong with a section before its children: its opening, its type, its parameters
+abbrev pub front_found : Option Opening → Heading → List Setting → List Finding
+front_found o h settings =
+    opening_found o h
+    ++ (found_if (needs_type o && lacks (codes "@type") settings) kinds.Missing h.line
+    ++ looked_at (section_of o (value_of (codes "@type") settings)) settings)
+
+-- the section that an element is, in another
+abbrev pub section_in : Section → Heading → List Setting → Section
+section_in parent h settings = section_of (opening_in parent h.name) (value_of (codes "@type") settings)
+
+-- what is missing in a section
+abbrev pub missing_found : Section → Heading → List Setting → List Tree → List Finding
+missing_found section h settings children = found_if (section_lacks section settings children) kinds.Missing h.line
+
+-- what is wrong with an element in a section, and with elements one after the other
+abbrev mutual
+  pub tree_found : Section → Tree → List Finding
+  tree_found parent (tree h settings children) =
+      front_found (opening_in parent h.name) h settings
+      ++ (trees_found (section_in parent h settings) children
+      ++ missing_found (section_in parent h settings) h settings (tree_list children))
+
+  pub trees_found : Section → Trees → List Finding
+  trees_found section no_trees = []
+  trees_found section (more_trees t ts) = tree_found section t ++ trees_found section ts

@@ -1,0 +1,24 @@
+//! The tables of parameters that a section has one of.
+
+ghost use Rattle.std.specs.Prelude.{◌≡◌};
+ghost use Rattle.relay_conf.specs.Rows.{form_in, rows_of};
+
+use crate::form::Form;
+
+/// A parameter: its name, and what its value must be.
+pub(crate) struct Row {
+    pub name: &'static str,
+    pub form: Form,
+}
+
+/// The form that the row of this name gives.
+pub(crate) fn form_in(rows: &[Row], name: &str) -> Option<Form>
+    ensures { result ≡ form_in (rows_of rows.now) name.now }
+{
+    for row in rows {
+        if row.name == name {
+            return Some(row.form);
+        }
+    }
+    None
+}

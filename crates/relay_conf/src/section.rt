@@ -1,0 +1,277 @@
+//! The sections of a configuration, and what may stand in each.
+
+ghost use Rattle.std.specs.Prelude.{◌≡◌};
+ghost use Rattle.relay_conf.specs.Rows.{rows_of};
+ghost use Rattle.relay_conf.specs.Sections.{section_rows, output_rows, type_form, form_of, setting_fault, form_fault, opening_in, top_opening, forward_opening, output_opening, only_opening, refusal};
+
+use crate::buffer::BUFFER_ROWS;
+use crate::fault::RelayFaultKind;
+use crate::form::{Form, OutputType, value_fault};
+use crate::rows::{Row, form_in};
+
+/// A section, by its name and place, and where it has a type also by that.
+#[derive(Clone, Copy)]
+pub(crate) enum Section {
+    /// The whole configuration.
+    Top,
+    /// What is passed over, with all that is in it.
+    Passed,
+    /// The parameters outside every section.
+    Outside,
+    Source,
+    Label,
+    Server,
+    Security,
+    Buffer,
+    Match(OutputType),
+    Store(OutputType),
+    /// A match of a type that isn't known.
+    OtherMatch,
+    /// A store of a type that isn't known.
+    OtherStore,
+}
+
+/// A section, by its name and place alone.
+#[derive(Clone, Copy)]
+pub(crate) enum Opening {
+    /// It is this section.
+    Plain(Section),
+    /// Its type says more.
+    Match,
+    /// Its type says more.
+    Store,
+}
+
+static SOURCE_ROWS: [Row; 4] = [
+    Row {
+        name: "port",
+        form: Form::Port,
+    },
+    Row {
+        name: "bind",
+        form: Form::Text,
+    },
+    Row {
+        name: "@label",
+        form: Form::Target,
+    },
+    Row {
+        name: "add_tag_prefix",
+        form: Form::Prefix,
+    },
+];
+
+static SERVER_ROWS: [Row; 5] = [
+    Row {
+        name: "host",
+        form: Form::Text,
+    },
+    Row {
+        name: "port",
+        form: Form::Port,
+    },
+    Row {
+        name: "name",
+        form: Form::Text,
+    },
+    Row {
+        name: "weight",
+        form: Form::Text,
+    },
+    Row {
+        name: "standby",
+        form: Form::Text,
+    },
+];
+
+static SECURITY_ROWS: [Row; 2] = [
+    Row {
+        name: "self_hostname",
+        form: Form::HostName,
+    },
+    Row {
+        name: "shared_key",
+        form: Form::Text,
+    },
+];
+
+static FORWARD_ROWS: [Row; 5] = [
+    Row {
+        name: "require_ack_response",
+        form: Form::Flag,
+    },
+    Row {
+        name: "ack_response_timeout",
+        form: Form::Time,
+    },
+    Row {
+        name: "send_timeout",
+        form: Form::Time,
+    },
+    Row {
+        name: "recover_wait",
+        form: Form::Time,
+    },
+    Row {
+        name: "hard_timeout",
+        form: Form::Time,
+    },
+];
+
+static FILE_ROWS: [Row; 1] = [Row {
+    name: "path",
+    form: Form::Path,
+}];
+
+static RELABEL_ROWS: [Row; 1] = [Row {
+    name: "@label",
+    form: Form::Target,
+}];
+
+/// What is wrong with a parameter of this name and value in this section, if anything.
+pub(crate) fn setting_fault(section: Section, name: &str, value: &str) -> Option<RelayFaultKind>
+    ensures { result ≡ setting_fault section name.now value.now }
+{
+    if name == "@id" || name == "@log_level" {
+        return None;
+    }
+    if name == "@include" {
+        return Some(RelayFaultKind::OutOfProfile);
+    }
+    form_fault(form_of(section, name), value)
+}
+
+fn form_fault(form: Option<Form>, value: &str) -> Option<RelayFaultKind>
+    ensures { result ≡ form_fault form value.now }
+{
+    match form {
+        None => Some(RelayFaultKind::UnknownParameter),
+        Some(form) => value_fault(form, value),
+    }
+}
+
+// What the value of this name must be, if the section has it.
+fn form_of(section: Section, name: &str) -> Option<Form>
+    ensures { result ≡ form_of section name.now }
+{
+    if name == "@type" {
+        return type_form(section);
+    }
+    match section {
+        Section::OtherMatch | Section::OtherStore => Some(Form::Text),
+        _ => form_in(section_rows(section), name),
+    }
+}
+
+// What the type of a section must be, if it has one.
+fn type_form(section: Section) -> Option<Form>
+    ensures { result ≡ type_form section }
+{
+    match section {
+        Section::Source => Some(Form::SourceType),
+        Section::Buffer => Some(Form::BufferType),
+        Section::Match(_) | Section::OtherMatch => Some(Form::MatchType),
+        Section::Store(_) | Section::OtherStore => Some(Form::StoreType),
+        _ => None,
+    }
+}
+
+// The parameters of a section, without its type.
+fn section_rows(section: Section) -> &'static [Row]
+    ensures { rows_of result.now ≡ section_rows section }
+{
+    match section {
+        Section::Source => &SOURCE_ROWS,
+        Section::Server => &SERVER_ROWS,
+        Section::Security => &SECURITY_ROWS,
+        Section::Buffer => &BUFFER_ROWS,
+        Section::Match(kind) | Section::Store(kind) => output_rows(kind),
+        _ => &[],
+    }
+}
+
+// The parameters of an output, without its type.
+fn output_rows(kind: OutputType) -> &'static [Row]
+    ensures { rows_of result.now ≡ output_rows kind }
+{
+    match kind {
+        OutputType::Forward => &FORWARD_ROWS,
+        OutputType::File => &FILE_ROWS,
+        OutputType::Relabel => &RELABEL_ROWS,
+        OutputType::Copy | OutputType::Null => &[],
+    }
+}
+
+/// What a section of this name is in this one, if it may stand there.
+pub(crate) fn opening_in(parent: Section, name: &str) -> Option<Opening>
+    ensures { result ≡ opening_in parent name.now }
+{
+    match parent {
+        Section::Top => top_opening(name),
+        Section::Source => only(name, "security", Opening::Plain(Section::Security)),
+        Section::Label => only(name, "match", Opening::Match),
+        Section::Match(kind) | Section::Store(kind) => output_opening(kind, name),
+        Section::Passed | Section::OtherMatch | Section::OtherStore => {
+            Some(Opening::Plain(Section::Passed))
+        }
+        _ => None,
+    }
+}
+
+fn output_opening(kind: OutputType, name: &str) -> Option<Opening>
+    ensures { result ≡ output_opening kind name.now }
+{
+    match kind {
+        OutputType::Forward => forward_opening(name),
+        OutputType::File => only(name, "buffer", Opening::Plain(Section::Buffer)),
+        OutputType::Copy => only(name, "store", Opening::Store),
+        OutputType::Relabel | OutputType::Null => None,
+    }
+}
+
+fn top_opening(name: &str) -> Option<Opening>
+    ensures { result ≡ top_opening name.now }
+{
+    if name == "" {
+        return Some(Opening::Plain(Section::Outside));
+    }
+    if name == "source" {
+        return Some(Opening::Plain(Section::Source));
+    }
+    if name == "match" {
+        return Some(Opening::Match);
+    }
+    if name == "label" {
+        return Some(Opening::Plain(Section::Label));
+    }
+    only(name, "system", Opening::Plain(Section::Passed))
+}
+
+fn forward_opening(name: &str) -> Option<Opening>
+    ensures { result ≡ forward_opening name.now }
+{
+    if name == "server" {
+        return Some(Opening::Plain(Section::Server));
+    }
+    if name == "buffer" {
+        return Some(Opening::Plain(Section::Buffer));
+    }
+    only(name, "security", Opening::Plain(Section::Security))
+}
+
+// The opening, where the name is that one.
+fn only(name: &str, wanted: &str, opening: Opening) -> Option<Opening>
+    ensures { result ≡ only_opening name.now wanted.now opening }
+{
+    if name == wanted { Some(opening) } else { None }
+}
+
+/// Why a section of this name is refused where it may not stand.
+pub(crate) fn refusal(name: &str) -> RelayFaultKind
+    ensures { result ≡ refusal name.now }
+{
+    if name == "filter" || name == "worker" || name == "secondary" {
+        return RelayFaultKind::OutOfProfile;
+    }
+    RelayFaultKind::UnknownSection
+}

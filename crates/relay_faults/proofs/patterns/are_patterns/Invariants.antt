@@ -1,7 +1,0 @@
-use Rattle.std.proofs.Common.{drop, map}
-use Rattle.relay_faults.specs.Examined.{patterns_in}
-use Rattle.relay_faults.proofs.Findings.{Continues}
-use Rattle.relay_faults.proofs.patterns.are_patterns.Given as goal
-
-abbrev pub invariant-loop-word : goal.invariant-loop-word
-invariant-loop-word g l = Continues (patterns_in l.line (map (λ word. word.now) (drop l.word-index l.words))) (patterns_in l.line (map (λ word. word.now) l.words))

@@ -1,7 +1,0 @@
-use Rattle.std.proofs.Common.{◌≡◌, drop, map}
-use Rattle.std.specs.List.{list_any}
-use Rattle.relay_faults.specs.Examined.{begins_with_slash}
-use Rattle.relay_faults.proofs.patterns.has_slash_first.Given as goal
-
-abbrev pub invariant-loop-word : goal.invariant-loop-word
-invariant-loop-word l = list_any begins_with_slash (map (λ word. word.now) (drop l.word-index l.words)) ≡ list_any begins_with_slash (map (λ word. word.now) l.words)

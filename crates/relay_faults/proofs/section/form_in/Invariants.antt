@@ -1,6 +1,0 @@
-use Rattle.std.proofs.Common.{◌≡◌, drop}
-use Rattle.relay_faults.specs.Sections.{form_in, rows_of}
-use Rattle.relay_faults.proofs.section.form_in.Given as goal
-
-abbrev pub invariant-loop-row : goal.invariant-loop-row
-invariant-loop-row l = form_in (rows_of (drop l.row-index l.rows)) l.name ≡ form_in (rows_of l.rows) l.name

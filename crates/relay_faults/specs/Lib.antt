@@ -1,9 +1,0 @@
-pub mod Printed
-pub mod Elements
-pub mod Values
-pub mod Forms
-pub mod Sections
-pub mod Findings
-pub mod Examined
-pub mod Labels
-pub mod Faults
