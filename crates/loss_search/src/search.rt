@@ -1,12 +1,12 @@
 //! The search for steps that lose an event.
 
 ghost use Rattle.std.specs.Prelude.{IfOk, IfSome};
-ghost use Rattle.losing_steps.specs.Losses.{Loses};
+ghost use Rattle.loss_search.specs.Losses.{Loses};
 
+use crate::losing::{if_losing, loses_event};
 use crate::tags::{ANY_PART, EMPTY_PART, Tags};
 use crate::walk::{Halt, walk_event};
 use crate::words::{patterns_of, words_of};
-use losing_steps::{if_losing, loses_event};
 use loss_rules::Duty;
 use relay_net::Net;
 use std::alloc::{AllocError, Allocator};

@@ -2,7 +2,7 @@
 use Rattle.std.specs.Prelude.{◌≡◌, ◌≢◌, Bool, true, false, ℕ, List, [], ◌++◌, codes, flat_map, Option, ◌⊎◌}
 use Rattle.deliberate_drops.specs.Plans.{IsDroppedPlanOf}
 use Rattle.deliberate_drops.specs.declared.name.DropName.{DropName}
-use Rattle.losing_steps.specs.Losses.{IsLosingText}
+use Rattle.loss_search.specs.Losses.{IsLosingText}
 use Rattle.loss_rules.specs.Breaks.{IsAnswer, Subject}
 use Rattle.loss_rules.specs.declared.answer.Answer.{Answer}
 use Rattle.loss_rules.specs.declared.answer.Answer.TheVariants as answer

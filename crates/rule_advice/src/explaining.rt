@@ -1,16 +1,15 @@
 //! What is said of a plan for which the checker answers no.
 
 ghost use Rattle.std.specs.Prelude.{◌≡◌, false, IfOk, IsTrue};
-ghost use Rattle.losing_steps.specs.Losses.{IsLosingText};
+ghost use Rattle.loss_search.specs.Losses.{IsLosingText};
 
 use crate::front::Subject;
 use crate::near::near_patterns;
 use crate::site::Texts;
 use crate::story::{Story, put_note};
 use crate::words::loses_events;
-use losing_steps::if_losing_text;
 use loss_rules::{Place, Rule};
-use loss_search::find;
+use loss_search::{find, if_losing_text};
 use plan_lines::Plan;
 use std::alloc::{AllocError, Allocator};
 use step_lines::Step;

@@ -4,9 +4,9 @@ use Rattle.std.proofs.lemmas.Result.{IfOk-weaker}
 use Rattle.custody_steps.specs.WorldOf.{net_of, world_of}
 use Rattle.custody_steps.specs.declared.fault.StepFault.TheVariants as fault
 use Rattle.relay_net.specs.Network.{Network}
-use Rattle.losing_steps.specs.Losses.{HasLost, Loses}
-use Rattle.losing_steps.proofs.Losing.{loses_where_lost, refused_loses_none}
-use Rattle.losing_steps.proofs.loss.loses_event.Goals as goal
+use Rattle.loss_search.specs.Losses.{HasLost, Loses}
+use Rattle.loss_search.proofs.LosingSteps.{loses_where_lost, refused_loses_none}
+use Rattle.loss_search.proofs.losing.loses_event.Goals as goal
 
 pub returns-in-Ok : goal.returns-in-Ok
 returns-in-Ok g c =

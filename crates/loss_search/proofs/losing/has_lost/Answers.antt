@@ -3,9 +3,9 @@ use Rattle.std.proofs.lemmas.List.{length-map}
 use Rattle.custody_steps.specs.WorldOf.{net_of, world_of}
 use Rattle.message_book.specs.Book.{told_of}
 use Rattle.custody_steps.proofs.Keeping.{never}
-use Rattle.losing_steps.specs.Losses.{HasLost}
-use Rattle.losing_steps.proofs.Losing.{kept_more, lost_there, none_lost}
-use Rattle.losing_steps.proofs.loss.has_lost.Goals as goal
+use Rattle.loss_search.specs.Losses.{HasLost}
+use Rattle.loss_search.proofs.LosingSteps.{kept_more, lost_there, none_lost}
+use Rattle.loss_search.proofs.losing.has_lost.Goals as goal
 
 pub returns-then-not-branch : goal.returns-then-not-branch
 returns-then-not-branch g c =

@@ -15,7 +15,7 @@ use Rattle.message_book.specs.Book.{Told, told_events, told_of}
 use Rattle.message_book.specs.declared.message.Acknowledged.{Acknowledged}
 use Rattle.relay_net.specs.Network.{Network}
 use Rattle.step_lines.specs.declared.step.Step.{Step}
-use Rattle.losing_steps.specs.Losses.{HasLost, Loses}
+use Rattle.loss_search.specs.Losses.{HasLost, Loses}
 
 -- an event that isn't kept is lost
 pub lost_at : {A : Type 0} (asked : Duty) (net : Network A) (w : World) (k : ℕ) (told : Told) → slice_get w.acknowledged k ≡ Some told → ¬ (IsKeptAs asked net w told) → HasLost asked net w

@@ -2,7 +2,7 @@
 
 ghost use Rattle.std.specs.Prelude.{◌≡◌, ◌≢◌, ◌↔◌, false, IfOk, IfSome, IsSome, IsTrue};
 ghost use Rattle.custody_steps.specs.WorldOf.{net_of, world_of};
-ghost use Rattle.losing_steps.specs.Losses.{HasLost, IsLosingText, Loses};
+ghost use Rattle.loss_search.specs.Losses.{HasLost, IsLosingText, Loses};
 
 use custody_core::{Step, StepFault, StepsError, World, is_kept_as, run};
 use loss_rules::Duty;
@@ -27,10 +27,10 @@ pub fn if_losing_text<A: Allocator + Copy>(
     }
 }
 
-/// Whether the network takes each of the steps of the text, and then an event that was acknowledged
-/// to a client isn't kept as is asked: then `replay` takes them, and lists the event as lost. The
-/// only error is want of memory.
-pub fn text_loses_event<A: Allocator + Copy>(
+// Whether the network takes each of the steps of the text, and then an event that was acknowledged
+// to a client isn't kept as is asked: then `replay` takes them, and lists the event as lost. The
+// only error is want of memory.
+fn text_loses_event<A: Allocator + Copy>(
     alloc: A,
     net: &Net<A>,
     duty: Duty,
@@ -47,7 +47,7 @@ pub fn text_loses_event<A: Allocator + Copy>(
 
 /// The steps, where they lose an event, and only there, as `loses_event` says. The only error is
 /// want of memory.
-pub fn if_losing<A: Allocator + Copy>(
+pub(crate) fn if_losing<A: Allocator + Copy>(
     alloc: A,
     net: &Net<A>,
     duty: Duty,
@@ -66,7 +66,7 @@ pub fn if_losing<A: Allocator + Copy>(
 
 /// Whether the network takes each of the steps, and then an event that was acknowledged to a client
 /// isn't kept as is asked. The only error is want of memory.
-pub fn loses_event<A: Allocator + Copy>(
+pub(crate) fn loses_event<A: Allocator + Copy>(
     alloc: A,
     net: &Net<A>,
     duty: Duty,
