@@ -52,7 +52,7 @@ pub fn labelled_text<A: Allocator + Copy>(
 /// matches let go. Behind a relabel or a server of such a match none is found.
 ///
 /// It answers no text also where a name means no match. The only error is want of memory.
-pub fn labelled_dropping<A: Allocator + Copy>(
+pub(crate) fn labelled_dropping<A: Allocator + Copy>(
     alloc: A,
     net: &[u8],
     confs: &[Vec<u8, A>],

@@ -7,7 +7,7 @@ use Rattle.std.specs.declared.vec.Vec.{Vec}
 use Rattle.conf_listing.specs.Answers.{IsAdapted}
 use Rattle.conf_listing.specs.Networks.{AreAdaptedTexts}
 use Rattle.deliberate_drops.specs.declared.name.DropName.{DropName}
-use Rattle.labelled_check.specs.Checks.{IsLabelledCheck}
+use Rattle.label_plan.specs.Checks.{IsLabelledCheck}
 use Rattle.loss_checker.specs.declared.broken.BrokenRule.{BrokenRule}
 use Rattle.loss_rules.specs.Breaks.{Subject}
 use Rattle.plan_answers.specs.declared.network.Stop.TheVariants as stop

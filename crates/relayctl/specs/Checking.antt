@@ -3,7 +3,7 @@
 use Rattle.std.specs.Prelude.{◌≡◌, ◌≢◌, ◌<◌, ◌≤◌, ◌⊎◌, All, Bool, true, false, ℕ, List, [], ◌∷◌, ◌++◌, codes, flat_map, get_or, length, Option}
 use Rattle.std.specs.declared.vec.Vec.{Vec}
 use Rattle.deliberate_drops.specs.declared.name.DropName.{DropName}
-use Rattle.labelled_check.specs.Checks.{IsLabelledCheck}
+use Rattle.label_plan.specs.Checks.{IsLabelledCheck}
 use Rattle.loss_checker.specs.declared.broken.BrokenRule.{BrokenRule}
 use Rattle.loss_rules.specs.Breaks.{Subject}
 use Rattle.loss_rules.specs.declared.answer.Answer.TheVariants as answer

@@ -12,7 +12,7 @@ use crate::faults::further_faults;
 use crate::listing::list_broken;
 use conf_listing::{AdaptedConfs, StoppedConfs, adapt_confs};
 use deliberate_drops::{DropError, DropName, DroppedPlanError};
-use labelled_check::{LabelledCheck, check_dropping};
+use label_plan::{LabelledCheck, check_dropping};
 use loss_checker::{BrokenRule, Plan, PlanError, conf_names};
 use plan_answers::{Stop, print_stop, read_confs};
 use plan_warnings::{put_stale_reaches, put_warnings};

@@ -1,7 +1,7 @@
 //! The word `draw`: a picture of a plan with the labels and reaches that it lacks.
 
 use crate::explain::{Said, say_fault};
-use labelled_check::check_labelled;
+use label_plan::check_labelled;
 use loss_checker::{PlanError, conf_names};
 use plan_answers::{Stop, print_stop, read_confs};
 use plan_drawing::{draw_dot, draw_text};

@@ -1,5 +1,5 @@
 use Rattle.std.proofs.Common.{rules, ◌≢◌, inl, inr, subst, List}
-use Rattle.labelled_check.specs.Checks.{IsLabelledCheck}
+use Rattle.label_plan.specs.Checks.{IsLabelledCheck}
 use Rattle.plan_lines.specs.Faults.{IsRefusal}
 use Rattle.plan_lines.specs.Plans.{texts as texts_of}
 use Rattle.plan_lines.specs.declared.error.PlanError.TheVariants as refusal

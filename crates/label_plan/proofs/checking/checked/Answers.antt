@@ -1,7 +1,7 @@
 use Rattle.std.proofs.Common.{List, ℕ, refl, subst}
 use Rattle.deliberate_drops.specs.Plans.{IsDroppedPlanOf}
 use Rattle.plan_lines.specs.Plans.{texts}
-use Rattle.labelled_check.proofs.labelling.checked.Goals as goal
+use Rattle.label_plan.proofs.checking.checked.Goals as goal
 
 pub returns-in-Ok : goal.returns-in-Ok
 returns-in-Ok g c =

@@ -1,7 +1,7 @@
 use Rattle.std.proofs.Common.{List, ℕ, subst, sym}
 use Rattle.deliberate_drops.specs.Plans.{IsDroppedPlanOf}
 use Rattle.plan_lines.specs.Plans.{texts}
-use Rattle.labelled_check.proofs.labelling.check_dropping.Goals as goal
+use Rattle.label_plan.proofs.checking.check_dropping.Goals as goal
 
 pub returns-clause-checked : goal.returns-clause-checked
 returns-clause-checked g c =

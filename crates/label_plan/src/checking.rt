@@ -5,10 +5,10 @@ ghost use Rattle.deliberate_drops.specs.Plans.{IsNoDroppedPlan};
 ghost use Rattle.plan_lines.specs.Faults.{IsRefusal};
 ghost use Rattle.plan_lines.specs.Forms.{confs_named};
 ghost use Rattle.plan_lines.specs.Plans.{texts};
-ghost use Rattle.labelled_check.specs.Checks.{AreChecked, IsLabelledCheck};
+ghost use Rattle.label_plan.specs.Checks.{AreChecked, IsLabelledCheck};
 
+use crate::labelled::labelled_dropping;
 use deliberate_drops::{DropError, DropName, DroppedPlanError, plan_with_drops};
-use label_plan::labelled_dropping;
 use loss_checker::{BrokenRule, broken_rules};
 use plan_lines::{Plan, PlanError, conf_names};
 use std::alloc::{AllocError, Allocator};
