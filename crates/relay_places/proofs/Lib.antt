@@ -1,0 +1,4 @@
+mod Finding
+mod Growing
+mod Naming
+mod Spanning

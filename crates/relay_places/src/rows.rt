@@ -1,0 +1,74 @@
+//! What is said of the outputs of a relay.
+
+ghost use Rattle.std.specs.Prelude.{◌≡◌, map, length, IfOk};
+ghost use Rattle.relay_places.specs.Outputs.{outputs_of};
+ghost use Rattle.relay_places.specs.Places.{ArePlacesOf};
+ghost use Rattle.relay_places.specs.Rows.{counted, first_rows, rows_text};
+
+use crate::outputs::outputs_of;
+use crate::places::Places;
+use crate::row::Row;
+use output_state::{put_state, state_head};
+use relay_conf::Relay;
+use relay_notices::Tally;
+use std::alloc::{AllocError, Allocator};
+use std::marker::Model;
+
+/// What is said of the outputs of a relay that have buffers. Contracts see a row for each, in the
+/// order of the text: what is said of it, and the places of its servers or its sink.
+#[derive(Drop)]
+pub struct OutputRows<A: Allocator> {
+    rows: Vec<Row<A>, A>,
+}
+
+impl<A: Allocator> Model for OutputRows<A> {
+    ghost use Rattle.std.specs.Prelude.{List};
+    ghost use Rattle.relay_places.specs.Rows.{RowView};
+
+    ghost Value = { List RowView };
+
+    ghost view = { λ o. o.rows.items };
+}
+
+impl<A: Allocator + Copy> OutputRows<A> {
+    /// The rows of a relay with these places, of which nothing was told: of each output its line,
+    /// the path of its buffer's files, or `*`, and how many bytes the buffer takes. The error is
+    /// want of memory.
+    pub fn new(alloc: A, relay: &Relay<A>, places: &Places<A>) -> Result<OutputRows<A>, AllocError>
+        requires { ArePlacesOf relay.now places.now }
+        ensures rows { IfOk result
+            (λ rows. rows ≡ first_rows (outputs_of relay.now) places.now.spans) }
+        ensures all { IfOk result (λ rows. length rows ≡ length (outputs_of relay.now)) }
+    {
+        let outputs = outputs_of(alloc, relay)?;
+        let spans = places.all_carriers();
+        let mut rows = Vec::new(alloc);
+        for n in 0..outputs.len() {
+            rows.push(Row::new(alloc, outputs[n], spans[n])?)?;
+        }
+        Ok(OutputRows { rows })
+    }
+
+    /// Counts anew what was told of each output's own servers, or of its sink: how many fail, how
+    /// often they failed, and how many chunks they took. The tallies are those of the relay's
+    /// places, in their order, and what has no tally counts nothing. Where other chunks were
+    /// taken than before, the last one was in this second, since the beginning of 1970.
+    pub fn count(&mut self, tallies: &[Tally], second: u64)
+        ensures { self.new ≡ map (counted tallies.now second) self.old }
+    {
+        for row in &mut self.rows {
+            row.count(tallies, second);
+        }
+    }
+
+    /// The text of the rows, behind the first line. The error is want of memory.
+    pub fn text(&self, alloc: A) -> Result<Vec<u8, A>, AllocError>
+        ensures { IfOk result (λ text. text.items ≡ rows_text self.now) }
+    {
+        let mut text = Vec::from_slice(alloc, state_head())?;
+        for row in &self.rows {
+            put_state(alloc, &mut text, &row.state())?;
+        }
+        Ok(text)
+    }
+}
