@@ -11,7 +11,7 @@ use Rattle.relay_places.specs.Names.{carrier_names, output_name, relay_name, sou
 use Rattle.relay_places.specs.Outputs.{outputs_of}
 use Rattle.relay_places.specs.Places.{ArePlacesOf, PlacesView, first_carrier, spans_from}
 use Rattle.relay_places.proofs.Finding.{get_left, named}
-use Rattle.relay_places.proofs.Spanning.{IsSpanOf, span_of}
+use Rattle.relay_places.proofs.Spanning.{IsSpanOf, span_of, length-spans}
 
 module _ {A : Type 0} (folder : List ℕ) (sources : List (Source A)) (outputs : List (Output A)) where
   abbrev itself : List (List ℕ)
@@ -30,13 +30,13 @@ module _ {A : Type 0} (folder : List ℕ) (sources : List (Source A)) (outputs :
   carriers = flat_map (carrier_names folder) outputs
 
   length-front : length front ≡ 1 + length sources
-  length-front = omega (arith, length-map sources (source_name {A}))
+  length-front = omega (arith, length-map sources (source_name {A = A}))
 
   length-chunks : length chunks ≡ 1 + length sources + length outputs
-  length-chunks = omega (arith, length-front, length-append front (map output_name outputs), length-map outputs (output_name {A}))
+  length-chunks = omega (arith, length-front, length-append front (map output_name outputs), length-map outputs (output_name {A = A}))
 
   pub length-journals : length journals ≡ 1 + length sources + length outputs + length outputs
-  length-journals = omega (arith, length-chunks, length-append chunks (map output_name outputs), length-map outputs (output_name {A}))
+  length-journals = omega (arith, length-chunks, length-append chunks (map output_name outputs), length-map outputs (output_name {A = A}))
 
   pub source_named : (k : ℕ) (found : Source A) → slice_get sources k ≡ Some found
       → slice_get (journals ++ carriers) (1 + k) ≡ Some (source_name found)
@@ -81,3 +81,17 @@ module _ {A : Type 0} (relay : Relay A) (folder : List ℕ) (places : PlacesView
 
 pub places_named : (A : Type 0) → PlacesHaveTheirNames A
 places_named A relay folder places h = have_names relay folder places h
+
+-- the places that are counted as their names are put
+pub are_places : {A : Type 0} (relay : Relay A) (folder : List ℕ) (places : PlacesView) (outs : List (Output A)) (names : List (List ℕ)) (first : ℕ)
+    → outs ≡ outputs_of relay → places.sources ≡ length relay.sources.items
+    → names ≡ journals folder relay.sources.items outs → first ≡ length names → places.spans ≡ spans_from first outs
+    → ArePlacesOf relay places
+are_places relay folder places outs names first o s n f spans =
+    let long : length places.spans ≡ length outs = ap length spans ∙ length-spans folder first outs in
+    let first_is : first ≡ first_carrier places = omega (arith, s, long, f, ap length n, length-journals folder relay.sources.items outs) in
+    record {
+      sources = s;
+      outputs = long ∙ ap length o;
+      spans = spans ∙ ap (λ (at : ℕ). spans_from at outs) first_is ∙ ap (spans_from (first_carrier places)) o;
+    }

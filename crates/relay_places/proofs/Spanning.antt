@@ -2,6 +2,7 @@
 use Rattle.std.proofs.Common.{◌≡◌, ℕ, zero, suc, ◌+◌, List, [], ◌∷◌, ◌++◌, length, map, Some, None, refl, sym, ap, ◌∙◌, subst, arith}
 use Rattle.std.specs.List.{flat_map, slice_get, slice_range}
 use Rattle.std.proofs.lemmas.List.{append_assoc, append-nil, length-append, length-map}
+use Rattle.std.proofs.lemmas.List.Concat.{flat_map-append}
 use Rattle.std.proofs.lemmas.Option.{none-some, same_Some}
 use Rattle.relay_conf.specs.declared.output.Output.{Output}
 use Rattle.relay_conf.specs.declared.output.Output.TheVariants as output
@@ -66,8 +67,30 @@ module _ {A : Type 0} (folder : List ℕ) where
   spans_push first [] one at end a e =
       let at_is : first ≡ at = omega arith in
       let end_is : first + carriers_in one ≡ end = omega (arith, count_is one) in
-      rw (at_is at end_is, at_is) refl
+      λ i. record { first = at_is i; end = end_is i } ∷ []
   spans_push first (other ∷ rest) one at end a e =
       let own = carrier_names folder other in
       let behind : at ≡ (first + carriers_in other) + length (flat_map (carrier_names folder) rest) = omega (arith, count_is other, length-append own (flat_map (carrier_names folder) rest)) in
       ap (λ (all : List Carriers). record { first = first; end = first + carriers_in other } ∷ all) (spans_push (first + carriers_in other) rest one at end behind e)
+
+  -- the names with those of one output more
+  pub carriers_more : (done : List (Output A)) (one : Output A) (all : List (Output A)) → all ≡ done ++ one ∷ []
+      → flat_map (carrier_names folder) all ≡ flat_map (carrier_names folder) done ++ carrier_names folder one
+  carriers_more done one all more =
+      ap (flat_map (carrier_names folder)) more
+      ∙ flat_map-append (carrier_names folder) done (one ∷ [])
+      ∙ ap (λ (z : List (List ℕ)). flat_map (carrier_names folder) done ++ z) (append-nil (carrier_names folder one))
+
+  -- the spans with that of one output more, whose names were added behind the others
+  pub spans_more : (base names names' : List (List ℕ)) (done : List (Output A)) (one : Output A) (all : List (Output A)) (spans spans' : List Carriers) (first at end : ℕ)
+      → length base ≡ first → names ≡ base ++ flat_map (carrier_names folder) done → names' ≡ names ++ carrier_names folder one
+      → at ≡ length names → end ≡ length names' → all ≡ done ++ one ∷ []
+      → spans ≡ spans_from first done → spans' ≡ spans ++ record { first = at; end = end } ∷ []
+      → spans' ≡ spans_from first all
+  spans_more base names names' done one all spans spans' first at end f n m a e more s p =
+      let own = flat_map (carrier_names folder) done in
+      let at_is : at ≡ first + length own = omega (arith, ap length n, length-append base own, a, f) in
+      let end_is : end ≡ at + length (carrier_names folder one) = omega (arith, ap length m, length-append names (carrier_names folder one), a, e) in
+      p ∙ ap (λ (z : List Carriers). z ++ record { first = at; end = end } ∷ []) s
+      ∙ sym (spans_push first done one at end at_is end_is)
+      ∙ ap (spans_from first) (sym more)
