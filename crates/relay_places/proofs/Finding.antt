@@ -1,8 +1,7 @@
 -- What stands at a place of lists that are joined.
-use Rattle.std.proofs.Common.{◌≡◌, ℕ, zero, suc, ◌+◌, ◌-◌, min, List, [], ◌∷◌, ◌++◌, length, map, take, drop, Some, None, refl, sym, ap, ◌∙◌, arith}
+use Rattle.std.proofs.Common.{◌≡◌, ℕ, zero, suc, ◌+◌, ◌-◌, List, [], ◌∷◌, ◌++◌, length, map, take, Some, ap, ◌∙◌, arith}
 use Rattle.std.specs.List.{slice_get, slice_range}
-use Rattle.std.proofs.lemmas.List.{length-map, length-take, take_at, take_min, drop_at, drop_min}
-use Rattle.std.proofs.lemmas.Slice.{between_is}
+use Rattle.std.proofs.lemmas.List.{take_at, drop_at}
 use Rattle.std.proofs.lemmas.Option.{none-some, slice_get-map}
 
 module _ {X : Type 0} where
@@ -37,15 +36,3 @@ named f front list place k x h at =
     ∙ get_right front (map f list) k
     ∙ slice_get-map f list k
     ∙ (rw h)
-
--- the part of a list within bounds that may be past its end
-pub range_is : {X : Type 0} (xs : List X) (first end first' end' : ℕ) → end' ≡ min end (length xs) → first' ≡ min first end'
-    → drop first' (take end' xs) ≡ slice_range xs first end
-range_is {X} xs first end first' end' e f =
-    let long : end' ≡ length (take end xs) = omega (arith, length-take end xs) in
-    let start : first' ≡ min first (length (take end xs)) = omega arith in
-    ap (λ (n : ℕ). drop first' (take n xs)) e
-    ∙ ap (drop first') (take_min end xs)
-    ∙ ap (λ (n : ℕ). drop n (take end xs)) start
-    ∙ drop_min first (take end xs)
-    ∙ sym (between_is xs first end)

@@ -1,11 +1,9 @@
 -- What a loop has made of the first elements of a list, and of one more.
-use Rattle.std.proofs.Common.{◌≡◌, ℕ, suc, ◌+◌, ◌<◌, ◌^◌, ◌-◌, min, Bool, true, false, List, [], ◌∷◌, ◌++◌, length, filter, fold, get_or, map, take, sym, ap, ◌∙◌, arith}
+use Rattle.std.proofs.Common.{◌≡◌, ℕ, ◌+◌, ◌<◌, Bool, true, false, List, [], ◌∷◌, ◌++◌, length, filter, get_or, map, take, sym, ap, ◌∙◌}
 use Rattle.std.specs.List.{flat_map}
-use Rattle.std.proofs.lemmas.List.{append_assoc, append-nil, map_more, take_more, map_push}
+use Rattle.std.proofs.lemmas.List.{append_assoc, append-nil, map_more, take_more}
 use Rattle.std.proofs.lemmas.List.Concat.{flat_map-append}
 use Rattle.std.proofs.lemmas.List.Elements.{filter-append}
-use Rattle.std.proofs.lemmas.List.Sums.{fold_push}
-use Rattle.relay_places.specs.Rows.{total}
 
 -- behind what was there
 pub grown : {Y : Type 0} (base made more made' done done' : List Y) → made ≡ base ++ done → made' ≡ made ++ more
@@ -44,10 +42,3 @@ filter_left {X} p xs i x h at fails =
     ∙ filter-append p (take i xs) (x ∷ [])
     ∙ ap (λ (z : List X). filter p (take i xs) ++ z) none
     ∙ append-nil (filter p (take i xs))
-
--- the sum of one number more
-pub total_step : {X : Type 0} (f : X → ℕ) (xs : List X) (i : ℕ) (d : X) → i < length xs
-    → total (map f (take (i + 1) xs)) ≡ min (total (map f (take i xs)) + f (get_or xs i d)) (2 ^ 64 - 1)
-total_step f xs i d h =
-    ap total (map_more f xs i d h)
-    ∙ fold_push (λ (sum n : ℕ). min (sum + n) (2 ^ 64 - 1)) 0 (map f (take i xs)) (f (get_or xs i d))

@@ -1,5 +1,5 @@
 -- The spans of carriers, and the names in them.
-use Rattle.std.proofs.Common.{◌≡◌, ℕ, zero, suc, ◌+◌, List, [], ◌∷◌, ◌++◌, length, map, Some, None, refl, sym, ap, ◌∙◌, subst, arith}
+use Rattle.std.proofs.Common.{◌≡◌, ℕ, zero, suc, ◌+◌, List, [], ◌∷◌, ◌++◌, length, Some, refl, sym, ap, ◌∙◌, subst, arith}
 use Rattle.std.specs.List.{flat_map, slice_get, slice_range}
 use Rattle.std.proofs.lemmas.List.{append_assoc, append-nil, length-append, length-map}
 use Rattle.std.proofs.lemmas.List.Concat.{flat_map-append}

@@ -6,10 +6,10 @@ ghost use Rattle.relay_places.specs.Places.{ArePlacesOf};
 ghost use Rattle.relay_places.specs.Rows.{counted, first_rows, rows_text};
 
 use crate::outputs::outputs_of;
-use crate::places::Places;
+use crate::places::{Carriers, Places};
 use crate::row::Row;
 use output_state::{put_state, state_head};
-use relay_conf::Relay;
+use relay_conf::{Output, Relay};
 use relay_notices::Tally;
 use std::alloc::{AllocError, Allocator};
 use std::marker::Model;
@@ -41,11 +41,7 @@ impl<A: Allocator + Copy> OutputRows<A> {
         ensures all { IfOk result (λ rows. length rows ≡ length (outputs_of relay.now)) }
     {
         let outputs = outputs_of(alloc, relay)?;
-        let spans = places.all_carriers();
-        let mut rows = Vec::new(alloc);
-        for n in 0..outputs.len() {
-            rows.push(Row::new(alloc, outputs[n], spans[n])?)?;
-        }
+        let rows = rows_of(alloc, &outputs, places.all_carriers())?;
         Ok(OutputRows { rows })
     }
 
@@ -56,9 +52,7 @@ impl<A: Allocator + Copy> OutputRows<A> {
     pub fn count(&mut self, tallies: &[Tally], second: u64)
         ensures { self.new ≡ map (counted tallies.now second) self.old }
     {
-        for row in &mut self.rows {
-            row.count(tallies, second);
-        }
+        count_all(&mut self.rows, tallies, second);
     }
 
     /// The text of the rows, behind the first line. The error is want of memory.
@@ -70,5 +64,33 @@ impl<A: Allocator + Copy> OutputRows<A> {
             put_state(alloc, &mut text, &row.state())?;
         }
         Ok(text)
+    }
+}
+
+// The rows of these outputs, with the places of the carriers of each.
+fn rows_of<A: Allocator + Copy>(
+    alloc: A,
+    outputs: &[&Output<A>],
+    spans: &[Carriers],
+) -> Result<Vec<Row<A>, A>, AllocError>
+    requires { length spans.now ≡ length outputs.now }
+    ensures { IfOk result
+        (λ rows. rows.items ≡ first_rows (map (λ found. found.now) outputs.now) spans.now) }
+{
+    let mut rows = Vec::new(alloc);
+    for n in 0..outputs.len() {
+        let span = spans[n];
+        let row = Row::new(alloc, outputs[n], span)?;
+        rows.push(row)?;
+    }
+    Ok(rows)
+}
+
+// Counts what was told of each.
+fn count_all<A: Allocator + Copy>(rows: &mut [Row<A>], tallies: &[Tally], second: u64)
+    ensures { rows.new ≡ map (counted tallies.now second) rows.old }
+{
+    for row in rows.iter_mut() {
+        row.count(tallies, second);
     }
 }

@@ -1,4 +1,4 @@
-use Rattle.std.proofs.Common.{◌++◌, List, take, sym, ap, ◌∙◌}
+use Rattle.std.proofs.Common.{◌++◌, List, sym, ap, ◌∙◌}
 use Rattle.std.specs.List.{flat_map}
 use Rattle.std.proofs.lemmas.List.{take_all}
 use Rattle.relay_conf.specs.declared.output.Output.{Output}

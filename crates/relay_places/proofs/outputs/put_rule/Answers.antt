@@ -1,4 +1,4 @@
-use Rattle.std.proofs.Common.{◌++◌, List, filter, map, take, sym, ap, ◌∙◌}
+use Rattle.std.proofs.Common.{◌++◌, List, filter, map, sym, ap, ◌∙◌}
 use Rattle.std.specs.Borrow.{Bor}
 use Rattle.std.proofs.lemmas.List.{map_push, take_all}
 use Rattle.relay_conf.specs.declared.output.Output.{Output}

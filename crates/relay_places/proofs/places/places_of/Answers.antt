@@ -1,9 +1,8 @@
-use Rattle.std.proofs.Common.{◌≡◌, ◌∙◌, List, length, map, ap, sym, arith}
+use Rattle.std.proofs.Common.{◌≡◌, length, map, sym, arith}
 use Rattle.std.specs.Borrow.{Bor}
 use Rattle.std.specs.Prelude.{string_bytes}
 use Rattle.std.proofs.lemmas.List.{length-map}
 use Rattle.relay_conf.specs.declared.output.Output.{Output}
-use Rattle.relay_places.specs.Places.{spans_from}
 use Rattle.relay_places.proofs.Naming.{are_places}
 use Rattle.relay_places.proofs.places.places_of.Goals as goal
 

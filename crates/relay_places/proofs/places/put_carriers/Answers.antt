@@ -1,4 +1,4 @@
-use Rattle.std.proofs.Common.{◌≡◌, ◌+◌, ◌++◌, List, length, map, take, arith}
+use Rattle.std.proofs.Common.{◌≡◌, ◌+◌, length, map, take, arith}
 use Rattle.std.specs.Borrow.{Bor}
 use Rattle.std.specs.List.{flat_map}
 use Rattle.std.specs.Prelude.{string_bytes}
@@ -27,5 +27,5 @@ loop-output-preserved g c =
     record {
       names_are = grown base names (carrier_names folder one) names' (flat_map (carrier_names folder) done) (flat_map (carrier_names folder) all) c.loop-output.invariant.names_are added (carriers_more folder done one all more);
       spans_are = spans_more folder base names names' done one all c.loop-output.spans.items c.push.new.self.items (length c.args.names.now.items) c.len-first.result c.len-end.result
-        (length-map c.args.names.now.items (string_bytes {Z = g.row.A.Denot})) c.loop-output.invariant.names_are added first end more c.loop-output.invariant.spans_are c.in_ok-push.ensures.items;
+          (length-map c.args.names.now.items (string_bytes {Z = g.row.A.Denot})) c.loop-output.invariant.names_are added first end more c.loop-output.invariant.spans_are c.in_ok-push.ensures.items;
     }
