@@ -1,7 +1,7 @@
 -- What a loop has made of the first elements of a list, and of one more.
 use Rattle.std.proofs.Common.{◌≡◌, ℕ, ◌+◌, ◌<◌, Bool, true, false, List, [], ◌∷◌, ◌++◌, length, filter, get_or, map, take, sym, ap, ◌∙◌}
 use Rattle.std.specs.List.{flat_map}
-use Rattle.std.proofs.lemmas.List.{append_assoc, append-nil, map_more, take_more}
+use Rattle.std.proofs.lemmas.List.{append_assoc, append-nil, map_more, map_push, take_more}
 use Rattle.std.proofs.lemmas.List.Concat.{flat_map-append}
 use Rattle.std.proofs.lemmas.List.Elements.{filter-append}
 
@@ -42,3 +42,7 @@ filter_left {X} p xs i x h at fails =
     ∙ filter-append p (take i xs) (x ∷ [])
     ∙ ap (λ (z : List X). filter p (take i xs) ++ z) none
     ∙ append-nil (filter p (take i xs))
+
+-- one element more, of which f gives y
+pub pushed : {X Y : Type 0} (f : X → Y) (xs xs' : List X) (x : X) (y : Y) → xs' ≡ xs ++ x ∷ [] → f x ≡ y → map f xs' ≡ map f xs ++ y ∷ []
+pushed {X} {Y} f xs xs' x y p e = ap (map f) p ∙ map_push f xs x ∙ ap (λ (z : Y). map f xs ++ z ∷ []) e
