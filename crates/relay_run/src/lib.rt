@@ -3,7 +3,6 @@
 
 mod flush;
 mod held;
-mod names;
 mod relay;
 mod running;
 mod state;

@@ -1,11 +1,11 @@
 //! What a relay says on standard error while it runs, by a thread of its own.
 
 use crate::flush::{Home, copy_of};
-use crate::names::{Places, places_of};
 use crate::state::StateFile;
 use loop_core::LoopFault;
 use relay_conf::Relay;
 use relay_notices::{Due, Ending, Notice, Notices, Teller, line_of};
+use relay_places::{Places, places_of};
 use relay_sockets::now_after;
 use std::alloc::Global;
 use std::sync::atomic::{AtomicBool, Ordering};
@@ -25,7 +25,7 @@ const LOOKS: u32 = 100;
 #[derive(Drop)]
 pub(crate) struct Voice {
     notices: Arc<Notices<Global>>,
-    places: Places,
+    places: Places<Global>,
     flags: Arc<Flags>,
 }
 
@@ -53,7 +53,7 @@ impl Voice {
     {
         let alloc = home.files.alloc();
         let (places, names) = places_of(alloc, relay, home.path)?;
-        let state = StateFile::new(home, relay, &places.carriers)?;
+        let state = StateFile::new(home, relay, &places)?;
         let notices = Arc::new(alloc, Notices::new(alloc, names)?)?;
         let flags = Arc::new(alloc, Flags::new())?;
         let voice = Voice {
@@ -105,23 +105,23 @@ impl Voice {
 
     /// The journal of the buffer with this number can't be written.
     pub(crate) fn tell_journal<R: Wait>(&self, rt: &R, buffer: usize) {
-        let place = self.places.journals.saturating_add(buffer);
+        let place = self.places.journals(buffer);
         self.notices.tell(rt, place, Notice::JournalFailed);
     }
 
     /// Tells of the clients of the sources, in their order.
     pub(crate) fn of_clients(&self) -> Teller<Global> {
-        self.teller(self.places.sources)
+        self.teller(self.places.sources())
     }
 
     /// Tells of the chunks of the buffer with this number.
     pub(crate) fn of_chunks(&self, buffer: usize) -> Teller<Global> {
-        self.teller(self.places.chunks.saturating_add(buffer))
+        self.teller(self.places.chunks(buffer))
     }
 
     /// Tells of what carries the chunks of the buffer with this number: its servers, or its sink.
     pub(crate) fn of_carrier(&self, buffer: usize) -> Teller<Global> {
-        match self.places.carriers.get(buffer) {
+        match self.places.carriers(buffer) {
             Some(places) => self.teller(places.first),
             None => Teller::silent(),
         }
