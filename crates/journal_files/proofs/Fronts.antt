@@ -1,17 +1,23 @@
 -- Pieces that tell a chunk: what each has, one behind another.
-use Rattle.std.proofs.Common.{◌≡◌, ℕ, ◌+◌, List, [], ◌∷◌, ◌++◌, length, inl, inr, sym, ap, subst, ◌∙◌, append-nil, append_assoc, arith}
+use Rattle.std.proofs.Common.{◌≡◌, ℕ, ◌+◌, ◌<◌, ◌≤◌, ◌^◌, List, [], ◌∷◌, ◌++◌, length, inl, inr, sym, ap, subst, ◌∙◌, append-nil, append_assoc, arith}
 use Rattle.std.specs.Prelude.{◌⊎◌, Result, Ok, Err, IfOk}
 use Rattle.std.specs.List.{AllByRecursion, concat}
 use Rattle.std.proofs.lemmas.List.{flat_map_more, length-append}
 use Rattle.buffer_state.specs.declared.chunk.Stage.{Stage}
 use Rattle.buffer_state.specs.declared.chunk.Stage.TheVariants.{Queued, Claimed}
 use Rattle.buffer_state.specs.State.{Chunk, size}
-use Rattle.chunk_journal.specs.Records.{Record, Append, Queue, append_head, record_bytes, IsRecord}
+use Rattle.buffer_state.specs.Steps.{greatest_size}
+use Rattle.event_modes.specs.Message.{longest_tag}
+use Rattle.event_modes.specs.Rows.{IsStored}
+use Rattle.chunk_journal.specs.Records.{Record, Append, Queue, append_fixed, append_head, body_of, longest_body, record_bytes, IsRecord}
 use Rattle.chunk_journal.specs.Journal.{journal_bytes}
 use Rattle.chunk_journal.specs.Meaning.{chunk_records, queueing}
 use Rattle.file_pieces.specs.Pieces.{AreWithin, CanTake, piece_bytes, pieces_bytes}
 use Rattle.file_pieces.specs.declared.piece.Piece.{Piece}
+use Rattle.chunk_journal.specs.Places.{Spots, AddsPlace, extent_before}
+use Rattle.chunk_journal.specs.declared.places.Extent.{Extent}
 use Rattle.chunk_journal.proofs.Appends.{record_split}
+use Rattle.chunk_journal.proofs.Frames.{append_length}
 
 -- ---- one more piece
 
@@ -39,6 +45,28 @@ told_append old new front behind serial tag found entries count bytes tag_is cou
     added ∙ ap (λ l. old ++ (front ++ l)) all
     ∙ ap (λ l. old ++ (l ++ concat entries)) (spelled ∙ front_is serial tag found entries count bytes tag_is count_is size_is)
     ∙ ap (λ l. old ++ l) (sym (record_split serial tag entries))
+
+within_body : (n tag entries : ℕ) → n ≡ append_fixed + tag + entries → tag ≤ longest_tag → entries ≤ greatest_size → n ≤ longest_body
+within_body n tag entries is short small = omega (arith, is, short, small)
+
+pub append_record : (serial : ℕ) (tag : List ℕ) (entries : List (List ℕ)) → serial < 2 ^ 64 → length tag ≤ longest_tag → size entries ≤ greatest_size → AllByRecursion IsStored entries → IsRecord (Append serial tag entries)
+append_record serial tag entries fits short small stored =
+    record { fields = record { serial_fits = fits; tag_fits = short; stored = stored }; short = within_body (length (body_of (Append serial tag entries))) (length tag) (size entries) (append_length serial tag entries) short small }
+
+-- where it ends, behind so many bytes
+pub append_end : (serial : ℕ) (tag found : List ℕ) (entries : List (List ℕ)) (count bytes : ℕ) (front : List ℕ) (len long more end : ℕ) → found ≡ tag → count ≡ length entries → bytes ≡ size entries → front ≡ append_head serial found count bytes
+    → end ≡ len + (long + more) → long ≡ length front → more ≡ size entries → end ≡ len + length (record_bytes (Append serial tag entries))
+append_end serial tag found entries count bytes front len long more end tag_is count_is size_is spelled end_is long_is more_is =
+    let head : front ≡ append_head serial tag (length entries) (size entries) = spelled ∙ front_is serial tag found entries count bytes tag_is count_is size_is in
+    end_is
+    ∙ ap (λ (n : ℕ). len + (n + more)) (long_is ∙ ap length head)
+    ∙ ap (λ (n : ℕ). len + (length (append_head serial tag (length entries) (size entries)) + n)) more_is
+    ∙ ap (λ (n : ℕ). len + n) (sym (length-append (append_head serial tag (length entries) (size entries)) (concat entries)) ∙ sym (ap length (record_split serial tag entries)))
+
+-- the place of its entries
+pub adds_there : (serial : ℕ) (extent : Extent) (end own more bytes : ℕ) (old new : Spots) → extent ≡ extent_before end more → end ≡ own → more ≡ bytes → AddsPlace serial extent old new → AddsPlace serial (extent_before own bytes) old new
+adds_there serial extent end own more bytes old new is end_is more_is adds =
+    subst (λ (x : Extent). AddsPlace serial x old new) (is ∙ ap (λ (n : ℕ). extent_before n more) end_is ∙ ap (extent_before own) more_is) adds
 
 -- ---- a chunk that isn't staged
 

@@ -2,7 +2,9 @@
 use Rattle.std.proofs.Common.{◌≡◌, ◌⊎◌, ⊎_elim, ℕ, ◌<◌, ◌≤◌, ◌^◌, Bool, true, false, cond, List, Option, Some, None, Result, OnOk, OnErr, refl, sym, ap, subst, ◌∙◌, arith, inl, inr}
 use Rattle.std.specs.Prelude.{IsSome, IsTrue}
 use Rattle.std.specs.Ordering.{nat_cmp}
-use Rattle.std.specs.BTreeMap.{BTreeMap, get, is_at}
+use Rattle.std.specs.BTreeMap.{BTreeMap, get, is_at, btree_map_len}
+use Rattle.std.specs.Map.{lookup}
+use Rattle.std.proofs.lemmas.List.{nil_from_length}
 use Rattle.std.specs.BTreeSet.{BTreeSet, contains}
 use Rattle.std.proofs.lemmas.Option.{same_Some}
 use Rattle.disk_files.specs.Disk.{Disk, SameDisk, Changes, unlinked, read_of}
@@ -17,6 +19,7 @@ use Rattle.journal_files.proofs.Names.{same_number, apart, numbers_apart}
 use Rattle.journal_files.proofs.Renewing.{is_some_name, removed_gone}
 use Rattle.buffer_state.proofs.Serials.{at_same}
 use Rattle.journal_files.proofs.Steps.{either}
+use Rattle.journal_files.proofs.Searched.{zero_len}
 use Rattle.journal_files.proofs.Strays.{not_some}
 
 -- ---- they are opened
@@ -120,6 +123,9 @@ module _ (path : List ℕ) (number k : ℕ) (file : FileNo) (opened : FileNo →
       let how = below_only (now old) (now new) (either result ok err (λ changes. inr changes) (λ some. some)) in
       goes_on first old new (IsLeftOf (ChangesBelow path number (now first))) so_far time
       (λ folder left. record { disk = now new; so = λ name above. how name above ∙ before name above; stays = left })
+
+pub none_left : (files : BTreeMap ℕ FileNo) → (0 < btree_map_len files → false ≡ true) → (n : ℕ) → get nat_cmp files n ≡ None
+none_left files none n = ap (lookup (is_at (nat_cmp n))) (nil_from_length files.entries (zero_len (btree_map_len files) none))
 
 -- all of them were
 pub all_gone : (path : List ℕ) (n : ℕ) (files : BTreeMap ℕ FileNo) (disk : Disk) → get nat_cmp files n ≡ None → IsGoneBut path files disk n → read_of (disk (journal_name path n)) ≡ None

@@ -47,9 +47,20 @@ dir_numbered dir.Fault is = cc is
 dir_numbered dir.NoSuchFile is = cc is
 dir_numbered dir.NameTaken is = cc is
 
+-- want of memory is only that
+pub dir_memory : {T : Type 0} (e : DirError) → dir_error e ≡ refusal.Memory → IsErrOf {T = T} (Err e) dir.Memory
+dir_memory dir.Memory is = refl
+dir_memory dir.Fault is = absurd (cc is)
+dir_memory dir.NoSuchFile is = absurd (cc is)
+dir_memory dir.NameTaken is = absurd (cc is)
+
 -- where only the device's fault is answered
 pub fault_only : {T : Type 0} (e : DirError) → IsErrOf {T = T} (Err e) dir.Fault → dir_error e ≡ refusal.Fault
 fault_only e only = let is : e ≡ dir.Fault = cc only in ap dir_error is
+
+-- which is no want of memory
+pub fault_remembered : {T : Type 0} (e : DirError) → IsErrOf {T = T} (Err e) dir.Fault → dir_error e ≢ refusal.Memory
+fault_remembered e only is = let q = sym is ∙ fault_only e only in cc q
 
 refused : {T U : Type 0} (a b : ℕ) (e : DirError) → HasCause {T = T} a b (Err e) → HasReason {T = U} a b (Err (dir_error e)) refusal.Fault
 refused a b dir.Memory c = record { later = c.later; passed = tt; failed = λ yes. absurd (cc yes); others = λ no. c.memory refl }

@@ -1,11 +1,13 @@
 -- The generations of a folder are looked at from the greatest down.
-use Rattle.std.proofs.Common.{◌≡◌, ◌⊎◌, ⊎_elim, ℕ, ◌<◌, ◌≤◌, ◌^◌, Bool, true, false, cond, List, Option, Some, None, refl, sym, ap, subst, ◌∙◌, arith, inl, inr}
+use Rattle.std.proofs.Common.{◌≡◌, ◌⊎◌, ⊎_elim, ℕ, zero, suc, ◌<◌, ◌≤◌, ◌^◌, Bool, true, false, cond, List, Option, Some, None, refl, sym, ap, subst, ◌∙◌, arith, inl, inr}
 use Rattle.std.specs.Prelude.{IsTrue, IsSome, ◌↔◌}
 use Rattle.std.specs.Ordering.{nat_cmp, is_lt}
 use Rattle.std.specs.declared.cmp.Ordering.TheVariants.{Less}
 use Rattle.std.specs.Cmp.{nat_cmp_is}
 use Rattle.std.specs.BTreeMap.{is_at}
-use Rattle.std.specs.BTreeSet.{BTreeSet, contains}
+use Rattle.std.specs.BTreeSet.{BTreeSet, contains, btree_set_len}
+use Rattle.std.specs.List.{list_any}
+use Rattle.std.proofs.lemmas.List.{nil_from_length}
 use Rattle.disk_files.specs.Disk.{Folder, SameDisk, reads}
 use Rattle.disk_files.specs.Moments.{History, Elapses, now}
 use Rattle.buffer_state.specs.State.{State, empty}
@@ -99,3 +101,23 @@ found_so path folder all greatest there at above = record {
   there = ⊎_elim (λ zero_is. inl zero_is) (λ in_all. inr ((there greatest).0 in_all).2) at;
   above = λ n over below. none_there (folder (journal_name path n)) (λ some. let gone = above n over in let here = (there n).1 (omega (arith, over), below, some) in cc (gone, here));
 }
+
+-- ---- the greatest number of all
+
+pub last_there : (path : List ℕ) (folder : Folder) (greatest : ℕ) → IsFound path folder greatest → greatest ≡ 4294967295 → IsSome (folder (journal_name path 4294967295))
+last_there path folder greatest found is =
+    ⊎_elim (λ zero_is. absurd (omega (arith, zero_is, is))) (λ some. subst (λ (n : ℕ). IsSome (folder (journal_name path n))) is some) found.there
+
+pub below_last : (k n : ℕ) → k ≡ n → n < 2 ^ 32 → (n ≡ 4294967295 → ⊥) → k < 4294967295
+below_last k n is fits other = omega (arith, is, fits, other)
+
+-- none is left where it has no length
+pub zero_len : (n : ℕ) → (0 < n → false ≡ true) → n ≡ 0
+zero_len zero none = refl
+zero_len (suc n) none = absurd (let e = none (omega arith) in cc e)
+
+pub none_in : (rest : BTreeSet ℕ) → (0 < btree_set_len rest → false ≡ true) → (n : ℕ) → contains nat_cmp rest n ≡ false
+none_in rest none n = ap (list_any (is_at (nat_cmp n))) (nil_from_length rest.keys (zero_len (btree_set_len rest) none))
+
+pub not_both : (b : Bool) → b ≡ false → b ≡ true → ⊥
+not_both b one other = cc (one, other)

@@ -10,6 +10,7 @@ use Rattle.std.specs.declared.cmp.Ordering.TheVariants.{Less}
 use Rattle.std.proofs.lemmas.List.{append-nil, length-append}
 use Rattle.std.proofs.lemmas.List.Elements.{All-head, All-tail}
 use Rattle.std.proofs.lemmas.Grind.{flat_map-append}
+use Rattle.event_modes.specs.Message.{longest_tag}
 use Rattle.buffer_state.specs.declared.chunk.Stage.{Stage}
 use Rattle.buffer_state.specs.declared.chunk.Stage.TheVariants.{Staged, Queued, Claimed}
 use Rattle.buffer_state.specs.State.{Chunk, Numbered, State, size, empty}
@@ -199,6 +200,15 @@ module _ {A : Type 0} (pieces : List (Piece A)) (len : ℕ) (from spots : Spots)
   done_is : so_far.done ≡ flat_map chunk_records s.chunks
   done_is = sym (append-nil so_far.done) ∙ ap (λ (z : Slots). so_far.done ++ flat_map chunk_records (chunks_in z)) (sym none) ∙ so_far.all
 
+  pub told_bytes : (seen : List ℕ) → length seen < 2 ^ 64 → ArePlaced seen from s → pieces_bytes seen pieces ≡ journal_bytes (flat_map chunk_records s.chunks)
+  told_bytes seen small are = so_far.bytes_so_far seen small are ∙ ap journal_bytes done_is
+
+  pub told_len : len ≡ length (journal_bytes (flat_map chunk_records s.chunks))
+  told_len = so_far.len_so_far ∙ ap (λ (r : List Record). length (journal_bytes r)) done_is
+
+  pub told_records : AllByRecursion IsRecord (flat_map chunk_records s.chunks)
+  told_records = subst (AllByRecursion IsRecord) done_is so_far.records
+
   -- and then sealed
   pub told_places : PlacesFollow → TellsInOrder → ArePlaced (journal_bytes (records_of (new_generation s))) spots (state_of (new_generation s))
   told_places follow order =
@@ -212,3 +222,7 @@ module _ {A : Type 0} (pieces : List (Piece A)) (len : ℕ) (from spots : Spots)
 module _ {A : Type 0} (pieces : List (Piece A)) (len : ℕ) (from spots : Spots) (serial : ℕ) (slot : Slot) (rest slots : Slots) (s : State) (so_far : StillTold pieces len from spots slots s) (first : slots ≡ (serial, slot) ∷ rest) where
   pub small_here : slot_size slot ≤ greatest_size
   small_here = All-head (λ (z : Slot). slot_size z ≤ greatest_size) slot (values_of rest) (subst (λ (z : Slots). StillTold pieces len from spots z s) first so_far).small
+
+  -- and a short tag
+  pub tag_here : length slot.chunk.tag ≤ longest_tag
+  tag_here = (subst (λ (z : Slots). StillTold pieces len from spots z s) first so_far).short.0

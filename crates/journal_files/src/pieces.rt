@@ -106,23 +106,62 @@ pub(crate) fn begin<A: Allocator + Copy, D: Dir>(
         (D.fault_count dir.new) result JournalError.Fault }
 {
     let told = tell_chunks(alloc, chunks, places)?;
-    let kept = Vec::from_slice(alloc, path)?;
-    let name = generations(path).name(alloc, number)?;
-    let mut buffer = vec![in alloc; 0u8; copied_at_once(told.len)]?;
-    let len = whole_len(&told)?;
-    let file = make(dir, &name, from, &told.pieces, told.seal.len(), &mut buffer)?;
+    let mut prepared = prepare(alloc, path, number, &told)?;
+    let file = make(
+        dir,
+        &prepared.name,
+        from,
+        &told.pieces,
+        told.seal.len(),
+        &mut prepared.buffer,
+    )?;
     match seal_with(dir, file, &told.seal) {
         Ok(()) => Ok(Journal {
-            path: kept,
+            path: prepared.path,
             number,
             file,
-            len,
+            len: prepared.len,
             ready: Vec::new(alloc),
             places: told.places,
             placing: Placing::Stays,
         }),
         Err(refused) => Err(give_up(dir, file, JournalError::from(refused))),
     }
+}
+
+// What a generation is begun with beside what it tells: the memory that this takes, and how many
+// bytes it will have.
+#[derive(Drop)]
+struct Prepared<A: Allocator> {
+    path: Vec<u8, A>,
+    name: Vec<u8, A>,
+    buffer: Vec<u8, A>,
+    len: u64,
+}
+
+// Makes that ready. The error is want of memory, of a number for the length too.
+fn prepare<A: Allocator + Copy>(
+    alloc: A,
+    path: &[u8],
+    number: u32,
+    told: &Told<'_, A>,
+) -> Result<Prepared<A>, AllocError>
+    ensures path { IfOk result (λ prepared. prepared.path.items ≡ path.now) }
+    ensures name { IfOk result (λ prepared. prepared.name.items ≡ journal_name path.now number) }
+    ensures some { IfOk result (λ prepared. 0 < length prepared.buffer.items) }
+    ensures len { IfOk result
+        (λ prepared. prepared.len ≡ told.now.len + length told.now.seal.items) }
+{
+    let kept = Vec::from_slice(alloc, path)?;
+    let name = generations(path).name(alloc, number)?;
+    let buffer = vec![in alloc; 0u8; copied_at_once(told.len)]?;
+    let len = whole_len(told)?;
+    Ok(Prepared {
+        path: kept,
+        name,
+        buffer,
+        len,
+    })
 }
 
 // Removes a file that isn't whole. What is answered is the refusal, or `Fault` where the device

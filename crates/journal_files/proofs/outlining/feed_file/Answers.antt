@@ -1,9 +1,10 @@
-use Rattle.std.proofs.Common.{rules, ℕ, ◌≡◌, ◌+◌, ◌≤◌, ◌<◌, ◌^◌, ◌++◌, length, drop, subst, refl, arith}
+use Rattle.std.proofs.Common.{rules, ℕ, ◌≡◌, ◌+◌, ◌≤◌, ◌<◌, ◌^◌, ◌++◌, length, drop, subst, refl, ◌∙◌, arith}
 use Rattle.journal_files.specs.Faults.{dir_error}
 use Rattle.journal_files.specs.declared.error.JournalError.TheVariants as refusal
 use Rattle.file_pieces.proofs.ReadOn.{elapsed}
 use Rattle.journal_files.proofs.Heard.{Feeds, stays_some, damaged_there, same_on, feeds_on, all_fed, some_left}
-use Rattle.journal_files.proofs.Reasons.{answered, reason_ok, reason_err, reason_dir}
+use Rattle.journal_files.proofs.Reasons.{answered, reason_ok, reason_err, reason_dir, dir_undamaged, dir_numbered}
+use Rattle.journal_files.proofs.Wanting.{reason_memory, not_err, err_no_ok, err_no_value, err_same, err_was, ok_no_err, memory_undamaged, memory_numbered}
 use Rattle.journal_files.proofs.outlining.feed_file.Goals as goal
 
 pub returns-in_err-len-clause-cause : goal.returns-in_err-len-clause-cause
@@ -34,9 +35,9 @@ returns-in_err-feed_part-clause-damaged g c = λ h name bytes named there is.
     let within : c.loop-done.done + next ≤ c.in_ok-len.len = omega (arith, c.split_at_mut-part.ensures.front_len, c.min-next.ensures, c.loop-done-test.true) in
     let small : c.in_ok-len.len < 2 ^ 64 = search rules in
     let answer = answered c.in_err-feed_part.field-0.0 c.from_residual-in_err-feed_part.result c.from_residual-in_err-feed_part.ensures.1 in
-    let e : c.in_err-feed_part.field-0.0 ≡ refusal.Damaged = cc (answer, is) in
+    let e = err_was c.in_err-feed_part.field-0.0 refusal.Damaged c.from_residual-in_err-feed_part.result answer is in
     damaged_there g.D.Dir.is_honest g.D.Dir.history g.D.Dir.opened g.D.Dir.fault_count c.args.file c.in_ok-len.len c.loop-done.done c.loop-done.outline c.args.dir.now c.loop-done.dir c.loop-done.invariant.2 next within small
-    (λ still other seen all there_named there_reads has after. c.in_err-feed_part.ensures.damaged still other seen all there_named there_reads has after (cc e)) h name bytes named there
+    (λ still other seen all there_named there_reads has after. c.in_err-feed_part.ensures.damaged still other seen all there_named there_reads has after e) h name bytes named there
 
 pub returns-in_err-feed_part-clause-cause : goal.returns-in_err-feed_part-clause-cause
 returns-in_err-feed_part-clause-cause g c =
@@ -73,3 +74,96 @@ returns-clause-small g c = λ h name bytes named there.
 
 pub returns-clause-cause : goal.returns-clause-cause
 returns-clause-cause g c = reason_ok (g.D.Dir.fault_count c.args.dir.now) (g.D.Dir.fault_count c.loop-done.dir) c.loop-done.outline refusal.Fault c.loop-done.invariant.2.quiet
+
+pub returns-in_err-len-clause-honest : goal.returns-in_err-len-clause-honest
+returns-in_err-len-clause-honest g c = c.in_err-len.ensures.device.honest
+
+pub returns-in_err-len-clause-time : goal.returns-in_err-len-clause-time
+returns-in_err-len-clause-time g c = c.in_err-len.ensures.device.time
+
+pub returns-in_err-len-clause-same : goal.returns-in_err-len-clause-same
+returns-in_err-len-clause-same g c = c.in_err-len.ensures.same
+
+pub returns-in_err-len-clause-opened : goal.returns-in_err-len-clause-opened
+returns-in_err-len-clause-opened g c = c.in_err-len.ensures.opened
+
+pub returns-in_err-len-clause-heard : goal.returns-in_err-len-clause-heard
+returns-in_err-len-clause-heard g c = err_no_value (dir_error c.in_err-len.field-0.0) c.from_residual.result _ c.from_residual.ensures.1
+
+pub returns-in_err-len-clause-all : goal.returns-in_err-len-clause-all
+returns-in_err-len-clause-all g c = λ h name bytes named there. err_no_value (dir_error c.in_err-len.field-0.0) c.from_residual.result _ c.from_residual.ensures.1
+
+pub returns-in_err-len-clause-small : goal.returns-in_err-len-clause-small
+returns-in_err-len-clause-small g c = λ h name bytes named there. err_no_ok (dir_error c.in_err-len.field-0.0) c.from_residual.result _ c.from_residual.ensures.1
+
+pub returns-in_err-len-clause-damaged : goal.returns-in_err-len-clause-damaged
+returns-in_err-len-clause-damaged g c = λ h name bytes named there is. absurd (dir_undamaged c.in_err-len.field-0.0 (err_same (dir_error c.in_err-len.field-0.0) refusal.Damaged c.from_residual.result (answered (dir_error c.in_err-len.field-0.0) c.from_residual.result c.from_residual.ensures.1) is))
+
+pub returns-in_err-len-clause-not_last : goal.returns-in_err-len-clause-not_last
+returns-in_err-len-clause-not_last g c = λ is. dir_numbered c.in_err-len.field-0.0 (err_same (dir_error c.in_err-len.field-0.0) refusal.LastGeneration c.from_residual.result (answered (dir_error c.in_err-len.field-0.0) c.from_residual.result c.from_residual.ensures.1) is)
+
+pub returns-in_err-buffer-clause-honest : goal.returns-in_err-buffer-clause-honest
+returns-in_err-buffer-clause-honest g c = c.in_ok-len.ensures.device.honest
+
+pub returns-in_err-buffer-clause-time : goal.returns-in_err-buffer-clause-time
+returns-in_err-buffer-clause-time g c = c.in_ok-len.ensures.device.time
+
+pub returns-in_err-buffer-clause-same : goal.returns-in_err-buffer-clause-same
+returns-in_err-buffer-clause-same g c = c.in_ok-len.ensures.same
+
+pub returns-in_err-buffer-clause-opened : goal.returns-in_err-buffer-clause-opened
+returns-in_err-buffer-clause-opened g c = c.in_ok-len.ensures.opened
+
+pub returns-in_err-buffer-clause-heard : goal.returns-in_err-buffer-clause-heard
+returns-in_err-buffer-clause-heard g c = err_no_value refusal.Memory c.from_residual-in_err-buffer.result _ c.from_residual-in_err-buffer.ensures.1
+
+pub returns-in_err-buffer-clause-all : goal.returns-in_err-buffer-clause-all
+returns-in_err-buffer-clause-all g c = λ h name bytes named there. err_no_value refusal.Memory c.from_residual-in_err-buffer.result _ c.from_residual-in_err-buffer.ensures.1
+
+pub returns-in_err-buffer-clause-small : goal.returns-in_err-buffer-clause-small
+returns-in_err-buffer-clause-small g c = λ h name bytes named there. err_no_ok refusal.Memory c.from_residual-in_err-buffer.result _ c.from_residual-in_err-buffer.ensures.1
+
+pub returns-in_err-buffer-clause-damaged : goal.returns-in_err-buffer-clause-damaged
+returns-in_err-buffer-clause-damaged g c = λ h name bytes named there is. absurd (not_err refusal.Memory refusal.Damaged c.from_residual-in_err-buffer.result (answered refusal.Memory c.from_residual-in_err-buffer.result c.from_residual-in_err-buffer.ensures.1) memory_undamaged is)
+
+pub returns-in_err-buffer-clause-not_last : goal.returns-in_err-buffer-clause-not_last
+returns-in_err-buffer-clause-not_last g c = λ is. not_err refusal.Memory refusal.LastGeneration c.from_residual-in_err-buffer.result (answered refusal.Memory c.from_residual-in_err-buffer.result c.from_residual-in_err-buffer.ensures.1) memory_numbered is
+
+pub returns-in_err-buffer-clause-cause : goal.returns-in_err-buffer-clause-cause
+returns-in_err-buffer-clause-cause g c = reason_memory _ _ c.from_residual-in_err-buffer.result c.in_ok-len.ensures.device.cause.passed (answered refusal.Memory c.from_residual-in_err-buffer.result c.from_residual-in_err-buffer.ensures.1)
+
+pub returns-in_err-feed_part-clause-opened : goal.returns-in_err-feed_part-clause-opened
+returns-in_err-feed_part-clause-opened g c = λ other. c.feed_part.ensures.opened other ∙ c.loop-done.invariant.2.stays_open other
+
+pub returns-in_err-feed_part-clause-heard : goal.returns-in_err-feed_part-clause-heard
+returns-in_err-feed_part-clause-heard g c = err_no_value c.in_err-feed_part.field-0.0 c.from_residual-in_err-feed_part.result _ c.from_residual-in_err-feed_part.ensures.1
+
+pub returns-in_err-feed_part-clause-all : goal.returns-in_err-feed_part-clause-all
+returns-in_err-feed_part-clause-all g c = λ h name bytes named there. err_no_value c.in_err-feed_part.field-0.0 c.from_residual-in_err-feed_part.result _ c.from_residual-in_err-feed_part.ensures.1
+
+pub returns-in_err-feed_part-clause-small : goal.returns-in_err-feed_part-clause-small
+returns-in_err-feed_part-clause-small g c = λ h name bytes named there. err_no_ok c.in_err-feed_part.field-0.0 c.from_residual-in_err-feed_part.result _ c.from_residual-in_err-feed_part.ensures.1
+
+pub returns-in_err-feed_part-clause-not_last : goal.returns-in_err-feed_part-clause-not_last
+returns-in_err-feed_part-clause-not_last g c = λ is. c.in_err-feed_part.ensures.not_last (err_was c.in_err-feed_part.field-0.0 refusal.LastGeneration c.from_residual-in_err-feed_part.result (answered c.in_err-feed_part.field-0.0 c.from_residual-in_err-feed_part.result c.from_residual-in_err-feed_part.ensures.1) is)
+
+pub returns-clause-honest : goal.returns-clause-honest
+returns-clause-honest g c = c.loop-done.invariant.2.is_honest
+
+pub returns-clause-time : goal.returns-clause-time
+returns-clause-time g c = c.loop-done.invariant.2.time
+
+pub returns-clause-same : goal.returns-clause-same
+returns-clause-same g c = c.loop-done.invariant.2.same
+
+pub returns-clause-opened : goal.returns-clause-opened
+returns-clause-opened g c = c.loop-done.invariant.2.stays_open
+
+pub returns-clause-heard : goal.returns-clause-heard
+returns-clause-heard g c = c.loop-done.invariant.2.heard
+
+pub returns-clause-damaged : goal.returns-clause-damaged
+returns-clause-damaged g c = λ h name bytes named there is. absurd (ok_no_err _ _ is)
+
+pub returns-clause-not_last : goal.returns-clause-not_last
+returns-clause-not_last g c = λ is. ok_no_err _ _ is

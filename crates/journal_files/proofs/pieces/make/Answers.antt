@@ -7,10 +7,11 @@ use Rattle.journal_files.specs.Pieces.{IsUnfinished}
 use Rattle.journal_files.specs.declared.error.JournalError.TheVariants as refusal
 use Rattle.journal_files.proofs.Beginning.{others_first}
 use Rattle.journal_files.proofs.GivenUp.{given_up, new_young, new_given_up, not_made, others_stay, new_elsewhere, other_file, reason_given, given_as, copy_rises}
-use Rattle.journal_files.proofs.Reasons.{answered, reason_dir, reason_copy, was_short, copy_remembered, copy_numbered, dir_numbered}
+use Rattle.journal_files.proofs.Reasons.{answered, reason_ok, reason_dir, reason_copy, was_short, copy_remembered, copy_numbered, dir_numbered, dir_undamaged, dir_memory}
 use Rattle.journal_files.proofs.Steps.{any_err}
 use Rattle.journal_files.proofs.Filled.{fill_honest, fill_opened, fill_room, fill_cause, fill_any, fill_ok, fill_whole, fill_moments}
 use Rattle.journal_files.proofs.Renewing.{is_some_name}
+use Rattle.journal_files.proofs.Wanting.{reason_memory, err_no_ok, err_no_value, err_same, ok_no_err, same_err, memory_undamaged, memory_numbered, not_err, memory_no_fault, damaged_no_fault, last_no_fault}
 use Rattle.journal_files.proofs.Written.{make_first, left_now, not_begun}
 use Rattle.journal_files.proofs.pieces.make.Goals as goal
 
@@ -42,8 +43,7 @@ returns-in_err-file-clause-cause g c =
 
 pub returns-in_err-file-clause-not_last : goal.returns-in_err-file-clause-not_last
 returns-in_err-file-clause-not_last g c = λ last.
-    let answer = answered (dir_error c.in_err-file.field-0.0) c.from_residual-in_err-file.result c.from_residual-in_err-file.ensures.1 in
-    dir_numbered c.in_err-file.field-0.0 (let z = sym answer ∙ last in cc z)
+    dir_numbered c.in_err-file.field-0.0 (err_same (dir_error c.in_err-file.field-0.0) refusal.LastGeneration c.from_residual-in_err-file.result (answered (dir_error c.in_err-file.field-0.0) c.from_residual-in_err-file.result c.from_residual-in_err-file.ensures.1) last)
 
 pub give_up-requires : goal.give_up-requires
 give_up-requires g c = record { «open» = is_some_name _ _ (fill_opened g.D.Dir.is_honest g.D.Dir.history g.D.Dir.opened g.D.Dir.bytes_left g.D.Dir.fault_count c.in_ok-file.file c.args.pieces.now c.args.name.now c.args.dir.now c.create.new.self c.fill.new.dir (Err c.in-Err.refused) c.args.from c.in-Err.ensures c.in_ok-file.file ∙ c.in_ok-file.ensures.opened) }
@@ -96,18 +96,18 @@ returns-in-Err-clause-cause g c =
 pub returns-in-Err-clause-whole : goal.returns-in-Err-clause-whole
 returns-in-Err-clause-whole g c = λ honest bytes gives short.
     let made = c.in_ok-file.ensures.device.honest honest in
-    let was = given_as (g.D.Dir.fault_count c.fill.new.dir) (g.D.Dir.fault_count c.give_up.new.dir) c.from.result c.give_up.result refusal.Damaged c.give_up.ensures.answer (cc short) (λ e. cc e) in
+    let was = given_as (g.D.Dir.fault_count c.fill.new.dir) (g.D.Dir.fault_count c.give_up.new.dir) c.from.result c.give_up.result refusal.Damaged c.give_up.ensures.answer (same_err c.give_up.result refusal.Damaged short) damaged_no_fault in
     fill_whole g.D.Dir.is_honest g.D.Dir.history g.D.Dir.opened g.D.Dir.bytes_left g.D.Dir.fault_count c.in_ok-file.file c.args.pieces.now c.args.name.now c.args.dir.now c.create.new.self c.fill.new.dir (Err c.in-Err.refused) made c.in_ok-file.ensures.opened (c.in_ok-file.ensures.ok honest) c.in_ok-file.ensures.others bytes c.args.from c.in-Err.ensures gives
     (was_short c.in-Err.refused (sym c.from.ensures ∙ was))
 
 pub returns-in-Err-clause-memory : goal.returns-in-Err-clause-memory
 returns-in-Err-clause-memory g c = λ honest memory.
-    let was = given_as (g.D.Dir.fault_count c.fill.new.dir) (g.D.Dir.fault_count c.give_up.new.dir) c.from.result c.give_up.result refusal.Memory c.give_up.ensures.answer (cc memory) (λ e. cc e) in
+    let was = given_as (g.D.Dir.fault_count c.fill.new.dir) (g.D.Dir.fault_count c.give_up.new.dir) c.from.result c.give_up.result refusal.Memory c.give_up.ensures.answer (same_err c.give_up.result refusal.Memory memory) memory_no_fault in
     absurd (copy_remembered c.in-Err.refused (sym c.from.ensures ∙ was))
 
 pub returns-in-Err-clause-not_last : goal.returns-in-Err-clause-not_last
 returns-in-Err-clause-not_last g c = λ last.
-    let was = given_as (g.D.Dir.fault_count c.fill.new.dir) (g.D.Dir.fault_count c.give_up.new.dir) c.from.result c.give_up.result refusal.LastGeneration c.give_up.ensures.answer (cc last) (λ e. cc e) in
+    let was = given_as (g.D.Dir.fault_count c.fill.new.dir) (g.D.Dir.fault_count c.give_up.new.dir) c.from.result c.give_up.result refusal.LastGeneration c.give_up.ensures.answer (same_err c.give_up.result refusal.LastGeneration last) last_no_fault in
     absurd (copy_numbered c.in-Err.refused (sym c.from.ensures ∙ was))
 
 pub returns-in-Ok-clause-elsewhere : goal.returns-in-Ok-clause-elsewhere
@@ -152,3 +152,93 @@ returns-in-Ok-clause-others g c =
 pub returns-in-Ok-clause-room : goal.returns-in-Ok-clause-room
 returns-in-Ok-clause-room g c =
     fill_room g.D.Dir.is_honest g.D.Dir.history g.D.Dir.opened g.D.Dir.bytes_left g.D.Dir.fault_count c.in_ok-file.file c.args.pieces.now c.args.name.now c.args.dir.now c.create.new.self c.fill.new.dir (Ok c.in-Ok.field-0) c.args.from c.in-Ok.ensures c.args.more (omega (arith, c.in_ok-file.ensures.room, c.in_ok-room.ensures))
+
+pub returns-in_err-room-clause-honest : goal.returns-in_err-room-clause-honest
+returns-in_err-room-clause-honest g c = λ honest. honest
+
+pub returns-in_err-room-clause-ok : goal.returns-in_err-room-clause-ok
+returns-in_err-room-clause-ok g c = λ honest bytes gives. err_no_ok refusal.Memory c.from_residual.result _ c.from_residual.ensures.1
+
+pub returns-in_err-room-clause-whole : goal.returns-in_err-room-clause-whole
+returns-in_err-room-clause-whole g c = λ honest bytes gives is. not_err refusal.Memory refusal.Damaged c.from_residual.result (answered refusal.Memory c.from_residual.result c.from_residual.ensures.1) memory_undamaged is
+
+pub returns-in_err-room-clause-not_last : goal.returns-in_err-room-clause-not_last
+returns-in_err-room-clause-not_last g c = λ is. not_err refusal.Memory refusal.LastGeneration c.from_residual.result (answered refusal.Memory c.from_residual.result c.from_residual.ensures.1) memory_numbered is
+
+pub returns-in_err-room-clause-any : goal.returns-in_err-room-clause-any
+returns-in_err-room-clause-any g c = λ honest. err_no_ok refusal.Memory c.from_residual.result _ c.from_residual.ensures.1
+
+pub returns-in_err-room-clause-elsewhere : goal.returns-in_err-room-clause-elsewhere
+returns-in_err-room-clause-elsewhere g c = λ honest other differ. refl
+
+pub returns-in_err-room-clause-memory : goal.returns-in_err-room-clause-memory
+returns-in_err-room-clause-memory g c = λ honest is name. refl
+
+pub returns-in_err-room-clause-opened : goal.returns-in_err-room-clause-opened
+returns-in_err-room-clause-opened g c = err_no_value refusal.Memory c.from_residual.result _ c.from_residual.ensures.1
+
+pub returns-in_err-room-clause-others : goal.returns-in_err-room-clause-others
+returns-in_err-room-clause-others g c = err_no_ok refusal.Memory c.from_residual.result _ c.from_residual.ensures.1
+
+pub returns-in_err-room-clause-kept : goal.returns-in_err-room-clause-kept
+returns-in_err-room-clause-kept g c = λ other own is differ. is
+
+pub returns-in_err-room-clause-room : goal.returns-in_err-room-clause-room
+returns-in_err-room-clause-room g c = err_no_value refusal.Memory c.from_residual.result _ c.from_residual.ensures.1
+
+pub returns-in_err-room-clause-cause : goal.returns-in_err-room-clause-cause
+returns-in_err-room-clause-cause g c = reason_memory _ _ c.from_residual.result refl (answered refusal.Memory c.from_residual.result c.from_residual.ensures.1)
+
+pub returns-in_err-file-clause-honest : goal.returns-in_err-file-clause-honest
+returns-in_err-file-clause-honest g c = c.in_err-file.ensures.device.honest
+
+pub returns-in_err-file-clause-ok : goal.returns-in_err-file-clause-ok
+returns-in_err-file-clause-ok g c = λ honest bytes gives. err_no_ok (dir_error c.in_err-file.field-0.0) c.from_residual-in_err-file.result _ c.from_residual-in_err-file.ensures.1
+
+pub returns-in_err-file-clause-whole : goal.returns-in_err-file-clause-whole
+returns-in_err-file-clause-whole g c = λ honest bytes gives is. dir_undamaged c.in_err-file.field-0.0 (err_same (dir_error c.in_err-file.field-0.0) refusal.Damaged c.from_residual-in_err-file.result (answered (dir_error c.in_err-file.field-0.0) c.from_residual-in_err-file.result c.from_residual-in_err-file.ensures.1) is)
+
+pub returns-in_err-file-clause-any : goal.returns-in_err-file-clause-any
+returns-in_err-file-clause-any g c = λ honest. err_no_ok (dir_error c.in_err-file.field-0.0) c.from_residual-in_err-file.result _ c.from_residual-in_err-file.ensures.1
+
+pub returns-in_err-file-clause-opened : goal.returns-in_err-file-clause-opened
+returns-in_err-file-clause-opened g c = err_no_value (dir_error c.in_err-file.field-0.0) c.from_residual-in_err-file.result _ c.from_residual-in_err-file.ensures.1
+
+pub returns-in_err-file-clause-others : goal.returns-in_err-file-clause-others
+returns-in_err-file-clause-others g c = err_no_ok (dir_error c.in_err-file.field-0.0) c.from_residual-in_err-file.result _ c.from_residual-in_err-file.ensures.1
+
+pub returns-in_err-file-clause-room : goal.returns-in_err-file-clause-room
+returns-in_err-file-clause-room g c = err_no_value (dir_error c.in_err-file.field-0.0) c.from_residual-in_err-file.result _ c.from_residual-in_err-file.ensures.1
+
+pub returns-in_err-file-clause-memory : goal.returns-in_err-file-clause-memory
+returns-in_err-file-clause-memory g c = λ honest is. c.in_err-file.ensures.memory honest (dir_memory c.in_err-file.field-0.0 (err_same (dir_error c.in_err-file.field-0.0) refusal.Memory c.from_residual-in_err-file.result (answered (dir_error c.in_err-file.field-0.0) c.from_residual-in_err-file.result c.from_residual-in_err-file.ensures.1) is))
+
+pub returns-in-Err-clause-ok : goal.returns-in-Err-clause-ok
+returns-in-Err-clause-ok g c = λ honest bytes gives. tt
+
+pub returns-in-Err-clause-any : goal.returns-in-Err-clause-any
+returns-in-Err-clause-any g c = λ honest. tt
+
+pub returns-in-Err-clause-opened : goal.returns-in-Err-clause-opened
+returns-in-Err-clause-opened g c = tt
+
+pub returns-in-Err-clause-others : goal.returns-in-Err-clause-others
+returns-in-Err-clause-others g c = tt
+
+pub returns-in-Err-clause-room : goal.returns-in-Err-clause-room
+returns-in-Err-clause-room g c = tt
+
+pub returns-in-Ok-clause-left : goal.returns-in-Ok-clause-left
+returns-in-Ok-clause-left g c = λ honest bytes gives. tt
+
+pub returns-in-Ok-clause-whole : goal.returns-in-Ok-clause-whole
+returns-in-Ok-clause-whole g c = λ honest bytes gives is. ok_no_err _ _ is
+
+pub returns-in-Ok-clause-not_last : goal.returns-in-Ok-clause-not_last
+returns-in-Ok-clause-not_last g c = λ is. ok_no_err _ _ is
+
+pub returns-in-Ok-clause-memory : goal.returns-in-Ok-clause-memory
+returns-in-Ok-clause-memory g c = λ honest is. absurd (ok_no_err _ _ is)
+
+pub returns-in-Ok-clause-cause : goal.returns-in-Ok-clause-cause
+returns-in-Ok-clause-cause g c = reason_ok _ _ _ refusal.Fault ((fill_cause g.D.Dir.is_honest g.D.Dir.history g.D.Dir.opened g.D.Dir.bytes_left g.D.Dir.fault_count c.in_ok-file.file c.args.pieces.now c.args.name.now c.args.dir.now c.create.new.self c.fill.new.dir (Ok c.in-Ok.field-0) c.args.from c.in-Ok.ensures).passed ∙ c.in_ok-file.ensures.device.cause.passed)

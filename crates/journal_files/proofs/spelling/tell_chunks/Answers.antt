@@ -3,8 +3,9 @@ use Rattle.std.specs.List.{All}
 use Rattle.std.specs.Map.{values_of}
 use Rattle.buffer_state.specs.Steps.{greatest_size}
 use Rattle.buffer_state.specs.Slots.{Slots, slot_size, chunks_in}
-use Rattle.chunk_journal.specs.Records.{Seal, IsRecord}
-use Rattle.journal_files.proofs.Spelled.{starts, goes, small_here, told_places, can_be_told}
+use Rattle.chunk_journal.specs.Records.{Seal, record_bytes, IsRecord}
+use Rattle.journal_files.proofs.Spelled.{starts, goes, small_here, tag_here, told_bytes, told_len, told_records, told_places, can_be_told}
+use Rattle.journal_files.proofs.Wanting.{err_no_ok, err_no_value}
 use Rattle.journal_files.proofs.spelling.tell_chunks.Goals as goal
 
 pub loop-serial-init : goal.loop-serial-init
@@ -53,3 +54,89 @@ pub returns-clause-places : goal.returns-clause-places
 returns-clause-places g c =
     told_places c.loop-serial.pieces.items c.loop-serial.len c.args.from.now c.loop-serial.places c.loop-serial.serial-iterator c.args.chunks.now c.loop-serial.invariant c.in-None.ensures.steps.0
     c.places_follow.ensures c.leads_in_order.ensures.before
+
+pub returns-in_err-seal-clause-bytes : goal.returns-in_err-seal-clause-bytes
+returns-in_err-seal-clause-bytes g c = err_no_value c.in_err-seal.field-0.0 c.from_residual.result _ c.from_residual.ensures.1
+
+pub returns-in_err-seal-clause-within : goal.returns-in_err-seal-clause-within
+returns-in_err-seal-clause-within g c = err_no_value c.in_err-seal.field-0.0 c.from_residual.result _ c.from_residual.ensures.1
+
+pub returns-in_err-seal-clause-len : goal.returns-in_err-seal-clause-len
+returns-in_err-seal-clause-len g c = err_no_value c.in_err-seal.field-0.0 c.from_residual.result _ c.from_residual.ensures.1
+
+pub returns-in_err-seal-clause-places : goal.returns-in_err-seal-clause-places
+returns-in_err-seal-clause-places g c = err_no_value c.in_err-seal.field-0.0 c.from_residual.result _ c.from_residual.ensures.1
+
+pub returns-in_err-seal-clause-seal : goal.returns-in_err-seal-clause-seal
+returns-in_err-seal-clause-seal g c = err_no_value c.in_err-seal.field-0.0 c.from_residual.result _ c.from_residual.ensures.1
+
+pub returns-in_err-seal-clause-records : goal.returns-in_err-seal-clause-records
+returns-in_err-seal-clause-records g c = err_no_ok c.in_err-seal.field-0.0 c.from_residual.result _ c.from_residual.ensures.1
+
+pub returns-in_err-seal-clause-next : goal.returns-in_err-seal-clause-next
+returns-in_err-seal-clause-next g c = subst (λ (n : ℕ). IsRecord (Seal n)) c.next.ensures c.in_err-seal.ensures.record
+
+pub returns-in_err-pieces-clause-bytes : goal.returns-in_err-pieces-clause-bytes
+returns-in_err-pieces-clause-bytes g c = err_no_value c.in_err-pieces.field-0.0 c.from_residual-in_err-pieces.result _ c.from_residual-in_err-pieces.ensures.1
+
+pub returns-in_err-pieces-clause-within : goal.returns-in_err-pieces-clause-within
+returns-in_err-pieces-clause-within g c = err_no_value c.in_err-pieces.field-0.0 c.from_residual-in_err-pieces.result _ c.from_residual-in_err-pieces.ensures.1
+
+pub returns-in_err-pieces-clause-len : goal.returns-in_err-pieces-clause-len
+returns-in_err-pieces-clause-len g c = err_no_value c.in_err-pieces.field-0.0 c.from_residual-in_err-pieces.result _ c.from_residual-in_err-pieces.ensures.1
+
+pub returns-in_err-pieces-clause-places : goal.returns-in_err-pieces-clause-places
+returns-in_err-pieces-clause-places g c = err_no_value c.in_err-pieces.field-0.0 c.from_residual-in_err-pieces.result _ c.from_residual-in_err-pieces.ensures.1
+
+pub returns-in_err-pieces-clause-seal : goal.returns-in_err-pieces-clause-seal
+returns-in_err-pieces-clause-seal g c = err_no_value c.in_err-pieces.field-0.0 c.from_residual-in_err-pieces.result _ c.from_residual-in_err-pieces.ensures.1
+
+pub returns-in_err-pieces-clause-records : goal.returns-in_err-pieces-clause-records
+returns-in_err-pieces-clause-records g c = err_no_ok c.in_err-pieces.field-0.0 c.from_residual-in_err-pieces.result _ c.from_residual-in_err-pieces.ensures.1
+
+pub returns-in_err-pieces-clause-next : goal.returns-in_err-pieces-clause-next
+returns-in_err-pieces-clause-next g c = subst (λ (n : ℕ). IsRecord (Seal n)) c.next.ensures c.in_ok-seal.ensures.record
+
+pub returns-in_err-len-clause-bytes : goal.returns-in_err-len-clause-bytes
+returns-in_err-len-clause-bytes g c = err_no_value c.in_err-len.field-0.0 c.from_residual-in_err-len.result _ c.from_residual-in_err-len.ensures.1
+
+pub returns-in_err-len-clause-within : goal.returns-in_err-len-clause-within
+returns-in_err-len-clause-within g c = err_no_value c.in_err-len.field-0.0 c.from_residual-in_err-len.result _ c.from_residual-in_err-len.ensures.1
+
+pub returns-in_err-len-clause-len : goal.returns-in_err-len-clause-len
+returns-in_err-len-clause-len g c = err_no_value c.in_err-len.field-0.0 c.from_residual-in_err-len.result _ c.from_residual-in_err-len.ensures.1
+
+pub returns-in_err-len-clause-places : goal.returns-in_err-len-clause-places
+returns-in_err-len-clause-places g c = err_no_value c.in_err-len.field-0.0 c.from_residual-in_err-len.result _ c.from_residual-in_err-len.ensures.1
+
+pub returns-in_err-len-clause-seal : goal.returns-in_err-len-clause-seal
+returns-in_err-len-clause-seal g c = err_no_value c.in_err-len.field-0.0 c.from_residual-in_err-len.result _ c.from_residual-in_err-len.ensures.1
+
+pub returns-in_err-len-clause-records : goal.returns-in_err-len-clause-records
+returns-in_err-len-clause-records g c = err_no_ok c.in_err-len.field-0.0 c.from_residual-in_err-len.result _ c.from_residual-in_err-len.ensures.1
+
+pub returns-in_err-len-clause-next : goal.returns-in_err-len-clause-next
+returns-in_err-len-clause-next g c = subst (λ (n : ℕ). IsRecord (Seal n)) c.next.ensures c.in_ok-seal.ensures.record
+
+pub returns-clause-next : goal.returns-clause-next
+returns-clause-next g c = subst (λ (n : ℕ). IsRecord (Seal n)) c.next.ensures c.in_ok-seal.ensures.record
+
+pub returns-clause-seal : goal.returns-clause-seal
+returns-clause-seal g c = c.in_ok-seal.ensures.bytes ∙ ap (λ (n : ℕ). record_bytes (Seal n)) c.next.ensures
+
+pub returns-clause-bytes : goal.returns-clause-bytes
+returns-clause-bytes g c = told_bytes c.loop-serial.pieces.items c.loop-serial.len c.args.from.now c.loop-serial.places c.loop-serial.serial-iterator c.args.chunks.now c.loop-serial.invariant c.in-None.ensures.steps.0
+
+pub returns-clause-len : goal.returns-clause-len
+returns-clause-len g c = told_len c.loop-serial.pieces.items c.loop-serial.len c.args.from.now c.loop-serial.places c.loop-serial.serial-iterator c.args.chunks.now c.loop-serial.invariant c.in-None.ensures.steps.0
+
+pub returns-clause-records : goal.returns-clause-records
+returns-clause-records g c = told_records c.loop-serial.pieces.items c.loop-serial.len c.args.from.now c.loop-serial.places c.loop-serial.serial-iterator c.args.chunks.now c.loop-serial.invariant c.in-None.ensures.steps.0
+
+pub returns-clause-within : goal.returns-clause-within
+returns-clause-within g c = c.loop-serial.invariant.within
+
+pub tell_chunk-requires-clause-tag : goal.tell_chunk-requires-clause-tag
+tell_chunk-requires-clause-tag g c =
+    tag_here c.loop-serial.pieces.items c.loop-serial.len c.args.from.now c.loop-serial.places c.in-Some.serial.now c.in-Some.chunk.now c.next-in-loop-serial.new.self c.loop-serial.serial-iterator c.args.chunks.now
+    c.loop-serial.invariant c.in-Some.ensures.steps

@@ -1,7 +1,8 @@
 use Rattle.std.proofs.Common.{◌≡◌, inl, inr, None, ℕ, ◌+◌, ◌<◌, ◌^◌, List, Err, refl, ap, arith, subst, sym, ◌∙◌}
 use Rattle.journal_files.specs.declared.error.JournalError.TheVariants as refusal
 use Rattle.journal_files.specs.Faults.{dir_error}
-use Rattle.journal_files.proofs.Reasons.{answered, reason_dir, reason_err, fault_only}
+use Rattle.journal_files.proofs.Reasons.{answered, reason_dir, reason_err, reason_ok, fault_only}
+use Rattle.journal_files.proofs.Wanting.{err_no_value}
 use Rattle.disk_files.specs.Disk.{reads, read_of}
 use Rattle.disk_files.specs.Moments.{LeavesOnly, now}
 use Rattle.journal_files.specs.Folders.{journal_name}
@@ -286,3 +287,42 @@ returns-clause-opens g c = λ honest.
           subst (λ (p : List ℕ). reads end (journal_name p n) ≡ None) older.path
           (c.in_ok-remove.ensures.gone whole n (omega (arith, under, small)) (subst (λ (p : List ℕ). IsGoneBut p c.in_ok-older.older.files (now begun) n) (sym older.path) gone));
     }
+
+pub returns-in_err-found-clause-opens : goal.returns-in_err-found-clause-opens
+returns-in_err-found-clause-opens g c = λ honest. err_no_value c.in_err-found.field-0.0 c.from_residual.result _ c.from_residual.ensures.1
+
+pub returns-in_err-found-clause-fresh : goal.returns-in_err-found-clause-fresh
+returns-in_err-found-clause-fresh g c = err_no_value c.in_err-found.field-0.0 c.from_residual.result _ c.from_residual.ensures.1
+
+pub returns-in_err-older-clause-opens : goal.returns-in_err-older-clause-opens
+returns-in_err-older-clause-opens g c = λ honest. err_no_value (dir_error c.in_err-older.field-0.0) c.from_residual-in_err-older.result _ c.from_residual-in_err-older.ensures.1
+
+pub returns-in_err-older-clause-fresh : goal.returns-in_err-older-clause-fresh
+returns-in_err-older-clause-fresh g c = err_no_value (dir_error c.in_err-older.field-0.0) c.from_residual-in_err-older.result _ c.from_residual-in_err-older.ensures.1
+
+pub returns-in_err-journal-clause-opens : goal.returns-in_err-journal-clause-opens
+returns-in_err-journal-clause-opens g c = λ honest. err_no_value c.in_err-journal.field-0.0 c.from_residual-in_err-journal.result _ c.from_residual-in_err-journal.ensures.1
+
+pub returns-in_err-journal-clause-fresh : goal.returns-in_err-journal-clause-fresh
+returns-in_err-journal-clause-fresh g c = err_no_value c.in_err-journal.field-0.0 c.from_residual-in_err-journal.result _ c.from_residual-in_err-journal.ensures.1
+
+pub returns-in_err-remove-clause-opens : goal.returns-in_err-remove-clause-opens
+returns-in_err-remove-clause-opens g c = λ honest. err_no_value (dir_error c.in_err-remove.field-0.0) c.from_residual-in_err-remove.result _ c.from_residual-in_err-remove.ensures.1
+
+pub returns-in_err-remove-clause-fresh : goal.returns-in_err-remove-clause-fresh
+returns-in_err-remove-clause-fresh g c = err_no_value (dir_error c.in_err-remove.field-0.0) c.from_residual-in_err-remove.result _ c.from_residual-in_err-remove.ensures.1
+
+pub returns-in_err-found-clause-cause : goal.returns-in_err-found-clause-cause
+returns-in_err-found-clause-cause g c = reason_err _ _ _ c.in_err-found.field-0.0 refusal.Fault c.from_residual.result refl c.in_err-found.ensures.cause (answered c.in_err-found.field-0.0 c.from_residual.result c.from_residual.ensures.1)
+
+pub returns-in_err-older-clause-cause : goal.returns-in_err-older-clause-cause
+returns-in_err-older-clause-cause g c = reason_dir _ _ _ c.in_err-older.field-0.0 c.from_residual-in_err-older.result c.in_ok-found.ensures.cause.passed c.in_err-older.ensures.cause (answered (dir_error c.in_err-older.field-0.0) c.from_residual-in_err-older.result c.from_residual-in_err-older.ensures.1)
+
+pub returns-clause-refused : goal.returns-clause-refused
+returns-clause-refused g c = λ honest. tt
+
+pub returns-clause-cause : goal.returns-clause-cause
+returns-clause-cause g c = reason_ok _ _ _ refusal.Fault (c.in_ok-remove.ensures.cause.passed ∙ c.in_ok-journal.ensures.cause.passed ∙ c.in_ok-older.ensures.cause.passed ∙ c.in_ok-found.ensures.cause.passed)
+
+pub begin-requires-clause-tags : goal.begin-requires-clause-tags
+begin-requires-clause-tags g c = c.in_ok-found.ensures.tags

@@ -8,11 +8,12 @@ use Rattle.journal_files.specs.Folders.{journal_name}
 use Rattle.journal_files.specs.Views.{OpenJournal}
 use Rattle.journal_files.specs.Disks.{HasNoGap}
 use Rattle.disk_files.proofs.Moments.{started}
-use Rattle.journal_files.proofs.Beginning.{of_all}
+use Rattle.journal_files.proofs.Beginning.{of_all, kept_above}
 use Rattle.journal_files.proofs.Begun.{next_no_stray}
 use Rattle.journal_files.specs.Leftovers.{IsGivenUp}
 use Rattle.journal_files.proofs.Afresh.{said_of}
-use Rattle.journal_files.proofs.Reasons.{answered, reason_err, reason_dir, dir_undamaged, dir_numbered, fault_only}
+use Rattle.journal_files.proofs.Reasons.{answered, reason_err, reason_dir, dir_undamaged, dir_numbered, fault_only, fault_remembered}
+use Rattle.journal_files.proofs.Wanting.{err_no_ok, err_was, err_same, same_err, ok_no_err, last_remembered, last_undamaged, last_no_fault}
 use Rattle.journal_files.proofs.Onward.{onward, own_differs, still, none, all, source, beginning}
 use Rattle.journal_files.proofs.Recovery.{recovers}
 use Rattle.journal_files.proofs.Renewal.{removal_memory, renews_not, refuses_not}
@@ -25,8 +26,8 @@ use Rattle.journal_files.proofs.journal.Journal.renew.Goals as goal
 pub returns-then-self-clause-renews : goal.returns-then-self-clause-renews
 returns-then-self-clause-renews g c = λ honest t keeps means. record {
   ok = tt;
-  whole = λ is. cc is;
-  fault = λ is. absurd (cc is);
+  whole = λ is. last_undamaged (same_err refusal.LastGeneration refusal.Damaged is);
+  fault = λ is. absurd (last_no_fault (same_err refusal.LastGeneration refusal.Fault is));
   left = inl (inl (λ q. refl));
   moments = started (g.D.Dir.history c.args.dir.now) _ (recovers c.args.self.now (now (g.D.Dir.history c.args.dir.now)) t keeps);
 }
@@ -162,8 +163,8 @@ returns-clause-renews g c = λ honest t keeps means.
     subst (λ (j : OpenJournal). Renews old j c.args.chunks.now (g.D.Dir.fault_count c.args.dir.now) (g.D.Dir.fault_count c.remove.new.self) first end t (Ok (tt {0}))) (sym c.next.view_is)
     (record {
       ok = still_keeps old c.in_ok-next.next (now begun) (now end) path_is number_is keeps.last c.args.chunks.now anew (inr (c.in_ok-remove.ensures.ok after _ opened));
-      whole = λ is. cc is;
-      fault = λ is. absurd (cc is);
+      whole = λ is. ok_no_err _ _ is;
+      fault = λ is. absurd (ok_no_err _ _ is);
       left = tt;
       moments = removing path t (journal_name path old.number) first begun end c.remove.result (beginning on keeps c.args.chunks.now means first begun (c.begin.ensures.moments honest t)) (c.remove.ensures.device.time after)
           (λ disk. still_recovers old c.in_ok-next.next (now begun) disk path_is number_is keeps.last t c.args.chunks.now c.in_ok-next.ensures.state (of_all t c.args.chunks.now keeps.logged means) anew)
@@ -206,3 +207,35 @@ returns-clause-others g c =
           ∙ c.in_ok-next.ensures.open;
       cause = record { later = omega (arith, c.in_ok-next.ensures.cause.passed, c.in_ok-remove.ensures.device.cause.passed); passed = c.in_ok-remove.ensures.device.cause.passed ∙ c.in_ok-next.ensures.cause.passed; failed = λ is. absurd (cc is); others = λ _. c.in_ok-remove.ensures.device.cause.passed ∙ c.in_ok-next.ensures.cause.passed };
     })
+
+pub returns-then-self-clause-next : goal.returns-then-self-clause-next
+returns-then-self-clause-next g c = tt
+
+pub returns-then-self-clause-gone : goal.returns-then-self-clause-gone
+returns-then-self-clause-gone g c = λ honest. tt
+
+pub returns-then-self-clause-memory : goal.returns-then-self-clause-memory
+returns-then-self-clause-memory g c = λ honest t keeps is. absurd (last_remembered (same_err refusal.LastGeneration refusal.Memory is))
+
+pub returns-in_err-next-clause-next : goal.returns-in_err-next-clause-next
+returns-in_err-next-clause-next g c = err_no_ok c.in_err-next.field-0.0 c.from_residual.result _ c.from_residual.ensures.1
+
+pub returns-in_err-next-clause-gone : goal.returns-in_err-next-clause-gone
+returns-in_err-next-clause-gone g c = λ honest. err_no_ok c.in_err-next.field-0.0 c.from_residual.result _ c.from_residual.ensures.1
+
+pub returns-in_err-next-clause-memory : goal.returns-in_err-next-clause-memory
+returns-in_err-next-clause-memory g c = λ honest t keeps is.
+    kept_above c.args.self.now (now (g.D.Dir.history c.args.dir.now)) (now (g.D.Dir.history c.begin.new.dir)) t keeps
+    (λ n above below. c.in_err-next.ensures.memory honest (err_was c.in_err-next.field-0.0 refusal.Memory c.from_residual.result (answered c.in_err-next.field-0.0 c.from_residual.result c.from_residual.ensures.1) is) (journal_name c.args.self.now.path n))
+
+pub returns-in_err-remove-clause-next : goal.returns-in_err-remove-clause-next
+returns-in_err-remove-clause-next g c = err_no_ok (dir_error c.in_err-remove.field-0.0) c.from_residual-in_err-remove.result _ c.from_residual-in_err-remove.ensures.1
+
+pub returns-in_err-remove-clause-gone : goal.returns-in_err-remove-clause-gone
+returns-in_err-remove-clause-gone g c = λ honest. err_no_ok (dir_error c.in_err-remove.field-0.0) c.from_residual-in_err-remove.result _ c.from_residual-in_err-remove.ensures.1
+
+pub returns-in_err-remove-clause-memory : goal.returns-in_err-remove-clause-memory
+returns-in_err-remove-clause-memory g c = λ honest t keeps is. absurd (fault_remembered c.in_err-remove.field-0.0 c.in_err-remove.ensures.only (err_same (dir_error c.in_err-remove.field-0.0) refusal.Memory c.from_residual-in_err-remove.result (answered (dir_error c.in_err-remove.field-0.0) c.from_residual-in_err-remove.result c.from_residual-in_err-remove.ensures.1) is))
+
+pub returns-clause-memory : goal.returns-clause-memory
+returns-clause-memory g c = λ honest t keeps is. absurd (ok_no_err _ _ is)
