@@ -136,3 +136,15 @@ buffer_view b = record {
   chunk_limit_size = b.chunk_limit_size;
   total_limit_size = b.total_limit_size;
 }
+
+-- a parameter
+abbrev pub said : (name value : List ℕ) → Setting
+said name value = record { name = name; value = value; line = 0 }
+
+-- the parameters of a buffer in files of this name that lets no chunk go before it is delivered
+abbrev pub keeping_settings : List ℕ → List Setting
+keeping_settings path =
+    said (codes "@type") (codes "file")
+    ∷ said (codes "path") path
+    ∷ said (codes "retry_forever") (codes "true")
+    ∷ []

@@ -1,10 +1,10 @@
 //! How an output keeps what it has not yet delivered (Fluentd, "Config: Buffer Section"): the
 //! parameters of a buffer's section, each with its row, its field, its default and its reading.
 
-ghost use Rattle.std.specs.Prelude.{◌≡◌, map, option_and_then, true, IfOk};
+ghost use Rattle.std.specs.Prelude.{◌≡◌, map, option_and_then, string_bytes, true, IfOk};
 ghost use Rattle.conf_text.specs.Views.{setting, tree_of};
 ghost use Rattle.relay_conf.specs.Elements.{read_or, value_of};
-ghost use Rattle.relay_conf.specs.BufferSection.{buffer_in, buffer_of, buffer_rows, buffer_view, chunk_limit, flush_mode_of, has_files, is_file_of, kind_view, overflow_of, path_of, retry_of, threads_of, total_limit};
+ghost use Rattle.relay_conf.specs.BufferSection.{buffer_in, buffer_of, buffer_rows, buffer_view, chunk_limit, flush_mode_of, has_files, is_file_of, keeping_settings, kind_view, overflow_of, path_of, retry_of, threads_of, total_limit};
 ghost use Rattle.relay_conf.specs.Rows.{rows_of};
 
 use crate::element::{last_child, pairs_of, value_of};
@@ -158,8 +158,10 @@ pub const MOST_FLUSH_THREADS: usize = 64;
 
 impl<A: Allocator> BufferSettings<A> {
     /// Those of a buffer in files of this name that lets no chunk go before it is delivered, with
-    /// all else by default.
+    /// all else by default: what a section says that has `@type file`, this `path` and
+    /// `retry_forever true`.
     pub fn keeping(path: String<A>) -> BufferSettings<A>
+        ensures means { buffer_view result ≡ buffer_of (keeping_settings (string_bytes path)) }
         ensures kind { result.kind ≡ BufferKind.File path }
         ensures for_ever { result.retry.forever ≡ true }
         ensures refuses { result.overflow_action ≡ OverflowAction.ThrowException }
