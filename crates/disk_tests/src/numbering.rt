@@ -102,12 +102,17 @@ fn found_over<D: Dir + Drop>(alloc: Global, dir: D) -> Option<DirError> {
     found(alloc, &mut dir).err()
 }
 
+// The same of this folder, whose device fails.
+fn found_broken<D: Dir + Drop>(alloc: Global, dir: D) -> Option<DirError> {
+    found_over(alloc, Fuse::after(dir, 0))
+}
+
 #[test]
 fn numbers_that_are_there(rt: HostRuntime) -> Result<(), DirError> {
     let alloc = rt.alloc();
     let numbers = found_then(alloc, MemoryDir::new(alloc))?;
     assert_eq!(rt; numbers, [(0, None, None), (2, Some(2), Some(7))]);
-    let broken = found_over(alloc, Fuse::after(MemoryDir::new(alloc), 0));
+    let broken = found_broken(alloc, MemoryDir::new(alloc));
     assert_eq!(rt; broken, Some(DirError::Fault));
     Ok(())
 }
@@ -137,14 +142,18 @@ fn tells_in<D: Dir>(alloc: Global, dir: &mut D) -> Result<bool, DirError> {
     Ok(matches!(read, Err(DirError::Fault)) && dir.faults() == 1)
 }
 
+// The same of this folder, whose device fails after so many calls.
+fn tells_after<D: Dir + Drop>(alloc: Global, dir: D, passes: u64) -> Result<bool, DirError> {
+    tells(alloc, Fuse::after(dir, passes))
+}
+
 #[test]
 fn bytes_of_a_file(rt: HostRuntime) -> Result<(), DirError> {
     let alloc = rt.alloc();
     assert!(rt; reads(alloc, MemoryDir::new(alloc))?);
     // The first, or the second, of the calls that a read needs.
     for passes in 1..3u64 {
-        let fuse = Fuse::after(MemoryDir::new(alloc), passes);
-        assert!(rt; tells(alloc, fuse)?);
+        assert!(rt; tells_after(alloc, MemoryDir::new(alloc), passes)?);
     }
     names_differ();
     Ok(())

@@ -88,10 +88,10 @@ fn next_files(rt: HostRuntime) -> Result<(), Fail> {
     Ok(())
 }
 
-// Whether a sink whose folder fails one call, behind so many, takes entries again after the pause,
-// and has all that it took. True too where it can't be opened.
-fn recovers(alloc: Global, passes: u64) -> Result<bool, SeriesFault> {
-    let folder = Fuse::once(MemoryDir::new(alloc), passes);
+// Whether a sink in this folder, whose device fails one call, behind so many, takes entries again
+// after the pause, and has all that it took. True too where it can't be opened.
+fn recovers<D: Dir + Drop>(alloc: Global, dir: D, passes: u64) -> Result<bool, SeriesFault> {
+    let folder = Fuse::once(dir, passes);
     let Ok((taken, is_last_taken, dir)) = written(alloc, folder, &[0, 1, 2, 49, 60, 120, 180])
     else {
         return Ok(true);
@@ -103,7 +103,7 @@ fn recovers(alloc: Global, passes: u64) -> Result<bool, SeriesFault> {
 #[test]
 fn takes_entries_again(rt: HostRuntime) -> Result<(), Fail> {
     for passes in 0..16 {
-        assert!(rt; recovers(rt.alloc(), passes)?);
+        assert!(rt; recovers(rt.alloc(), MemoryDir::new(rt.alloc()), passes)?);
     }
     Ok(())
 }

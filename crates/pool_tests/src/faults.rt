@@ -66,14 +66,25 @@ fn carried_over<R: Wait + Clock, D: Dir + Drop, S: Dir + Drop>(
     Ok((fault, queued(shelf)))
 }
 
+// The same where the sink's device fails once, after so many calls.
+fn carried_once<R: Wait + Clock, D: Dir + Drop, S: Dir + Drop>(
+    alloc: Global,
+    rt: &R,
+    dir: D,
+    sinks: S,
+    passes: u64,
+) -> Result<(Option<CarryFault>, u8), Fail> {
+    carried_over(alloc, rt, dir, Fuse::once(sinks, passes))
+}
+
 // A sink's folder fails once, after so many calls behind its opening.
 #[test]
 fn a_device_that_fails_is_told(rt: HostRuntime) -> Result<(), Fail> {
     let alloc = rt.alloc();
     let mut told = false;
     for passes in 2..8u64 {
-        let sinks = Fuse::once(MemoryDir::new(alloc), passes);
-        let (fault, left) = carried_over(alloc, &rt, MemoryDir::new(alloc), sinks)?;
+        let (dir, sinks) = (MemoryDir::new(alloc), MemoryDir::new(alloc));
+        let (fault, left) = carried_once(alloc, &rt, dir, sinks, passes)?;
         assert_eq!(rt; left, 1);
         told |= fault == Some(CarryFault::Device);
     }
@@ -174,11 +185,19 @@ fn delivers_first<R: Wait + Clock, D: Dir + Drop>(
     worked
 }
 
+// The same where the device fails the first purge: thirteen calls open the folder and queue two
+// chunks.
+fn fails_at_purge<R: Wait + Clock, D: Dir + Drop>(
+    alloc: Global,
+    rt: &R,
+    dir: D,
+) -> Result<Worked, BufferFault> {
+    delivers_first(alloc, rt, Fuse::after(dir, 13))
+}
+
 #[test]
 fn a_buffer_that_failed_ends_its_worker(rt: HostRuntime) -> Result<(), Fail> {
-    // Thirteen calls open the folder and queue two chunks; the next is that of the first purge.
-    let fuse = Fuse::after(MemoryDir::new(rt.alloc()), 13);
-    let ended = delivers_first(rt.alloc(), &rt, fuse);
+    let ended = fails_at_purge(rt.alloc(), &rt, MemoryDir::new(rt.alloc()));
     assert_eq!(rt; ended, Err(BufferFault::Failed));
     Ok(())
 }

@@ -160,11 +160,20 @@ static UNREAD: [Purge; 2] = [
     },
 ];
 
-// The device fails the first call behind the opening, the append and the queueing.
+// Whether a chunk of a buffer in this folder goes so, where the device fails the first call behind
+// the opening, the append and the queueing.
+fn goes_once_read<R: Wait, D: Dir + Drop>(
+    alloc: Global,
+    rt: &R,
+    dir: D,
+) -> Result<bool, Fail> {
+    goes(alloc, rt, Fuse::once(dir, 9), &UNREAD)
+}
+
 #[test]
 fn a_chunk_that_cant_be_read_stays(rt: HostRuntime) -> Result<(), Fail> {
-    let dir = Fuse::once(MemoryDir::new(rt.alloc()), 9);
-    assert!(rt; goes(rt.alloc(), &rt, dir, &UNREAD)?);
+    let dir = MemoryDir::new(rt.alloc());
+    assert!(rt; goes_once_read(rt.alloc(), &rt, dir)?);
     Ok(())
 }
 
@@ -208,6 +217,16 @@ fn renewed_long<R: Wait, D: Dir + Drop>(
     Some(shelf.renew(rt))
 }
 
+// The same in this folder, whose device fails after so many calls.
+fn renewed_long_after<R: Wait, D: Dir + Drop>(
+    alloc: Global,
+    rt: &R,
+    dir: D,
+    passes: u64,
+) -> Option<Result<(), BufferFault>> {
+    renewed_long(alloc, rt, Fuse::after(dir, passes))
+}
+
 // A journal that is long is written anew: where the folder fails every call from then on, that is
 // told.
 #[test]
@@ -215,8 +234,9 @@ fn a_long_journal_is_renewed(rt: HostRuntime) -> Result<(), Fail> {
     let alloc = rt.alloc();
     let mut told = false;
     for passes in 0..40u64 {
-        let fuse = Fuse::after(MemoryDir::new(alloc), passes);
-        told |= renewed_long(alloc, &rt, fuse) == Some(Err(BufferFault::Fault));
+        let dir = MemoryDir::new(alloc);
+        let answer = renewed_long_after(alloc, &rt, dir, passes);
+        told |= answer == Some(Err(BufferFault::Fault));
     }
     assert!(rt; told);
     let whole = renewed_long(alloc, &rt, MemoryDir::new(alloc));

@@ -146,6 +146,17 @@ fn answers_in<R: Wait, D: Dir + Drop>(
     Some(redeemed(rt, &shelf, pendings))
 }
 
+// The same in this folder, whose device fails after so many calls.
+fn answers_after<R: Wait, D: Dir + Drop>(
+    alloc: Global,
+    rt: &R,
+    dir: D,
+    passes: u64,
+    count: u64,
+) -> Option<[Option<RedeemFault>; 2]> {
+    answers_in(alloc, rt, Fuse::after(dir, passes), count)
+}
+
 // The least number of calls of the folder under which so many appends that wait are redeemed, and
 // both answers with one less.
 fn calls<R: Wait>(
@@ -155,8 +166,8 @@ fn calls<R: Wait>(
 ) -> Result<(u64, [Option<RedeemFault>; 2]), BufferFault> {
     let mut before = [None, None];
     for passes in 0..MANY {
-        let fuse = Fuse::after(MemoryDir::new(alloc), passes);
-        let Some(answers) = answers_in(alloc, rt, fuse, count) else {
+        let dir = MemoryDir::new(alloc);
+        let Some(answers) = answers_after(alloc, rt, dir, passes, count) else {
             continue;
         };
         if answers == [None, None] {
