@@ -24,10 +24,11 @@ use Rattle.relay_notices.proofs.Sharing as told
 use Rattle.relay_notices.specs.contracts.notices.Notices as Notices
 use Rattle.relay_notices.specs.contracts.notices.Teller as Teller
 use Rattle.relay_notices.proofs.notices.Notices.TheSendSync as notices
+use Rattle.relay_places.proofs.Sharing as said
+use Rattle.relay_places.specs.contracts.rows.OutputRows as OutputRows
 use Rattle.relay_run.specs.contracts.flush.Carrier as Carrier
 use Rattle.relay_run.specs.contracts.flush.Pool as Pool
 use Rattle.relay_run.specs.contracts.state.StateFile as StateFile
-use Rattle.relay_run.specs.contracts.state.Watched as Watched
 use Rattle.relay_run.specs.contracts.voice.Flags as Flags
 
 module _ (D A : RattleType) (d : dir.Ghosts D.Denot) (a : alloc.Ghosts A.Denot) where
@@ -50,6 +51,9 @@ module _ (A : RattleType) (a : alloc.Ghosts A.Denot) where
   Teller-sync : IsSend A → IsSync A → Frees a a.dealloc_token → IsSync (Teller.the_field A a).row
   Teller-sync = told.Teller-sync A a
 
+  Rows-send : IsSend A → Frees a a.dealloc_token → IsSend (OutputRows.the_field A a).row
+  Rows-send = said.OutputRows-send A a
+
 -- What the thread that says notices shares with who ends it.
 
 pub Flags-send : IsSend Flags.the_field.row
@@ -60,11 +64,11 @@ Flags-sync = search (crosses, sendable) depth 20
 
 -- The file that the thread keeps.
 
-Watched-send : IsSend Watched.the_field.row
-Watched-send = search (crosses, over.crosses, sendable) depth 60 fits 20000
+Rows-here-send : IsSend (OutputRows.the_field Heap.the_row ghosts).row
+Rows-here-send = search (Rows-send, crosses, sendable) depth 60 fits 20000
 
 pub StateFile-send : IsSend StateFile.the_field.row
-StateFile-send = let w = Watched-send in search (crosses, over.crosses, sendable) depth 60 fits 20000
+StateFile-send = let r = Rows-here-send in search (crosses, over.crosses, sendable) depth 60 fits 20000
 
 -- A sink that stays open.
 
