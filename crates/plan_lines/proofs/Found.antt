@@ -1,6 +1,6 @@
 -- What is found of what a line names.
 use Rattle.std.proofs.Common.{◌≡◌, ◌∙◌, ℕ, ◌==◌, Bool, true, false, cond, List, [], ◌∷◌, Option, Some, None, Result, Ok, Err, IsSome, refl, sym, subst}
-use Rattle.std.specs.Prelude.{is_some, find, option_map, OnOk}
+use Rattle.std.specs.Prelude.{is_some, find, option_map, OnOk, IfErr}
 use Rattle.std.specs.Option.{option_and_then, option_map_or}
 use Rattle.std.proofs.lemmas.Bool.{eqb-true}
 use Rattle.relay_conf.specs.declared.relay.Source.{Source}
@@ -33,6 +33,11 @@ source_found (Some node) wanted n e =
 pub index_found : {X : Type 0} (index n : ℕ) (found : Option X) → Some n ≡ option_map (λ _. index) found → (n ≡ index) × IsSome found
 index_found index n None e = absurd (cc)
 index_found index n (Some x) e = let same : n ≡ index = cc in (same, refl)
+
+-- what holds of each error that a call gives
+pub map_err : {T E : Type 0} {P Q : E → Type 0} (r : Result T E) → ((e : E) → P e → Q e) → IfErr r P → IfErr r Q
+map_err (Ok x) f p = tt
+map_err (Err e) f p = f e p
 
 -- what a call that succeeds shows
 pub on_ok : {T E P Q : Type 0} (r : Result T E) → (P → Q) → OnOk r P → OnOk r Q

@@ -8,6 +8,8 @@ pub mod OnePlan
 pub mod OneRefusal
 pub mod OneRelay
 pub mod OwnBuffers
+pub mod Read
+pub mod RefusedTexts
 pub mod SamePlans
 pub mod Saying
 pub mod Seen

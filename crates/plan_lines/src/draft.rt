@@ -325,11 +325,33 @@ impl<A: Allocator + Copy> Draft<A> {
         ensures { result ≡ option_map
             (λ _. index) (rule_at (draft_of self.now).net place scope index) }
     {
-        let node = self.relays.nodes().get(place)?;
-        let found = node.relay.scopes.get(scope)?;
-        let rule = index as usize;
-        let _ = found.matches.get(rule)?;
-        Some(rule)
+        match self.relays.nodes().get(place) {
+            None => None,
+            Some(node) => rule_of(&node.relay, scope, index),
+        }
+    }
+}
+
+// The place of the match with this index, where that scope of the relay has it.
+fn rule_of<A: Allocator>(relay: &Relay<A>, scope: usize, index: u64) -> Option<usize>
+    ensures { result ≡ option_map (λ _. index)
+        (option_and_then (λ found. slice_get found.matches.items index)
+        (slice_get relay.now.scopes.items scope)) }
+{
+    match relay.scopes.get(scope) {
+        None => None,
+        Some(found) => rule_in(found, index),
+    }
+}
+
+// The place of the match with this index, where the scope has it.
+fn rule_in<A: Allocator>(scope: &Scope<A>, index: u64) -> Option<usize>
+    ensures { result ≡ option_map (λ _. index) (slice_get scope.now.matches.items index) }
+{
+    let place = index as usize;
+    match scope.matches.get(place) {
+        None => None,
+        Some(_) => Some(place),
     }
 }
 

@@ -1,0 +1,19 @@
+-- That a relay's line is refused for its configuration.
+use Rattle.std.proofs.Common.{◌≡◌, ℕ, List, length, slice_get, Some}
+use Rattle.loss_rules.specs.Breaks.{Subject}
+use Rattle.plan_lines.specs.declared.error.PlanError.{PlanError}
+use Rattle.plan_lines.specs.declared.error.PlanError.TheVariants as error
+use Rattle.plan_lines.specs.Faults.{IsTextFault, Refuses}
+use Rattle.plan_lines.specs.Forms.{a_relay, relay_number}
+use Rattle.plan_lines.proofs.OneRefusal.{not_both}
+
+module _ {A : Type 0} (confs : List (List ℕ)) (line : ℕ) (number host folder text : List ℕ) (n : ℕ) (plan : Subject A) (number_is : relay_number number ≡ Some n) (text_is : slice_get confs (length plan.net.relays) ≡ Some text) where
+  -- a fault of the configuration that stands at the relay's place is one of the line
+  pub text_refused : (e : PlanError) → IsTextFault line text e → (conf : List ℕ) → Refuses confs line (a_relay number host folder conf) plan e
+  text_refused (error.BadLine m) h conf = absurd h
+  text_refused (error.BadNumber m) h conf = absurd h
+  text_refused (error.BadPattern m) h conf = absurd h
+  text_refused (error.NoSuch m) h conf = absurd h
+  text_refused (error.BadText m fault) h conf = (h.0, (λ none. not_both n (relay_number number) none number_is), (text, text_is, h.1))
+  text_refused (error.BadRelay m fault) h conf = (h.0, (λ none. not_both n (relay_number number) none number_is), (text, text_is, h.1))
+  text_refused error.Memory h conf = tt
