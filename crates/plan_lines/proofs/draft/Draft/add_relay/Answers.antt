@@ -1,8 +1,8 @@
 use Rattle.std.proofs.Common.{◌≡◌, ◌∙◌, ℕ, ◌<◌, length, sym, ap, subst, refl, slice_get, arith}
-use Rattle.std.proofs.lemmas.Result.{err_from_is_err_and}
 use Rattle.plan_lines.specs.Drafts.{draft_of}
+use Rattle.plan_lines.specs.Faults.{IsTextFault}
 use Rattle.plan_lines.specs.Plans.{texts}
-use Rattle.plan_lines.proofs.RefusedTexts.{text_refused}
+use Rattle.plan_lines.proofs.RefusedTexts.{text_refused_as}
 use Rattle.plan_lines.proofs.Texts.{text_there}
 use Rattle.plan_lines.proofs.draft.Draft.add_relay.Goals as goal
 
@@ -29,9 +29,8 @@ pub returns-in_err-relay-clause-refuses : goal.returns-in_err-relay-clause-refus
 returns-in_err-relay-clause-refuses g c =
     let same : length c.nodes.result.now ≡ length c.args.self.now.relays = ap length c.nodes.ensures in
     let text_is = ap (slice_get (texts c.args.confs.now)) (sym same) ∙ text_there c.args.confs.now (length c.nodes.result.now) c.index-confs-nodes.result (omega arith) c.index-confs-nodes.is in
-    let p = err_from_is_err_and c.from_residual.result c.from_residual.ensures.1 in
-    rw (p.1, p.2) (text_refused (texts c.args.confs.now) c.args.line c.args.number.now c.args.host.now c.args.folder.now c.index-confs-nodes.result.items c.in-Some.number (draft_of c.args.self.now) (sym c.in-Some.ensures) text_is
-    c.in_err-relay.field-0.0 (rw c.deref.ensures.value at c.in_err-relay.ensures.fault))
+    text_refused_as (texts c.args.confs.now) c.args.line c.args.number.now c.args.host.now c.args.folder.now c.index-confs-nodes.result.items c.in-Some.number (draft_of c.args.self.now) (sym c.in-Some.ensures) text_is
+    c.from_residual.result c.in_err-relay.field-0.0 c.from_residual.ensures.1 (subst (λ text. IsTextFault c.args.line text c.in_err-relay.field-0.0) c.deref.ensures.value c.in_err-relay.ensures.fault)
 
 pub bounds-confs-nodes : goal.bounds-confs-nodes
 bounds-confs-nodes g c =

@@ -4,7 +4,7 @@ use Rattle.std.specs.Borrow.{Bor}
 use Rattle.std.specs.List.{filter_map}
 use Rattle.text_lines.specs.Lines.{text_lines}
 use Rattle.plan_lines.specs.Drafts.{draft_of, HasItsConf}
-use Rattle.plan_lines.specs.Faults.{IsRefusal, Refuses}
+use Rattle.plan_lines.specs.Faults.{Refuses}
 use Rattle.plan_lines.specs.Forms.{line_form, conf_named, confs_named}
 use Rattle.plan_lines.specs.Plans.{Adds, Say, none, one_more, texts}
 use Rattle.plan_lines.proofs.Counting.{has_its_conf}
