@@ -12,6 +12,7 @@ pub mod Members
 pub mod News
 pub mod OneAnswer
 pub mod Passing
+pub mod PlaceLists
 pub mod Places
 pub mod Plans
 pub mod Relays

@@ -29,3 +29,7 @@ entered-smaller marks graph rest scope sized e =
 -- one that is marked already weighs no more
 pub passed-smaller : (marks : List Bool) (graph : List (List Relabel)) (rest : List ℕ) (scope : ℕ) → length rest + weight marks graph < length (rest ++ scope ∷ []) + weight marks graph
 passed-smaller marks graph rest scope = simp (length-append) (omega arith)
+
+-- the same of the search as it was
+pub passed-less : (graph : List (List Relabel)) (marks old : List Bool) (rest before : List ℕ) (scope : ℕ) → marks ≡ old → before ≡ rest ++ scope ∷ [] → length rest + weight marks graph < length before + weight old graph
+passed-less graph marks old rest before scope m b = let less = passed-smaller marks graph rest scope in rw (← m, b) less

@@ -1,7 +1,7 @@
 use Rattle.std.proofs.Common.{◌≡◌, ◌<◌, Some, slice_get, length, refl, ap, arith}
 use Rattle.std.proofs.lemmas.Option.{slice_get_read, slice_get_within}
 use Rattle.std.proofs.lemmas.Bool.Decides.{Decides-not}
-use Rattle.loss_rules.proofs.News.{place_within, source_of, not_new, port_not_new, is_new}
+use Rattle.loss_rules.proofs.News.{shown_within, place_within, source_of, not_new, port_not_new, is_new}
 use Rattle.loss_rules.proofs.Seeks.{not_true}
 use Rattle.loss_rules.proofs.addresses.source_is_new.Goals as goal
 
@@ -51,3 +51,6 @@ returns g c =
     let e = rw (c.as_bytes.ensures.value, c.relays-2.ensures) at c.if-is_taken_before.ensures in
     let d = Decides-not c.is_port_before.result (rw c.deref.ensures.value at c.is_port_before.ensures) in
     (λ t. is_new c.args.net.now c.args.place c.args.number c.index-relays-place.result c.index-source.result.now node_is source_is (λ h. not_true (e.1 h)) (d.0 t), λ new. d.1 (λ h. port_not_new c.args.net.now c.args.place c.args.number c.index-relays-place.result c.index-source.result.now node_is source_is h new))
+
+pub bounds-relays-place : goal.bounds-relays-place
+bounds-relays-place g c = shown_within c.args.net.now.relays c.relays.result.now c.relays.ensures c.args.place (place_within c.args.net.now c.args.place c.args.number c.requires.0 c.requires.1)

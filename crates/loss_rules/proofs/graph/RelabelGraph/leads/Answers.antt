@@ -4,7 +4,7 @@ use Rattle.loss_rules.specs.Graphs.{Leads}
 use Rattle.loss_rules.specs.Visits.{mark_at}
 use Rattle.loss_rules.specs.declared.relabel.Relabel.{Relabel}
 use Rattle.loss_rules.proofs.Visits.{visit-begun, visit-passed, visit-entered, visit-ended, visit-parts}
-use Rattle.loss_rules.proofs.Weights.{weight, entered-smaller}
+use Rattle.loss_rules.proofs.Weights.{weight, entered-smaller, passed-less}
 use Rattle.loss_rules.proofs.graph.RelabelGraph.leads.Goals as goal
 
 pub loop-scope-init : goal.loop-scope-init
@@ -45,3 +45,6 @@ pub returns : goal.returns
 returns g c =
     let all = visit-ended c.args.self.now c.args.start c.loop-scope.visit.marks.items c.loop-scope.visit.ahead.items c.args.last c.loop-scope.invariant c.in_default.ensures.none c.requires in
     subst (λ (x : Bool). (x ≡ true) ↔ Chain (Leads c.args.self.now) c.args.start c.args.last) (sym (c.is_marked-2.ensures ∙ ap (λ (x : List Bool). mark_at x c.args.last) c.in_default.ensures.marks)) all
+
+pub loop-scope-smaller : goal.loop-scope-smaller
+loop-scope-smaller g c = passed-less c.args.self.now c.next.new.self.marks.items c.loop-scope.visit.marks.items c.next.new.self.ahead.items c.loop-scope.visit.ahead.items c.in-Some.scope c.in-Some.ensures.marks c.in-Some.ensures.some

@@ -14,3 +14,6 @@ loop-output-preserved g c = relabels-more c.args.outputs.now c.loop-output.outpu
 
 pub returns : goal.returns
 returns g c = c.loop-output.invariant ∙ ap (λ x. c.args.self.now ++ filter_map relabel_of x) (take_all c.loop-output.output-index c.args.outputs.now (omega arith))
+
+pub loop-output-init : goal.loop-output-init
+loop-output-init g c = c.self.view_is ∙ sym (append-nil c.args.self.now)
