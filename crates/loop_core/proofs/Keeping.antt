@@ -22,7 +22,7 @@ use Rattle.forward_core.specs.declared.fault.SessionFault.TheVariants.{Closed}
 use Rattle.forward_core.specs.Demands.{Wanted, Delivers, asked_in, wanted}
 use Rattle.forward_core.specs.Server.{ServerPhase, Awaiting, Opened, Over, ServerReads, ReadsOn, ServerState, Outcome, after, close_by, phase_by, initial_server}
 use Rattle.relay_ports.specs.Leaves.{Entry, IsRoutedTo, leaf_of}
-use Rattle.buffer_lanes.specs.Waits.{Awaited, HasEntries, Waits}
+use Rattle.buffer_lanes.specs.Waits.{Awaited, HasEntries, Waits, awaited_by}
 use Rattle.book_audit.specs.Stubs.{Left}
 use Rattle.buffer_lanes.specs.Collecting.{IsAbandoned, IsAnswerTo, those_later}
 use Rattle.loop_core.specs.Peers.{AreAmong, BecomeInOrder, Becomes, GoOnWaiting, IsOwed, IsEarned, IsFaithful, IsRead, IsTaken, OneMoreWaits, Standing, awaited_in, wants_close}
@@ -283,3 +283,42 @@ pub met_before : {T : Type 0} (e : SessionError) (fault : SessionFault) (phase :
     → (◌≡◌ {A = Result T SessionError} (Err e) (Err (error.Fault Closed)) → phase ≡ Over) → phase ≡ Over
 met_before {T} e fault phase is (inl closed) over = over (ap {B = Result T SessionError} (λ (x : SessionError). Err x) closed)
 met_before e fault phase is (inr memory) over = let never : error.Fault fault ≡ error.Memory = sym is ∙ memory in cc
+
+-- the delivery of a message that comes in here is owed where the message was demanded
+pub begun_owed : (entry : Entry) (number : ℕ) (one : Asked) (tag : List ℕ) (leaves : List Leaf) (w : Waits)
+    → w.awaited ≡ record { number = number; asked = one; tag = tag; leaves = leaves } → IsRoutedTo entry one tag leaves
+    → (asked : List Asked) → Contains asked one → IsOwed entry asked w
+begun_owed entry number one tag leaves w e goes asked demanded = record {
+  demanded = subst (λ (a : Awaited). Contains asked a.asked) (sym e) demanded;
+  goes = subst (λ (a : Awaited). IsRoutedTo entry a.asked a.tag a.leaves) (sym e) goes;
+}
+
+-- so it waits behind the others
+pub begun_behind : (entry : Entry) (number : ℕ) (one : Asked) (tag : List ℕ) (leaves : List Leaf) (old new : List Waits) → IsRoutedTo entry one tag leaves
+    → (new ≡ old) ⊎ ((more : OneMoreWaits old new) × (more.one.awaited ≡ record { number = number; asked = one; tag = tag; leaves = leaves }))
+    → (new ≡ old) ⊎ ((more : OneMoreWaits old new) × ((asked : List Asked) → Contains asked one → IsOwed entry asked more.one))
+begun_behind entry number one tag leaves old new goes (inl none) = inl none
+begun_behind entry number one tag leaves old new goes (inr w) = inr (w.0, begun_owed entry number one tag leaves w.0.one w.1 goes)
+
+-- a connection keeps what it kept where a delivery of a demanded message begins
+pub begun_faithful : (entry held : Entry) (asked : List Asked) (taken : List Reservation) (one : Asked) (old new : List Waits) → held ≡ entry
+    → IsFaithful entry asked taken old → Contains asked one
+    → (new ≡ old) ⊎ ((more : OneMoreWaits old new) × ((asked : List Asked) → Contains asked one → IsOwed held asked more.one))
+    → IsFaithful entry asked taken new
+begun_faithful entry held asked taken one old new same f demanded (inl none) = subst (IsFaithful entry asked taken) (sym none) f
+begun_faithful entry held asked taken one old new same f demanded (inr w) =
+    subst (IsFaithful entry asked taken) (sym w.0.is)
+    (waits_too entry asked taken old w.0.one f (subst (λ (e : Entry). IsOwed e asked w.0.one) same (w.1 asked demanded)))
+
+-- so one waits more at most
+pub begun_more : (old new : List Waits) (P : OneMoreWaits old new → Type 0) → (new ≡ old) ⊎ ((more : OneMoreWaits old new) × P more) → (new ≡ old) ⊎ OneMoreWaits old new
+begun_more old new P (inl none) = inl none
+begun_more old new P (inr w) = inr w.0
+
+-- a delivery that was begun so waits, where room was made first
+pub begun_as : (old between new : List Waits) (opened delivery : OpenDelivery) → between ≡ old → opened ≡ delivery
+    → (new ≡ between) ⊎ ((more : OneMoreWaits between new) × (more.one.awaited ≡ awaited_by opened))
+    → (new ≡ old) ⊎ ((more : OneMoreWaits old new) × (more.one.awaited ≡ awaited_by delivery))
+begun_as old between new opened delivery room same (inl none) = inl (none ∙ room)
+begun_as old between new opened delivery room same (inr w) =
+    inr (record { one = w.0.one; is = w.0.is ∙ ap (λ (l : List Waits). l ++ w.0.one ∷ []) room }, w.1 ∙ ap awaited_by same)

@@ -1,10 +1,10 @@
 //! A client's connection, without its socket.
 
-ghost use Rattle.std.specs.Prelude.{◌≡◌, ◌≤◌, ◌<◌, ◌+◌, ◌⊎◌, ◌↔◌, ◌||◌, [], Bool, List, true, false, not, drop, length, map, All, Contains, IfOk, OnOk, OnErr, IsTrue};
-ghost use Rattle.ack_receipt.specs.Reservations.{asked_of};
+ghost use Rattle.std.specs.Prelude.{◌≡◌, ◌≤◌, ◌<◌, ◌+◌, ◌⊎◌, ◌↔◌, ◌||◌, [], ◌∷◌, Bool, List, true, false, not, drop, length, map, vec_len, vec_capacity, All, Contains, None, IfOk, IfSome, OnOk, OnErr, IsTrue};
+ghost use Rattle.ack_receipt.specs.Reservations.{Asked, asked_of};
 ghost use Rattle.event_modes.specs.Reading.{meaning};
 ghost use Rattle.buffer_lanes.specs.Lanes.{KeepsLanes, NoneLater};
-ghost use Rattle.buffer_lanes.specs.Waits.{Awaited};
+ghost use Rattle.buffer_lanes.specs.Waits.{Awaited, HasEntries, awaited_by};
 ghost use Rattle.loop_core.specs.Peers.{AreAmong, BecomeInOrder, Becomes, GoOnWaiting, IsEarned, IsFaithful, IsOwed, IsRead, IsTaken, OneMoreWaits, awaited_in, wants_close};
 ghost use Rattle.std.specs.Arc.{arc_value};
 ghost use Rattle.forward_core.specs.Handshakes.{IsHosted};
@@ -12,11 +12,12 @@ ghost use Rattle.forward_core.specs.Demands.{asked_in, wanted};
 ghost use Rattle.forward_core.specs.Server.{IsAskedIn, Over, awaits_ping, initial_server};
 
 use crate::fault::LoopFault;
-use ack_receipt::{Delivery, Numbers, Reserved};
+use ack_receipt::{Delivery, DeliveryNo, Numbers, Reserved};
 use buffer_lanes::{Collected, Lanes, Waiting};
 use disk_files::Dir;
 use event_modes::{Message, ModeFault};
 use forward_core::{Demand, Security, ServerSession, SessionError, SessionFault};
+use relay_conf::BufferNo;
 use relay_notices::Closing;
 use relay_ports::{Branches, Inlet};
 use std::alloc::{AllocError, Allocator};
@@ -191,29 +192,8 @@ impl<A: Allocator + Copy> Peer<A> {
         let Some(number) = numbers.draw() else {
             return Err(LoopFault::NoNumber);
         };
-        let Some(branches) = self.inlet.branches(alloc, &message)? else {
-            return Ok(());
-        };
-        let Branches {
-            tag,
-            buffers,
-            leaves,
-        } = branches;
-        let reserved = Reserved::for_message(alloc, &message)?;
-        self.waiting.reserve(1)?;
-        let delivery = match Delivery::begin_as(alloc, number, message, tag.as_bytes(), leaves) {
-            Ok(delivery) => delivery,
-            Err(_) => return Err(LoopFault::Memory),
-        };
-        let waiting = match Waiting::begin(rt, lanes, delivery, reserved, buffers) {
-            Ok(waiting) => waiting,
-            Err(stub) => {
-                lanes.settle(rt, stub);
-                return Ok(());
-            }
-        };
-        self.waiting.push_reserved(waiting);
-        Ok(())
+        let waiting = &mut self.waiting;
+        begin(rt, alloc, &self.inlet, number, message, waiting, lanes)
     }
 
     /// Answers, in the order of their messages, the deliveries that have all their receipts, and
@@ -334,6 +314,137 @@ fn closing_of(fault: SessionFault) -> Closing {
         SessionFault::BadStream(_) | SessionFault::BadAck | SessionFault::Closed => {
             Closing::BadStream
         }
+    }
+}
+
+// Begins the delivery of a message that comes in here, unless its way is a loop. It waits behind the
+// others, but where a buffer refuses it.
+fn begin<R: Wait, D: Dir + Drop, A: Allocator + Copy>(
+    rt: &R,
+    alloc: A,
+    inlet: &Inlet<A>,
+    number: DeliveryNo,
+    message: Message<A>,
+    waiting: &mut Vec<Waiting<A>, A>,
+    lanes: &mut Lanes<D, A>,
+) -> Result<(), LoopFault>
+    ensures lanes { KeepsLanes lanes.old lanes.new }
+    ensures time { lanes.new.time ≡ lanes.old.time }
+    ensures waits { (waiting.new.items ≡ waiting.old.items)
+        ⊎ ((more : OneMoreWaits waiting.old.items waiting.new.items)
+        × ((asked : List Asked) → Contains asked (asked_of (meaning message))
+        → IsOwed inlet.now asked more.one)) }
+{
+    match inlet.branches(alloc, &message) {
+        Ok(Some(branches)) => begin_to(rt, alloc, number, message, branches, waiting, lanes),
+        Ok(None) => Ok(()),
+        Err(_) => Err(LoopFault::Memory),
+    }
+}
+
+// Begins the delivery of a message that goes there.
+fn begin_to<R: Wait, D: Dir + Drop, A: Allocator + Copy>(
+    rt: &R,
+    alloc: A,
+    number: DeliveryNo,
+    message: Message<A>,
+    branches: Branches<A>,
+    waiting: &mut Vec<Waiting<A>, A>,
+    lanes: &mut Lanes<D, A>,
+) -> Result<(), LoopFault>
+    requires entries { (0 < length message.entries) ⊎ (branches.buffers.items ≡ []) }
+    requires same { map (λ leaf. leaf.buffer) branches.leaves.items
+        ≡ map (λ buffer. buffer.0) branches.buffers.items }
+    ensures lanes { KeepsLanes lanes.old lanes.new }
+    ensures time { lanes.new.time ≡ lanes.old.time }
+    ensures waits { (waiting.new.items ≡ waiting.old.items)
+        ⊎ ((more : OneMoreWaits waiting.old.items waiting.new.items)
+        × (more.one.awaited ≡ record {
+          number = number;
+          asked = asked_of (meaning message);
+          tag = branches.tag;
+          leaves = branches.leaves.items;
+        })) }
+{
+    let Ok(reserved) = room_for(alloc, &message, waiting) else {
+        return Err(LoopFault::Memory);
+    };
+    let Some((delivery, buffers)) = opened(alloc, number, message, branches) else {
+        return Err(LoopFault::Memory);
+    };
+    store(rt, delivery, reserved, buffers, waiting, lanes);
+    Ok(())
+}
+
+// Room for the answer to a message, and for its delivery to wait.
+fn room_for<A: Allocator + Copy>(
+    alloc: A,
+    message: &Message<A>,
+    waiting: &mut Vec<Waiting<A>, A>,
+) -> Result<Reserved<A>, AllocError>
+    ensures reserved { IfOk result
+        (λ reserved. reserved
+        ≡ record { asked = asked_of (meaning message.now); filled = None }) }
+    ensures room { OnOk result (vec_len waiting.new < vec_capacity waiting.new) }
+    ensures items { waiting.new.items ≡ waiting.old.items }
+{
+    let reserved = Reserved::for_message(alloc, message)?;
+    waiting.reserve(1)?;
+    Ok(reserved)
+}
+
+// The delivery of a message that goes there, and the buffers that have to store it.
+fn opened<A: Allocator + Copy>(
+    alloc: A,
+    number: DeliveryNo,
+    message: Message<A>,
+    branches: Branches<A>,
+) -> Option<(Delivery<A>, Vec<BufferNo, A>)>
+    ensures delivery { IfSome result
+        (λ opened. opened.0 ≡ record {
+          number = number;
+          message = meaning message;
+          tag = branches.tag;
+          leaves = branches.leaves.items;
+          receipts = [];
+        }) }
+    ensures buffers { IfSome result (λ opened. opened.1 ≡ branches.buffers) }
+{
+    let Branches {
+        tag,
+        buffers,
+        leaves,
+    } = branches;
+    match Delivery::begin_as(alloc, number, message, tag.as_bytes(), leaves) {
+        Ok(delivery) => Some((delivery, buffers)),
+        Err(_) => None,
+    }
+}
+
+// Appends a delivery to these buffers, and lets it wait behind the others. Where a buffer refuses,
+// it is abandoned.
+fn store<R: Wait, D: Dir + Drop, A: Allocator + Copy>(
+    rt: &R,
+    delivery: Delivery<A>,
+    reserved: Reserved<A>,
+    buffers: Vec<BufferNo, A>,
+    waiting: &mut Vec<Waiting<A>, A>,
+    lanes: &mut Lanes<D, A>,
+)
+    requires reserved { reserved ≡ record { asked = asked_of delivery.message; filled = None } }
+    requires entries { HasEntries delivery buffers.items }
+    requires same { map (λ leaf. leaf.buffer) delivery.leaves
+        ≡ map (λ buffer. buffer.0) buffers.items }
+    requires room { vec_len waiting.old < vec_capacity waiting.old }
+    ensures lanes { KeepsLanes lanes.old lanes.new }
+    ensures time { lanes.new.time ≡ lanes.old.time }
+    ensures waits { (waiting.new.items ≡ waiting.old.items)
+        ⊎ ((more : OneMoreWaits waiting.old.items waiting.new.items)
+        × (more.one.awaited ≡ awaited_by delivery)) }
+{
+    match Waiting::begin(rt, lanes, delivery, reserved, buffers) {
+        Ok(one) => waiting.push_reserved(one),
+        Err(stub) => lanes.settle(rt, stub),
     }
 }
 
