@@ -162,11 +162,7 @@ static UNREAD: [Purge; 2] = [
 
 // Whether a chunk of a buffer in this folder goes so, where the device fails the first call behind
 // the opening, the append and the queueing.
-fn goes_once_read<R: Wait, D: Dir + Drop>(
-    alloc: Global,
-    rt: &R,
-    dir: D,
-) -> Result<bool, Fail> {
+fn goes_once_read<R: Wait, D: Dir + Drop>(alloc: Global, rt: &R, dir: D) -> Result<bool, Fail> {
     goes(alloc, rt, Fuse::once(dir, 9), &UNREAD)
 }
 
