@@ -2,3 +2,4 @@ pub mod Held
 pub mod Redeem
 pub mod Steady
 pub mod Asking
+pub mod Appending

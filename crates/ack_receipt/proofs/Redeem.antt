@@ -1,5 +1,5 @@
 -- Appends that wait, one after another.
-use Rattle.std.proofs.Common.{◌≡◌, ◌≢◌, ◌+◌, ◌<◌, ◌≤◌, ℕ, zero, suc, Bool, true, false, cond, List, [], ◌∷◌, ◌++◌, length, get_or, take, None, refl, sym, ap, subst, ◌∙◌, arith}
+use Rattle.std.proofs.Common.{◌≡◌, ◌≢◌, ◌+◌, ◌<◌, ◌≤◌, ℕ, zero, suc, Bool, true, false, cond, List, [], ◌∷◌, ◌++◌, length, map, get_or, take, None, refl, sym, ap, subst, ◌∙◌, arith, append-nil}
 use Rattle.std.specs.Prelude.{All}
 use Rattle.std.specs.Ordering.{nat_cmp}
 use Rattle.std.specs.BTreeMap.{is_at}
@@ -10,8 +10,9 @@ use Rattle.buffer_state.proofs.Serials.{at_same}
 use Rattle.book_audit.specs.declared.line.Leaf.{Leaf}
 use Rattle.book_audit.specs.declared.line.Line.{Line}
 use Rattle.buffer_book.specs.Books.{waiting_at}
-use Rattle.ack_receipt.specs.Deliveries.{Pended}
-use Rattle.ack_receipt.specs.Redeeming.{AreApart, AreBefore, IsRedeemable}
+use Rattle.buffer_book.specs.declared.past.Written.{Written}
+use Rattle.ack_receipt.specs.Deliveries.{Appended, Pended}
+use Rattle.ack_receipt.specs.Redeeming.{AreApart, AreBefore, AreReceiptsOf, AreWritten, IsRedeemable, numbers_from, origin_of, origin_of_pending, written_of}
 
 abbrev Apart : Pended → Pended → Type 0
 Apart one other = one.place ≢ other.place
@@ -49,3 +50,28 @@ rises_more ps i d next less above apart before =
       subst AreApart (sym more) (all_pairs_push Apart (take i ps) p apart (λ k e inside same. let b = All-get_or (λ (q : Pended). q.place < next) (take i ps) k e inside before in absurd (let z = same in omega arith))),
       subst (AreBefore (p.place + 1)) (sym more) (All-push (λ (q : Pended). q.place < p.place + 1) (take i ps) p (All-weaker (λ (q : Pended). q.place < next) (λ (q : Pended). q.place < p.place + 1) (λ q b. omega arith) (take i ps) before) (omega arith)),
     )
+
+-- a receipt of each was made
+pub all_made : (leaf : Leaf) (waiting : List (ℕ × Line)) (pendings rest : List Pended) (receipts : List Appended) → rest ≡ []
+    → map origin_of receipts ++ map origin_of_pending rest ≡ map origin_of_pending pendings → All (IsRedeemable leaf waiting) pendings → AreReceiptsOf leaf pendings receipts
+all_made leaf waiting pendings rest receipts none made can = record {
+  same = sym (append-nil (map origin_of receipts)) ∙ ap (λ (ps : List Pended). map origin_of receipts ++ map origin_of_pending ps) (sym none) ∙ made;
+  own = All-weaker (IsRedeemable leaf waiting) (λ (p : Pended). p.leaf ≡ leaf) (λ p r. r.own) pendings can;
+}
+
+-- and a line
+pub all_written : (old new : List Written) (pendings rest : List Pended) (receipts : List Appended) → rest ≡ []
+    → new ++ map written_of rest ≡ old ++ map written_of pendings
+    → map (λ receipt. receipt.line) receipts ++ numbers_from (length new) rest ≡ numbers_from (length old) pendings → AreWritten pendings receipts old new
+unfolding numbers_from
+all_written old new pendings rest receipts none lines named = record {
+  lines = sym (append-nil new) ∙ ap (λ (ps : List Pended). new ++ map written_of ps) (sym none) ∙ lines;
+  named = sym (append-nil (map (λ (r : Appended). r.line) receipts))
+      ∙ ap (λ (ps : List Pended). map (λ (r : Appended). r.line) receipts ++ numbers_from (length new) ps) (sym none) ∙ named;
+}
+
+-- there is room for all where none was made
+pub room_first : {X : Type 0} (items : List X) (len count given room : ℕ) → len ≡ length items → items ≡ [] → count ≡ given → given ≤ room → len + count ≤ room
+room_first items len count given room is none same fits =
+    let empty : length items ≡ 0 = ap (λ xs. length xs) none in
+    omega arith

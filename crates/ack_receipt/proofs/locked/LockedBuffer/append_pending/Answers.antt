@@ -1,6 +1,7 @@
-use Rattle.std.proofs.Common.{subst}
+use Rattle.std.proofs.Common.{sym, subst, ◌∙◌}
 use Rattle.std.specs.Prelude.{Ok}
 use Rattle.buffer_book.specs.Books.{Book, Steady}
+use Rattle.ack_receipt.proofs.Appending.{appends_so, lines_so, stays_itself, stays_so, waits_so}
 use Rattle.ack_receipt.proofs.Steady.{steady_ok}
 use Rattle.ack_receipt.proofs.locked.LockedBuffer.append_pending.Goals as goal
 
@@ -8,3 +9,25 @@ pub returns-clause-steady : goal.returns-clause-steady
 returns-clause-steady g c =
     let same = subst (λ (b : Book g.row.D.Denot). Steady b.buffer c.append_pending.new.self.buffer (Ok c.in_ok-serial.field-0)) c.self.view_is c.in_ok-serial.ensures.steady in
     steady_ok c.args.self.now.buffer c.append_pending.new.self.buffer c.in_ok-serial.field-0 _ same
+
+pub returns-clause-appended : goal.returns-clause-appended
+returns-clause-appended g c =
+    appends_so c.number.result c.args.delivery.now.number c.in_ok-serial.field-0.serial c.tag-tag.result.now c.args.delivery.now.tag c.entries-entries.result.now c.args.delivery.now.message.entries
+    c.self.inside.booked c.args.self.now c.append_pending.new.self c.number.ensures c.tag-tag.ensures c.entries-entries.ensures c.self.view_is c.in_ok-serial.ensures.noted
+
+pub returns-clause-waits : goal.returns-clause-waits
+returns-clause-waits g c =
+    waits_so c.append_pending.new.self.waiting c.in_ok-serial.field-0.place c.number.result c.number-2.result c.in_ok-serial.field-0.serial c.count.result c.entries-entries.result.now
+    (c.number.ensures ∙ sym c.number-2.ensures) c.count.ensures c.in_ok-serial.ensures.waits
+
+pub returns-clause-lines : goal.returns-clause-lines
+returns-clause-lines g c = lines_so c.self.inside.booked c.args.self.now c.append_pending.new.self c.self.view_is c.append_pending.ensures.lines
+
+pub returns-in_err-plan-clause-same : goal.returns-in_err-plan-clause-same
+returns-in_err-plan-clause-same g c = stays_itself c.from_residual.result c.args.self.now
+
+pub returns-in_err-room-clause-same : goal.returns-in_err-room-clause-same
+returns-in_err-room-clause-same g c = stays_itself c.from_residual-in_err-room.result c.args.self.now
+
+pub returns-in_err-serial-clause-same : goal.returns-in_err-serial-clause-same
+returns-in_err-serial-clause-same g c = stays_so c.from_residual-in_err-serial.result c.self.inside.booked c.args.self.now c.append_pending.new.self c.self.view_is c.in_err-serial.ensures.same

@@ -1,9 +1,16 @@
-use Rattle.std.proofs.Common.{ℕ, ◌≡◌, List, ap, subst, sym, ◌∙◌}
-use Rattle.std.specs.Prelude.{All}
+use Rattle.std.proofs.Common.{ℕ, ◌≡◌, ◌⊎◌, inl, inr, List, length, Result, Err, ap, subst, sym, ◌∙◌}
+use Rattle.std.specs.Prelude.{All, ◌↔◌}
+use Rattle.std.proofs.lemmas.Bool.{false≢true}
+use Rattle.book_audit.specs.declared.line.Leaf.{Leaf}
 use Rattle.book_audit.specs.declared.line.Line.{Line}
-use Rattle.buffer_book.specs.Books.{Book}
+use Rattle.buffer_book.specs.Books.{Book, Syncs}
+use Rattle.buffer_book.specs.declared.past.Written.{Written}
+use Rattle.buffer_store.specs.declared.fault.BufferFault.{BufferFault}
+use Rattle.buffer_store.specs.declared.fault.BufferFault.TheVariants.{Failed, Fault, Memory}
 use Rattle.ack_receipt.specs.Deliveries.{Pended}
-use Rattle.ack_receipt.specs.Redeeming.{AreApart, AreBefore, IsRedeemable}
+use Rattle.ack_receipt.specs.declared.fault.RedeemFault.TheVariants.{Buffer, Stranger}
+use Rattle.ack_receipt.specs.Redeeming.{AreApart, AreBefore, AreReceiptsOf, AreWritten, CanRedeem, IsRedeemable, IsUnredeemed}
+use Rattle.ack_receipt.specs.Terms.{Terms}
 use Rattle.ack_receipt.proofs.locked.LockedBuffer.redeem.Goals as goal
 
 -- the device isn't touched where all of them are synced
@@ -11,6 +18,34 @@ quiet_so : {D : Type 0} (R : Type 0) (old now new : Book D) (seen all : List Pen
 quiet_so R old now new seen all same is quiet before =
     let there = subst (λ (n : ℕ). AreBefore n seen) (sym (ap (λ b. b.synced) same)) (subst (λ (pendings : List Pended). AreBefore now.synced pendings) (sym is) before) in
     ap (λ b. b.buffer) ((quiet there).1 ∙ same)
+
+-- receipts can be made of all of them
+may : {D A : Type 0} (terms : Terms A) (leaf : Leaf) (old now : Book D) (first second all : List Pended) → leaf ≡ terms.leaf → old ≡ now → first ≡ all → second ≡ all
+    → All (IsRedeemable leaf old.waiting) first → AreApart second → CanRedeem terms.leaf now.waiting all
+may terms leaf old now first second all named same one other waits apart = (
+  subst (λ (l : Leaf). All (IsRedeemable l now.waiting) all) named
+      (subst (λ (b : Book _). All (IsRedeemable leaf b.waiting) all) same (subst (All (IsRedeemable leaf old.waiting)) one waits)),
+  subst AreApart other apart,
+)
+
+-- then it is no stranger that was met
+met_none : (fault : BufferFault) (P : Type 0) → P → (Buffer fault ≡ Stranger) ↔ (P → ⊥)
+met_none fault P p = ((λ (e : Buffer fault ≡ Stranger). absurd (cc)), (λ no. absurd (no p)))
+
+-- what was synced before the receipts were made
+syncs_on : {D : Type 0} (old now between new : Book D) → old ≡ now → Syncs old between → new.buffer ≡ between.buffer → new.appends ≡ between.appends → new.synced ≡ between.synced → Syncs now new
+syncs_on old now between new same (inl stays) buffer appends synced = inl (synced ∙ stays ∙ ap (λ b. b.synced) same)
+syncs_on old now between new same (inr all) buffer appends synced =
+    inr (synced ∙ all.0 ∙ sym (ap (λ (xs : List Line). length xs) appends), ap (λ b. b.staged) buffer ∙ all.1)
+
+-- why the device gave none
+unmet : (why : BufferFault) → (◌≡◌ {A = Result (Unit {0}) BufferFault} (Err why) (Err Failed)) ⊎ (◌≡◌ {A = Result (Unit {0}) BufferFault} (Err why) (Err Fault)) → IsUnredeemed (Buffer why)
+unmet why (inl e) = inr (inl (ap (λ (f : BufferFault). Buffer f) (let z = e in cc)))
+unmet why (inr e) = inr (inr (inr (ap (λ (f : BufferFault). Buffer f) (let z = e in cc))))
+
+-- a fault that is the buffer's own is the device's
+own_fault : (fault : BufferFault) (P : Type 0) → (◌≡◌ {A = Result (Unit {0}) BufferFault} (Err fault) (Err Failed) → P) → Buffer fault ≡ Buffer Failed → P
+own_fault fault P tells e = tells (ap {B = Result (Unit {0}) BufferFault} (λ (f : BufferFault). Err f) (let same : fault ≡ Failed = cc in same))
 
 pub made-requires-clause-can : goal.made-requires-clause-can
 made-requires-clause-can g c =
@@ -36,3 +71,60 @@ returns-in-Ok-sync_for-clause-quiet g c =
 pub returns-in-Err-clause-quiet : goal.returns-in-Err-clause-quiet
 returns-in-Err-clause-quiet g c =
     λ before. quiet_so _ c.self.inside.booked c.args.self.now c.sync_for.new.booked c.deref-2.result.now c.args.pendings.items c.self.view_is c.deref-2.ensures.value c.sync_for.ensures.quiet before
+
+pub sync_for-requires : goal.sync_for-requires
+sync_for-requires g c =
+    subst (λ (pendings : List Pended). All (IsRedeemable c.terms.inside.leaf c.self.inside.booked.waiting) pendings) (c.deref.ensures.value ∙ sym c.deref-2.ensures.value)
+    (c.are_waiting.ensures.0 c.if-not-are_waiting.false)
+
+pub returns-then-has_failed-clause-stranger : goal.returns-then-has_failed-clause-stranger
+returns-then-has_failed-clause-stranger g c =
+    met_none Failed _ (may c.args.terms.now c.terms.inside.leaf c.self.inside.booked c.args.self.now c.deref.result.now c.deref-else-not-are_waiting.result.now c.args.pendings.items
+    (ap (λ t. t.leaf) c.terms.view_is) c.self.view_is c.deref.ensures.value c.deref-else-not-are_waiting.ensures.value
+    (c.are_waiting.ensures.0 c.if-not-are_waiting.false) (c.are_apart.ensures.0 c.if-not-are_apart.false))
+
+pub returns-in_default-clause-stranger : goal.returns-in_default-clause-stranger
+returns-in_default-clause-stranger g c =
+    met_none Memory _ (may c.args.terms.now c.terms.inside.leaf c.self.inside.booked c.args.self.now c.deref.result.now c.deref-else-not-are_waiting.result.now c.args.pendings.items
+    (ap (λ t. t.leaf) c.terms.view_is) c.self.view_is c.deref.ensures.value c.deref-else-not-are_waiting.ensures.value
+    (c.are_waiting.ensures.0 c.if-not-are_waiting.false) (c.are_apart.ensures.0 c.if-not-are_apart.false))
+
+pub returns-in-Err-clause-stranger : goal.returns-in-Err-clause-stranger
+returns-in-Err-clause-stranger g c =
+    met_none c.in-Err.fault _ (may c.args.terms.now c.terms.inside.leaf c.self.inside.booked c.args.self.now c.deref.result.now c.deref-else-not-are_waiting.result.now c.args.pendings.items
+    (ap (λ t. t.leaf) c.terms.view_is) c.self.view_is c.deref.ensures.value c.deref-else-not-are_waiting.ensures.value
+    (c.are_waiting.ensures.0 c.if-not-are_waiting.false) (c.are_apart.ensures.0 c.if-not-are_apart.false))
+
+pub returns-in-Ok-sync_for-clause-ok : goal.returns-in-Ok-sync_for-clause-ok
+returns-in-Ok-sync_for-clause-ok g c =
+    subst (λ (t : Terms _). AreReceiptsOf t.leaf c.args.pendings.items c.made.result.items) c.terms.view_is c.made.ensures.made
+
+pub returns-in-Ok-sync_for-clause-written : goal.returns-in-Ok-sync_for-clause-written
+returns-in-Ok-sync_for-clause-written g c =
+    subst (λ (lines : List Written). AreWritten c.args.pendings.items c.made.result.items lines c.made.new.booked.lines)
+    (ap (λ b. b.lines) c.sync_for.ensures.rest ∙ ap (λ b. b.lines) c.self.view_is) c.made.ensures.written
+
+pub returns-in-Ok-sync_for-clause-syncs : goal.returns-in-Ok-sync_for-clause-syncs
+returns-in-Ok-sync_for-clause-syncs g c =
+    syncs_on c.self.inside.booked c.args.self.now c.sync_for.new.booked c.made.new.booked c.self.view_is c.sync_for.ensures.syncs c.made.ensures.buffer c.made.ensures.appends c.made.ensures.synced
+
+pub returns-in-Ok-sync_for-clause-chunks : goal.returns-in-Ok-sync_for-clause-chunks
+returns-in-Ok-sync_for-clause-chunks g c =
+    ap (λ h. h.chunks) c.made.ensures.buffer ∙ c.sync_for.ensures.chunks ∙ ap (λ b. b.buffer.chunks) c.self.view_is
+
+pub returns-in-Ok-sync_for-clause-appends : goal.returns-in-Ok-sync_for-clause-appends
+returns-in-Ok-sync_for-clause-appends g c =
+    c.made.ensures.appends ∙ ap (λ b. b.appends) c.sync_for.ensures.rest ∙ ap (λ b. b.appends) c.self.view_is
+
+pub returns-in-Ok-sync_for-clause-stopped : goal.returns-in-Ok-sync_for-clause-stopped
+returns-in-Ok-sync_for-clause-stopped g c =
+    λ failed. absurd (false≢true (sym c.if-has_failed.false ∙ c.has_failed.ensures ∙ ap (λ b. b.buffer.failed) c.self.view_is ∙ failed))
+
+pub returns-in-Err-clause-syncs : goal.returns-in-Err-clause-syncs
+returns-in-Err-clause-syncs g c = subst (λ (b : Book _). Syncs b c.sync_for.new.booked) c.self.view_is c.sync_for.ensures.syncs
+
+pub returns-in-Err-clause-only : goal.returns-in-Err-clause-only
+returns-in-Err-clause-only g c = unmet c.in-Err.fault c.in-Err.ensures.only
+
+pub returns-in-Err-clause-failed : goal.returns-in-Err-clause-failed
+returns-in-Err-clause-failed g c = λ e. sym (ap (λ b. b.buffer.failed) c.self.view_is) ∙ own_fault c.in-Err.fault _ c.in-Err.ensures.failed e

@@ -1,13 +1,13 @@
-use Rattle.std.proofs.Common.{◌≡◌, ◌∙◌, ◌++◌, ◌∷◌, [], ◌<◌, ◌+◌, ℕ, List, length, map, sym, ap, subst, arith, append_assoc}
+use Rattle.std.proofs.Common.{◌≡◌, ◌∙◌, ◌++◌, ◌∷◌, [], ◌<◌, ◌+◌, ℕ, List, length, map, refl, sym, ap, subst, arith, append_assoc}
 use Rattle.std.specs.Prelude.{All}
 use Rattle.std.specs.Vec.Iter.{into_iter_items}
-use Rattle.std.proofs.lemmas.List.{length-append, map-append}
+use Rattle.std.proofs.lemmas.List.{length-append, map-append, nil_from_length}
 use Rattle.std.proofs.lemmas.List.Elements.{All-head, All-tail}
 use Rattle.buffer_book.specs.Books.{Book}
 use Rattle.buffer_book.specs.declared.past.Written.{Written}
 use Rattle.ack_receipt.specs.Deliveries.{Appended, Pended}
 use Rattle.ack_receipt.specs.Redeeming.{AreApart, AreBefore, IsRedeemable, Origin, numbers_from, origin_of, origin_of_pending, written_of}
-use Rattle.ack_receipt.proofs.Redeem.{apart_head, apart_tail, waits_on}
+use Rattle.ack_receipt.proofs.Redeem.{all_made, all_written, apart_head, apart_tail, room_first, waits_on}
 use Rattle.ack_receipt.proofs.locked.redeeming.made.Goals as goal
 
 pub receipt_of-requires-clause-waits : goal.receipt_of-requires-clause-waits
@@ -61,3 +61,31 @@ loop-pending-preserved g c =
       appends = ap (λ (k : Book g.row.D.Denot). k.appends) r ∙ c.loop-pending.invariant.appends;
       synced = ap (λ (k : Book g.row.D.Denot). k.synced) r ∙ c.loop-pending.invariant.synced;
     }
+
+pub loop-pending-init : goal.loop-pending-init
+loop-pending-init g c =
+    let rest : List Pended = into_iter_items c.into_iter-rest.result in
+    let is : rest ≡ c.args.pendings.items = c.into_iter-rest.ensures.rest in
+    let lines = c.args.booked.now.lines in
+    record {
+      made = ap (λ (rs : List Appended). map origin_of rs ++ map origin_of_pending rest) c.requires.empty ∙ ap (λ (ps : List Pended). map origin_of_pending ps) is;
+      lines = ap (λ (ps : List Pended). lines ++ map written_of ps) is;
+      named = ap (λ (rs : List Appended). map (λ (r : Appended). r.line) rs ++ numbers_from (length lines) rest) c.requires.empty ∙ ap (λ (ps : List Pended). numbers_from (length lines) ps) is;
+      room = room_first c.args.receipts.items _ _ _ _ c.args.receipts.ok.0 c.requires.empty c.into_iter-rest.ensures.len c.requires.room;
+      waits = subst (All (IsRedeemable c.args.leaf c.args.booked.now.waiting)) (sym is) c.requires.can.0;
+      apart = subst AreApart (sym is) c.requires.can.1;
+      before = subst (AreBefore c.args.booked.now.synced) (sym is) c.requires.synced;
+      buffer = refl;
+      appends = refl;
+      synced = refl;
+    }
+
+pub returns-clause-made : goal.returns-clause-made
+returns-clause-made g c =
+    all_made c.args.leaf c.args.booked.now.waiting c.args.pendings.items (into_iter_items c.loop-pending.rest) c.loop-pending.receipts.items
+    (nil_from_length (into_iter_items c.loop-pending.rest) (sym c.loop-pending.rest.rest.ok.0 ∙ c.in_default.ensures.cases.0)) c.loop-pending.invariant.made c.requires.can.0
+
+pub returns-clause-written : goal.returns-clause-written
+returns-clause-written g c =
+    all_written c.args.booked.now.lines c.loop-pending.booked.lines c.args.pendings.items (into_iter_items c.loop-pending.rest) c.loop-pending.receipts.items
+    (nil_from_length (into_iter_items c.loop-pending.rest) (sym c.loop-pending.rest.rest.ok.0 ∙ c.in_default.ensures.cases.0)) c.loop-pending.invariant.lines c.loop-pending.invariant.named
