@@ -1,6 +1,6 @@
 //! A client's connection, without its socket.
 
-ghost use Rattle.std.specs.Prelude.{◌≡◌, ◌≤◌, ◌<◌, ◌+◌, ◌⊎◌, ◌↔◌, ◌||◌, [], ◌∷◌, Bool, List, true, false, not, drop, length, map, vec_len, vec_capacity, All, Contains, None, IfOk, IfSome, OnOk, OnErr, IsTrue};
+ghost use Rattle.std.specs.Prelude.{◌≡◌, ◌≤◌, ◌<◌, ◌+◌, ◌⊎◌, ◌↔◌, ◌||◌, [], Bool, List, true, false, not, drop, length, map, vec_len, vec_capacity, All, Contains, None, IfOk, IfSome, OnOk, OnErr, IsTrue};
 ghost use Rattle.ack_receipt.specs.Reservations.{Asked, asked_of};
 ghost use Rattle.event_modes.specs.Reading.{meaning};
 ghost use Rattle.buffer_lanes.specs.Lanes.{KeepsLanes, NoneLater};
