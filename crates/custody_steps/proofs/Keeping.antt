@@ -1,5 +1,5 @@
 -- What is known of every world stays known, and what a change of what is kept is to the world.
-use Rattle.std.proofs.Common.{◌≡◌, ℕ, ◌<◌, ◌≤◌, true, false, List, [], ◌∷◌, ◌++◌, length, Option, Some, None, option_map, slice_get, refl, sym, ap, ◌∙◌, arith, IsSomeAnd, OnOk, OnErr, Result, Ok, Err, IsTrue, ◌↔◌, is_some, IsSome}
+use Rattle.std.proofs.Common.{◌≡◌, ℕ, ◌<◌, ◌≤◌, false, List, [], ◌∷◌, ◌++◌, length, Option, Some, None, option_map, slice_get, refl, sym, ap, ◌∙◌, Bool, arith, IsSomeAnd, OnOk, OnErr, Result, Ok, Err, IsTrue, ◌↔◌, is_some, IsSome}
 use Rattle.std.specs.Option.{option_copied}
 use denote.Ref.{Bor}
 use Rattle.std.proofs.lemmas.List.{length_push}
@@ -241,11 +241,7 @@ appended_world places made after book new number buffer serial d at m sent same 
     ∙ ap (λ (x : World). with_buffer x d.entrance.relay buffer change) (same_world places made same book))
     ∙ rw (shown places book number d at, ← sent) refl
 
--- what a reference was found to, or wasn't
-pub absent : {X : Type 0} (o : Option (Bor X)) (y : Option X) → is_some o ≡ false → option_copied o ≡ y → ¬ IsSome y
-absent None y e same h = let there = rw (← same) at h in absurd (cc)
-absent (Some x) y e same h = absurd (cc)
-
-pub present : {X : Type 0} (o : Option (Bor X)) (y : Option X) → is_some o ≡ true → option_copied o ≡ y → IsSome y
-present None y e same = absurd (cc)
-present (Some x) y e same = rw (← same) refl
+-- whether there is what a reference is found to
+pub is_present : {X : Type 0} (o : Option (Bor X)) (y : Option X) (r : Bool) → r ≡ is_some o → option_copied o ≡ y → IsTrue r ↔ IsSome y
+is_present None y r e same = (λ yes. rw (← same) (sym e ∙ yes), λ h. e ∙ (rw (← same) at h))
+is_present (Some x) y r e same = (λ yes. rw (← same) (sym e ∙ yes), λ h. e ∙ (rw (← same) at h))

@@ -6,8 +6,10 @@ pub mod Given
 pub mod Keeping
 pub mod Named
 pub mod Oldest
+pub mod Opening
 pub mod Sendings
 pub mod StartingAgain
+pub mod Taken
 pub mod Tellings
 pub mod Views
 pub mod Ways

@@ -1,21 +1,49 @@
 -- Leaves of a message, as its way shows them.
-use Rattle.std.proofs.Common.{◌≡◌, ◌≢◌, ℕ, zero, suc, ◌<◌, ◌==◌, Bool, true, false, List, [], ◌∷◌, length, get_or, refl, arith, Contains, IsTrue, ◌↔◌, MatchBool}
+use Rattle.std.proofs.Common.{◌≡◌, ◌≢◌, ℕ, zero, suc, ◌<◌, ◌==◌, Bool, true, false, List, [], ◌∷◌, length, get_or, refl, arith, sym, Contains, IsTrue, ◌↔◌, MatchBool}
 use Rattle.std.specs.List.{IsAnyAnswer, AllWithin, HoldsAt}
 use Rattle.std.proofs.lemmas.Bool.{eqb-true, eq-eqb}
 use Rattle.std.specs.declared.vec.Vec.{Vec}
 use Rattle.custody_store.proofs.Members.{contains_shown, shown_contains}
 use Rattle.relay_conf.specs.declared.output.BufferNo.{BufferNo}
 use Rattle.relay_net.specs.Network.{Network}
-use Rattle.relay_net.specs.Ways.{HasLeaf, table_at}
+use Rattle.relay_net.specs.Ways.{HasLeaf, HasLoop, table_at}
 use Rattle.relay_net.specs.declared.address.Entrance.{Entrance}
 use Rattle.route_graph.specs.Listing.{numbers_of}
-use Rattle.route_graph.specs.Ways.{IsLeaf}
+use Rattle.route_graph.specs.Ways.{IsLeaf, IsLoop}
 use Rattle.step_lines.specs.Texts.{texts_of}
+use Rattle.custody_steps.proofs.Keeping.{never}
 
--- a message with texts has entries
-pub some_entries : {A : Type 0} (texts : List (Vec ℕ A)) (entries : List (List ℕ)) → texts_of texts ≡ entries → (length texts ≡ 0 → ⊥) → entries ≢ []
-some_entries [] entries e h none = h refl
-some_entries (t ∷ texts) entries e h none = cc
+-- a message with texts has entries, and one without has none
+pub some_texts : {A : Type 0} (texts : List (Vec ℕ A)) (entries : List (List ℕ)) → texts_of texts ≡ entries → (length texts == 0) ≡ false → entries ≢ []
+some_texts [] entries e h none = absurd (cc)
+some_texts (t ∷ texts) entries e h none = cc
+
+no_texts : {A : Type 0} (texts : List (Vec ℕ A)) (entries : List (List ℕ)) → texts_of texts ≡ entries → (length texts == 0) ≡ true → entries ≡ []
+no_texts [] entries e h = sym e
+no_texts (t ∷ texts) entries e h = let none : length (t ∷ texts) ≡ 0 = eqb-true (length (t ∷ texts)) 0 h in absurd (omega arith)
+
+-- Of a message with these texts.
+module _ {A B : Type 0} (net : Network B) (at : Entrance) (tag : List ℕ) (texts : List (Vec ℕ A)) (entries : List (List ℕ)) (are : texts_of texts ≡ entries) where
+  -- where there are none
+  module _ (none : (length texts == 0) ≡ true) where
+    pub empty_is_no_loop : IsTrue false ↔ HasLoop net at tag entries
+    empty_is_no_loop = never _ (λ h. h.0 (no_texts texts entries are none))
+
+    pub empty_has_no_leaf : (buffer : ℕ) → IsTrue false ↔ HasLeaf net at tag entries buffer
+    empty_has_no_leaf buffer = never _ (λ h. h.0 (no_texts texts entries are none))
+
+    pub empty_is_whole : (appended : List ℕ) → IsTrue true ↔ ((buffer : ℕ) → HasLeaf net at tag entries buffer → Contains appended buffer)
+    empty_is_whole appended = (λ _ buffer leaf. absurd (leaf.0 (no_texts texts entries are none)), λ _. refl)
+
+  -- where there are some
+  pub loop_is : (length texts == 0) ≡ false → IsLoop (table_at net at.relay) tag at.scope → HasLoop net at tag entries
+  loop_is some loop = (some_texts texts entries are some, loop)
+
+  pub loop_too : (length texts == 0) ≡ false → IsLoop (table_at net at.relay) tag at.scope → IsTrue true ↔ HasLoop net at tag entries
+  loop_too some loop = (λ _. loop_is some loop, λ _. refl)
+
+  pub no_loop_too : ¬ IsLoop (table_at net at.relay) tag at.scope → IsTrue false ↔ HasLoop net at tag entries
+  no_loop_too not = never _ (λ h. not h.1)
 
 same_default : (xs : List BufferNo) (k : ℕ) (d : BufferNo) → k < length xs → get_or xs k d ≡ get_or xs k (get_or xs k d)
 same_default [] k d less = absurd (omega arith)

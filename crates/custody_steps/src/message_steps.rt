@@ -1,6 +1,6 @@
 //! The steps on messages and their deliveries; a chunk that is forwarded is one more message.
 
-ghost use Rattle.std.specs.Prelude.{◌≡◌, ◌↔◌, ◌<◌, ℕ, length, true, Contains, IsTrue, IsSomeAnd, IfSome, IfOk, OnOk, OnErr, slice_get};
+ghost use Rattle.std.specs.Prelude.{◌≡◌, ◌↔◌, ◌<◌, ℕ, length, true, Contains, IsTrue, IsSome, IsSomeAnd, IfSome, IfOk, IfErr, OnOk, OnErr, slice_get};
 ghost use Rattle.tag_pattern.specs.Parts.{most_tag_bytes};
 
 use crate::fault::StepFault;
@@ -204,17 +204,41 @@ impl<'n, A: Allocator + Copy> World<'n, A> {
             (Step.Append delivery buffer serial) (world_of self.new) result }
     {
         let (number, buffer, serial) = (delivery as usize, buffer as usize, serial as usize);
-        let Some(found) = self.book.delivery(number) else {
-            return Err(StepFault::NoSuch);
-        };
-        if self.net.output(found.entrance().relay, buffer).is_none() {
+        if !self.has_output(number, buffer) {
             return Err(StepFault::NoSuch);
         }
-        if !self.can_append(number, buffer, serial)? {
-            return Err(StepFault::NotAllowed);
+        match self.can_append(number, buffer, serial) {
+            Ok(true) => self.append_there(number, buffer, serial),
+            Ok(false) => Err(StepFault::NotAllowed),
+            Err(_refused) => Err(StepFault::Memory),
         }
-        self.take_in(number, buffer, serial)?;
-        Ok(())
+    }
+
+    // Whether the delivery is there, and its relay has an output of this buffer.
+    fn has_output(&self, number: usize, buffer: usize) -> bool
+        ensures { IsTrue result ↔ IsSomeAnd (slice_get (world_of self.now).deliveries number)
+            (λ d. IsSome (output_at (net_of self.now) d.entrance.relay buffer)) }
+    {
+        match self.book.delivery(number) {
+            Some(found) => self.net.output(found.entrance().relay, buffer).is_some(),
+            None => false,
+        }
+    }
+
+    // Appends a delivery that may be appended, as a step.
+    fn append_there(&mut self, number: usize, buffer: usize, serial: usize) -> Result<(), StepFault>
+        requires { OfDelivery (world_of self.old) number
+            (λ d m. CanAppend (net_of self.old) (world_of self.old) d m buffer serial) }
+        ensures net { net_of self.new ≡ net_of self.old }
+        ensures ok { OnOk result
+            (world_of self.new ≡ with_appended (world_of self.old) number buffer serial) }
+        ensures err { IfErr result
+            (λ e. (e ≡ StepFault.Memory) × (world_of self.new ≡ world_of self.old)) }
+    {
+        match self.take_in(number, buffer, serial) {
+            Ok(()) => Ok(()),
+            Err(_refused) => Err(StepFault::Memory),
+        }
     }
 
     // Appends a delivery that may be appended. An `Err` changes nothing.
