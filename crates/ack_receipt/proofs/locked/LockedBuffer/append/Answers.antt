@@ -1,8 +1,9 @@
-use Rattle.std.proofs.Common.{subst}
+use Rattle.std.proofs.Common.{ap, subst}
 use Rattle.std.specs.Prelude.{Ok}
+use Rattle.std.proofs.lemmas.Result.{err_from_is_err_and}
 use Rattle.buffer_book.specs.Books.{Book, Steady}
 use Rattle.ack_receipt.proofs.Appending.{appends_so, stays_itself, stays_so, writes_so}
-use Rattle.ack_receipt.proofs.Steady.{steady_ok}
+use Rattle.ack_receipt.proofs.Steady.{steady_memory, steady_ok, steady_refused, steady_unasked}
 use Rattle.ack_receipt.proofs.locked.LockedBuffer.append.Goals as goal
 
 pub returns-clause-steady : goal.returns-clause-steady
@@ -28,3 +29,20 @@ returns-in_err-room-clause-same g c = stays_itself c.from_residual-in_err-room.r
 
 pub returns-in_err-serial-clause-same : goal.returns-in_err-serial-clause-same
 returns-in_err-serial-clause-same g c = stays_so c.from_residual-in_err-serial.result c.self.inside.booked c.args.self.now c.append.new.self c.self.view_is c.in_err-serial.ensures.same
+
+pub returns-in_err-plan-clause-steady : goal.returns-in_err-plan-clause-steady
+returns-in_err-plan-clause-steady g c =
+    let p = err_from_is_err_and c.from_residual.result c.from_residual.ensures.1 in
+    steady_unasked c.self.inside.booked.buffer c.args.self.now.buffer c.in_err-plan.field-0.0 p.0 c.from_residual.result (ap (λ b. b.buffer) c.self.view_is) p.1 p.2
+    c.in_err-plan.ensures.failed c.in_err-plan.ensures.quiet
+
+pub returns-in_err-room-clause-steady : goal.returns-in_err-room-clause-steady
+returns-in_err-room-clause-steady g c =
+    let p = err_from_is_err_and c.from_residual-in_err-room.result c.from_residual-in_err-room.ensures.1 in
+    steady_memory c.self.inside.booked.buffer c.args.self.now.buffer p.0 c.from_residual-in_err-room.result (ap (λ b. b.buffer) c.self.view_is) p.1 p.2 c.in_ok-plan.ensures.going
+
+pub returns-in_err-serial-clause-steady : goal.returns-in_err-serial-clause-steady
+returns-in_err-serial-clause-steady g c =
+    let p = err_from_is_err_and c.from_residual-in_err-serial.result c.from_residual-in_err-serial.ensures.1 in
+    steady_refused c.self.inside.booked.buffer c.args.self.now.buffer c.append.new.self.buffer c.in_err-serial.field-0.0 p.0 c.from_residual-in_err-serial.result (ap (λ b. b.buffer) c.self.view_is) p.1 p.2
+    c.in_err-serial.ensures.steady

@@ -1,4 +1,4 @@
-use Rattle.std.proofs.Common.{ℕ, ◌≡◌, ◌⊎◌, inl, inr, List, length, Result, Err, ap, subst, sym, ◌∙◌}
+use Rattle.std.proofs.Common.{ℕ, ◌≡◌, ◌⊎◌, inl, inr, Bool, true, false, List, length, Result, Err, refl, ap, subst, sym, ◌∙◌}
 use Rattle.std.specs.Prelude.{All, ◌↔◌}
 use Rattle.std.proofs.lemmas.Bool.{false≢true}
 use Rattle.book_audit.specs.declared.line.Leaf.{Leaf}
@@ -11,6 +11,7 @@ use Rattle.ack_receipt.specs.Deliveries.{Pended}
 use Rattle.ack_receipt.specs.declared.fault.RedeemFault.TheVariants.{Buffer, Stranger}
 use Rattle.ack_receipt.specs.Redeeming.{AreApart, AreBefore, AreReceiptsOf, AreWritten, CanRedeem, IsRedeemable, IsUnredeemed}
 use Rattle.ack_receipt.specs.Terms.{Terms}
+use Rattle.ack_receipt.proofs.locked.LockedBuffer.redeem.Goals.{then-not-are_waiting-via-then-not-are_waiting, then-not-are_waiting-via-else-not-are_waiting+then-not-are_apart}
 use Rattle.ack_receipt.proofs.locked.LockedBuffer.redeem.Goals as goal
 
 -- the device isn't touched where all of them are synced
@@ -27,6 +28,17 @@ may terms leaf old now first second all named same one other waits apart = (
       (subst (λ (b : Book _). All (IsRedeemable leaf b.waiting) all) same (subst (All (IsRedeemable leaf old.waiting)) one waits)),
   subst AreApart other apart,
 )
+
+-- nor can they where one of them doesn't wait, or is named twice
+not_waiting : {D A : Type 0} (terms : Terms A) (leaf : Leaf) (old now : Book D) (seen all : List Pended) (answer : Bool) → leaf ≡ terms.leaf → old ≡ now → seen ≡ all
+    → answer ≡ false → (All (IsRedeemable leaf old.waiting) seen → answer ≡ true) → CanRedeem terms.leaf now.waiting all → ⊥
+not_waiting terms leaf old now seen all answer named same is wrong tells can =
+    false≢true (sym wrong ∙ tells
+    (subst (λ (l : Leaf). All (IsRedeemable l old.waiting) seen) (sym named)
+    (subst (λ (b : Book _). All (IsRedeemable terms.leaf b.waiting) seen) (sym same) (subst (All (IsRedeemable terms.leaf now.waiting)) (sym is) can.0))))
+
+not_apart : (seen all : List Pended) (answer : Bool) → seen ≡ all → answer ≡ false → (AreApart seen → answer ≡ true) → AreApart all → ⊥
+not_apart seen all answer is wrong tells apart = false≢true (sym wrong ∙ tells (subst AreApart (sym is) apart))
 
 -- then it is no stranger that was met
 met_none : (fault : BufferFault) (P : Type 0) → P → (Buffer fault ≡ Stranger) ↔ (P → ⊥)
@@ -128,3 +140,32 @@ returns-in-Err-clause-only g c = unmet c.in-Err.fault c.in-Err.ensures.only
 
 pub returns-in-Err-clause-failed : goal.returns-in-Err-clause-failed
 returns-in-Err-clause-failed g c = λ e. sym (ap (λ b. b.buffer.failed) c.self.view_is) ∙ own_fault c.in-Err.fault _ c.in-Err.ensures.failed e
+
+pub returns-then-not-are_waiting-clause-stranger : goal.returns-then-not-are_waiting-clause-stranger
+returns-then-not-are_waiting-clause-stranger g c = (
+  (λ _ can. elim c.then-not-are_waiting.branch [
+    | then-not-are_waiting-via-then-not-are_waiting w ↦ not_waiting c.args.terms.now c.terms.inside.leaf c.self.inside.booked c.args.self.now c.deref.result.now c.args.pendings.items c.are_waiting.result
+        (ap (λ t. t.leaf) c.terms.view_is) c.self.view_is c.deref.ensures.value w.if-not-are_waiting.true c.are_waiting.ensures.1 can
+    | then-not-are_waiting-via-else-not-are_waiting+then-not-are_apart w ↦ not_apart w.deref-else-not-are_waiting.result.now c.args.pendings.items w.are_apart.result
+        w.deref-else-not-are_waiting.ensures.value w.if-not-are_apart.true w.are_apart.ensures.1 can.1
+  ]),
+  (λ _. refl),
+)
+
+pub returns-then-not-are_waiting-clause-quiet : goal.returns-then-not-are_waiting-clause-quiet
+returns-then-not-are_waiting-clause-quiet g c = λ _. refl
+
+pub returns-then-has_failed-clause-failed : goal.returns-then-has_failed-clause-failed
+returns-then-has_failed-clause-failed g c = λ _. sym (ap (λ b. b.buffer.failed) c.self.view_is) ∙ sym c.has_failed.ensures ∙ c.if-has_failed.true
+
+pub returns-in-Err-clause-chunks : goal.returns-in-Err-clause-chunks
+returns-in-Err-clause-chunks g c = c.sync_for.ensures.chunks ∙ ap (λ b. b.buffer.chunks) c.self.view_is
+
+pub returns-in-Err-clause-appends : goal.returns-in-Err-clause-appends
+returns-in-Err-clause-appends g c = ap (λ b. b.appends) c.sync_for.ensures.rest ∙ ap (λ b. b.appends) c.self.view_is
+
+pub returns-in-Err-clause-lines : goal.returns-in-Err-clause-lines
+returns-in-Err-clause-lines g c = ap (λ b. b.lines) c.sync_for.ensures.rest ∙ ap (λ b. b.lines) c.self.view_is
+
+pub returns-in-Err-clause-count : goal.returns-in-Err-clause-count
+returns-in-Err-clause-count g c = c.in-Err.ensures.count ∙ ap (λ b. b.synced) c.self.view_is
