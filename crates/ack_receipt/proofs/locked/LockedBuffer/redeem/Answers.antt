@@ -128,10 +128,6 @@ pub returns-in-Ok-sync_for-clause-appends : goal.returns-in-Ok-sync_for-clause-a
 returns-in-Ok-sync_for-clause-appends g c =
     c.made.ensures.appends ∙ ap (λ b. b.appends) c.sync_for.ensures.rest ∙ ap (λ b. b.appends) c.self.view_is
 
-pub returns-in-Ok-sync_for-clause-stopped : goal.returns-in-Ok-sync_for-clause-stopped
-returns-in-Ok-sync_for-clause-stopped g c =
-    λ failed. absurd (false≢true (sym c.if-has_failed.false ∙ c.has_failed.ensures ∙ ap (λ b. b.buffer.failed) c.self.view_is ∙ failed))
-
 pub returns-in-Err-clause-syncs : goal.returns-in-Err-clause-syncs
 returns-in-Err-clause-syncs g c = subst (λ (b : Book _). Syncs b c.sync_for.new.booked) c.self.view_is c.sync_for.ensures.syncs
 
