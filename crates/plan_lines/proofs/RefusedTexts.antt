@@ -1,4 +1,4 @@
--- That a relay's line is refused for its configuration.
+-- That a relay's line is refused for its configuration, or for want of memory.
 use Rattle.std.proofs.Common.{◌≡◌, ℕ, List, length, slice_get, Some, Result, Ok, Err, sym, subst}
 use Rattle.std.specs.Prelude.{IfErr}
 use Rattle.std.specs.Result.{IsErrAnd}
@@ -24,3 +24,8 @@ module _ {A : Type 0} (confs : List (List ℕ)) (line : ℕ) (number host folder
   pub text_refused_as : {T : Type 0} (r : Result T PlanError) (e : PlanError) → IsErrAnd r (λ x. x ≡ e) → IsTextFault line text e → IfErr r (λ x. (conf : List ℕ) → Refuses confs line (a_relay number host folder conf) plan x)
   text_refused_as (Ok x) e same h = tt
   text_refused_as (Err x) e same h = λ conf. subst (λ y. Refuses confs line (a_relay number host folder conf) plan y) (sym same) (text_refused e h conf)
+
+-- that want of memory refuses it
+pub full : {A T : Type 0} (confs : List (List ℕ)) (line : ℕ) (number host folder : List ℕ) (plan : Subject A) (r : Result T PlanError) → IsErrAnd r (λ x. x ≡ error.Memory) → IfErr r (λ x. (conf : List ℕ) → Refuses confs line (a_relay number host folder conf) plan x)
+full confs line number host folder plan (Ok x) same = tt
+full confs line number host folder plan (Err x) same = λ conf. subst (λ y. Refuses confs line (a_relay number host folder conf) plan y) (sym same) tt

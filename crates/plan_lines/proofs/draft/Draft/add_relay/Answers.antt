@@ -2,7 +2,7 @@ use Rattle.std.proofs.Common.{◌≡◌, ◌∙◌, ℕ, ◌<◌, length, sym, a
 use Rattle.plan_lines.specs.Drafts.{draft_of}
 use Rattle.plan_lines.specs.Faults.{IsTextFault}
 use Rattle.plan_lines.specs.Plans.{texts}
-use Rattle.plan_lines.proofs.RefusedTexts.{text_refused_as}
+use Rattle.plan_lines.proofs.RefusedTexts.{text_refused_as, full}
 use Rattle.plan_lines.proofs.Texts.{text_there}
 use Rattle.plan_lines.proofs.draft.Draft.add_relay.Goals as goal
 
@@ -36,3 +36,15 @@ pub bounds-confs-nodes : goal.bounds-confs-nodes
 bounds-confs-nodes g c =
     let same : length c.nodes.result.now ≡ length c.args.self.now.relays = ap length c.nodes.ensures in
     subst (λ (n : ℕ). n < length c.args.confs.now) (sym same) c.requires
+
+pub returns-in_err-host-clause-refuses : goal.returns-in_err-host-clause-refuses
+returns-in_err-host-clause-refuses g c = full (texts c.args.confs.now) c.args.line c.args.number.now c.args.host.now c.args.folder.now (draft_of c.args.self.now) c.from_residual-in_err-host.result c.from_residual-in_err-host.ensures.1
+
+pub returns-in_err-folder-clause-refuses : goal.returns-in_err-folder-clause-refuses
+returns-in_err-folder-clause-refuses g c = full (texts c.args.confs.now) c.args.line c.args.number.now c.args.host.now c.args.folder.now (draft_of c.args.self.now) c.from_residual-in_err-folder.result c.from_residual-in_err-folder.ensures.1
+
+pub returns-in_err-add-clause-refuses : goal.returns-in_err-add-clause-refuses
+returns-in_err-add-clause-refuses g c = full (texts c.args.confs.now) c.args.line c.args.number.now c.args.host.now c.args.folder.now (draft_of c.args.self.now) c.from_residual-in_err-add.result c.from_residual-in_err-add.ensures.1
+
+pub returns-in_err-push-clause-refuses : goal.returns-in_err-push-clause-refuses
+returns-in_err-push-clause-refuses g c = full (texts c.args.confs.now) c.args.line c.args.number.now c.args.host.now c.args.folder.now (draft_of c.args.self.now) c.from_residual-in_err-push.result c.from_residual-in_err-push.ensures.1
