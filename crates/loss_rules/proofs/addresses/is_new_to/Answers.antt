@@ -43,3 +43,9 @@ returns g c =
       ),
       λ h. other.1 (h.1 c.index-lines-before.result c.index-lines-place.result first_is second_is),
     )
+
+pub as_bytes-requires : goal.as_bytes-requires
+as_bytes-requires g c = λ κs lives. lives
+
+pub as_bytes-requires-2 : goal.as_bytes-requires-2
+as_bytes-requires-2 g c = λ κs lives. lives

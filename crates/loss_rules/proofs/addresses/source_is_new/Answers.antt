@@ -54,3 +54,6 @@ returns g c =
 
 pub bounds-relays-place : goal.bounds-relays-place
 bounds-relays-place g c = shown_within c.args.net.now.relays c.relays.result.now c.relays.ensures c.args.place (place_within c.args.net.now c.args.place c.args.number c.requires.0 c.requires.1)
+
+pub as_bytes-requires : goal.as_bytes-requires
+as_bytes-requires g c = λ κs lives. lives
