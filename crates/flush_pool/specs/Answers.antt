@@ -25,7 +25,9 @@ IsCarried serial old new (Err fault) = new ≡ did (acts.NotCarried serial fault
 abbrev pub IsPurged : {A C G T : Type 0} → Claimed → Shows → (old new : Place A C G)
     → Result T (PurgeFault × Claimed × Shows) → Type 0
 IsPurged claim shown old new (Ok done) = new ≡ did (acts.Purged claim.serial shown) old
-IsPurged claim shown old new (Err refused) = (new ≡ did (acts.NotPurged claim.serial shown refused.0) old) × (refused.1 ≡ claim) × (refused.2 ≡ shown)
+IsPurged claim shown old new (Err refused) =
+    (new ≡ did (acts.NotPurged claim.serial shown refused.0) old) × (refused.1 ≡ claim)
+    × (refused.2 ≡ shown)
 
 -- the failure was noted; or memory ran out, and it wasn't
 abbrev pub IsNoted : {A C G T E : Type 0} → ℕ → (old new : Place A C G) → Result T E → Type 0

@@ -33,4 +33,7 @@ counts (act ∷ acts) = with_act act (counts acts)
 
 -- what two workers did
 abbrev pub added : Worked → Worked → Worked
-added one other = record { purged = capped one.purged other.purged; failed = capped one.failed other.failed }
+added one other = record {
+  purged = capped one.purged other.purged;
+  failed = capped one.failed other.failed;
+}

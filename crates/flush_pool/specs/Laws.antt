@@ -1,5 +1,5 @@
 -- The laws of a worker's acts: what has to stand before each of them.
-use Rattle.std.specs.Prelude.{ℕ, ◌≡◌, ◌≢◌, ◌⊎◌, Bool, true, false, List, [], ◌∷◌, Option, None, Some, IsSome}
+use Rattle.std.specs.Prelude.{ℕ, ◌≡◌, ◌≢◌, ◌⊎◌, true, false, List, [], ◌∷◌, Option, None, Some, IsSome}
 use Rattle.event_modes.specs.declared.chunk_id.ChunkId.{ChunkId}
 use Rattle.book_audit.specs.declared.line.Leaf.{Leaf}
 use Rattle.buffer_store.specs.declared.fault.BufferFault.{BufferFault}
@@ -59,17 +59,22 @@ IsTaken leaf takes serial shown = (named shown ≡ id_at leaf serial) × IsOfKin
 -- the evidence is what the courier gave just now for the chunk; or that its retries are over, where
 -- that was the verdict just now
 abbrev pub IsEarned : Leaf → ℕ → Shows → List Act → Type 0
-IsEarned leaf serial shown acts = (last acts ≡ Some (Carried serial shown)) ⊎ ((shown ≡ Expired (id_at leaf serial)) × (last acts ≡ Some (Judged serial GiveUp)))
+IsEarned leaf serial shown acts = (last acts ≡ Some (Carried serial shown))
+    ⊎ ((shown ≡ Expired (id_at leaf serial)) × (last acts ≡ Some (Judged serial GiveUp)))
 
 -- The delivery of the chunk failed just now: the gate never said yes; or its courier failed, and
 -- the buffer hasn't; or the purge was refused, and not so that the worker ends.
 abbrev pub HasFailed : ℕ → List Act → Type 0
-HasFailed serial acts = (last acts ≡ Some (Asked serial false)) ⊎ ((last acts ≡ Some (Checked serial false)) ⊎ ((shown : Shows) × (fault : PurgeFault) × (last acts ≡ Some (NotPurged serial shown fault)) × (ends_at_purge fault ≡ None)))
+HasFailed serial acts = (last acts ≡ Some (Asked serial false))
+    ⊎ ((last acts ≡ Some (Checked serial false))
+    ⊎ ((shown : Shows) × (fault : PurgeFault) × (last acts ≡ Some (NotPurged serial shown fault))
+    × (ends_at_purge fault ≡ None)))
 
 -- The chunk may be given back: it is to wait; or its delivery failed, which was noted just now; or
 -- the worker has to end.
 abbrev pub IsToGoBack : ℕ → List Act → Type 0
-IsToGoBack serial acts = (last acts ≡ Some (Judged serial Wait)) ⊎ ((last acts ≡ Some (Noted serial)) ⊎ IsSome (ends_by acts))
+IsToGoBack serial acts = (last acts ≡ Some (Judged serial Wait))
+    ⊎ ((last acts ≡ Some (Noted serial)) ⊎ IsSome (ends_by acts))
 
 -- the chunk was purged just now
 abbrev pub WasPurged : ℕ → List Act → Type 0
@@ -89,10 +94,12 @@ May leaf takes acts (Asked serial answer) = last acts ≡ Some (Judged serial Tr
 May leaf takes acts (Carried serial shown) = last acts ≡ Some (Asked serial true)
 May leaf takes acts (NotCarried serial fault) = last acts ≡ Some (Asked serial true)
 -- where the courier failed, but for want of memory, it asks whether the buffer has
-May leaf takes acts (Checked serial failed) = (fault : CarryFault) × (last acts ≡ Some (NotCarried serial fault)) × (fault ≢ carry.Memory)
+May leaf takes acts (Checked serial failed) = (fault : CarryFault)
+    × (last acts ≡ Some (NotCarried serial fault)) × (fault ≢ carry.Memory)
 -- it purges on what the courier gave or at the end of retries, and what is purged the buffer takes;
 -- at once what is known of failures is forgotten
-May leaf takes acts (Purged serial shown) = IsEarned leaf serial shown acts × IsTaken leaf takes serial shown
+May leaf takes acts (Purged serial shown) = IsEarned leaf serial shown acts
+    × IsTaken leaf takes serial shown
 May leaf takes acts (NotPurged serial shown fault) = IsEarned leaf serial shown acts
 May leaf takes acts (Forgot serial) = WasPurged serial acts
 -- it notes a failure that doesn't end it, as far as there is memory

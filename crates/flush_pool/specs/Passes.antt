@@ -18,7 +18,8 @@ EndsAt pass serial failed = (pass.first ≡ Some serial) ⊎ (failed < capped pa
 
 -- the pass with one chunk more
 abbrev pub gone_on : Pass → ℕ → Pass
-gone_on pass serial = record { first = Some (unwrap_or pass.first serial); chunks = capped pass.chunks 1 }
+gone_on pass serial =
+    record { first = Some (unwrap_or pass.first serial); chunks = capped pass.chunks 1 }
 
 -- the count at which the pass began, where this one is that of its next chunk
 abbrev pub began_at : Option ℕ → (began times : ℕ) → ℕ
@@ -29,7 +30,13 @@ began_at (Some first) began times = began
 -- its pass ends, which began at that count; or where it knew it of this very count, and none that
 -- waits is due. Else its pass goes on.
 abbrev pub IsBehind : Watch → (serial : ℕ) → Others → (times : ℕ) → Seen → Type 0
-IsBehind watch serial others times (All count) = ((watch.all_wait ≡ Some times) × (others.due ≡ false) × (count ≡ times))
-    ⊎ (EndsAt watch.pass serial others.failed × (count ≡ began_at watch.pass.first watch.began times))
+IsBehind watch serial others times (All count) =
+    ((watch.all_wait ≡ Some times) × (others.due ≡ false) × (count ≡ times))
+    ⊎ (EndsAt watch.pass serial others.failed
+    × (count ≡ began_at watch.pass.first watch.began times))
 IsBehind watch serial others times (Part next) = (¬ EndsAt watch.pass serial others.failed)
-    × (next ≡ record { pass = gone_on watch.pass serial; began = began_at watch.pass.first watch.began times; all_wait = watch.all_wait })
+    × (next ≡ record {
+      pass = gone_on watch.pass serial;
+      began = began_at watch.pass.first watch.began times;
+      all_wait = watch.all_wait;
+    })

@@ -27,7 +27,8 @@ IsSettled old new (Err fault) = (held new ≡ None) × (ends_by new ≡ Some fau
 -- A worker ended that did this: it was told to stop, and gives the counts; or it had to end, by
 -- this fault, with nothing in its hands.
 abbrev pub HasEnded : List Act → Result Worked BufferFault → Type 0
-HasEnded acts (Ok worked) = (last acts ≡ Some (Looked true)) × (held acts ≡ None) × (worked ≡ counts acts)
+HasEnded acts (Ok worked) = (last acts ≡ Some (Looked true)) × (held acts ≡ None)
+    × (worked ≡ counts acts)
 HasEnded acts (Err fault) = (held acts ≡ None) × (ends_by acts ≡ Some fault)
 
 -- a worker did what it did by the laws, whose gate lets these serials through and whose courier

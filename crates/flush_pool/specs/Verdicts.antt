@@ -14,8 +14,10 @@ IsGivenUp settings expires failed now = (expires ≡ true) × IsOver settings fa
 -- passed, else it waits
 abbrev pub IsVerdict : RetrySettings → Bool → Option Failed → ℕ → Verdict → Type 0
 IsVerdict settings expires failed now GiveUp = IsGivenUp settings expires failed now
-IsVerdict settings expires failed now Try = (¬ IsGivenUp settings expires failed now) × IsDue settings failed now
-IsVerdict settings expires failed now Wait = (¬ IsGivenUp settings expires failed now) × (¬ IsDue settings failed now)
+IsVerdict settings expires failed now Try = (¬ IsGivenUp settings expires failed now)
+    × IsDue settings failed now
+IsVerdict settings expires failed now Wait = (¬ IsGivenUp settings expires failed now)
+    × (¬ IsDue settings failed now)
 
 -- the verdict on a chunk by these settings, at some time and with some failures
 abbrev pub IsVerdictBy : RetrySettings → Bool → Verdict → Type 0

@@ -1,7 +1,7 @@
 //! What came of a chunk that a worker claimed.
 
 /// What was known of a buffer's failed chunks when a chunk was judged.
-#[derive(Clone, Copy, PartialEq, Eq)]
+#[derive(Clone, Copy)]
 pub(crate) struct Others {
     /// How many have failed and aren't forgotten: no more can wait.
     pub failed: usize,
@@ -10,7 +10,7 @@ pub(crate) struct Others {
 }
 
 /// What came of a chunk that a worker claimed.
-#[derive(Clone, Copy, PartialEq, Eq)]
+#[derive(Clone, Copy)]
 pub(crate) enum Outcome {
     /// It is gone from its buffer.
     Purged,

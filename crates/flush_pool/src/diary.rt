@@ -70,12 +70,11 @@ impl<A: Allocator> Diary<A> {
         Diary { link: Link::Start }
     }
 
-    /// These, and one act more.
-    pub(crate) fn then(&self, deed: &Deed<A>) -> Diary<A>
-        ensures { result ≡ act_of deed.now ∷ self.now }
+    /// One act more.
+    pub(crate) fn add(&mut self, deed: Deed<A>)
+        ensures { self.new ≡ act_of deed ∷ self.old }
     {
-        Diary {
-            link: Link::Then(Snapshot::of(deed), Snapshot::of(self)),
-        }
+        let link = Link::Then(Snapshot::of(&deed), Snapshot::of(self));
+        *self = Diary { link };
     }
 }

@@ -7,7 +7,7 @@ use crate::acts::Others;
 
 /// A pass over the chunks that wait: a worker gives each back and tries the next, until it has seen
 /// all that can wait.
-#[derive(Clone, Copy, PartialEq, Eq)]
+#[derive(Clone, Copy)]
 pub(crate) struct Pass {
     /// The chunk that it began with.
     pub first: Option<u64>,
@@ -46,7 +46,7 @@ impl Pass {
 }
 
 /// What a worker knows of the queue. Counts are of how often a chunk was queued.
-#[derive(Clone, Copy, PartialEq, Eq)]
+#[derive(Clone, Copy)]
 pub(crate) struct Watch {
     /// Its pass over the chunks that wait.
     pub pass: Pass,
@@ -57,7 +57,7 @@ pub(crate) struct Watch {
 }
 
 /// What a worker knows behind a chunk that waits.
-#[derive(Clone, Copy, PartialEq, Eq)]
+#[derive(Clone, Copy)]
 pub(crate) enum Seen {
     /// There may be chunks that can be tried.
     Part(Watch),

@@ -60,15 +60,23 @@ where
                 return Ok(worked);
             }
             let times = self.times_queued();
-            let Some(claim) = self.claim()? else {
-                self.rest(times);
-                watch = Watch::new();
-                continue;
-            };
-            let serial = claim.serial();
-            let outcome = self.settle(claim)?;
-            worked = worked.with(outcome);
-            watch = self.watch_on(watch, serial, outcome, times);
+            match self.claim() {
+                Ok(Some(claim)) => {
+                    let serial = claim.serial();
+                    match self.settle(claim) {
+                        Ok(outcome) => {
+                            worked = worked.with(outcome);
+                            watch = self.watch_on(watch, serial, outcome, times);
+                        }
+                        Err(fault) => return Err(fault),
+                    }
+                }
+                Ok(None) => {
+                    self.rest(times);
+                    watch = Watch::new();
+                }
+                Err(_) => return Err(BufferFault::Memory),
+            }
         }
         unreachable!()
     }
@@ -121,13 +129,6 @@ where
                 let_go
             }
             Verdict::Try => self.deliver(claim),
-        }
-    }
-
-    // It is told of a chunk that is gone, since its retries are over.
-    fn tell_given_up(&self, let_go: &Result<Outcome, BufferFault>) {
-        if let Ok(Outcome::Purged) = let_go {
-            self.retries().tell_given_up(self.handle());
         }
     }
 

@@ -1,6 +1,7 @@
 //! Chunks that go to the files of a sink.
 
-ghost use Rattle.std.specs.Prelude.{◌≡◌, IfOk, Ok};
+ghost use Rattle.std.specs.Prelude.{◌≡◌, ◌≤◌, IfOk, IfSome, Ok, length};
+ghost use Rattle.event_modes.specs.Message.{longest_tag};
 ghost use Rattle.flush_pool.specs.Carriages.{IsStoredFor};
 
 use crate::courier::Courier;
@@ -9,10 +10,10 @@ use crate::retries::read_clock;
 use crate::view::ClaimView;
 use buffer_book::Evidence;
 use disk_files::Dir;
-use event_modes::LONGEST_TAG;
+use event_modes::{Entries, LONGEST_TAG};
 use relay_notices::{Notice, Teller};
 use sink_rotation::Rotation;
-use sink_series::SeriesFault;
+use sink_series::{SeriesFault, Stored};
 use std::alloc::Allocator;
 use std::marker::Model;
 use std::snapshot::Snapshot;
@@ -100,6 +101,54 @@ impl<S: Dir, A: Allocator + Copy> SinkCourier<S, A> {
     }
 }
 
+impl<S: Dir + Drop, A: Allocator + Copy> SinkCourier<S, A> {
+    // Writes entries under a tag and syncs them, at the time that the clock says, and tells of it.
+    fn store<R: Wait + Clock>(
+        &self,
+        rt: &R,
+        tag: &[u8],
+        entries: &Entries<A>,
+    ) -> Result<Stored<A>, CarryFault>
+        requires { length tag.now ≤ longest_tag }
+        ensures { IfOk result
+            (λ stored. (stored.tag ≡ tag.now) × (stored.entries ≡ entries.now)) }
+    {
+        let time = read_clock(rt).unwrap_or(0);
+        match self.write(rt, time, tag, entries) {
+            Some(Ok(stored)) => {
+                self.teller.tell(rt, 0, Notice::Works);
+                Ok(stored)
+            }
+            Some(Err(fault)) => {
+                self.tell_fault(rt, fault);
+                Err(CarryFault::from(fault))
+            }
+            None => Err(CarryFault::Device),
+        }
+    }
+
+    // The write itself, under the lock; or nothing, where the files are away.
+    fn write<R: Wait>(
+        &self,
+        rt: &R,
+        time: u64,
+        tag: &[u8],
+        entries: &Entries<A>,
+    ) -> Option<Result<Stored<A>, SeriesFault>>
+        requires { length tag.now ≤ longest_tag }
+        ensures { IfSome result (λ written. IfOk written
+            (λ stored. (stored.tag ≡ tag.now) × (stored.entries ≡ entries.now))) }
+    {
+        let mut held = self.sink.lock(rt);
+        let Some(sink) = held.take() else {
+            return None;
+        };
+        let (sink, written) = sink.write_all_entries(time, tag, entries);
+        *held = Some(sink);
+        Some(written)
+    }
+}
+
 impl<R: Wait + Clock, D: Dir, S: Dir + Drop, A: Allocator + Copy> Courier<R, D, A>
     for SinkCourier<S, A> {
     ghost use Rattle.buffer_book.specs.Evidences.{Shows};
@@ -119,25 +168,7 @@ impl<R: Wait + Clock, D: Dir, S: Dir + Drop, A: Allocator + Copy> Courier<R, D, 
             return Err(CarryFault::Device);
         }
         let entries = chunk.entries(rt)?;
-        let time = read_clock(rt).unwrap_or(0);
-        let written = {
-            let mut held = self.sink.lock(rt);
-            let Some(sink) = held.take() else {
-                return Err(CarryFault::Device);
-            };
-            let (sink, written) = sink.write_all_entries(time, chunk.tag(), &entries);
-            *held = Some(sink);
-            written
-        };
-        match written {
-            Ok(stored) => {
-                self.teller.tell(rt, 0, Notice::Works);
-                Ok(Evidence::stored(chunk.claim(), stored))
-            }
-            Err(fault) => {
-                self.tell_fault(rt, fault);
-                Err(CarryFault::from(fault))
-            }
-        }
+        let stored = self.store(rt, chunk.tag(), &entries)?;
+        Ok(Evidence::stored(chunk.claim(), stored))
     }
 }

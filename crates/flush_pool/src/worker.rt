@@ -9,6 +9,7 @@ ghost use Rattle.flush_pool.specs.Rounds.{Holds, IsFree};
 ghost use Rattle.flush_pool.specs.declared.fault.CarryFault.{CarryFault};
 ghost use Rattle.flush_pool.specs.declared.verdict.Verdict.TheVariants.{Try};
 
+use crate::acts::Outcome;
 use crate::courier::Courier;
 use crate::diary::{Deed, Diary};
 use crate::fault::CarryFault;
@@ -17,6 +18,7 @@ use crate::retries::{Judgement, Retries};
 use crate::view::ClaimView;
 use ack_receipt::SharedBuffer;
 use buffer_book::{Claim, Evidence, PurgeFault};
+use buffer_store::BufferFault;
 use disk_files::Dir;
 use std::alloc::{AllocError, Allocator};
 use std::marker::Model;
@@ -118,19 +120,14 @@ where
         self.rt
     }
 
-    /// The failures that this worker knows with the others.
-    pub(crate) fn retries(&self) -> &'a Retries<A> {
-        self.retries
-    }
-
     // Writes down what it did just now, which may stand behind the rest.
-    fn write(&mut self, deed: &Deed<A>)
+    fn write(&mut self, deed: Deed<A>)
         requires may { May self.old.post.terms.leaf self.old.post.terms.takes self.old.acts
-            (act_of deed.now) }
-        requires vouched { IsVouched G.lets C.gives self.old.post (act_of deed.now) }
-        ensures { self.new ≡ did (act_of deed.now) self.old }
+            (act_of deed) }
+        requires vouched { IsVouched G.lets C.gives self.old.post (act_of deed) }
+        ensures { self.new ≡ did (act_of deed) self.old }
     {
-        self.diary = self.diary.then(deed);
+        self.diary.add(deed);
     }
 
     /// All that it did is by the laws. The call does nothing: it stands for a theorem.
@@ -146,7 +143,7 @@ where
         ensures { self.new ≡ did (Looked result) self.old }
     {
         let stop = self.stop.load(Ordering::SeqCst);
-        self.write(&Deed::Looked(stop));
+        self.write(Deed::Looked(stop));
         stop
     }
 
@@ -158,12 +155,12 @@ where
         match self.buffer.claim(self.rt) {
             Ok(Some(claim)) => {
                 let deed = Deed::Claimed(Snapshot::of(&claim));
-                self.write(&deed);
+                self.write(deed);
                 Ok(Some(claim))
             }
             Ok(None) => Ok(None),
             Err(fault) => {
-                self.write(&Deed::Unclaimed);
+                self.write(Deed::Unclaimed);
                 Err(fault)
             }
         }
@@ -179,7 +176,7 @@ where
         let judged = self
             .retries
             .judge(self.rt, self.buffer.takes().expires, claim.serial());
-        self.write(&Deed::Judged(judged));
+        self.write(Deed::Judged(judged));
         judged
     }
 
@@ -190,7 +187,7 @@ where
     {
         let serial = claim.serial();
         let answer = passes(self.gate, serial);
-        self.write(&Deed::Asked(serial, answer));
+        self.write(Deed::Asked(serial, answer));
         answer
     }
 
@@ -204,12 +201,12 @@ where
         match self.courier.carry(self.rt, &chunk) {
             Ok(evidence) => {
                 let deed = Deed::Carried(claim.serial(), Snapshot::of(&evidence));
-                self.write(&deed);
+                self.write(deed);
                 Ok(evidence)
             }
             Err(fault) => {
                 let deed = Deed::NotCarried(claim.serial(), fault);
-                self.write(&deed);
+                self.write(deed);
                 Err(fault)
             }
         }
@@ -225,7 +222,7 @@ where
         let _ = fault;
         let failed = self.buffer.has_failed(self.rt);
         let deed = Deed::Checked(claim.serial(), failed);
-        self.write(&deed);
+        self.write(deed);
         failed
     }
 
@@ -243,12 +240,12 @@ where
         let shown = Snapshot::of(&evidence);
         match self.buffer.purge(self.rt, claim, evidence) {
             Ok(()) => {
-                self.write(&Deed::Purged(serial, shown));
+                self.write(Deed::Purged(serial, shown));
                 Ok(())
             }
             Err((fault, claim, evidence)) => {
                 let deed = Deed::NotPurged(serial, shown, fault);
-                self.write(&deed);
+                self.write(deed);
                 Err((fault, claim, evidence))
             }
         }
@@ -261,7 +258,7 @@ where
         ensures { self.new ≡ did (GaveBack claim.serial) self.old }
     {
         let shown = self.buffer.give_back_shown(self.rt, claim);
-        self.write(&Deed::GaveBack(shown));
+        self.write(Deed::GaveBack(shown));
     }
 
     /// Notes that the chunk's delivery failed, and looks for chunks that failed and are gone. The
@@ -272,12 +269,12 @@ where
     {
         match self.retries.note(self.rt, claim.serial()) {
             Ok(noted) => {
-                self.write(&Deed::Noted(noted));
+                self.write(Deed::Noted(noted));
                 self.look_for_gone();
                 Ok(())
             }
             Err(fault) => {
-                self.write(&Deed::NotNoted(claim.serial()));
+                self.write(Deed::NotNoted(claim.serial()));
                 Err(fault)
             }
         }
@@ -289,7 +286,14 @@ where
         ensures { self.new ≡ did (Forgot serial) self.old }
     {
         let forgotten = self.retries.forget(self.rt, serial);
-        self.write(&Deed::Forgot(forgotten));
+        self.write(Deed::Forgot(forgotten));
+    }
+
+    /// It is told of a chunk that is gone, since its retries are over.
+    pub(crate) fn tell_given_up(&self, let_go: &Result<Outcome, BufferFault>) {
+        if let Ok(Outcome::Purged) = let_go {
+            self.retries.tell_given_up(self.rt);
+        }
     }
 
     /// How often a chunk was queued.

@@ -27,7 +27,7 @@ pub(super) struct Known<A: Allocator> {
 }
 
 /// The verdict on the chunk of this serial. It is made under the lock alone, as are the two below.
-#[derive(Clone, Copy, PartialEq, Eq)]
+#[derive(Clone, Copy)]
 pub(crate) struct Judgement {
     serial: u64,
     expires: bool,
@@ -36,13 +36,13 @@ pub(crate) struct Judgement {
 }
 
 /// That a failure of the chunk of this serial was noted.
-#[derive(Clone, Copy, PartialEq, Eq)]
+#[derive(Clone, Copy)]
 pub(crate) struct Noted {
     serial: u64,
 }
 
 /// That what was known of the failures of the chunk of this serial is forgotten.
-#[derive(Clone, Copy, PartialEq, Eq)]
+#[derive(Clone, Copy)]
 pub(crate) struct Forgotten {
     serial: u64,
 }

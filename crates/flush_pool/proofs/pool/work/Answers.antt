@@ -1,5 +1,4 @@
-use Rattle.std.proofs.Common.{◌≡◌, ap, subst, ◌∙◌}
-use Rattle.flush_pool.specs.Acts.{Place, Post}
+use Rattle.std.proofs.Common.{ap, subst, ◌∙◌}
 use Rattle.flush_pool.specs.Rounds.{HasWorked}
 use Rattle.flush_pool.proofs.pool.work.Goals as goal
 
