@@ -1,8 +1,8 @@
 -- Files that are counted one after another.
-use Rattle.std.proofs.Common.{ℕ, List, [], ◌∷◌, ◌++◌, ◌≡◌, refl, sym, ap, ◌∙◌, Option, Result, Ok, Err}
+use Rattle.std.proofs.Common.{ℕ, List, [], ◌∷◌, ◌++◌, ◌≡◌, ◌≤◌, length, map, take, refl, sym, ap, ◌∙◌, subst, Option, Result, Ok, Err}
 use Rattle.std.specs.Prelude.{OnOk}
 use Rattle.std.proofs.lemmas.Grind.{fold-append}
-use Rattle.std.proofs.lemmas.List.{map-append}
+use Rattle.std.proofs.lemmas.List.{map-append, take_all}
 use Rattle.folder_listing.specs.Files.{Named}
 use Rattle.folder_counts.specs.Folders.{name_of, folder_with, no_folder, AreCounted, IsCounted, OfBuffer, OfSink, Takes}
 use Rattle.event_listing.proofs.Items.{each_append}
@@ -22,6 +22,11 @@ counted_more named files file folder new so_far takes =
       each = each_append (IsCounted named) so_far.counted (one ∷ []) so_far.each (takes.is, tt);
       folder_is = takes.more ∙ ap (λ f. folder_with f one) so_far.folder_is ∙ sym (fold-append folder_with no_folder so_far.counted (one ∷ []));
     }
+
+-- no file is left
+pub counted_all : {X : Type 0} (named : List ℕ → Option (List ℕ)) (name : X → Named) (listed : List X) (n : ℕ) (folder : FolderView) → length listed ≤ n
+    → AreCounted named (map name (take n listed)) folder → AreCounted named (map name listed) folder
+counted_all named name listed n folder end so_far = subst (λ files. AreCounted named (map name files) folder) (take_all n listed end) so_far
 
 -- the file is a journal's
 pub takes_buffer : {S E : Type 0} (named : List ℕ → Option (List ℕ)) (file : Named) (old new : FolderView) (buffer : BufferView) (result : Result S E) → IsCounted named (OfBuffer buffer)

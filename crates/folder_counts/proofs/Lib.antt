@@ -2,7 +2,9 @@ mod Files
 mod Live
 mod Owners
 mod Paths
+mod Rows
 mod Said
 mod Seconds
 mod Tallied
+mod Totals
 mod Written

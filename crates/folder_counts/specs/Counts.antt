@@ -42,15 +42,39 @@ chunks_sum a b = record {
 -- a sink's file of so many events, whose items have so many bytes, behind which so many stand, and
 -- of which the newest happened then
 abbrev pub file_of : ℕ → ℕ → ℕ → Option Instant → SinkCounts
-file_of events taken torn newest = record { files = 1; events = events; bytes = taken; torn = torn; damaged = 0; unread = 0; newest_event = newest }
+file_of events taken torn newest = record {
+  files = 1;
+  events = events;
+  bytes = taken;
+  torn = torn;
+  damaged = 0;
+  unread = 0;
+  newest_event = newest;
+}
 
 -- one that is damaged
 abbrev pub damaged_file : SinkCounts
-damaged_file = record { files = 1; events = 0; bytes = 0; torn = 0; damaged = 1; unread = 0; newest_event = None }
+damaged_file = record {
+  files = 1;
+  events = 0;
+  bytes = 0;
+  torn = 0;
+  damaged = 1;
+  unread = 0;
+  newest_event = None;
+}
 
 -- one that isn't read to its end
 abbrev pub unread_file : SinkCounts
-unread_file = record { files = 1; events = 0; bytes = 0; torn = 0; damaged = 0; unread = 1; newest_event = None }
+unread_file = record {
+  files = 1;
+  events = 0;
+  bytes = 0;
+  torn = 0;
+  damaged = 0;
+  unread = 1;
+  newest_event = None;
+}
 
 -- the files of both together
 abbrev pub sinks_sum : SinkCounts → SinkCounts → SinkCounts

@@ -16,7 +16,8 @@ use Rattle.folder_counts.specs.declared.instant.Instant.{Instant}
 
 -- a journal of these bytes means so many chunks, and this next serial, so many bytes are torn at
 -- its end, and the oldest event of the live chunks happened then
-pub record CountsChunks (bytes : List ℕ) (chunks : ChunkCounts) (torn next : ℕ) (oldest : Option Instant) : Type 0 where
+pub record CountsChunks (bytes : List ℕ) (chunks : ChunkCounts) (torn next : ℕ)
+    (oldest : Option Instant) : Type 0 where
   pub state : State
   pub means : IsMeaningOf bytes (Means state torn)
   pub chunks_are : chunks ≡ state_counts state
@@ -32,7 +33,8 @@ IsInJournal bytes Unread = Unit {0}
 
 -- a sink's file of these bytes holds so many events, their items have so many bytes, so many stand
 -- behind them, and the newest event happened then
-pub record CountsEvents (bytes : List ℕ) (events taken torn : ℕ) (newest : Option Instant) : Type 0 where
+pub record CountsEvents (bytes : List ℕ) (events taken torn : ℕ)
+    (newest : Option Instant) : Type 0 where
   pub counts : Counts bytes events torn
   pub whole : taken + torn ≡ length bytes
   pub newest_is : IsNewestAt counts.events newest
@@ -47,6 +49,8 @@ pub record EndsLong (bytes : List ℕ) : Type 0 where
 -- a sink's file of these bytes counts to this; nothing is said of them where it isn't read to its
 -- end
 pub data IsInSink (bytes : List ℕ) (counts : SinkCounts) : Type 0 where
-  Whole : (events taken torn : ℕ) (newest : Option Instant) → CountsEvents bytes events taken torn newest → counts ≡ file_of events taken torn newest → IsInSink bytes counts
+  Whole : (events taken torn : ℕ) (newest : Option Instant)
+      → CountsEvents bytes events taken torn newest → counts ≡ file_of events taken torn newest
+      → IsInSink bytes counts
   Long : EndsLong bytes → counts ≡ damaged_file → IsInSink bytes counts
   Partly : counts ≡ unread_file → IsInSink bytes counts

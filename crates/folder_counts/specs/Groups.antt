@@ -16,7 +16,8 @@ is_unsealed Unread = false
 -- of two generations of a buffer the first counts: it isn't unsealed, and the other is, or has a
 -- smaller number
 abbrev pub outranks : BufferView → BufferView → Bool
-outranks next held = not (is_unsealed next.found) && (is_unsealed held.found || nat_lt held.number next.number)
+outranks next held = not (is_unsealed next.found)
+    && (is_unsealed held.found || nat_lt held.number next.number)
 
 -- the one of both that counts
 abbrev pub newer : BufferView → BufferView → BufferView
@@ -26,7 +27,8 @@ newer held next = if outranks next held then next else held
 -- path, and else stands behind all.
 abbrev pub with_part : {X : Type 0} → (X → List ℕ) → (X → X → X) → List X → X → List X
 with_part path both held next =
-    option_map_or (λ i. slice_set held i (both (slice_index_or held i next) next)) (position (λ one. bytes_eq (path one) (path next)) held) (held ++ next ∷ [])
+    option_map_or (λ i. slice_set held i (both (slice_index_or held i next) next))
+    (position (λ one. bytes_eq (path one) (path next)) held) (held ++ next ∷ [])
 
 -- buffers with one generation more
 abbrev pub buffers_with : List BufferView → BufferView → List BufferView

@@ -14,7 +14,8 @@ pub record IsDated (nanos : ℤ) : Type 0 where
 
 -- a clock in UTC shows this at the instant, where it is in these years
 abbrev pub IsShown : Instant → Type 0
-IsShown instant = MatchOption instant.shown (IsDated instant.nanos → ⊥) (λ shown. IsDated instant.nanos × (civil_nanos shown ≡ instant.nanos))
+IsShown instant = MatchOption instant.shown (IsDated instant.nanos → ⊥)
+    (λ shown. IsDated instant.nanos × (civil_nanos shown ≡ instant.nanos))
 
 -- the time of an event, in nanoseconds since the beginning of 1970, isn't before this
 pub record IsNotBefore (nanos : ℤ) (event : Event) : Type 0 where
@@ -74,4 +75,5 @@ IsNewestAt events (Some instant) = IsNewestOf events instant.nanos × IsShown in
 abbrev pub later_instant : Option Instant → Option Instant → Option Instant
 later_instant None b = b
 later_instant (Some first) None = Some first
-later_instant (Some first) (Some second) = Some (if int_lt first.nanos second.nanos then second else first)
+later_instant (Some first) (Some second) =
+    Some (if int_lt first.nanos second.nanos then second else first)

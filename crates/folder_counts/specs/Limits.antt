@@ -41,11 +41,13 @@ oldest_in Unread = None
 
 -- how many whole seconds have passed since that time, at most 2^64 - 1; 0 where it is still to come
 abbrev pub age_of : ℤ → ℤ → ℕ
-age_of now since = if int_lt since now then min (unsigned_abs (now -ℤ since) / second) 18446744073709551615 else 0
+age_of now since = if int_lt since now
+    then min (unsigned_abs (now -ℤ since) / second) 18446744073709551615 else 0
 
 -- how many whole seconds old an event of this time is, where that is asked and there is one
 abbrev pub age_in : Limits → Option Instant → ℕ
-age_in limits oldest = option_map_or (λ limit. option_map_or (λ at. age_of limit.now at.nanos) oldest 0) limits.age 0
+age_in limits oldest =
+    option_map_or (λ limit. option_map_or (λ at. age_of limit.now at.nanos) oldest 0) limits.age 0
 
 -- how many whole seconds old it may be
 abbrev pub most_age : Limits → Option ℕ
@@ -53,11 +55,14 @@ most_age limits = option_map (λ limit. limit.seconds) limits.age
 
 -- these chunks are more than a buffer may hold, or the oldest event in them is older than it may be
 abbrev pub has_passed : Limits → ChunkCounts → Option Instant → Bool
-has_passed limits chunks oldest = is_above limits.bytes chunks.bytes || is_above limits.chunks (chunks_of chunks) || is_above (most_age limits) (age_in limits oldest)
+has_passed limits chunks oldest = is_above limits.bytes chunks.bytes
+    || is_above limits.chunks (chunks_of chunks) || is_above (most_age limits)
+    (age_in limits oldest)
 
 -- one of these buffers holds more than it may, or for longer
 abbrev pub is_any_passed : Limits → List BufferView → Bool
-is_any_passed limits buffers = list_any (λ buffer. has_passed limits (chunks_in buffer.found) (oldest_in buffer.found)) buffers
+is_any_passed limits buffers =
+    list_any (λ buffer. has_passed limits (chunks_in buffer.found) (oldest_in buffer.found)) buffers
 
 -- the journal is read, and not damaged
 abbrev pub is_sound : Found → Bool
@@ -72,8 +77,10 @@ is_sink_sound sink = (sink.counts.damaged == 0) && (sink.counts.unread == 0)
 
 -- all files that count are read, and none is damaged
 abbrev pub are_sound : FolderView → Bool
-are_sound folder = list_all (λ buffer. is_sound buffer.found) folder.buffers && list_all is_sink_sound folder.sinks
+are_sound folder = list_all (λ buffer. is_sound buffer.found) folder.buffers
+    && list_all is_sink_sound folder.sinks
 
 -- the status that a folder means
 abbrev pub status_of : Limits → FolderView → Status
-status_of limits folder = cond (are_sound folder) (cond (is_any_passed limits folder.buffers) No Done) Usage
+status_of limits folder = cond (are_sound folder)
+    (cond (is_any_passed limits folder.buffers) No Done) Usage

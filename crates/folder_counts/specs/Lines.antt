@@ -15,7 +15,8 @@ use Rattle.folder_counts.specs.declared.limits.Limits.{Limits}
 -- a text, and behind it what chunks count to
 abbrev pub with_chunks : List ℕ → ChunkCounts → List ℕ
 with_chunks text chunks =
-    text ++ codes " staged " ++ decimal chunks.staged ++ codes " queued " ++ decimal chunks.queued ++ codes " entries " ++ decimal chunks.entries ++ codes " bytes " ++ decimal chunks.bytes
+    text ++ codes " staged " ++ decimal chunks.staged ++ codes " queued " ++ decimal chunks.queued
+    ++ codes " entries " ++ decimal chunks.entries ++ codes " bytes " ++ decimal chunks.bytes
 
 -- a word and an instant; nothing where there is none
 abbrev pub time_field : List ℕ → Option Instant → List ℕ
@@ -23,7 +24,8 @@ time_field word instant = option_map_or (λ at. word ++ instant_text at) instant
 
 -- a text, and behind it what is found in a journal
 abbrev pub with_found : List ℕ → Found → List ℕ
-with_found text (Chunks chunks torn next oldest) = with_chunks text chunks ++ codes " torn " ++ decimal torn ++ codes " next " ++ decimal next ++ time_field (codes " oldest event ") oldest
+with_found text (Chunks chunks torn next oldest) = with_chunks text chunks ++ codes " torn "
+    ++ decimal torn ++ codes " next " ++ decimal next ++ time_field (codes " oldest event ") oldest
 with_found text Unsealed = text ++ codes " unsealed"
 with_found text Damaged = text ++ codes " damaged"
 with_found text Unread = text ++ codes " unread"
@@ -36,16 +38,21 @@ buffer_line buffer = line (with_found (codes "buffer " ++ buffer.path) buffer.fo
 abbrev pub sink_line : SinkView → List ℕ
 sink_line sink =
     line
-    (codes "sink " ++ sink.path ++ codes " files " ++ decimal sink.counts.files ++ codes " events " ++ decimal sink.counts.events ++ codes " bytes " ++ decimal sink.counts.bytes ++ codes " torn " ++ decimal sink.counts.torn
-    ++ codes " newest " ++ sink.newest ++ time_field (codes " newest event ") sink.counts.newest_event)
+    (codes "sink " ++ sink.path ++ codes " files " ++ decimal sink.counts.files ++ codes " events "
+    ++ decimal sink.counts.events ++ codes " bytes " ++ decimal sink.counts.bytes
+    ++ codes " torn " ++ decimal sink.counts.torn
+    ++ codes " newest " ++ sink.newest
+    ++ time_field (codes " newest event ") sink.counts.newest_event)
 
 -- the line of so many files of a sink of which a word is true; nothing where there are none
 abbrev pub flaw_line : List ℕ → List ℕ → ℕ → List ℕ
-flaw_line name word files = cond (files == 0) [] (line (codes "sink " ++ name ++ word ++ decimal files))
+flaw_line name word files = cond (files == 0) []
+    (line (codes "sink " ++ name ++ word ++ decimal files))
 
 -- the lines of a sink
 abbrev pub sink_lines : SinkView → List ℕ
-sink_lines sink = sink_line sink ++ flaw_line sink.path (codes " damaged ") sink.counts.damaged ++ flaw_line sink.path (codes " unread ") sink.counts.unread
+sink_lines sink = sink_line sink ++ flaw_line sink.path (codes " damaged ") sink.counts.damaged
+    ++ flaw_line sink.path (codes " unread ") sink.counts.unread
 
 -- what buffers hold together
 abbrev pub total_of : List BufferView → ChunkCounts
@@ -57,10 +64,14 @@ total_line buffers = line (with_chunks (codes "total") (total_of buffers))
 
 -- the line of a number of a buffer that is above its limit; nothing of another
 abbrev pub above_line : List ℕ → List ℕ → Option ℕ → ℕ → List ℕ
-above_line name word most number = cond (is_above most number) (line (codes "over " ++ name ++ word ++ decimal number)) []
+above_line name word most number = cond (is_above most number)
+    (line (codes "over " ++ name ++ word ++ decimal number)) []
 
 -- the lines of the limits that a buffer is above
 abbrev pub over_lines : Limits → BufferView → List ℕ
 over_lines limits buffer =
-    above_line buffer.path (codes " bytes ") limits.bytes (chunks_in buffer.found).bytes ++ above_line buffer.path (codes " chunks ") limits.chunks (chunks_of (chunks_in buffer.found))
-    ++ above_line buffer.path (codes " age ") (most_age limits) (age_in limits (oldest_in buffer.found))
+    above_line buffer.path (codes " bytes ") limits.bytes (chunks_in buffer.found).bytes
+    ++ above_line buffer.path (codes " chunks ") limits.chunks
+    (chunks_of (chunks_in buffer.found))
+    ++ above_line buffer.path (codes " age ") (most_age limits)
+    (age_in limits (oldest_in buffer.found))

@@ -19,7 +19,8 @@ use Rattle.folder_counts.specs.declared.metrics.SinkMetric.TheVariants as sink
 
 -- a byte of a label's value: `\` in front of a quote and of `\`, and `\n` for a line feed
 abbrev pub escaped : ℕ → List ℕ
-escaped byte = cond ((byte == 34) || (byte == 92)) (92 ∷ byte ∷ []) (cond (byte == 10) (92 ∷ 110 ∷ []) (byte ∷ []))
+escaped byte = cond ((byte == 34) || (byte == 92)) (92 ∷ byte ∷ [])
+    (cond (byte == 10) (92 ∷ 110 ∷ []) (byte ∷ []))
 
 -- what a sample says: a number, or the seconds that so many nanoseconds are
 abbrev pub figure_text : Figure → List ℕ
@@ -29,7 +30,8 @@ figure_text (figure.Seconds nanos) = seconds_text nanos
 -- the line of a sample: the metric, a label up to the quote in front of its value, the value, and
 -- what it says
 abbrev pub sample_line : List ℕ → List ℕ → List ℕ → Figure → List ℕ
-sample_line metric label value says = line (metric ++ label ++ flat_map escaped value ++ (34 ∷ 125 ∷ 32 ∷ []) ++ figure_text says)
+sample_line metric label value says =
+    line (metric ++ label ++ flat_map escaped value ++ (34 ∷ 125 ∷ 32 ∷ []) ++ figure_text says)
 
 -- a line that says something of a metric
 abbrev pub comment_line : List ℕ → List ℕ → List ℕ → List ℕ
@@ -37,7 +39,8 @@ comment_line word name said = line (word ++ name ++ codes " " ++ said)
 
 -- the lines in front of a metric's samples: what it is, and its type
 abbrev pub head_lines : List ℕ → List ℕ → List ℕ → List ℕ
-head_lines name help type = comment_line (codes "# HELP ") name help ++ comment_line (codes "# TYPE ") name type
+head_lines name help type = comment_line (codes "# HELP ") name help
+    ++ comment_line (codes "# TYPE ") name type
 
 -- ---- buffers
 
@@ -61,7 +64,8 @@ buffer_help Entries = codes "Entries in all chunks."
 buffer_help Bytes = codes "Bytes of the entries in all chunks."
 buffer_help Torn = codes "Bytes behind the last whole record of the journal."
 buffer_help Next = codes "Serial that the next chunk gets."
-buffer_help Oldest = codes "Time of the oldest event in all chunks, in seconds since the beginning of 1970."
+buffer_help Oldest =
+    codes "Time of the oldest event in all chunks, in seconds since the beginning of 1970."
 
 -- the seconds of an instant; none where there is none
 abbrev pub seconds_at : Option Instant → Option Figure
@@ -91,23 +95,29 @@ only_sound Oldest number = None
 
 -- what its sample says where this is found
 abbrev pub buffer_figure : BufferMetric → Found → Option Figure
-buffer_figure metric (found.Chunks chunks torn next oldest) = measured metric chunks torn next oldest
+buffer_figure metric (found.Chunks chunks torn next oldest) =
+    measured metric chunks torn next oldest
 buffer_figure metric found.Unsealed = only_sound metric 1
 buffer_figure metric found.Damaged = only_sound metric 0
 buffer_figure metric found.Unread = only_sound metric 0
 
 -- its sample of a buffer; nothing where it says nothing
 abbrev pub buffer_sample : BufferMetric → BufferView → List ℕ
-buffer_sample metric buffer = option_map_or (λ says. sample_line (buffer_name metric) (codes "{buffer=" ++ 34 ∷ []) buffer.path says) (buffer_figure metric buffer.found) []
+buffer_sample metric buffer =
+    option_map_or (λ says. sample_line (buffer_name metric)
+    (codes "{buffer=" ++ 34 ∷ []) buffer.path says) (buffer_figure metric buffer.found) []
 
 -- a metric of buffers
 abbrev pub buffer_family : BufferMetric → List BufferView → List ℕ
-buffer_family metric buffers = head_lines (buffer_name metric) (buffer_help metric) (codes "gauge") ++ flat_map (buffer_sample metric) buffers
+buffer_family metric buffers = head_lines (buffer_name metric) (buffer_help metric) (codes "gauge")
+    ++ flat_map (buffer_sample metric) buffers
 
 -- a text, and behind it the metrics of what is counted of buffers
 abbrev pub with_buffer_counts : List ℕ → List BufferView → List ℕ
 with_buffer_counts text buffers =
-    text ++ buffer_family Staged buffers ++ buffer_family Queued buffers ++ buffer_family Entries buffers ++ buffer_family Bytes buffers ++ buffer_family Torn buffers ++ buffer_family Next buffers
+    text ++ buffer_family Staged buffers ++ buffer_family Queued buffers
+    ++ buffer_family Entries buffers ++ buffer_family Bytes buffers
+    ++ buffer_family Torn buffers ++ buffer_family Next buffers
 
 -- the same, and behind that the one of their oldest events
 abbrev pub with_buffers : List ℕ → List BufferView → List ℕ
@@ -131,9 +141,12 @@ sink_help sink.Files = codes "Files of the sink."
 sink_help sink.Events = codes "Events in all files of the sink."
 sink_help sink.Bytes = codes "Bytes of the events in all files of the sink."
 sink_help sink.Torn = codes "Bytes behind the last whole events of the files."
-sink_help sink.Damaged = codes "Files in which more bytes stand behind the events than any event has."
+sink_help sink.Damaged =
+    codes "Files in which more bytes stand behind the events than any event has."
 sink_help sink.Unread = codes "Files that aren't read to their ends."
-sink_help sink.Newest = codes "Time of the newest event in all files of the sink, in seconds since the beginning of 1970."
+sink_help sink.Newest =
+    codes
+    "Time of the newest event in all files of the sink, in seconds since the beginning of 1970."
 
 -- what its sample says of these counts
 abbrev pub sink_figure : SinkMetric → SinkCounts → Option Figure
@@ -147,16 +160,21 @@ sink_figure sink.Newest counts = seconds_at counts.newest_event
 
 -- its sample of a sink; nothing where it says nothing
 abbrev pub sink_sample : SinkMetric → SinkView → List ℕ
-sink_sample metric one = option_map_or (λ says. sample_line (sink_name metric) (codes "{sink=" ++ 34 ∷ []) one.path says) (sink_figure metric one.counts) []
+sink_sample metric one =
+    option_map_or (λ says. sample_line (sink_name metric) (codes "{sink=" ++ 34 ∷ []) one.path says)
+    (sink_figure metric one.counts) []
 
 -- a metric of sinks
 abbrev pub sink_family : SinkMetric → List SinkView → List ℕ
-sink_family metric sinks = head_lines (sink_name metric) (sink_help metric) (codes "gauge") ++ flat_map (sink_sample metric) sinks
+sink_family metric sinks = head_lines (sink_name metric) (sink_help metric) (codes "gauge")
+    ++ flat_map (sink_sample metric) sinks
 
 -- a text, and behind it the metrics of what is counted of sinks
 abbrev pub with_sink_counts : List ℕ → List SinkView → List ℕ
 with_sink_counts text sinks =
-    text ++ sink_family sink.Files sinks ++ sink_family sink.Events sinks ++ sink_family sink.Bytes sinks ++ sink_family sink.Torn sinks ++ sink_family sink.Damaged sinks ++ sink_family sink.Unread sinks
+    text ++ sink_family sink.Files sinks ++ sink_family sink.Events sinks
+    ++ sink_family sink.Bytes sinks ++ sink_family sink.Torn sinks
+    ++ sink_family sink.Damaged sinks ++ sink_family sink.Unread sinks
 
 -- the same, and behind that the one of their newest events
 abbrev pub with_sinks : List ℕ → List SinkView → List ℕ

@@ -12,7 +12,8 @@ numbered_name kind path number = path ++ 46 ∷ (ten_digits number ++ 46 ∷ kin
 
 -- no path and number make this name
 abbrev pub IsUnnumbered : Kind → List ℕ → Type 0
-IsUnnumbered kind name = (path : List ℕ) (number : ℕ) → IsUtf8 path → number < 2 ^ 32 → name ≢ numbered_name kind path number
+IsUnnumbered kind name = (path : List ℕ) (number : ℕ) → IsUtf8 path → number < 2 ^ 32
+    → name ≢ numbered_name kind path number
 
 -- Whose file it is that has this name: that of the path that makes it, with a number; or where none
 -- does, its own, with number 0.

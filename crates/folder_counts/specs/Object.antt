@@ -34,7 +34,9 @@ with_name tokens name = with_word (tokens ++ begin_object ∷ []) (codes "name")
 -- the members of what chunks count to
 abbrev pub with_chunks : List Token → ChunkCounts → List Token
 with_chunks tokens chunks =
-    with_number (with_number (with_number (with_number tokens (codes "staged") chunks.staged) (codes "queued") chunks.queued) (codes "entries") chunks.entries) (codes "bytes") chunks.bytes
+    with_number (with_number (with_number (with_number tokens (codes "staged") chunks.staged)
+    (codes "queued") chunks.queued) (codes "entries") chunks.entries)
+    (codes "bytes") chunks.bytes
 
 -- the word for what is found in a journal
 abbrev pub state_word : Found → List ℕ
@@ -46,11 +48,15 @@ state_word Unread = codes "unread"
 -- a member whose value is an instant, in seconds since the beginning of 1970; nothing where there
 -- is none
 abbrev pub with_time : List Token → List ℕ → Option Instant → List Token
-with_time tokens name instant = option_map_or (λ at. (tokens ++ key name ∷ []) ++ number (seconds_text at.nanos) ∷ []) instant tokens
+with_time tokens name instant =
+    option_map_or (λ at. (tokens ++ key name ∷ []) ++ number (seconds_text at.nanos) ∷ []) instant
+    tokens
 
 -- the members of the numbers that are found in a journal, where it is whole
 abbrev pub with_numbers : List Token → Found → List Token
-with_numbers tokens (Chunks chunks torn next oldest) = with_time (with_number (with_number (with_chunks tokens chunks) (codes "torn") torn) (codes "next") next) (codes "oldest_event") oldest
+with_numbers tokens (Chunks chunks torn next oldest) =
+    with_time (with_number (with_number (with_chunks tokens chunks) (codes "torn") torn)
+    (codes "next") next) (codes "oldest_event") oldest
 with_numbers tokens Unsealed = tokens
 with_numbers tokens Damaged = tokens
 with_numbers tokens Unread = tokens
@@ -61,45 +67,60 @@ with_found tokens found = with_numbers (with_word tokens (codes "state") (state_
 
 -- the object of a buffer
 abbrev pub with_buffer : List Token → BufferView → List Token
-with_buffer tokens buffer = with_found (with_name tokens buffer.path) buffer.found ++ end_object ∷ []
+with_buffer tokens buffer = with_found (with_name tokens buffer.path) buffer.found
+    ++ end_object ∷ []
 
 -- the member of these buffers
 abbrev pub with_buffers : List Token → List BufferView → List Token
-with_buffers tokens buffers = fold with_buffer ((tokens ++ key (codes "buffers") ∷ []) ++ begin_array ∷ []) buffers ++ end_array ∷ []
+with_buffers tokens buffers =
+    fold with_buffer ((tokens ++ key (codes "buffers") ∷ []) ++ begin_array ∷ []) buffers
+    ++ end_array ∷ []
 
 -- the members of what files of a sink count to
 abbrev pub with_counts : List Token → SinkCounts → List Token
 with_counts tokens counts =
-    with_number (with_number (with_number (with_number (with_number (with_number tokens (codes "files") counts.files) (codes "events") counts.events) (codes "bytes") counts.bytes) (codes "torn") counts.torn)
+    with_number
+    (with_number
+    (with_number (with_number (with_number (with_number tokens (codes "files") counts.files)
+    (codes "events") counts.events) (codes "bytes") counts.bytes) (codes "torn") counts.torn)
     (codes "damaged") counts.damaged) (codes "unread") counts.unread
 
 -- the members of a sink's newest file, and of its newest event
 abbrev pub with_newest : List Token → SinkView → List Token
-with_newest tokens sink = with_time (with_word tokens (codes "newest") sink.newest) (codes "newest_event") sink.counts.newest_event
+with_newest tokens sink = with_time (with_word tokens (codes "newest") sink.newest)
+    (codes "newest_event") sink.counts.newest_event
 
 -- the object of a sink
 abbrev pub with_sink : List Token → SinkView → List Token
-with_sink tokens sink = with_newest (with_counts (with_name tokens sink.path) sink.counts) sink ++ end_object ∷ []
+with_sink tokens sink = with_newest (with_counts (with_name tokens sink.path) sink.counts) sink
+    ++ end_object ∷ []
 
 -- the member of these sinks
 abbrev pub with_sinks : List Token → List SinkView → List Token
-with_sinks tokens sinks = fold with_sink ((tokens ++ key (codes "sinks") ∷ []) ++ begin_array ∷ []) sinks ++ end_array ∷ []
+with_sinks tokens sinks =
+    fold with_sink ((tokens ++ key (codes "sinks") ∷ []) ++ begin_array ∷ []) sinks
+    ++ end_array ∷ []
 
 -- the member of what these buffers hold together
 abbrev pub with_total : List Token → List BufferView → List Token
-with_total tokens buffers = with_chunks ((tokens ++ key (codes "total") ∷ []) ++ begin_object ∷ []) (total_of buffers) ++ end_object ∷ []
+with_total tokens buffers = with_chunks ((tokens ++ key (codes "total") ∷ []) ++ begin_object ∷ [])
+    (total_of buffers) ++ end_object ∷ []
 
 -- the object of a number of a buffer that is above its limit; nothing of another
 abbrev pub with_above : List Token → List ℕ → List ℕ → Option ℕ → ℕ → List Token
-with_above tokens name word most value = cond (is_above most value) (with_number (with_name tokens name) word value ++ end_object ∷ []) tokens
+with_above tokens name word most value = cond (is_above most value)
+    (with_number (with_name tokens name) word value ++ end_object ∷ []) tokens
 
 -- the objects of the limits that a buffer is above
 abbrev pub with_over : Limits → List Token → BufferView → List Token
 with_over limits tokens buffer =
     with_above
-    (with_above (with_above tokens buffer.path (codes "bytes") limits.bytes (chunks_in buffer.found).bytes) buffer.path (codes "chunks") limits.chunks (chunks_of (chunks_in buffer.found)))
+    (with_above (with_above tokens buffer.path (codes "bytes") limits.bytes
+    (chunks_in buffer.found).bytes) buffer.path (codes "chunks") limits.chunks
+    (chunks_of (chunks_in buffer.found)))
     buffer.path (codes "age") (most_age limits) (age_in limits (oldest_in buffer.found))
 
 -- the member of the limits that these buffers are above
 abbrev pub with_overs : List Token → Limits → List BufferView → List Token
-with_overs tokens limits buffers = fold (with_over limits) ((tokens ++ key (codes "over") ∷ []) ++ begin_array ∷ []) buffers ++ end_array ∷ []
+with_overs tokens limits buffers = fold (with_over limits)
+    ((tokens ++ key (codes "over") ∷ []) ++ begin_array ∷ []) buffers ++ end_array ∷ []

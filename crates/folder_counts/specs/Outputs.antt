@@ -1,5 +1,5 @@
 -- What a relay that runs says of its outputs: where, and how that is printed.
-use Rattle.std.specs.Prelude.{ℕ, ℤ, pos, ◌≡◌, ◌==◌, ◌*◌, ◌/◌, ◌&&◌, cond, List, [], ◌∷◌, ◌++◌, bytes_eq, codes, decimal, find, fold, map, Option, Some, None, IfSome, option_and_then, option_map, unwrap_or, if◌then◌else◌}
+use Rattle.std.specs.Prelude.{ℕ, ℤ, pos, ◌≡◌, ◌==◌, ◌*◌, ◌/◌, ◌&&◌, cond, List, [], ◌∷◌, ◌++◌, bytes_eq, codes, decimal, find, fold, map, Option, Some, None, IfSome, option_and_then, unwrap_or, if◌then◌else◌}
 use Rattle.std.specs.List.{flat_map, AllByRecursion}
 use Rattle.std.specs.Option.{option_map_or}
 use Rattle.conf_values.specs.Words.{is_path}
@@ -60,7 +60,8 @@ path_of word = if is_path word then Some word else None
 
 -- the buffer of this path, where its journal is read and not damaged
 abbrev pub sound_buffer : List BufferView → List ℕ → Option BufferView
-sound_buffer buffers path = find (λ buffer. bytes_eq buffer.path path && is_sound buffer.found) buffers
+sound_buffer buffers path =
+    find (λ buffer. bytes_eq buffer.path path && is_sound buffer.found) buffers
 
 -- how many percent of a limit so many bytes are, rounded down; of a limit of 0 nothing is
 abbrev pub percent_of : ℕ → ℕ → Option ℕ
@@ -69,7 +70,9 @@ percent_of bytes limit = cond (limit == 0) None (Some (bytes * 100 / limit))
 -- how many percent of its limit the buffer of an output holds; nothing is known where it is in
 -- memory, or the folder has no such buffer
 unfoldable pub used_of : List BufferView → StateView → Option ℕ
-used_of buffers state = option_and_then (λ buffer. percent_of (chunks_in buffer.found).bytes state.counts.limit) (option_and_then (sound_buffer buffers) (path_of state.buffer))
+used_of buffers state =
+    option_and_then (λ buffer. percent_of (chunks_in buffer.found).bytes state.counts.limit)
+    (option_and_then (sound_buffer buffers) (path_of state.buffer))
 
 -- ---- lines
 
@@ -79,16 +82,21 @@ number_field word number = option_map_or (λ n. word ++ decimal n) number []
 
 -- the beginning of an output's line: where it stands, its buffer, and the limit of that
 abbrev pub place_field : StateView → List ℕ
-place_field state = codes "output " ++ decimal state.line ++ codes " buffer " ++ state.buffer ++ codes " limit " ++ decimal state.counts.limit
+place_field state = codes "output " ++ decimal state.line ++ codes " buffer " ++ state.buffer
+    ++ codes " limit " ++ decimal state.counts.limit
 
 -- a text, and behind it what failed and what was delivered
 abbrev pub with_deliveries : List ℕ → OutputCounts → List ℕ
-with_deliveries text counts = text ++ codes " failing " ++ decimal counts.failing ++ codes " failures " ++ decimal counts.failures ++ codes " delivered " ++ decimal counts.delivered
+with_deliveries text counts = text ++ codes " failing " ++ decimal counts.failing
+    ++ codes " failures " ++ decimal counts.failures ++ codes " delivered "
+    ++ decimal counts.delivered
 
 -- the line of an output
 abbrev pub output_line : List BufferView → OutputView → List ℕ
 output_line buffers output =
-    line (with_deliveries (place_field output.state ++ number_field (codes " used ") (used_of buffers output.state)) output.state.counts ++ time_field (codes " last delivery ") output.last)
+    line (with_deliveries (place_field output.state ++ number_field (codes " used ")
+    (used_of buffers output.state)) output.state.counts
+    ++ time_field (codes " last delivery ") output.last)
 
 -- ---- a JSON object
 
@@ -102,26 +110,35 @@ with_some tokens name number = option_map_or (with_number tokens name) number to
 
 -- the members of where an output stands, its buffer, and the limit of that
 abbrev pub with_place : List Token → StateView → List Token
-with_place tokens state = with_number (with_path (with_number tokens (codes "line") state.line) (path_of state.buffer)) (codes "limit") state.counts.limit
+with_place tokens state =
+    with_number (with_path (with_number tokens (codes "line") state.line) (path_of state.buffer))
+    (codes "limit") state.counts.limit
 
 -- the members of what failed, what was delivered, and when the last delivery was
 abbrev pub with_tries : List Token → OutputView → List Token
 with_tries tokens output =
-    with_time (with_number (with_number (with_number tokens (codes "failing") output.state.counts.failing) (codes "failures") output.state.counts.failures) (codes "delivered") output.state.counts.delivered)
+    with_time
+    (with_number (with_number (with_number tokens (codes "failing") output.state.counts.failing)
+    (codes "failures") output.state.counts.failures)
+    (codes "delivered") output.state.counts.delivered)
     (codes "last_delivery") output.last
 
 -- the members of an output
 unfoldable pub with_members : List BufferView → List Token → OutputView → List Token
-with_members buffers tokens output = with_tries (with_some (with_place tokens output.state) (codes "used") (used_of buffers output.state)) output
+with_members buffers tokens output =
+    with_tries (with_some (with_place tokens output.state) (codes "used")
+    (used_of buffers output.state)) output
 
 -- the object of an output
 abbrev pub with_output : List BufferView → List Token → OutputView → List Token
-with_output buffers tokens output = with_members buffers (tokens ++ begin_object ∷ []) output ++ end_object ∷ []
+with_output buffers tokens output = with_members buffers (tokens ++ begin_object ∷ []) output
+    ++ end_object ∷ []
 
 -- the member of these outputs; nothing where there are none
 abbrev pub with_outputs : List Token → List BufferView → List OutputView → List Token
 with_outputs tokens buffers [] = tokens
-with_outputs tokens buffers (first ∷ more) = fold (with_output buffers) ((tokens ++ key (codes "outputs") ∷ []) ++ begin_array ∷ []) (first ∷ more) ++ end_array ∷ []
+with_outputs tokens buffers (first ∷ more) = fold (with_output buffers)
+    ((tokens ++ key (codes "outputs") ∷ []) ++ begin_array ∷ []) (first ∷ more) ++ end_array ∷ []
 
 -- ---- samples
 
@@ -137,9 +154,12 @@ output_name Last = codes "relaynet_output_last_delivery_timestamp_seconds"
 abbrev pub output_help : OutputMetric → List ℕ
 output_help Limit = codes "Bytes that the buffer takes."
 output_help Failing = codes "Servers of the output that failed when last tried; of a sink 0 or 1."
-output_help Failures = codes "How often a delivery failed, or a server couldn't be reached, since the relay started."
+output_help Failures =
+    codes "How often a delivery failed, or a server couldn't be reached, since the relay started."
 output_help Delivered = codes "Chunks that were delivered since the relay started."
-output_help Last = codes "Time of the last delivery since the relay started, in seconds since the beginning of 1970."
+output_help Last =
+    codes
+    "Time of the last delivery since the relay started, in seconds since the beginning of 1970."
 
 -- its type: a counter begins anew where the relay does
 abbrev pub output_type : OutputMetric → List ℕ
@@ -164,15 +184,19 @@ output_labels at = codes "{line=" ++ 34 ∷ [] ++ decimal at ++ 34 ∷ [] ++ cod
 -- its sample of an output; nothing where it says nothing
 abbrev pub output_sample : OutputMetric → OutputView → List ℕ
 output_sample metric output =
-    option_map_or (λ says. sample_line (output_name metric) (output_labels output.state.line) (unwrap_or (path_of output.state.buffer) []) says) (output_figure metric output) []
+    option_map_or (λ says. sample_line (output_name metric) (output_labels output.state.line)
+    (unwrap_or (path_of output.state.buffer) []) says) (output_figure metric output) []
 
 -- a metric of outputs
 abbrev pub output_family : OutputMetric → List OutputView → List ℕ
-output_family metric outputs = head_lines (output_name metric) (output_help metric) (output_type metric) ++ flat_map (output_sample metric) outputs
+output_family metric outputs = head_lines (output_name metric) (output_help metric)
+    (output_type metric) ++ flat_map (output_sample metric) outputs
 
 -- a text, and behind it the metrics of these outputs
 unfoldable pub with_families : List ℕ → List OutputView → List ℕ
-with_families text outputs = text ++ output_family Limit outputs ++ output_family Failing outputs ++ output_family Failures outputs ++ output_family Delivered outputs ++ output_family Last outputs
+with_families text outputs = text ++ output_family Limit outputs ++ output_family Failing outputs
+    ++ output_family Failures outputs ++ output_family Delivered outputs
+    ++ output_family Last outputs
 
 -- the same; nothing behind it where there are no outputs
 abbrev pub with_samples : List ℕ → List OutputView → List ℕ

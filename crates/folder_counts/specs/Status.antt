@@ -23,7 +23,8 @@ text_of limits Metrics folder outputs = status_metrics folder outputs
 
 -- These files are counted, and this is the text of what they hold, in the order of names, and of
 -- what the relay says of its outputs; and the status that the files mean.
-pub record IsSaid (named : List ℕ → Option (List ℕ)) (files : List Named) (limits : Limits) (form : Form) (text : List ℕ) (status : Status) : Type 0 where
+pub record IsSaid (named : List ℕ → Option (List ℕ)) (files : List Named) (limits : Limits)
+    (form : Form) (text : List ℕ) (status : Status) : Type 0 where
   pub counted : FolderView
   pub folder : FolderView
   pub are_counted : AreCounted named files counted
@@ -34,7 +35,8 @@ pub record IsSaid (named : List ℕ → Option (List ℕ)) (files : List Named) 
   pub status_is : status ≡ status_of limits folder
 
 -- what these files hold is printed
-pub record PrintsSaid (named : List ℕ → Option (List ℕ)) (files : List Named) (limits : Limits) (form : Form) (old new : Option (List ℕ)) (status : Status) : Type 0 where
+pub record PrintsSaid (named : List ℕ → Option (List ℕ)) (files : List Named) (limits : Limits)
+    (form : Form) (old new : Option (List ℕ)) (status : Status) : Type 0 where
   pub text : List ℕ
   pub meant : Status
   pub said : IsSaid named files limits form text meant
@@ -42,5 +44,7 @@ pub record PrintsSaid (named : List ℕ → Option (List ℕ)) (files : List Nam
 
 -- all that `status` does to a writer, and its status: the text of what the files hold, or that
 -- memory ran out
-abbrev pub PrintsStatus : (List ℕ → Option (List ℕ)) → List Named → Limits → Form → Option (List ℕ) → Option (List ℕ) → Status → Type 0
-PrintsStatus named files limits form old new status = PrintsSaid named files limits form old new status ⊎ IsPrinted old new memory_line Usage status
+abbrev pub PrintsStatus : (List ℕ → Option (List ℕ)) → List Named → Limits → Form → Option (List ℕ)
+    → Option (List ℕ) → Status → Type 0
+PrintsStatus named files limits form old new status =
+    PrintsSaid named files limits form old new status ⊎ IsPrinted old new memory_line Usage status

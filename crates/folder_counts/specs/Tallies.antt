@@ -29,7 +29,12 @@ later (Some first) (Some second) = Some (int_max first second)
 
 -- with one event more, of this time
 abbrev pub with_event : Tally → ℤ → Tally
-with_event tally nanos = record { events = tally.events + 1; oldest = earlier tally.oldest (Some nanos); newest = later tally.newest (Some nanos) }
+with_event tally nanos =
+    record {
+      events = tally.events + 1;
+      oldest = earlier tally.oldest (Some nanos);
+      newest = later tally.newest (Some nanos);
+    }
 
 -- the bytes begin with an event of this time, behind which these stand
 pub record IsFirst (form : Form) (bytes : List ℕ) (nanos : ℤ) (behind : List ℕ) : Type 0 where
@@ -46,7 +51,8 @@ pub record IsTallyOf (events : List Event) (tally : Tally) : Type 0 where
 
 -- The bytes hold events, up to the first place where none is whole, and behind them stand these;
 -- with those before they are counted so.
-pub record Adds (form : Form) (before : Tally) (bytes : List ℕ) (after : Tally) (rest : List ℕ) : Type 0 where
+pub record Adds (form : Form) (before : Tally) (bytes : List ℕ) (after : Tally)
+    (rest : List ℕ) : Type 0 where
   pub events : List Event
   pub each : AllByRecursion (IsIn form) events
   pub whole : bytes ≡ spelled_run form events ++ rest
@@ -69,7 +75,8 @@ pub record IsHeldAfter (form : Form) (held : HeldView) (seen : List ℕ) : Type 
   pub taken_is : held.taken + length held.bytes ≡ length seen
 
 -- the events of these bytes are counted so; so many bytes spell them, and so many stand behind them
-pub record IsWholeFile (form : Form) (bytes : List ℕ) (tally : Tally) (taken torn : ℕ) : Type 0 where
+pub record IsWholeFile (form : Form) (bytes : List ℕ) (tally : Tally)
+    (taken torn : ℕ) : Type 0 where
   pub events : List Event
   pub each : AllByRecursion (IsIn form) events
   pub rest : List ℕ

@@ -18,13 +18,17 @@ use Rattle.folder_counts.specs.declared.metrics.BufferMetric.TheVariants.{Sound}
 -- of what all buffers hold, and those of the limits that some are above.
 abbrev pub status_lines : Limits → FolderView → List OutputView → List ℕ
 status_lines limits folder outputs =
-    flat_map buffer_line folder.buffers ++ flat_map sink_lines folder.sinks ++ flat_map (output_line folder.buffers) outputs ++ total_line folder.buffers
+    flat_map buffer_line folder.buffers ++ flat_map sink_lines folder.sinks
+    ++ flat_map (output_line folder.buffers) outputs ++ total_line folder.buffers
     ++ flat_map (over_lines limits) folder.buffers
 
 -- the object of all that
 abbrev pub with_status : List Token → Limits → FolderView → List OutputView → List Token
 with_status tokens limits folder outputs =
-    with_overs (with_total (with_outputs (object.with_sinks (with_buffers (tokens ++ begin_object ∷ []) folder.buffers) folder.sinks) folder.buffers outputs) folder.buffers) limits folder.buffers
+    with_overs
+    (with_total
+    (with_outputs (object.with_sinks (with_buffers (tokens ++ begin_object ∷ []) folder.buffers)
+    folder.sinks) folder.buffers outputs) folder.buffers) limits folder.buffers
     ++ end_object ∷ []
 
 -- its text, in a line
@@ -33,4 +37,7 @@ status_object limits folder outputs = line (print (with_status [] limits folder 
 
 -- the samples
 abbrev pub status_metrics : FolderView → List OutputView → List ℕ
-status_metrics folder outputs = with_samples (with_sinks (samples.with_buffers (buffer_family Sound folder.buffers) folder.buffers) folder.sinks) outputs
+status_metrics folder outputs =
+    with_samples
+    (with_sinks (samples.with_buffers (buffer_family Sound folder.buffers) folder.buffers)
+    folder.sinks) outputs

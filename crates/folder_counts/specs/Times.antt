@@ -13,7 +13,9 @@ second = 1000000000
 -- a number below 10^9 in nine digits, with zeros in front
 abbrev pub nine_digits : ℕ → List ℕ
 nine_digits n =
-    decimal (n / 100000000 % 10) ++ decimal (n / 10000000 % 10) ++ decimal (n / 1000000 % 10) ++ decimal (n / 100000 % 10) ++ decimal (n / 10000 % 10) ++ decimal (n / 1000 % 10) ++ decimal (n / 100 % 10)
+    decimal (n / 100000000 % 10) ++ decimal (n / 10000000 % 10) ++ decimal (n / 1000000 % 10)
+    ++ decimal (n / 100000 % 10) ++ decimal (n / 10000 % 10) ++ decimal (n / 1000 % 10)
+    ++ decimal (n / 100 % 10)
     ++ decimal (n / 10 % 10) ++ decimal (n % 10)
 
 -- so many nanoseconds as seconds, with nine places behind the point
@@ -27,4 +29,6 @@ seconds_text nanos = sign_text (is_negative nanos) ++ size_text (unsigned_abs na
 -- an instant as RFC 3339 writes it, in UTC and with nine places behind the seconds; outside of the
 -- years that this writes the seconds since the beginning of 1970
 abbrev pub instant_text : Instant → List ℕ
-instant_text instant = option_map_or (λ shown. datetime_text false 84 (Some 9) shown ++ zulu_text false) instant.shown (seconds_text instant.nanos)
+instant_text instant =
+    option_map_or (λ shown. datetime_text false 84 (Some 9) shown ++ zulu_text false) instant.shown
+    (seconds_text instant.nanos)

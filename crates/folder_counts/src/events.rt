@@ -133,6 +133,20 @@ impl<A: Allocator + Copy, S: Spelling> Held<A, S> {
             bytes: Vec::new(alloc),
         }
     }
+
+    // Takes the next piece: counts the events that end in it, and holds what is behind them. The
+    // error is want of memory, also for a number of 2^64 or more.
+    fn take(&mut self, piece: &[u8]) -> Result<(), AllocError>
+        ensures { OnOk result ((seen : List ℕ) → IsHeldAfter S.form self.old seen
+            → IsHeldAfter S.form self.new (seen ++ piece.now)) }
+    {
+        self.bytes.extend_from_slice(piece)?;
+        let front = count_front(self.alloc, self.spelling, self.tally, &self.bytes)?;
+        self.taken = plus(self.taken, front.used as u64)?;
+        self.tally = front.tally;
+        drop_front(&mut self.bytes, front.used);
+        Ok(())
+    }
 }
 
 impl<A: Allocator + Copy, S: Spelling + Drop> Feed for Held<A, S> {
@@ -147,11 +161,7 @@ impl<A: Allocator + Copy, S: Spelling + Drop> Feed for Held<A, S> {
     ghost is_in = { IsInFile S.form };
 
     fn feed(&mut self, piece: &[u8]) -> Result<(), FeedStop> {
-        self.bytes.extend_from_slice(piece)?;
-        let front = count_front(self.alloc, self.spelling, self.tally, &self.bytes)?;
-        self.taken = plus(self.taken, front.used as u64)?;
-        self.tally = front.tally;
-        drop_front(&mut self.bytes, front.used);
+        self.take(piece)?;
         if self.bytes.len() > LONGEST_ITEM {
             return Err(FeedStop::Damaged);
         }

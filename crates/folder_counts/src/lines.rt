@@ -1,7 +1,8 @@
 //! The lines of a folder: those of buffers and sinks, and of what they hold together.
 
-ghost use Rattle.std.specs.Prelude.{◌≡◌, ◌++◌, decimal, IfOk, OnOk};
+ghost use Rattle.std.specs.Prelude.{◌≡◌, ◌++◌, codes, decimal, IfOk, OnOk};
 ghost use Rattle.std.specs.List.{flat_map};
+ghost use Rattle.program_text.specs.Lines.{line};
 ghost use Rattle.folder_counts.specs.Lines.{
   above_line,
   buffer_line,
@@ -18,7 +19,7 @@ ghost use Rattle.folder_counts.specs.Lines.{
 ghost use Rattle.folder_counts.specs.Texts.{status_lines};
 
 use crate::buffers::{Buffer, Found};
-use crate::counts::{ChunkCounts, NO_CHUNKS};
+use crate::counts::{ChunkCounts, NO_CHUNKS, SinkCounts};
 use crate::folder::FolderCounts;
 use crate::instant::Instant;
 use crate::limits::{Limits, is_above};
@@ -62,12 +63,8 @@ pub(crate) fn put_field<A: Allocator + Copy>(
     line.extend_from_slice(digits.as_bytes())
 }
 
-/// The beginning of a line: a word, and a name.
-pub(crate) fn begun<A: Allocator + Copy>(
-    alloc: A,
-    word: &[u8],
-    name: &str,
-) -> Result<Vec<u8, A>, AllocError>
+// The beginning of a line: a word, and a name.
+fn begun<A: Allocator + Copy>(alloc: A, word: &[u8], name: &str) -> Result<Vec<u8, A>, AllocError>
     ensures { IfOk result (λ line. line.items ≡ word.now ++ name.now) }
 {
     let mut line = Vec::from_slice(alloc, word)?;
@@ -84,20 +81,23 @@ fn put_buffers<A: Allocator + Copy>(
     ensures { OnOk result (lines.new.items ≡ lines.old.items ++ flat_map buffer_line buffers.now) }
 {
     for buffer in buffers {
-        let line = buffer_line(alloc, buffer)?;
-        lines.extend_from_slice(&line)?;
+        put_buffer(alloc, lines, buffer)?;
     }
     Ok(())
 }
 
-// The line of a buffer.
-fn buffer_line<A: Allocator + Copy>(alloc: A, buffer: &Buffer<'_>) -> Result<Vec<u8, A>, AllocError>
-    ensures { IfOk result (λ line. line.items ≡ buffer_line buffer.now) }
+// Adds the line of a buffer.
+fn put_buffer<A: Allocator + Copy>(
+    alloc: A,
+    lines: &mut Vec<u8, A>,
+    buffer: &Buffer<'_>,
+) -> Result<(), AllocError>
+    ensures { OnOk result (lines.new.items ≡ lines.old.items ++ buffer_line buffer.now) }
 {
-    let mut line = begun(alloc, b"buffer ", buffer.path())?;
-    put_found(alloc, &mut line, buffer.found())?;
-    line.extend_from_slice(b"\n")?;
-    Ok(line)
+    lines.extend_from_slice(b"buffer ")?;
+    lines.extend_from_slice(buffer.path().as_bytes())?;
+    put_found(alloc, lines, buffer.found())?;
+    lines.extend_from_slice(b"\n")
 }
 
 // Adds what is found in a journal.
@@ -114,16 +114,29 @@ fn put_found<A: Allocator + Copy>(
             torn,
             next,
             oldest,
-        } => {
-            put_chunks(alloc, line, chunks)?;
-            put_field(alloc, line, b" torn ", torn)?;
-            put_field(alloc, line, b" next ", next)?;
-            put_time(alloc, line, b" oldest event ", oldest)
-        }
+        } => put_whole(alloc, line, chunks, torn, next, oldest),
         Found::Unsealed => line.extend_from_slice(b" unsealed"),
         Found::Damaged => line.extend_from_slice(b" damaged"),
         Found::Unread => line.extend_from_slice(b" unread"),
     }
+}
+
+// Adds what is found in a journal that is whole.
+fn put_whole<A: Allocator + Copy>(
+    alloc: A,
+    line: &mut Vec<u8, A>,
+    chunks: ChunkCounts,
+    torn: u64,
+    next: u64,
+    oldest: Option<Instant>,
+) -> Result<(), AllocError>
+    ensures { OnOk result
+        (line.new.items ≡ with_found line.old.items (Found.Chunks chunks torn next oldest)) }
+{
+    put_chunks(alloc, line, chunks)?;
+    put_field(alloc, line, b" torn ", torn)?;
+    put_field(alloc, line, b" next ", next)?;
+    put_time(alloc, line, b" oldest event ", oldest)
 }
 
 /// Adds a word and an instant; nothing where there is none.
@@ -187,17 +200,45 @@ fn sink_lines<A: Allocator + Copy>(alloc: A, sink: &Sink<'_>) -> Result<Vec<u8, 
 fn sink_line<A: Allocator + Copy>(alloc: A, sink: &Sink<'_>) -> Result<Vec<u8, A>, AllocError>
     ensures { IfOk result (λ line. line.items ≡ sink_line sink.now) }
 {
-    let counts = sink.counts();
     let mut line = begun(alloc, b"sink ", sink.path())?;
-    put_field(alloc, &mut line, b" files ", counts.files)?;
-    put_field(alloc, &mut line, b" events ", counts.events)?;
-    put_field(alloc, &mut line, b" bytes ", counts.bytes)?;
-    put_field(alloc, &mut line, b" torn ", counts.torn)?;
-    line.extend_from_slice(b" newest ")?;
-    line.extend_from_slice(sink.newest().as_bytes())?;
-    put_time(alloc, &mut line, b" newest event ", counts.newest_event)?;
+    put_counts(alloc, &mut line, sink.counts())?;
+    put_newest(alloc, &mut line, sink)?;
     line.extend_from_slice(b"\n")?;
     Ok(line)
+}
+
+// Adds what the files of a sink count to.
+fn put_counts<A: Allocator + Copy>(
+    alloc: A,
+    line: &mut Vec<u8, A>,
+    counts: SinkCounts,
+) -> Result<(), AllocError>
+    ensures { OnOk result (line.new.items
+        ≡ line.old.items ++ codes " files " ++ decimal counts.files
+        ++ codes " events " ++ decimal counts.events
+        ++ codes " bytes " ++ decimal counts.bytes
+        ++ codes " torn " ++ decimal counts.torn) }
+{
+    put_field(alloc, line, b" files ", counts.files)?;
+    put_field(alloc, line, b" events ", counts.events)?;
+    put_field(alloc, line, b" bytes ", counts.bytes)?;
+    put_field(alloc, line, b" torn ", counts.torn)
+}
+
+// Adds the newest file of a sink, and its newest event.
+fn put_newest<A: Allocator + Copy>(
+    alloc: A,
+    line: &mut Vec<u8, A>,
+    sink: &Sink<'_>,
+) -> Result<(), AllocError>
+    ensures { OnOk result (line.new.items
+        ≡ line.old.items ++ codes " newest " ++ sink.now.newest
+        ++ time_field (codes " newest event ") sink.now.counts.newest_event) }
+{
+    let counts = sink.counts();
+    line.extend_from_slice(b" newest ")?;
+    line.extend_from_slice(sink.newest().as_bytes())?;
+    put_time(alloc, line, b" newest event ", counts.newest_event)
 }
 
 // Adds the line that says of how many files of a sink this is true; nothing where there are none.
@@ -213,10 +254,25 @@ fn put_flaw<A: Allocator + Copy>(
     if files == 0 {
         return Ok(());
     }
-    let mut line = begun(alloc, b"sink ", name)?;
-    put_field(alloc, &mut line, word, files)?;
-    line.extend_from_slice(b"\n")?;
-    lines.extend_from_slice(&line)
+    put_number(alloc, lines, b"sink ", name, word, files)
+}
+
+// Adds a line of a number: what it is of, by a word and a name, another word, and the number.
+fn put_number<A: Allocator + Copy>(
+    alloc: A,
+    lines: &mut Vec<u8, A>,
+    front: &[u8],
+    name: &str,
+    word: &[u8],
+    number: u64,
+) -> Result<(), AllocError>
+    ensures { OnOk result (lines.new.items
+        ≡ lines.old.items ++ line (front.now ++ name.now ++ word.now ++ decimal number)) }
+{
+    lines.extend_from_slice(front)?;
+    lines.extend_from_slice(name.as_bytes())?;
+    put_field(alloc, lines, word, number)?;
+    lines.extend_from_slice(b"\n")
 }
 
 // Adds the line of what these buffers hold together.
@@ -311,8 +367,5 @@ fn put_above<A: Allocator + Copy>(
     if !is_above(most, number) {
         return Ok(());
     }
-    let mut line = begun(alloc, b"over ", name)?;
-    put_field(alloc, &mut line, word, number)?;
-    line.extend_from_slice(b"\n")?;
-    lines.extend_from_slice(&line)
+    put_number(alloc, lines, b"over ", name, word, number)
 }

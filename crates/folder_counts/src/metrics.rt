@@ -1,6 +1,6 @@
 //! Samples in the text format of Prometheus, version 0.0.4.
 
-ghost use Rattle.std.specs.Prelude.{◌≡◌, ◌++◌, IfOk, OnOk};
+ghost use Rattle.std.specs.Prelude.{◌≡◌, ◌++◌, ◌∷◌, [], IfOk, OnOk};
 ghost use Rattle.std.specs.List.{flat_map};
 ghost use Rattle.folder_counts.specs.Metrics.{
   buffer_family,
@@ -32,11 +32,11 @@ use crate::buffers::{Buffer, Found};
 use crate::counts::{ChunkCounts, SinkCounts};
 use crate::folder::FolderCounts;
 use crate::instant::Instant;
-use crate::lines::{begun, put_field};
+use crate::lines::put_field;
 use crate::outputs::Output;
 use crate::outputs_metrics::put_outputs;
 use crate::sinks::Sink;
-use crate::times::seconds_text;
+use crate::times::put_seconds;
 use std::alloc::{AllocError, Allocator};
 
 /// What a sample says.
@@ -258,12 +258,27 @@ fn put_buffer_counts<A: Allocator + Copy>(
 ) -> Result<(), AllocError>
     ensures { OnOk result (text.new.items ≡ with_buffer_counts text.old.items buffers.now) }
 {
+    put_chunks(alloc, text, buffers)?;
+    put_buffer_family(alloc, text, BufferMetric::Torn, buffers)?;
+    put_buffer_family(alloc, text, BufferMetric::Next, buffers)
+}
+
+// Adds what is counted of their chunks.
+fn put_chunks<A: Allocator + Copy>(
+    alloc: A,
+    text: &mut Vec<u8, A>,
+    buffers: &[Buffer<'_>],
+) -> Result<(), AllocError>
+    ensures { OnOk result (text.new.items ≡ text.old.items
+        ++ buffer_family BufferMetric.Staged buffers.now
+        ++ buffer_family BufferMetric.Queued buffers.now
+        ++ buffer_family BufferMetric.Entries buffers.now
+        ++ buffer_family BufferMetric.Bytes buffers.now) }
+{
     put_buffer_family(alloc, text, BufferMetric::Staged, buffers)?;
     put_buffer_family(alloc, text, BufferMetric::Queued, buffers)?;
     put_buffer_family(alloc, text, BufferMetric::Entries, buffers)?;
-    put_buffer_family(alloc, text, BufferMetric::Bytes, buffers)?;
-    put_buffer_family(alloc, text, BufferMetric::Torn, buffers)?;
-    put_buffer_family(alloc, text, BufferMetric::Next, buffers)
+    put_buffer_family(alloc, text, BufferMetric::Bytes, buffers)
 }
 
 // Adds what is said of these sinks.
@@ -286,12 +301,26 @@ fn put_sink_counts<A: Allocator + Copy>(
 ) -> Result<(), AllocError>
     ensures { OnOk result (text.new.items ≡ with_sink_counts text.old.items sinks.now) }
 {
-    put_sink_family(alloc, text, SinkMetric::Files, sinks)?;
-    put_sink_family(alloc, text, SinkMetric::Events, sinks)?;
-    put_sink_family(alloc, text, SinkMetric::Bytes, sinks)?;
+    put_events(alloc, text, sinks)?;
     put_sink_family(alloc, text, SinkMetric::Torn, sinks)?;
     put_sink_family(alloc, text, SinkMetric::Damaged, sinks)?;
     put_sink_family(alloc, text, SinkMetric::Unread, sinks)
+}
+
+// Adds what is counted of their files, and of the events in these.
+fn put_events<A: Allocator + Copy>(
+    alloc: A,
+    text: &mut Vec<u8, A>,
+    sinks: &[Sink<'_>],
+) -> Result<(), AllocError>
+    ensures { OnOk result (text.new.items ≡ text.old.items
+        ++ sink_family SinkMetric.Files sinks.now
+        ++ sink_family SinkMetric.Events sinks.now
+        ++ sink_family SinkMetric.Bytes sinks.now) }
+{
+    put_sink_family(alloc, text, SinkMetric::Files, sinks)?;
+    put_sink_family(alloc, text, SinkMetric::Events, sinks)?;
+    put_sink_family(alloc, text, SinkMetric::Bytes, sinks)
 }
 
 // Adds a metric of these buffers.
@@ -303,7 +332,7 @@ fn put_buffer_family<A: Allocator + Copy>(
 ) -> Result<(), AllocError>
     ensures { OnOk result (text.new.items ≡ text.old.items ++ buffer_family metric buffers.now) }
 {
-    put_head(alloc, text, metric.name(), metric.help(), "gauge")?;
+    put_head(text, metric.name(), metric.help(), "gauge")?;
     put_buffer_samples(alloc, text, metric, buffers)
 }
 
@@ -354,7 +383,7 @@ fn put_sink_family<A: Allocator + Copy>(
 ) -> Result<(), AllocError>
     ensures { OnOk result (text.new.items ≡ text.old.items ++ sink_family metric sinks.now) }
 {
-    put_head(alloc, text, metric.name(), metric.help(), "gauge")?;
+    put_head(text, metric.name(), metric.help(), "gauge")?;
     put_sink_samples(alloc, text, metric, sinks)
 }
 
@@ -390,8 +419,7 @@ fn put_sink_sample<A: Allocator + Copy>(
 }
 
 /// Adds the two lines in front of the samples of a metric: what it is, and its type.
-pub(crate) fn put_head<A: Allocator + Copy>(
-    alloc: A,
+pub(crate) fn put_head<A: Allocator>(
     text: &mut Vec<u8, A>,
     name: &str,
     help: &str,
@@ -400,13 +428,12 @@ pub(crate) fn put_head<A: Allocator + Copy>(
     ensures { OnOk result (text.new.items
         ≡ text.old.items ++ head_lines name.now help.now kind.now) }
 {
-    put_comment(alloc, text, b"# HELP ", name, help)?;
-    put_comment(alloc, text, b"# TYPE ", name, kind)
+    put_comment(text, b"# HELP ", name, help)?;
+    put_comment(text, b"# TYPE ", name, kind)
 }
 
 // Adds a line that says something of a metric.
-fn put_comment<A: Allocator + Copy>(
-    alloc: A,
+fn put_comment<A: Allocator>(
     text: &mut Vec<u8, A>,
     word: &[u8],
     name: &str,
@@ -415,11 +442,11 @@ fn put_comment<A: Allocator + Copy>(
     ensures { OnOk result (text.new.items
         ≡ text.old.items ++ comment_line word.now name.now said.now) }
 {
-    let mut line = begun(alloc, word, name)?;
-    line.extend_from_slice(b" ")?;
-    line.extend_from_slice(said.as_bytes())?;
-    line.extend_from_slice(b"\n")?;
-    text.extend_from_slice(&line)
+    text.extend_from_slice(word)?;
+    text.extend_from_slice(name.as_bytes())?;
+    text.extend_from_slice(b" ")?;
+    text.extend_from_slice(said.as_bytes())?;
+    text.extend_from_slice(b"\n")
 }
 
 /// Adds the line of a sample: the metric, a label, from its brace to the quote in front of its
@@ -435,13 +462,26 @@ pub(crate) fn put_sample<A: Allocator + Copy>(
     ensures { OnOk result (text.new.items
         ≡ text.old.items ++ sample_line metric.now label.now value.now figure) }
 {
-    let mut line = Vec::from_slice(alloc, metric.as_bytes())?;
-    line.extend_from_slice(label)?;
-    put_escaped(&mut line, value.as_bytes())?;
-    line.extend_from_slice(b"\"} ")?;
-    put_figure(alloc, &mut line, figure)?;
-    line.extend_from_slice(b"\n")?;
-    text.extend_from_slice(&line)
+    put_labelled(text, metric, label, value)?;
+    put_figure(alloc, text, figure)?;
+    text.extend_from_slice(b"\n")
+}
+
+// Adds what stands in front of the figure.
+fn put_labelled<A: Allocator>(
+    text: &mut Vec<u8, A>,
+    metric: &str,
+    label: &[u8],
+    value: &str,
+) -> Result<(), AllocError>
+    ensures { OnOk result (text.new.items
+        ≡ text.old.items ++ (metric.now ++ label.now ++ flat_map escaped value.now
+        ++ (34 ∷ 125 ∷ 32 ∷ []))) }
+{
+    text.extend_from_slice(metric.as_bytes())?;
+    text.extend_from_slice(label)?;
+    put_escaped(text, value.as_bytes())?;
+    text.extend_from_slice(b"\"} ")
 }
 
 // Adds a figure.
@@ -454,10 +494,7 @@ fn put_figure<A: Allocator + Copy>(
 {
     match figure {
         Figure::Number(number) => put_field(alloc, line, b"", number),
-        Figure::Seconds(nanos) => {
-            let seconds = seconds_text(alloc, nanos)?;
-            line.extend_from_slice(seconds.as_bytes())
-        }
+        Figure::Seconds(nanos) => put_seconds(alloc, line, nanos),
     }
 }
 

@@ -1,6 +1,6 @@
 //! What a folder holds, as a JSON object (RFC 8259).
 
-ghost use Rattle.std.specs.Prelude.{◌≡◌, fold, IfOk, OnOk};
+ghost use Rattle.std.specs.Prelude.{◌≡◌, codes, fold, IfOk, OnOk};
 ghost use Rattle.folder_counts.specs.Object.{
   state_word,
   with_above,
@@ -12,6 +12,7 @@ ghost use Rattle.folder_counts.specs.Object.{
   with_name,
   with_newest,
   with_number,
+  with_numbers,
   with_over,
   with_overs,
   with_sink,
@@ -161,14 +162,27 @@ fn put_found<A: Allocator + Copy>(
             torn,
             next,
             oldest,
-        } => {
-            put_chunks(writer, chunks)?;
-            put_number(writer, "torn", torn)?;
-            put_number(writer, "next", next)?;
-            put_time(alloc, writer, "oldest_event", oldest)
-        }
+        } => put_whole(alloc, writer, chunks, torn, next, oldest),
         Found::Unsealed | Found::Damaged | Found::Unread => Ok(()),
     }
+}
+
+// Writes the members of the numbers that are found in a journal that is whole.
+fn put_whole<A: Allocator + Copy>(
+    alloc: A,
+    writer: &mut Writer<A>,
+    chunks: ChunkCounts,
+    torn: u64,
+    next: u64,
+    oldest: Option<Instant>,
+) -> Result<(), AllocError>
+    ensures { OnOk result (Becomes writer.old writer.new
+        (with_numbers writer.old.tokens (Found.Chunks chunks torn next oldest))) }
+{
+    put_chunks(writer, chunks)?;
+    put_number(writer, "torn", torn)?;
+    put_number(writer, "next", next)?;
+    put_time(alloc, writer, "oldest_event", oldest)
 }
 
 /// Writes a member whose value is this instant, in seconds since the beginning of 1970 with nine
@@ -273,12 +287,22 @@ fn put_newest<A: Allocator + Copy>(
 fn put_counts<A: Allocator>(writer: &mut Writer<A>, counts: SinkCounts) -> Result<(), AllocError>
     ensures { OnOk result (Becomes writer.old writer.new (with_counts writer.old.tokens counts)) }
 {
-    put_number(writer, "files", counts.files)?;
-    put_number(writer, "events", counts.events)?;
-    put_number(writer, "bytes", counts.bytes)?;
+    put_events(writer, counts)?;
     put_number(writer, "torn", counts.torn)?;
     put_number(writer, "damaged", counts.damaged)?;
     put_number(writer, "unread", counts.unread)
+}
+
+// Writes those of the files, and of the events in them.
+fn put_events<A: Allocator>(writer: &mut Writer<A>, counts: SinkCounts) -> Result<(), AllocError>
+    ensures { OnOk result (Becomes writer.old writer.new
+        (with_number (with_number (with_number writer.old.tokens
+        (codes "files") counts.files) (codes "events") counts.events)
+        (codes "bytes") counts.bytes)) }
+{
+    put_number(writer, "files", counts.files)?;
+    put_number(writer, "events", counts.events)?;
+    put_number(writer, "bytes", counts.bytes)
 }
 
 // Writes the member with what all buffers hold together.

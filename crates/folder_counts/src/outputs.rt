@@ -172,8 +172,8 @@ fn outputs_in<'t, A: Allocator + Copy>(
 }
 
 /// How many percent of its limit the buffer of an output holds, rounded down; none where it is in
-/// memory, these buffers have no sound one of its path, or the limit is 0. The error is want of memory for a number
-/// of 2^64 or more.
+/// memory, these buffers have no sound one of its path, or the limit is 0. The error is want of
+/// memory for a number of 2^64 or more.
 #[tactic(auto, unfolding(crate::specs::Outputs::used_of))]
 pub(crate) fn used_of(
     buffers: &[Buffer<'_>],

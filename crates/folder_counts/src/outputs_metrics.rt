@@ -123,7 +123,7 @@ fn put_family<A: Allocator + Copy>(
 ) -> Result<(), AllocError>
     ensures { OnOk result (text.new.items ≡ text.old.items ++ output_family metric outputs.now) }
 {
-    put_head(alloc, text, metric.name(), metric.help(), metric.kind())?;
+    put_head(text, metric.name(), metric.help(), metric.kind())?;
     put_samples(alloc, text, metric, outputs)
 }
 

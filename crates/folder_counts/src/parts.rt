@@ -51,9 +51,9 @@ fn part_at<T: Part>(parts: &[T], path: &str) -> Option<usize>
 }
 
 /// Puts parts in the order of their paths.
-pub(crate) fn sort_parts<T: Part>(parts: &mut [T])
-    ensures same { IsPermutation parts.old parts.new }
-    ensures rise { IsSortedBy (λ a b. is_before (T.path_of a) (T.path_of b)) parts.new }
+pub(crate) fn sort_parts<A: Allocator, T: Part>(parts: &mut Vec<T, A>)
+    ensures same { IsPermutation parts.old.items parts.new.items }
+    ensures rise { IsSortedBy (λ a b. is_before (T.path_of a) (T.path_of b)) parts.new.items }
 {
     parts.sort_unstable_by(|a, b| a.path().cmp(b.path()));
 }

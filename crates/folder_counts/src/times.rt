@@ -1,12 +1,14 @@
 //! Times in texts.
 
-ghost use Rattle.std.specs.Prelude.{◌≡◌, ◌++◌, ◌<◌, string_bytes, IfOk, OnOk};
+ghost use Rattle.std.specs.Prelude.{◌≡◌, ◌++◌, ◌<◌, false, string_bytes, IfOk, OnOk, Some};
+ghost use Rattle.jiff_fmt.specs.Text.{datetime_text, zulu_text};
 ghost use Rattle.json.specs.Print.{IsNumber};
 ghost use Rattle.folder_counts.specs.Times.{instant_text, nine_digits, seconds_text, size_text};
 ghost use Rattle.std.specs.Fmt.{sign_text};
 ghost use Rattle.std.specs.Int.{is_negative};
 
 use crate::instant::Instant;
+use jiff_core::civil::DateTime;
 use jiff_fmt::temporal::DateTimePrinter;
 use std::alloc::{AllocError, Allocator};
 
@@ -23,17 +25,32 @@ pub(crate) fn put_instant<A: Allocator + Copy>(
     ensures { OnOk result (line.new.items ≡ line.old.items ++ instant_text instant) }
 {
     match instant.shown {
-        Some(shown) => {
-            let printer = DateTimePrinter::new().precision(Some(9));
-            let text = printer.datetime_text(shown);
-            line.extend_from_slice(text.as_str().as_bytes())?;
-            line.extend_from_slice(b"Z")
-        }
-        None => {
-            let text = seconds_text(alloc, instant.nanos)?;
-            line.extend_from_slice(text.as_bytes())
-        }
+        Some(shown) => put_shown(line, shown),
+        None => put_seconds(alloc, line, instant.nanos),
     }
+}
+
+// Adds what a clock in UTC shows, with nanoseconds.
+fn put_shown<A: Allocator>(line: &mut Vec<u8, A>, shown: DateTime) -> Result<(), AllocError>
+    ensures { OnOk result (line.new.items
+        ≡ line.old.items ++ (datetime_text false 84 (Some 9) shown ++ zulu_text false)) }
+{
+    let printer = DateTimePrinter::new().precision(Some(9));
+    let text = printer.datetime_text(shown);
+    line.extend_from_slice(text.as_str().as_bytes())?;
+    line.extend_from_slice(b"Z")
+}
+
+/// Adds nanoseconds as seconds, with nine places behind the point.
+pub(crate) fn put_seconds<A: Allocator + Copy>(
+    alloc: A,
+    line: &mut Vec<u8, A>,
+    nanos: i128,
+) -> Result<(), AllocError>
+    ensures { OnOk result (line.new.items ≡ line.old.items ++ seconds_text nanos) }
+{
+    let text = seconds_text(alloc, nanos)?;
+    line.extend_from_slice(text.as_bytes())
 }
 
 /// Nanoseconds as seconds, with nine places behind the point, which is a number of JSON (RFC 8259,

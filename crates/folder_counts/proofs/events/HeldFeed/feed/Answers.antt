@@ -1,40 +1,16 @@
-use Rattle.std.proofs.Common.{◌≡◌, ◌+◌, ◌++◌, ◌≤◌, ◌<◌, ◌∙◌, ap, arith, drop, length, rules, subst, sym}
-use Rattle.std.proofs.lemmas.List.{length-drop}
+use Rattle.std.proofs.Common.{◌≡◌, ◌++◌, ◌<◌, length, rules, subst}
 use Rattle.event_listing.specs.Reading.{longest_item}
-use Rattle.folder_counts.specs.Tallies.{Adds, HeldView, IsHeldAfter}
-use Rattle.folder_counts.proofs.Tallied.{held_long, held_more}
+use Rattle.folder_counts.specs.Tallies.{HeldView}
+use Rattle.folder_counts.proofs.Tallied.{held_long}
 use Rattle.folder_counts.proofs.events.HeldFeed.feed.Goals as goal
 
 pub returns-then-len-gt-LONGEST_ITEM-clause-damaged :
     goal.returns-then-len-gt-LONGEST_ITEM-clause-damaged
 returns-then-len-gt-LONGEST_ITEM-clause-damaged g c = λ seen more on e.
-    let form = g.S.Spelling.form in
-    let front = c.in_ok-front.front in
-    let held : HeldView = record { tally = c.self.inside.tally; taken = c.self.inside.taken; bytes = c.self.inside.bytes.items } in
-    let new : HeldView = record { tally = front.tally; taken = c.in_ok-self-inside.field-0; bytes = c.drop_front.new.bytes.items } in
-    let bytes = c.self.inside.bytes.items ++ c.args.piece.now in
-    let grown : c.extend_from_slice.new.self.items ≡ bytes = search rules in
-    let all : c.deref.result.now ≡ bytes = search rules in
-    let left : c.drop_front.new.bytes.items ≡ drop front.used bytes = c.drop_front.ensures ∙ ap (drop front.used) grown in
-    let fits = subst (λ b. front.used ≤ length b) all c.in_ok-front.ensures.used in
-    let adds = subst (Adds form held.tally bytes front.tally) (sym left) (subst (λ b. Adds form held.tally b front.tally (drop front.used b)) all c.in_ok-front.ensures.all) in
-    let taken : new.taken + length new.bytes ≡ held.taken + length bytes = omega (arith, c.in_ok-self-inside.ensures, fits, ap length left, length-drop front.used bytes) in
-    let len : c.len.result ≡ length c.drop_front.new.bytes.items = search rules in
-    let long : longest_item < length c.drop_front.new.bytes.items = omega arith in
-    held_long form new (seen ++ c.args.piece.now) more
-    (held_more form held new c.args.piece.now seen (subst (λ h. IsHeldAfter form h seen) (sym c.self.view_is) on) adds taken) long
+    let len : c.len.result ≡ length c.self.inside.bytes.items = search rules in
+    let inside : longest_item < length c.self.inside.bytes.items = subst (λ n. longest_item < n) len c.if-len-gt-LONGEST_ITEM.true in
+    held_long (g.S.Spelling.form) c.take.new.self (seen ++ c.args.piece.now) more (c.in_ok-take.ensures seen on)
+    (subst (λ (held : HeldView). longest_item < length held.bytes) c.self.view_is inside)
 
 pub returns-clause-fed : goal.returns-clause-fed
-returns-clause-fed g c = λ seen on.
-    let form = g.S.Spelling.form in
-    let front = c.in_ok-front.front in
-    let held : HeldView = record { tally = c.self.inside.tally; taken = c.self.inside.taken; bytes = c.self.inside.bytes.items } in
-    let new : HeldView = record { tally = front.tally; taken = c.in_ok-self-inside.field-0; bytes = c.drop_front.new.bytes.items } in
-    let bytes = c.self.inside.bytes.items ++ c.args.piece.now in
-    let grown : c.extend_from_slice.new.self.items ≡ bytes = search rules in
-    let all : c.deref.result.now ≡ bytes = search rules in
-    let left : c.drop_front.new.bytes.items ≡ drop front.used bytes = c.drop_front.ensures ∙ ap (drop front.used) grown in
-    let fits = subst (λ b. front.used ≤ length b) all c.in_ok-front.ensures.used in
-    let adds = subst (Adds form held.tally bytes front.tally) (sym left) (subst (λ b. Adds form held.tally b front.tally (drop front.used b)) all c.in_ok-front.ensures.all) in
-    let taken : new.taken + length new.bytes ≡ held.taken + length bytes = omega (arith, c.in_ok-self-inside.ensures, fits, ap length left, length-drop front.used bytes) in
-    held_more form held new c.args.piece.now seen (subst (λ h. IsHeldAfter form h seen) (sym c.self.view_is) on) adds taken
+returns-clause-fed g c = c.in_ok-take.ensures
