@@ -1,5 +1,5 @@
 -- Where no matches are named.
-use Rattle.std.proofs.Common.{◌≡◌, ℕ, List, [], Option, Some, None, refl, subst}
+use Rattle.std.proofs.Common.{ℕ, List, [], Option, Some, None, refl, subst}
 use Rattle.std.specs.Prelude.{IfSome}
 use Rattle.std.specs.declared.vec.Vec.{Vec}
 use Rattle.loss_rules.specs.Breaks.{Subject}

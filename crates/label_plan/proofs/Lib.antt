@@ -1,4 +1,5 @@
 pub mod Dropless
+pub mod Given
 pub mod Keeping
 pub mod Nones
 pub mod Peeling

@@ -9,7 +9,8 @@ use Rattle.loss_rules.specs.Breaks.{Subject}
 
 -- The text says the plan, once events are let go at the named matches, and these are its broken
 -- rules, each with all its places.
-pub record AreChecked {A : Type 0} (confs : List (List ℕ)) (names : List DropName) (text : List ℕ) (plan : Subject A) (broken : List (BrokenRule A)) : Type 0 where
+pub record AreChecked {A : Type 0} (confs : List (List ℕ)) (names : List DropName) (text : List ℕ)
+    (plan : Subject A) (broken : List (BrokenRule A)) : Type 0 where
   pub plan_is : IsDroppedPlanOf text confs names plan
   pub broken_are : AreBrokenRules plan broken
 
@@ -20,6 +21,8 @@ IsAsked A confs names given true text = IsLabelledDropping A confs names given t
 IsAsked A confs names given false text = text ≡ given
 
 -- Such a text is asked: it says the plan, and these are its broken rules, each with all its places.
-pub record IsLabelledCheck (A : Type 0) (confs : List (List ℕ)) (names : List DropName) (given : List ℕ) (is_labelled : Bool) (text : List ℕ) (plan : Subject A) (broken : List (BrokenRule A)) : Type 0 where
+pub record IsLabelledCheck (A : Type 0) (confs : List (List ℕ)) (names : List DropName)
+    (given : List ℕ) (is_labelled : Bool) (text : List ℕ) (plan : Subject A)
+    (broken : List (BrokenRule A)) : Type 0 where
   pub asked : IsAsked A confs names given is_labelled text
   pub checked : AreChecked confs names text plan broken

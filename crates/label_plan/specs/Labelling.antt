@@ -25,7 +25,8 @@ pub record Extends {A : Type 0} (before after : Subject A) : Type 0 where
 -- Labels and reaches close a network: whatever its clients send is of a label and of reaches where
 -- it comes, and where it is sent on to. These are the rules on clients, coverage, relabels and
 -- forwards.
-pub record IsClosed {A : Type 0} (net : Network A) (labels : List (Label A)) (reaches : List (Reach A)) : Type 0 where
+pub record IsClosed {A : Type 0} (net : Network A) (labels : List (Label A))
+    (reaches : List (Reach A)) : Type 0 where
   pub clients : ClientsAreLabelled net labels
   pub covered : ReachesCover net labels reaches
   pub relabels : RelabelsAreLabelled net labels reaches
@@ -45,7 +46,8 @@ pub record IsLabelled (A : Type 0) (confs : List (List ℕ)) (given text : List 
 
 -- The same of the plan at whose named matches events are let go: the labels and reaches close that
 -- one.
-pub record IsLabelledDropping (A : Type 0) (confs : List (List ℕ)) (names : List DropName) (given text : List ℕ) : Type 0 where
+pub record IsLabelledDropping (A : Type 0) (confs : List (List ℕ)) (names : List DropName)
+    (given text : List ℕ) : Type 0 where
   pub lines : List (List ℕ)
   pub lines_are : text_lines text ≡ text_lines given ++ lines
   pub before : Subject A

@@ -25,7 +25,8 @@ pub record OnlyAdds (given text : List ℕ) : Type 0 where
 -- whether there are words, of which the first is neither `label` nor `reach`
 abbrev pub say_else : List (List ℕ) → Bool
 say_else [] = false
-say_else (word ∷ words) = if (bytes_eq word (codes "label") || bytes_eq word (codes "reach")) then false else true
+say_else (word ∷ words) = if (bytes_eq word (codes "label") || bytes_eq word (codes "reach"))
+    then false else true
 
 -- whether a line says something else than a label or a reach: one that isn't UTF-8 does, and an
 -- empty one doesn't

@@ -1,16 +1,17 @@
 //! A plan is labelled, and then asked for its broken rules.
 
-ghost use Rattle.std.specs.Prelude.{◌≡◌, [], length, true, IfOk, IfErr, IfSome, IsTrue};
+ghost use Rattle.std.specs.Prelude.{◌≡◌, [], length, true, false, IfOk, IfErr, IfSome};
 ghost use Rattle.deliberate_drops.specs.Plans.{IsNoDroppedPlan};
 ghost use Rattle.plan_lines.specs.Faults.{IsRefusal};
 ghost use Rattle.plan_lines.specs.Forms.{confs_named};
 ghost use Rattle.plan_lines.specs.Plans.{texts};
+ghost use Rattle.loss_checker.specs.Broken.{AreBrokenRules};
 ghost use Rattle.label_plan.specs.Checks.{AreChecked, IsLabelledCheck};
 
-use crate::labelled::labelled_dropping;
-use deliberate_drops::{DropError, DropName, DroppedPlanError, plan_with_drops};
+use crate::labelled::{dropped_plan, labelled_dropping};
+use deliberate_drops::{DropName, DroppedPlanError, plan_with_drops};
 use loss_checker::{BrokenRule, broken_rules};
-use plan_lines::{Plan, PlanError, conf_names};
+use plan_lines::{Plan, PlanError};
 use std::alloc::{AllocError, Allocator};
 
 /// A plan with the labels and reaches that it lacked, and which of its rules are broken.
@@ -67,13 +68,42 @@ pub fn check_dropping<A: Allocator + Copy>(
     ensures refused { IfErr result (IsNoDroppedPlan A net.now (texts confs.now) drops.now) }
 {
     let plan = plan_with_drops(alloc, net, confs, drops)?;
-    let labelled = labelled_dropping(alloc, net, confs, drops, &plan)?;
-    if let Some(text) = labelled {
-        let checked = checked(alloc, text, confs, drops)?;
-        if let Some(found) = checked {
-            return Ok(found);
-        }
+    match labelled_check(alloc, net, confs, drops, &plan)? {
+        Some(found) => Ok(found),
+        None => Ok(given_check(alloc, net, plan)?),
     }
+}
+
+// The plan with its labels and reaches, if they are found, and its broken rules.
+fn labelled_check<A: Allocator + Copy>(
+    alloc: A,
+    net: &[u8],
+    confs: &[Vec<u8, A>],
+    drops: &[DropName<'_>],
+    plan: &Plan<A>,
+) -> Result<Option<LabelledCheck<A>>, AllocError>
+    ensures { IfOk result
+        (λ found. IfSome found
+        (λ found. IsLabelledCheck A
+        (texts confs.now) drops.now net.now found.is_labelled found.text.items found.plan
+        found.broken.items)) }
+{
+    match labelled_dropping(alloc, net, confs, drops, plan)? {
+        Some(text) => checked(alloc, text, confs, drops),
+        None => Ok(None),
+    }
+}
+
+// The plan that the given text says, and its broken rules.
+fn given_check<A: Allocator + Copy>(
+    alloc: A,
+    net: &[u8],
+    plan: Plan<A>,
+) -> Result<LabelledCheck<A>, AllocError>
+    ensures { IfOk result
+        (λ found. (found.is_labelled ≡ false) × (found.text.items ≡ net.now)
+        × (found.plan ≡ plan) × AreBrokenRules plan found.broken.items) }
+{
     let broken = broken_rules(alloc, &plan)?;
     let text = Vec::from_slice(alloc, net)?;
     Ok(LabelledCheck {
@@ -84,8 +114,7 @@ pub fn check_dropping<A: Allocator + Copy>(
     })
 }
 
-// The plan of the text, if that names as many configurations as there are and says a plan, and its
-// broken rules. It is a labelled one.
+// The plan of the text, if it says one, and its broken rules. It is a labelled one.
 fn checked<A: Allocator + Copy>(
     alloc: A,
     text: Vec<u8, A>,
@@ -97,32 +126,14 @@ fn checked<A: Allocator + Copy>(
         (λ found. (found.text ≡ text) × (found.is_labelled ≡ true)
         × AreChecked (texts confs.now) drops.now text.items found.plan found.broken.items)) }
 {
-    if !names_as_many(alloc, &text, confs.len())? {
+    let Some(plan) = dropped_plan(alloc, &text, confs, drops)? else {
         return Ok(None);
-    }
-    match plan_with_drops(alloc, &text, confs, drops) {
-        Ok(plan) => {
-            let broken = broken_rules(alloc, &plan)?;
-            Ok(Some(LabelledCheck {
-                text,
-                plan,
-                is_labelled: true,
-                broken,
-            }))
-        }
-        Err(DroppedPlanError::Plan(PlanError::Memory)) => Err(AllocError),
-        Err(DroppedPlanError::Drop(DropError::Memory)) => Err(AllocError),
-        Err(_) => Ok(None),
-    }
-}
-
-// Whether the text names this many configurations.
-fn names_as_many<A: Allocator + Copy>(
-    alloc: A,
-    text: &[u8],
-    count: usize,
-) -> Result<bool, AllocError>
-    ensures { IfOk result (λ same. IsTrue same → count ≡ length (confs_named text.now)) }
-{
-    Ok(conf_names(alloc, text)?.len() == count)
+    };
+    let broken = broken_rules(alloc, &plan)?;
+    Ok(Some(LabelledCheck {
+        text,
+        plan,
+        is_labelled: true,
+        broken,
+    }))
 }

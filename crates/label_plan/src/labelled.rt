@@ -1,6 +1,7 @@
 //! The text of a plan with the lines that it lacks.
 
 ghost use Rattle.std.specs.Prelude.{◌≡◌, ◌↔◌, IfOk, IfErr, IfSome, IsTrue, length, option_map, ◌⊎◌};
+ghost use Rattle.deliberate_drops.specs.Plans.{IsDroppedPlanOf};
 ghost use Rattle.plan_lines.specs.Faults.{IsRefusal};
 ghost use Rattle.plan_lines.specs.Forms.{confs_named};
 ghost use Rattle.plan_lines.specs.Plans.{texts};
@@ -182,17 +183,32 @@ fn certified<A: Allocator + Copy>(
         (λ found. IsLabelledDropping A (texts confs.now) drops.now net.now found.text.items)) }
 {
     let _ = net;
-    if !names_as_many(alloc, &text, confs.len())? {
+    let Some(plan) = dropped_plan(alloc, &text, confs, drops)? else {
+        return Ok(None);
+    };
+    if !is_closed(alloc, &plan)? {
         return Ok(None);
     }
-    match plan_with_drops(alloc, &text, confs, drops) {
-        Ok(plan) => {
-            if !is_closed(alloc, &plan)? {
-                return Ok(None);
-            }
-            let is_kept = is_kept(alloc, &plan)?;
-            Ok(Some(Candidate { text, is_kept }))
-        }
+    let is_kept = is_kept(alloc, &plan)?;
+    Ok(Some(Candidate { text, is_kept }))
+}
+
+/// The plan that the text says, once events are let go at the named matches, if it names as many
+/// configurations as there are and says one. The only error is want of memory.
+pub(crate) fn dropped_plan<A: Allocator + Copy>(
+    alloc: A,
+    text: &[u8],
+    confs: &[Vec<u8, A>],
+    drops: &[DropName<'_>],
+) -> Result<Option<Plan<A>>, AllocError>
+    ensures { IfOk result
+        (λ found. IfSome found (IsDroppedPlanOf text.now (texts confs.now) drops.now)) }
+{
+    if !names_as_many(alloc, text, confs.len())? {
+        return Ok(None);
+    }
+    match plan_with_drops(alloc, text, confs, drops) {
+        Ok(plan) => Ok(Some(plan)),
         Err(DroppedPlanError::Plan(PlanError::Memory)) => Err(AllocError),
         Err(DroppedPlanError::Drop(DropError::Memory)) => Err(AllocError),
         Err(_) => Ok(None),
