@@ -70,3 +70,19 @@ holds_most slots key most end past below so none k d lt within =
     let b = below k d (omega arith) within in
     let s = so none in
     omega (arith, b, s)
+
+-- what isn't past the sum isn't past what that may be
+pub no_more_than : {held most : ℕ} (sum : ℕ) → held ≤ sum → sum ≤ most → held ≤ most
+no_more_than sum all within = omega (arith, all, within)
+
+-- the new most is what one more holds, which is more than the old one
+pub so_much : (was held most : ℕ) → most ≡ held → was < held → was ≤ most
+so_much was held most is less = omega (arith, is, less)
+
+-- it is just this
+pub as_much : (was most : ℕ) → most ≡ was → was ≤ most
+as_much was most is = omega (arith, is)
+
+-- it is the old one, and one more holds no more than that
+pub no_more : (was held most : ℕ) → most ≡ was → held ≤ was → held ≤ most
+no_more was held most is fits = omega (arith, is, fits)

@@ -21,7 +21,12 @@ pub record Served : Type 0 where
 
 -- where the messages of this source go, in the relay with this number, whose events go so
 abbrev pub entry_of : {A : Type 0} → ℕ → Table → Source A → Entry
-entry_of number table source = record { number = number; table = table; scope = source.label.0; prefix = source.prefix }
+entry_of number table source = record {
+  number = number;
+  table = table;
+  scope = source.label.0;
+  prefix = source.prefix;
+}
 
 -- the address of a source
 abbrev pub endpoint_of : {A : Type 0} → Source A → Endpoint
@@ -78,7 +83,9 @@ pub record IsSameConnection (old new : ConnectionState) : Type 0 where
 
 -- What was outgoing was written from its beginning on, and is outgoing still but for that.
 abbrev pub IsWrittenOn : ConnectionState → ConnectionState → Type 0
-IsWrittenOn old new = (sent : List ℕ) × (old.peer.session.outgoing ≡ sent ++ new.peer.session.outgoing) × Conveys old.traffic new.traffic sent []
+IsWrittenOn old new = (sent : List ℕ)
+    × (old.peer.session.outgoing ≡ sent ++ new.peer.session.outgoing)
+    × Conveys old.traffic new.traffic sent []
 
 -- These bytes came over a connection, whose session doesn't know of them yet.
 pub record Brings (old new : ConnectionState) (came : List ℕ) : Type 0 where
@@ -96,7 +103,8 @@ Hears came old new = IsRead came old new ⊎ ((old.phase ≡ Over) × (new ≡ o
 pub record IsReceived (old new : ConnectionState) : Type 0 where
   pub came : List ℕ
   pub conveys : Conveys old.traffic new.traffic [] came
-  pub told : ((came ≡ []) × (new.peer ≡ old.peer)) ⊎ (Hears came old.peer.session new.peer.session ⊎ (new.is_broken ≡ true))
+  pub told : ((came ≡ []) × (new.peer ≡ old.peer))
+      ⊎ (Hears came old.peer.session new.peer.session ⊎ (new.is_broken ≡ true))
 
 -- how many bytes may be outgoing at most, where a connection is read
 abbrev pub most_outgoing : ℕ
@@ -117,11 +125,13 @@ most_pieces = 4
 -- session was told each before the next one came.
 abbrev pub AreReceived : ℕ → ConnectionState → ConnectionState → Type 0
 AreReceived zero old new = new ≡ old
-AreReceived (suc pieces) old new = (between : ConnectionState) × AreReceived pieces old between × MayRead between × IsReceived between new
+AreReceived (suc pieces) old new = (between : ConnectionState) × AreReceived pieces old between
+    × MayRead between × IsReceived between new
 
 -- what is outgoing was written, as far as the stream takes it for now
 abbrev pub IsFlushed : ConnectionState → Type 0
-IsFlushed connection = (connection.peer.session.outgoing ≡ []) ⊎ ((connection.is_broken ≡ true) ⊎ (connection.is_blocked ≡ true))
+IsFlushed connection = (connection.peer.session.outgoing ≡ [])
+    ⊎ ((connection.is_broken ≡ true) ⊎ (connection.is_blocked ≡ true))
 
 -- no delivery of a connection waits
 abbrev pub IsSettled : ConnectionState → Type 0
@@ -132,8 +142,11 @@ IsSettled connection = connection.peer.waits ≡ []
 -- is of a session that wants no more and whose client takes none for now.
 pub record IsDone (connection : ConnectionState) : Type 0 where
   pub settled : IsSettled connection
-  pub over : (connection.is_broken ≡ true) ⊎ ((connection.peer.closing ≡ true) ⊎ (connection.has_ended ≡ true))
-  pub written : (connection.peer.session.outgoing ≡ []) ⊎ ((connection.is_broken ≡ true) ⊎ ((connection.peer.closing ≡ true) × (connection.is_blocked ≡ true)))
+  pub over : (connection.is_broken ≡ true)
+      ⊎ ((connection.peer.closing ≡ true) ⊎ (connection.has_ended ≡ true))
+  pub written : (connection.peer.session.outgoing ≡ [])
+      ⊎ ((connection.is_broken ≡ true)
+      ⊎ ((connection.peer.closing ≡ true) × (connection.is_blocked ≡ true)))
 
 -- how long a client has to show the key, in milliseconds
 abbrev pub time_for_ping : ℕ
@@ -163,7 +176,8 @@ AreServed sources slots = All (λ slot. IfSome slot (IsServed sources)) slots
 
 -- what is at a key stays served as it was, if there is something
 abbrev pub GoesOn : Option ConnectionState → Option ConnectionState → Type 0
-GoesOn old new = (sources : List Served) → IfSome old (IsServed sources) → IfSome new (IsServed sources)
+GoesOn old new = (sources : List Served) → IfSome old (IsServed sources)
+    → IfSome new (IsServed sources)
 
 -- and so does what is at each key
 abbrev pub GoOn : List (Option ConnectionState) → List (Option ConnectionState) → Type 0
@@ -171,7 +185,8 @@ GoOn old new = (sources : List Served) → AreServed sources old → AreServed s
 
 -- this holds of what is at each key that is below this one
 abbrev pub AllBelow : (Option ConnectionState → Type 0) → ℕ → List (Option ConnectionState) → Type 0
-AllBelow P end slots = (key : ℕ) (none : Option ConnectionState) → key < end → key < length slots → P (slice_index_or slots key none)
+AllBelow P end slots = (key : ℕ) (none : Option ConnectionState) → key < end → key < length slots
+    → P (slice_index_or slots key none)
 
 -- no delivery waits at a key, whatever is there
 abbrev pub HoldsNone : Option ConnectionState → Type 0
@@ -214,4 +229,9 @@ AreInTimeBelow time end slots = AllBelow (HoldsInTime time) end slots
 pub record BeginsAt (source : Served) (nonce : List ℕ) (peer : PeerState) : Type 0 where
   pub security : Option Security
   pub asks : credentials_in security ≡ source.asks
-  pub begins : peer ≡ record { entry = source.entry; session = initial_server security nonce; waits = []; closing = false }
+  pub begins : peer ≡ record {
+    entry = source.entry;
+    session = initial_server security nonce;
+    waits = [];
+    closing = false;
+  }

@@ -27,11 +27,13 @@ held_in (slot ∷ slots) = held_at slot + held_in slots
 
 -- none of these holds more than what is at this key
 abbrev pub HoldsMost : ℕ → List (Option ConnectionState) → Type 0
-HoldsMost key slots = (none : Option ConnectionState) → AllBelow (λ slot. held_at slot ≤ held_at (slice_index_or slots key none)) (length slots) slots
+HoldsMost key slots = (none : Option ConnectionState)
+    → AllBelow (λ slot. held_at slot ≤ held_at (slice_index_or slots key none)) (length slots) slots
 
 -- What was at a key is broken off, and none held more; all else is as it was.
 pub record ShedsMost (old new : List (Option ConnectionState)) : Type 0 where
   pub key : ℕ
   pub most : HoldsMost key old
   pub keys : length new ≡ length old
-  pub others : (k : ℕ) (none : Option ConnectionState) → (k ≡ key → ⊥) → slice_index_or new k none ≡ slice_index_or old k none
+  pub others : (k : ℕ) (none : Option ConnectionState) → (k ≡ key → ⊥)
+      → slice_index_or new k none ≡ slice_index_or old k none

@@ -70,4 +70,5 @@ pub record Rests {A : Type 0} (old new : LoopState A) : Type 0 where
 
 -- appends wait for their receipts only at buffers whose receipts come later
 abbrev pub OnlyLaterWait : {A : Type 0} → LanesState A → Type 0
-OnlyLaterWait lanes = (buffer : BufferNo) → later_at lanes.later buffer ≡ false → listed_at lanes.waiting buffer ≡ []
+OnlyLaterWait lanes = (buffer : BufferNo) → later_at lanes.later buffer ≡ false
+    → listed_at lanes.waiting buffer ≡ []

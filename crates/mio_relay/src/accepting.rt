@@ -81,11 +81,26 @@ impl<N: Network + Drop, D: Dir + Drop, A: Allocator + Copy> InLoop<N, D, A> {
         if self.network.watch(&mut stream, key).is_err() {
             return Ok(());
         }
-        let time = self.time;
+        self.begin(rt, key, place, stream)
+    }
+
+    // Begins a connection that came to this source, at this key.
+    fn begin<R: Wait>(
+        &mut self,
+        rt: &R,
+        key: usize,
+        place: usize,
+        stream: N::Stream,
+    ) -> Result<(), AllocError>
+        requires { N.Stream.origin stream ≡ CameAt place }
+        ensures stays { Stays self.old self.new }
+        ensures takes { TakesIn self.old self.new }
+    {
         let nonce = self.nonces.draw();
         let Some(peer) = peer_at(self.alloc, &self.listeners, place, nonce)? else {
             return Ok(());
         };
+        let time = self.time;
         self.put(rt, key, Connection::new(stream, peer, place, time));
         Ok(())
     }

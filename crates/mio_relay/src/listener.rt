@@ -39,7 +39,11 @@ impl<N: Network, A: Allocator> Model for Listener<N, A> {
 
     ghost view = { λ l. record {
       number = N.number l.socket;
-      source = record { endpoint = record { host = string_bytes l.bind; port = l.port }; entry = arc_value l.inlet; asks = credentials_of l.secret };
+      source = record {
+        endpoint = record { host = string_bytes l.bind; port = l.port };
+        entry = arc_value l.inlet;
+        asks = credentials_of l.secret;
+      };
     } };
 }
 

@@ -1,20 +1,10 @@
 use Rattle.std.proofs.Common.{◌≤◌, ◌∙◌, List, ap, refl, subst, sym}
-use Rattle.std.specs.Prelude.{IsSomeAnd, slice_get}
 use Rattle.relay_sockets.specs.Endpoints.{Endpoint}
-use Rattle.mio_relay.specs.Connections.{AreListening, BeginsAt, ConnectionState, Hosted, sources_in}
+use Rattle.mio_relay.specs.Connections.{AreListening, sources_in}
 use Rattle.buffer_lanes.specs.Lanes.{KeepsLanes}
 use Rattle.mio_relay.specs.Loops.{LoopState}
-use Rattle.mio_relay.proofs.Slots.{begins_served}
 use Rattle.mio_relay.proofs.Turning.{takes_more, takes_standing}
 use Rattle.mio_relay.proofs.in_loop.InLoop.admit.Goals as goal
-
-pub put-requires-clause-served : goal.put-requires-clause-served
-put-requires-clause-served g c =
-    let came = ap (λ (x : ConnectionState). x.origin) c.new.ensures ∙ c.watch.ensures.origin ∙ c.requires in
-    let begins = rw c.in-Some-2.is at c.in_ok-peer.ensures in
-    let there = subst (λ (l : List Hosted). IsSomeAnd (slice_get l c.args.place) (λ h. BeginsAt h.source c.draw-nonce.result c.in-Some-2.peer)) c.deref.ensures.value begins in
-    begins_served c.self.inside.listeners.items c.args.place c.draw-nonce.result c.new.result came
-    (subst (λ (x : ConnectionState). IsSomeAnd (slice_get c.self.inside.listeners.items c.args.place) (λ h. BeginsAt h.source c.draw-nonce.result x.peer)) (sym c.new.ensures) there)
 
 pub invariant_of-self-2 : goal.invariant_of-self-2
 invariant_of-self-2 g c = (
@@ -25,16 +15,16 @@ invariant_of-self-2 g c = (
 
 pub returns-clause-stays : goal.returns-clause-stays
 returns-clause-stays g c = record {
-  bound = c.put.ensures.stays.bound ∙ c.watch.ensures.bound ∙ ap (λ (l : LoopState _). l.bound) c.self.view_is;
-  sources = c.put.ensures.stays.sources ∙ ap (λ (l : LoopState _). l.sources) c.self.view_is;
-  buffers = c.put.ensures.stays.buffers ∙ ap (λ (l : LoopState _). l.buffers) c.self.view_is;
-  lanes = subst (λ (l : LoopState _). KeepsLanes l.lanes c.put.new.self.lanes) c.self.view_is c.put.ensures.stays.lanes;
-  numbers = subst (λ (l : LoopState _). l.numbers ≤ c.put.new.self.numbers) c.self.view_is c.put.ensures.stays.numbers;
-  clock = c.put.ensures.stays.clock ∙ c.watch.ensures.time ∙ ap (λ (l : LoopState _). l.clock) c.self.view_is;
+  bound = c.begin.ensures.stays.bound ∙ c.watch.ensures.bound ∙ ap (λ (l : LoopState _). l.bound) c.self.view_is;
+  sources = c.begin.ensures.stays.sources ∙ ap (λ (l : LoopState _). l.sources) c.self.view_is;
+  buffers = c.begin.ensures.stays.buffers ∙ ap (λ (l : LoopState _). l.buffers) c.self.view_is;
+  lanes = subst (λ (l : LoopState _). KeepsLanes l.lanes c.begin.new.self.lanes) c.self.view_is c.begin.ensures.stays.lanes;
+  numbers = subst (λ (l : LoopState _). l.numbers ≤ c.begin.new.self.numbers) c.self.view_is c.begin.ensures.stays.numbers;
+  clock = c.begin.ensures.stays.clock ∙ c.watch.ensures.time ∙ ap (λ (l : LoopState _). l.clock) c.self.view_is;
 }
 
 pub returns-clause-takes : goal.returns-clause-takes
-returns-clause-takes g c = takes_more _ _ _ (takes_standing _ _ _ c.self.view_is refl refl c.make_room.ensures.stands) c.put.ensures.takes
+returns-clause-takes g c = takes_more _ _ _ (takes_standing _ _ _ c.self.view_is refl refl c.make_room.ensures.stands) c.begin.ensures.takes
 
 pub invariant_of-self-in_default : goal.invariant_of-self-in_default
 invariant_of-self-in_default g c =
@@ -42,20 +32,6 @@ invariant_of-self-in_default g c =
 
 pub invariant_of-self-then-is_err : goal.invariant_of-self-then-is_err
 invariant_of-self-then-is_err g c = (
-  subst (λ (b : List Endpoint). AreListening b c.self.inside.listeners.items) (sym c.watch.ensures.bound) c.self.invariant.0,
-  c.make_room.ensures.goes (sources_in c.self.inside.listeners.items) c.self.invariant.1,
-  c.self.invariant.2,
-)
-
-pub invariant_of-self-in_err-peer : goal.invariant_of-self-in_err-peer
-invariant_of-self-in_err-peer g c = (
-  subst (λ (b : List Endpoint). AreListening b c.self.inside.listeners.items) (sym c.watch.ensures.bound) c.self.invariant.0,
-  c.make_room.ensures.goes (sources_in c.self.inside.listeners.items) c.self.invariant.1,
-  c.self.invariant.2,
-)
-
-pub invariant_of-self-in_default-2 : goal.invariant_of-self-in_default-2
-invariant_of-self-in_default-2 g c = (
   subst (λ (b : List Endpoint). AreListening b c.self.inside.listeners.items) (sym c.watch.ensures.bound) c.self.invariant.0,
   c.make_room.ensures.goes (sources_in c.self.inside.listeners.items) c.self.invariant.1,
   c.self.invariant.2,
@@ -69,9 +45,3 @@ returns-in_default-clause-takes g c = takes_standing _ _ _ c.self.view_is refl r
 
 pub returns-then-is_err-clause-takes : goal.returns-then-is_err-clause-takes
 returns-then-is_err-clause-takes g c = takes_standing _ _ _ c.self.view_is refl refl c.make_room.ensures.stands
-
-pub returns-in_err-peer-clause-takes : goal.returns-in_err-peer-clause-takes
-returns-in_err-peer-clause-takes g c = takes_standing _ _ _ c.self.view_is refl refl c.make_room.ensures.stands
-
-pub returns-in_default-2-clause-takes : goal.returns-in_default-2-clause-takes
-returns-in_default-2-clause-takes g c = takes_standing _ _ _ c.self.view_is refl refl c.make_room.ensures.stands
