@@ -1,9 +1,8 @@
 -- What is listed of one buffer of several, and an append to it that is undone.
-use Rattle.std.proofs.Common.{ℕ, ◌≡◌, ◌∙◌, ◌+◌, ◌-◌, ◌<◌, ◌≤◌, ◌⊎◌, inl, inr, arith, List, [], ◌∷◌, ◌++◌, length, map, take, ap, refl, sym, subst, Option, None, Some, Result, Ok, Err}
-use Rattle.std.specs.Prelude.{◌≢◌, Contains, IfOk, OnErr, slice_get, slice_index_or, slice_set, unwrap_or}
-use Rattle.std.proofs.Math.Nat.{eq-or-lt_of_le}
+use Rattle.std.proofs.Common.{ℕ, ◌≡◌, ◌∙◌, ◌<◌, ◌≤◌, ◌⊎◌, inl, inr, arith, List, [], ◌∷◌, ◌++◌, length, map, take, ap, refl, sym, subst, Option, Result, Ok, Err}
+use Rattle.std.specs.Prelude.{◌≢◌, Contains, IfOk, OnErr, slice_index_or, slice_set, unwrap_or}
 use Rattle.std.proofs.lemmas.Bool.{cases_eq}
-use Rattle.std.proofs.lemmas.List.{get_or-map, get_or-set_same, get_or-set_other, length-map, length-set, length_push, map-set, set-get_or, set-set, set_past, take_at}
+use Rattle.std.proofs.lemmas.List.{get_or-map, get_or-set_same, get_or-set_other, length-map, length_push, map-set, set-get_or, set-set, take_at}
 use Rattle.std.proofs.lemmas.List.Elements.{Contains-append_cases, Contains-push_cases}
 use Rattle.std.proofs.lemmas.Option.{slice_get_past, unwrap_or-slice_get}
 use Rattle.buffer_store.specs.declared.fault.BufferFault.{BufferFault}

@@ -1,3 +1,4 @@
+pub mod Adding
 pub mod Keeping
 pub mod Appending
 pub mod Redeeming

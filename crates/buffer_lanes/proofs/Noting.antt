@@ -1,6 +1,6 @@
 -- The plans of buffers, where one of them noted an append or queued chunks.
 use Rattle.std.proofs.Common.{ℕ, ◌≡◌, ◌∙◌, ◌<◌, List, length, map, ap, refl, sym, subst, Result, Ok, Err}
-use Rattle.std.specs.Prelude.{◌≢◌, IfOk, OnOk, slice_index_or, slice_set}
+use Rattle.std.specs.Prelude.{IfOk, OnOk, slice_index_or, slice_set}
 use Rattle.std.proofs.lemmas.List.{get_or-map, get_or-set_same, get_or-set_other, length-map, length-set, map-set}
 use Rattle.buffer_store.specs.declared.fault.BufferFault.{BufferFault}
 use Rattle.buffer_lanes.specs.Lanes.{IsNoneDueAt, IsNotedAt, IsOneElse, LaneState}

@@ -1,17 +1,17 @@
 -- What became of the appends that waited, at each buffer.
-use Rattle.std.proofs.Common.{ℕ, ◌≡◌, ◌∙◌, ◌+◌, ◌<◌, ◌≤◌, ◌⊎◌, inl, inr, arith, Bool, true, false, List, [], length, map, ap, refl, sym, subst, Option, None, Some, Result, Ok, Err}
-use Rattle.std.specs.Prelude.{◌≢◌, OnErr, OnOk, slice_get, slice_index_or, slice_set, unwrap_or}
+use Rattle.std.proofs.Common.{ℕ, ◌≡◌, ◌∙◌, ◌+◌, ◌<◌, ◌≤◌, ◌⊎◌, inl, inr, arith, Bool, false, List, [], length, map, ap, refl, sym, subst, Option, Result, Ok, Err}
+use Rattle.std.specs.Prelude.{◌≢◌, OnErr, OnOk, slice_index_or, slice_set, unwrap_or}
 use Rattle.std.proofs.Math.Nat.{eq-or-lt_of_le}
 use Rattle.std.proofs.lemmas.Bool.{cases_lt}
 use Rattle.std.proofs.lemmas.List.{get_or-map, get_or-set_same, get_or-set_other, length-map, length-set, map-set}
 use Rattle.std.proofs.lemmas.Option.{slice_get_past, unwrap_or-slice_get}
 use Rattle.buffer_store.specs.declared.fault.BufferFault.{BufferFault}
 use Rattle.relay_conf.specs.declared.output.BufferNo.{BufferNo}
-use Rattle.ack_receipt.specs.Deliveries.{Appended, Pended}
-use Rattle.ack_receipt.specs.Redeeming.{AreReceiptsOf, origin_of, origin_of_pending}
+use Rattle.ack_receipt.specs.Deliveries.{Pended}
+use Rattle.ack_receipt.specs.Redeeming.{origin_of, origin_of_pending}
 use Rattle.buffer_lanes.specs.Lanes.{AreRedeemed, AreRedeemedAt, GetNone, HaveReceipts, IsUntouched, LaneState, LanesState, WaitOn, later_at, listed_at}
 use Rattle.buffer_lanes.proofs.Keeping.{lanes_of}
-use Rattle.buffer_lanes.proofs.Appending.{listed_here, listed_is, listed_past, listed_there}
+use Rattle.buffer_lanes.proofs.Appending.{listed_is, listed_past, listed_there}
 
 -- no appends waited, and there are no receipts
 pub none_wait : {A : Type 0} (old new : LaneState A) → new.later ≡ false → old.waiting ≡ [] → new.waiting ≡ [] → new.receipts ≡ [] → HaveReceipts old new

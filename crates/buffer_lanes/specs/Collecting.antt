@@ -12,7 +12,8 @@ use Rattle.buffer_lanes.specs.Waits.{Awaited, Gathers, left_of}
 -- the answer to the message, which these buffers store under this tag
 abbrev pub IsAnswerTo : Awaited → Reservation → Type 0
 IsAnswerTo awaited reserved = (reserved.asked ≡ awaited.asked)
-    × IsSomeAnd reserved.filled (λ answer. (answer.bytes ≡ answer_to awaited.asked.ack) × (answer.tag ≡ awaited.tag) × (answer.leaves ≡ awaited.leaves))
+    × IsSomeAnd reserved.filled (λ answer. (answer.bytes ≡ answer_to awaited.asked.ack)
+    × (answer.tag ≡ awaited.tag) × (answer.leaves ≡ awaited.leaves))
 
 -- what is left of the delivery has a part of each receipt that it took, and it took one of each of
 -- its buffers
@@ -31,7 +32,8 @@ pub record IsAbandoned (awaited : Awaited) (left : Left) : Type 0 where
 -- An answer is that to the message, and each buffer gave a receipt for it; it is abandoned where
 -- one of them gave none; what waits on is the same delivery.
 abbrev pub IsCollected : {A : Type 0} → Awaited → Collected A → Type 0
-IsCollected awaited (Answered reserved stub) = IsAnswerTo awaited reserved × IsAcknowledged awaited stub
+IsCollected awaited (Answered reserved stub) = IsAnswerTo awaited reserved
+    × IsAcknowledged awaited stub
 IsCollected awaited (Abandoned stub) = IsAbandoned awaited stub
 IsCollected awaited (Later waiting) = waiting.awaited ≡ awaited
 

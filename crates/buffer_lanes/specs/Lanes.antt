@@ -1,12 +1,12 @@
 -- The buffers of a relay, as its loop uses them.
-use Rattle.std.specs.Prelude.{ℕ, ◌≡◌, ◌≢◌, ◌-◌, ◌++◌, ◌∷◌, ◌⊎◌, ◌<◌, Bool, true, false, List, [], map, length, take, All, Option, None, Some, Result, Ok, Err, if◌then◌else◌, slice_get, slice_index_or, slice_set, unwrap_or}
+use Rattle.std.specs.Prelude.{ℕ, ◌≡◌, ◌≢◌, ◌-◌, ◌++◌, ◌∷◌, ◌<◌, Bool, true, false, List, [], map, length, take, All, Option, None, Some, Result, Ok, Err, if◌then◌else◌, slice_get, slice_index_or, slice_set, unwrap_or}
 use Rattle.buffer_store.specs.declared.fault.BufferFault.{BufferFault}
 use Rattle.buffer_store.specs.declared.fault.BufferFault.TheVariants.{Full, TooLarge, Gone, Fault, Failed, LastSerial, Damaged, Memory}
 use Rattle.relay_conf.specs.declared.output.BufferNo.{BufferNo}
 use Rattle.ack_receipt.specs.Deliveries.{Appended, Pended}
 use Rattle.ack_receipt.specs.Redeeming.{AreReceiptsOf}
 use Rattle.ack_receipt.specs.Terms.{Terms}
-use Rattle.buffer_lanes.specs.Schedules.{IsNoneDue, IsNoted, Plan, Timing, timing_of}
+use Rattle.buffer_lanes.specs.Schedules.{IsNoneDue, IsNoted, Plan, timing_of}
 
 -- a buffer: its terms, when its staged chunks are queued, its appends that wait for receipts, its
 -- receipts that nobody took yet, both in the order of the appends, and whether there was no memory
@@ -72,7 +72,8 @@ first_fault (Some first) next = Some first
 first_fault None next = if is_lost next then Some next else None
 
 -- the same, where a buffer answered this
-abbrev pub fault_after : {T : Type 0} → Option BufferFault → Result T BufferFault → Option BufferFault
+abbrev pub fault_after : {T : Type 0} → Option BufferFault → Result T BufferFault
+    → Option BufferFault
 fault_after first (Ok answer) = first
 fault_after first (Err next) = first_fault first next
 
@@ -113,7 +114,8 @@ pub record GetNone {A : Type 0} (new : LaneState A) : Type 0 where
   pub receipts : new.receipts ≡ []
 
 -- The same at one of the buffers; the others' appends are as they were.
-pub record IsAppendedAt (buffer : BufferNo) (number serial : ℕ) (before behind : List (List Pended)) : Type 0 where
+pub record IsAppendedAt (buffer : BufferNo) (number serial : ℕ)
+    (before behind : List (List Pended)) : Type 0 where
   pub there : buffer.0 < length before
   pub now : List Pended
   pub one : IsAppended number serial (listed_at before buffer) now
@@ -127,11 +129,13 @@ AreRedeemed before false waiting = waiting ≡ []
 
 -- the same at the buffer of this number
 abbrev pub AreRedeemedAt : {A : Type 0} → BufferNo → LanesState A → LanesState A → Type 0
-AreRedeemedAt buffer old new = AreRedeemed (listed_at old.waiting buffer) (later_at new.later buffer) (listed_at new.waiting buffer)
+AreRedeemedAt buffer old new = AreRedeemed (listed_at old.waiting buffer)
+    (later_at new.later buffer) (listed_at new.waiting buffer)
 
 -- Each of these buffers got an append of the delivery, in their order, behind those that it had; no
 -- other buffer got one.
-abbrev pub AreAppended : (number : ℕ) → List BufferNo → List (List Pended) → List (List Pended) → Type 0
+abbrev pub AreAppended : (number : ℕ) → List BufferNo → List (List Pended) → List (List Pended)
+    → Type 0
 AreAppended number [] before behind = behind ≡ before
 AreAppended number (buffer ∷ more) before behind = (serial : ℕ) × (between : List (List Pended))
     × IsAppendedAt buffer number serial before between × AreAppended number more between behind
@@ -150,16 +154,19 @@ AppendsWait waiting = (buffer : BufferNo) × (0 < length (listed_at waiting buff
 pub record IsNotedAt (place serial time : ℕ) (before behind : List Plan) : Type 0 where
   pub plan : Plan
   pub is : behind ≡ slice_set before place plan
-  pub noted : (none : Plan) → place < length before → IsNoted serial time (slice_index_or before place none) plan
+  pub noted : (none : Plan) → place < length before
+      → IsNoted serial time (slice_index_or before place none) plan
 
 -- none of this buffer's staged chunks is to be queued now, if it is there
 abbrev pub IsNoneDueAt : ℕ → ℕ → List Plan → Type 0
-IsNoneDueAt place time plans = (none : Plan) → place < length plans → IsNoneDue time (slice_index_or plans place none)
+IsNoneDueAt place time plans = (none : Plan) → place < length plans
+    → IsNoneDue time (slice_index_or plans place none)
 
 -- the plans of all buffers but this one are as they were
 pub record IsOneElse (place : ℕ) (old new : List Plan) : Type 0 where
   pub length : length new ≡ length old
-  pub others : (other : ℕ) (none : Plan) → other ≢ place → slice_index_or new other none ≡ slice_index_or old other none
+  pub others : (other : ℕ) (none : Plan) → other ≢ place → slice_index_or new other none
+      ≡ slice_index_or old other none
 
 -- no staged chunk is to be queued now, unless there was no memory for it or a device failed
 abbrev pub AreQueued : {A : Type 0} → LanesState A → Type 0

@@ -28,7 +28,8 @@ timing_of plan = record { mode = plan.mode; interval = plan.interval }
 -- what is staged of a chunk that a buffer shows when it is opened: the chunk where it still grows,
 -- since now
 abbrev pub staged_since : ℕ → Facts → List Staged
-staged_since now facts = if is_staged facts.stage then record { serial = facts.serial; since = now } ∷ [] else []
+staged_since now facts = if is_staged facts.stage
+    then record { serial = facts.serial; since = now } ∷ [] else []
 
 -- the staged chunks of a buffer that is opened now: each that still grows, of whatever tag, by
 -- rising serial
@@ -46,7 +47,8 @@ is_new serial (Some last) = nat_lt last.serial serial
 
 -- the staged chunks when an append went to this one
 abbrev pub noted : ℕ → ℕ → List Staged → List Staged
-noted serial now chunks = if is_new serial (newest chunks) then chunks ++ record { serial = serial; since = now } ∷ [] else chunks
+noted serial now chunks = if is_new serial (newest chunks)
+    then chunks ++ record { serial = serial; since = now } ∷ [] else chunks
 
 -- whether a chunk that is staged since then is to be queued now
 abbrev pub is_due : FlushMode → ℕ → ℕ → Staged → Bool
@@ -56,7 +58,8 @@ is_due Interval interval now staged = not (nat_lt (now - staged.since) interval)
 -- the first of them, if it is to be queued now
 abbrev pub due_in : FlushMode → ℕ → ℕ → List Staged → Option ℕ
 due_in mode interval now [] = None
-due_in mode interval now (staged ∷ more) = if is_due mode interval now staged then Some staged.serial else None
+due_in mode interval now (staged ∷ more) = if is_due mode interval now staged
+    then Some staged.serial else None
 
 -- The first of these were to be queued now, and are staged no more; these are left.
 pub record AreLeft (mode : FlushMode) (interval now : ℕ) (left before : List Staged) : Type 0 where

@@ -16,7 +16,12 @@ pub record Awaited : Type 0 where
 
 -- what a delivery waits for
 abbrev pub awaited_by : OpenDelivery → Awaited
-awaited_by d = record { number = d.number; asked = asked_of d.message; tag = d.tag; leaves = d.leaves }
+awaited_by d = record {
+  number = d.number;
+  asked = asked_of d.message;
+  tag = d.tag;
+  leaves = d.leaves;
+}
 
 -- a delivery with the receipts that it took so far
 pub record Gathers : Type 0 where

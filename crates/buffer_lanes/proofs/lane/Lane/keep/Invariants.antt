@@ -1,5 +1,5 @@
-use Rattle.std.proofs.Common.{ℕ, ◌≡◌}
-use Rattle.std.specs.Vec.Iter.{into_iter_items, into_iter_len}
+use Rattle.std.proofs.Common.{◌≡◌}
+use Rattle.std.specs.Vec.Iter.{into_iter_len}
 use Rattle.buffer_lanes.proofs.lane.Lane.keep.Given as goal
 
 abbrev pub invariant-loop-receipt : goal.invariant-loop-receipt

@@ -1,4 +1,4 @@
-use Rattle.std.proofs.Common.{ℕ, ◌≡◌, ◌∙◌, Some, ap, subst, sym}
+use Rattle.std.proofs.Common.{◌≡◌, ◌∙◌, Some, ap, subst, sym}
 use Rattle.buffer_lanes.specs.Lanes.{LaneState}
 use Rattle.buffer_lanes.specs.Schedules.{Timing, due_in, timing_of}
 use Rattle.buffer_lanes.proofs.Leaving.{one_less}
