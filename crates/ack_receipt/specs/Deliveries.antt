@@ -53,7 +53,12 @@ HasEachReceipt d = All (IsReceived d.number d.receipts) d.leaves
 
 -- what a receipt leaves behind
 abbrev pub part_of : Appended → Part
-part_of a = record { relay = a.leaf.relay; buffer = a.leaf.buffer; serial = a.serial; line = a.line }
+part_of a = record {
+  relay = a.leaf.relay;
+  buffer = a.leaf.buffer;
+  serial = a.serial;
+  line = a.line;
+}
 
 -- the tag that a message's entries are appended under: this one, or its own
 abbrev pub tag_or : Parts → Option (List ℕ) → List ℕ

@@ -11,7 +11,11 @@ use Rattle.ack_receipt.specs.declared.fault.RedeemFault.TheVariants.{Buffer, Str
 
 -- what the book says of the append
 abbrev pub line_of : Pended → Line
-line_of pending = record { delivery = pending.delivery; serial = pending.serial; count = pending.count }
+line_of pending = record {
+  delivery = pending.delivery;
+  serial = pending.serial;
+  count = pending.count;
+}
 
 -- the append is of the buffer of this name, and waits for a receipt in its book
 pub record IsRedeemable (leaf : Leaf) (waiting : List (ℕ × Line)) (pending : Pended) : Type 0 where
@@ -38,14 +42,20 @@ pub record Origin : Type 0 where
 
 -- of a receipt
 abbrev pub origin_of : Appended → Origin
-origin_of receipt = record { delivery = receipt.delivery; leaf = receipt.leaf; serial = receipt.serial }
+origin_of receipt = record {
+  delivery = receipt.delivery;
+  leaf = receipt.leaf;
+  serial = receipt.serial;
+}
 
 -- of an append that waits for one
 abbrev pub origin_of_pending : Pended → Origin
-origin_of_pending pending = record { delivery = pending.delivery; leaf = pending.leaf; serial = pending.serial }
+origin_of_pending pending =
+    record { delivery = pending.delivery; leaf = pending.leaf; serial = pending.serial }
 
 -- the receipts are of the buffer of this name, and those of the pendings, in order
-pub record AreReceiptsOf (leaf : Leaf) (pendings : List Pended) (receipts : List Appended) : Type 0 where
+pub record AreReceiptsOf (leaf : Leaf) (pendings : List Pended)
+    (receipts : List Appended) : Type 0 where
   pub same : map origin_of receipts ≡ map origin_of_pending pendings
   pub own : All (λ pending. pending.leaf ≡ leaf) pendings
 
@@ -60,7 +70,8 @@ numbers_from number (pending ∷ pendings) = number ∷ numbers_from (number + 1
 
 -- The book has a line for each of the appends behind those that it had, in order, and each receipt
 -- names its own.
-pub record AreWritten (pendings : List Pended) (receipts : List Appended) (old new : List Written) : Type 0 where
+pub record AreWritten (pendings : List Pended) (receipts : List Appended)
+    (old new : List Written) : Type 0 where
   pub lines : new ≡ old ++ map written_of pendings
   pub named : map (λ receipt. receipt.line) receipts ≡ numbers_from (length old) pendings
 

@@ -112,7 +112,8 @@ impl<D: Dir, A: Allocator + Copy> LockedBuffer<D, A> {
             (λ shown. shown ≡ record { leaf = terms.now.leaf; serial = serial }) }
         ensures done { OnOk result
             ((self.new.buffer.chunks ≡ queued_last serial self.old.buffer.chunks)
-            ⊎ ((IsAt Staged self.old.buffer.chunks serial → ⊥) × (self.new.buffer.chunks ≡ self.old.buffer.chunks))) }
+            ⊎ ((IsAt Staged self.old.buffer.chunks serial → ⊥)
+            × (self.new.buffer.chunks ≡ self.old.buffer.chunks))) }
         ensures err { OnErr result (self.new.buffer.chunks ≡ self.old.buffer.chunks) }
         ensures book { self.new
             ≡ record self.old { buffer = self.new.buffer; synced = self.new.synced } }

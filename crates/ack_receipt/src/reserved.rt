@@ -39,8 +39,17 @@ impl<A: Allocator> Model for Reserved<A> {
     ghost Value = { Reservation };
 
     ghost view = { λ r. record {
-      asked = record { tag = r.tag.items; count = r.count; ack = option_map (λ item. item.items) r.ack };
-      filled = option_map (λ stored. record { bytes = r.answer.items; tag = stored.tag.items; leaves = stored.leaves.items }) r.stored;
+      asked = record {
+        tag = r.tag.items;
+        count = r.count;
+        ack = option_map (λ item. item.items) r.ack;
+      };
+      filled = option_map
+          (λ stored. record {
+            bytes = r.answer.items;
+            tag = stored.tag.items;
+            leaves = stored.leaves.items;
+          }) r.stored;
     } };
 
     // While it is empty, there is room for the whole answer.

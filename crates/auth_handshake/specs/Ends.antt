@@ -41,7 +41,8 @@ IsAnswer server item Passed pong = (says : Asked) × IsPing item says × ShowsKe
     × (pong ≡ pong_bytes server.host (server_digest server says))
 IsAnswer server item (Refused NotPing) pong = ((says : Asked) → IsPing item says → ⊥)
     × (pong ≡ refusal_bytes (codes "invalid ping"))
-IsAnswer server item (Refused WrongDigest) pong = (says : Asked) × IsPing item says × (ShowsKey server says → ⊥)
+IsAnswer server item (Refused WrongDigest) pong = (says : Asked) × IsPing item says
+    × (ShowsKey server says → ⊥)
     × (pong ≡ refusal_bytes (codes "shared_key mismatch"))
 IsAnswer server item (Refused _) pong = ⊥
 
@@ -63,7 +64,8 @@ abbrev pub IsVerdict : ClientEnd → List ℕ → Result Unit HandshakeFault →
 IsVerdict client item (Ok _) =
     (says : Told) × IsPong item says × (says.accepted ≡ true) × KnowsKey client says
 IsVerdict client item (Err NotPong) = (says : Told) → IsPong item says → ⊥
-IsVerdict client item (Err RefusedByServer) = (says : Told) × IsPong item says × (says.accepted ≡ false)
+IsVerdict client item (Err RefusedByServer) = (says : Told) × IsPong item says
+    × (says.accepted ≡ false)
 IsVerdict client item (Err WrongDigest) =
     (says : Told) × IsPong item says × (says.accepted ≡ true) × (KnowsKey client says → ⊥)
 IsVerdict client item (Err _) = ⊥

@@ -25,12 +25,14 @@ IsPingRead = (host salt digest : List ℕ) → IsHost host → IsSixteen salt �
 -- the PONG that lets a client in is one with its host name and digest
 abbrev pub IsPongRead : Type 0
 IsPongRead = (host digest : List ℕ) → IsHost host → length digest ≡ 128
-    → IsPong (pong_bytes host digest) (record { accepted = true; reason = []; host = host; digest = digest })
+    → IsPong (pong_bytes host digest)
+    (record { accepted = true; reason = []; host = host; digest = digest })
 
 -- the PONG that refuses a client is one with its reason
 abbrev pub IsRefusalRead : Type 0
 IsRefusalRead = (reason : List ℕ) → IsHost reason
-    → IsPong (refusal_bytes reason) (record { accepted = false; reason = reason; host = []; digest = [] })
+    → IsPong (refusal_bytes reason)
+    (record { accepted = false; reason = reason; host = []; digest = [] })
 
 -- a server and a client with one key let each other in
 abbrev pub IsOneKeyEnough : Type 0
@@ -38,4 +40,5 @@ IsOneKeyEnough = (server : ServerEnd) (client : ClientEnd)
     → server.key ≡ client.key → client.nonce ≡ Some server.nonce
     → IsHost server.host → IsHost client.host → IsSixteen client.salt
     → (pong : List ℕ) × IsVerdict client pong (Ok tt)
-    × IsAnswer server (ping_bytes client.host client.salt (client_digest client server.nonce)) Passed pong
+    × IsAnswer server (ping_bytes client.host client.salt (client_digest client server.nonce))
+    Passed pong

@@ -11,7 +11,12 @@ asked item = record { host = item.host.now; salt = item.salt.now; digest = item.
 
 -- what a PONG item says, without where it lies in memory
 abbrev pub told : PongItem → Told
-told item = record { accepted = item.accepted; reason = item.reason.now; host = item.host.now; digest = item.digest.now }
+told item = record {
+  accepted = item.accepted;
+  reason = item.reason.now;
+  host = item.host.now;
+  digest = item.digest.now;
+}
 
 -- the bytes are three texts of these contents, and what is behind them
 pub record AreTexts (bytes x y z back : List ℕ) : Type 0 where

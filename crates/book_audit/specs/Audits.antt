@@ -33,7 +33,8 @@ parts_of leaf stub = filter (is_of leaf) stub.parts
 -- the part names a line of the book: one that was written, and where it is open, the append of this
 -- delivery to the part's chunk
 abbrev pub IsInBook : Pages → ℕ → Part → Type 0
-IsInBook pages delivery part = (part.line < pages.count) × IfSome (open_at pages part.line) (λ line. (line.delivery ≡ delivery) × (line.serial ≡ part.serial))
+IsInBook pages delivery part = (part.line < pages.count) × IfSome (open_at pages part.line)
+    (λ line. (line.delivery ≡ delivery) × (line.serial ≡ part.serial))
 
 -- a stub's parts of this buffer are in the book
 abbrev pub AreInBook : Leaf → Pages → Left → Type 0
@@ -41,7 +42,8 @@ AreInBook leaf pages stub = All (IsInBook pages stub.delivery) (parts_of leaf st
 
 -- some part of this buffer isn't in the book
 abbrev pub HasStranger : Leaf → Pages → List Left → Type 0
-HasStranger leaf pages stubs = Any (λ stub. Any (λ part. ¬ IsInBook pages stub.delivery part) (parts_of leaf stub)) stubs
+HasStranger leaf pages stubs =
+    Any (λ stub. Any (λ part. ¬ IsInBook pages stub.delivery part) (parts_of leaf stub)) stubs
 
 -- the lines of the book that parts of this buffer name, in order
 abbrev pub lines_of : Leaf → List Part → List ℕ

@@ -33,7 +33,8 @@ pub record Book (D : Type 0) : Type 0 where
 
 -- how many entries the chunk of this serial had when the book began; 0 where there was none
 abbrev pub counted_first : List (ℕ × ℕ) → ℕ → ℕ
-counted_first first serial = option_map_or (λ count. count) (lookup (is_at (nat_cmp serial)) first) 0
+counted_first first serial = option_map_or (λ count. count)
+    (lookup (is_at (nat_cmp serial)) first) 0
 
 -- whether the append is to the chunk of this serial
 abbrev pub is_to : ℕ → Line → Bool
@@ -46,14 +47,19 @@ counted_appends appends serial = sum_by (λ append. append.count) (filter (is_to
 -- the book knows the chunk of this serial: it was live when the book began, or something was
 -- appended to it
 abbrev pub IsKnown : List (ℕ × ℕ) → List Line → ℕ → Type 0
-IsKnown first appends serial = IsSome (lookup (is_at (nat_cmp serial)) first) ⊎ Contains (map (λ append. append.serial) appends) serial
+IsKnown first appends serial = IsSome (lookup (is_at (nat_cmp serial)) first)
+    ⊎ Contains (map (λ append. append.serial) appends) serial
 
 -- The book tells what became of each append: each chunk that it knows is live or has a note that it
 -- was removed; a live one has as many entries as it had when the book began and the appends to it
 -- count together; and each serial that it knows was given.
-pub record IsAccounted (state : State) (first : List (ℕ × ℕ)) (appends : List Line) (removed : List ℕ) : Type 0 where
-  pub there : (serial : ℕ) → IsKnown first appends serial → IsSome (chunk_at state serial) ⊎ Contains removed serial
-  pub counted : (serial : ℕ) → IfSome (chunk_at state serial) (λ chunk. length chunk.entries ≡ counted_first first serial + counted_appends appends serial)
+pub record IsAccounted (state : State) (first : List (ℕ × ℕ)) (appends : List Line)
+    (removed : List ℕ) : Type 0 where
+  pub there : (serial : ℕ) → IsKnown first appends serial → IsSome (chunk_at state serial)
+      ⊎ Contains removed serial
+  pub counted : (serial : ℕ)
+      → IfSome (chunk_at state serial)
+      (λ chunk. length chunk.entries ≡ counted_first first serial + counted_appends appends serial)
   pub given : (serial : ℕ) → IsKnown first appends serial → serial < state.next
 
 -- the append of this place that waits for a receipt
@@ -74,11 +80,16 @@ pub record AreReceipted (appends : List Line) (lines : List Written) (synced : �
 -- the lines that are open are lines of the book, under their numbers
 pub record AreOnPages (pages : Pages) (lines : List Written) : Type 0 where
   pub count : pages.count ≡ length lines
-  pub each : (number : ℕ) → IfSome (open_at pages number) (λ line. IsSomeAnd (slice_get lines number) (λ written. written.line ≡ line))
+  pub each : (number : ℕ)
+      → IfSome (open_at pages number)
+      (λ line. IsSomeAnd (slice_get lines number) (λ written. written.line ≡ line))
 
 -- what waits for a receipt are appends without one, and there is room for their lines
-pub record AreWaiting (waiting : List (ℕ × Line)) (appends : List Line) (lines : List Written) (spare : ℕ) : Type 0 where
-  pub each : (place : ℕ) → IfSome (waiting_at waiting place) (λ append. (slice_get appends place ≡ Some append) × All (λ written. written.place ≢ place) lines)
+pub record AreWaiting (waiting : List (ℕ × Line)) (appends : List Line) (lines : List Written)
+    (spare : ℕ) : Type 0 where
+  pub each : (place : ℕ) → IfSome (waiting_at waiting place)
+      (λ append. (slice_get appends place ≡ Some append)
+      × All (λ written. written.place ≢ place) lines)
   pub room : length waiting ≤ spare
   pub few : length lines + length waiting ≤ length appends
 
@@ -106,10 +117,12 @@ pub record Unchanged {D : Type 0} (old new : Book D) : Type 0 where
   pub synced : new.synced ≡ old.synced
 
 -- entries are appended for a delivery, where it was planned, and noted
-pub record Appends {D : Type 0} (delivery serial : ℕ) (tag : List ℕ) (entries : List (List ℕ)) (old new : Book D) : Type 0 where
+pub record Appends {D : Type 0} (delivery serial : ℕ) (tag : List ℕ) (entries : List (List ℕ))
+    (old new : Book D) : Type 0 where
   pub place : planned old.buffer.limits old.buffer.chunks tag entries ≡ Ok serial
   pub chunks : new.buffer.chunks ≡ appended serial tag entries old.buffer.chunks
-  pub appends : new.appends ≡ old.appends ++ record { delivery = delivery; serial = serial; count = length entries } ∷ []
+  pub appends : new.appends ≡ old.appends
+      ++ record { delivery = delivery; serial = serial; count = length entries } ∷ []
   pub first : new.first ≡ old.first
   pub removed : new.removed ≡ old.removed
 
@@ -137,19 +150,38 @@ pub record Steady {D T : Type 0} (old new : Held D) (result : Result T BufferFau
 
 -- Why an append is refused: the first of a failed buffer, a tag that is too long, what the plan of
 -- the append says, and the last number.
-pub record RefusesAppend {D T : Type 0} (tag : List ℕ) (entries : List (List ℕ)) (old : Book D) (result : Result T BufferFault) : Type 0 where
-  pub long : old.buffer.failed ≡ false → longest_tag < length tag → result ≡ Err BufferFault.TooLarge
-  pub refused : old.buffer.failed ≡ false → length tag ≤ longest_tag → (fault : AppendFault) → planned old.buffer.limits old.buffer.chunks tag entries ≡ Err fault → result ≡ Err (of_plan fault)
-  pub accepted : old.buffer.failed ≡ false → length tag ≤ longest_tag → (serial : ℕ) → planned old.buffer.limits old.buffer.chunks tag entries ≡ Ok serial
-      → OnErr result ((result ≡ Err BufferFault.Memory) ⊎ ((result ≡ Err BufferFault.Fault) ⊎ ((result ≡ Err BufferFault.LastSerial) × (2 ^ 64 - 1 ≤ length old.appends))))
+pub record RefusesAppend {D T : Type 0} (tag : List ℕ) (entries : List (List ℕ)) (old : Book D)
+    (result : Result T BufferFault) : Type 0 where
+  pub long : old.buffer.failed ≡ false → longest_tag < length tag
+      → result ≡ Err BufferFault.TooLarge
+  pub refused : old.buffer.failed ≡ false → length tag ≤ longest_tag → (fault : AppendFault)
+      → planned old.buffer.limits old.buffer.chunks tag entries ≡ Err fault
+      → result ≡ Err (of_plan fault)
+  pub accepted : old.buffer.failed ≡ false → length tag ≤ longest_tag → (serial : ℕ)
+      → planned old.buffer.limits old.buffer.chunks tag entries ≡ Ok serial
+      → OnErr result ((result ≡ Err BufferFault.Memory)
+      ⊎ ((result ≡ Err BufferFault.Fault)
+      ⊎ ((result ≡ Err BufferFault.LastSerial) × (2 ^ 64 - 1 ≤ length old.appends))))
 
 -- more appends are known to be synced only where none is left that isn't
 abbrev pub Syncs : {D : Type 0} → Book D → Book D → Type 0
-Syncs old new = (new.synced ≡ old.synced) ⊎ ((new.synced ≡ length new.appends) × (new.buffer.staged ≡ false))
+Syncs old new = (new.synced ≡ old.synced)
+    ⊎ ((new.synced ≡ length new.appends) × (new.buffer.staged ≡ false))
 
 -- the book of these parts
-abbrev pub book_of : {D : Type 0} → Held D → List (ℕ × ℕ) → List Line → List Written → Pages → List (ℕ × Line) → ℕ → List ℕ → Book D
-book_of buffer first appends lines pages waiting synced removed = record { buffer = buffer; first = first; appends = appends; lines = lines; pages = pages; waiting = waiting; synced = synced; removed = removed }
+abbrev pub book_of : {D : Type 0} → Held D → List (ℕ × ℕ) → List Line → List Written → Pages
+    → List (ℕ × Line) → ℕ → List ℕ → Book D
+book_of buffer first appends lines pages waiting synced removed =
+    record {
+      buffer = buffer;
+      first = first;
+      appends = appends;
+      lines = lines;
+      pages = pages;
+      waiting = waiting;
+      synced = synced;
+      removed = removed;
+    }
 
 -- a buffer of this name that takes no steps any more, with its book
 pub record Ended (D : Type 0) : Type 0 where
@@ -159,4 +191,5 @@ pub record Ended (D : Type 0) : Type 0 where
 -- the journal has more bytes than the buffer's setting says, and more than twice as many as the
 -- entries of all live chunks have
 abbrev pub WantsRenewal : {D : Type 0} → Held D → Type 0
-WantsRenewal buffer = (buffer.renewed_past < buffer.journal.len) × (2 * total_size buffer.chunks < buffer.journal.len)
+WantsRenewal buffer = (buffer.renewed_past < buffer.journal.len)
+    × (2 * total_size buffer.chunks < buffer.journal.len)

@@ -17,4 +17,5 @@ id_of claim = record { relay = claim.leaf.relay; buffer = claim.leaf.buffer; ser
 
 -- the claim has the tag of the live chunk of its serial, and counts its entries
 abbrev pub IsCopied : Claimed → State → Type 0
-IsCopied claim state = IsSomeAnd (chunk_at state claim.serial) (λ chunk. (claim.tag ≡ chunk.tag) × (claim.count ≡ length chunk.entries))
+IsCopied claim state = IsSomeAnd (chunk_at state claim.serial)
+    (λ chunk. (claim.tag ≡ chunk.tag) × (claim.count ≡ length chunk.entries))

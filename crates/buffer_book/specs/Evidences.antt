@@ -49,15 +49,18 @@ IsOfKind takes shown = IsGiven takes.basis shown
 -- The evidence is for the claimed chunk of the buffer of this name: the claim is of this buffer,
 -- and the evidence names this chunk, and is of a kind that lets chunks go.
 abbrev pub IsFor : {A : Type 0} → Leaf → Takes A → Claimed → Shows → Type 0
-IsFor leaf takes claim shown = (claim.leaf ≡ leaf) × (named shown ≡ id_of claim) × IsOfKind takes shown
+IsFor leaf takes claim shown = (claim.leaf ≡ leaf) × (named shown ≡ id_of claim)
+    × IsOfKind takes shown
 
 -- what is in the sink are the tag and the entries of the live chunk of this serial
 abbrev pub IsWhole : State → ℕ → StoredView → Type 0
-IsWhole state serial stored = IsSomeAnd (chunk_at state serial) (λ chunk. (chunk.tag ≡ stored.tag) × (chunk.entries ≡ stored.entries))
+IsWhole state serial stored = IsSomeAnd (chunk_at state serial)
+    (λ chunk. (chunk.tag ≡ stored.tag) × (chunk.entries ≡ stored.entries))
 
 -- what is in the sink has the tag of the live chunk of this serial, and as many entries
 abbrev pub IsLike : State → ℕ → StoredView → Type 0
-IsLike state serial stored = IsSomeAnd (chunk_at state serial) (λ chunk. (chunk.tag ≡ stored.tag) × (length stored.entries ≡ length chunk.entries))
+IsLike state serial stored = IsSomeAnd (chunk_at state serial)
+    (λ chunk. (chunk.tag ≡ stored.tag) × (length stored.entries ≡ length chunk.entries))
 
 -- what the evidence shows to be in a sink
 abbrev pub stored_of : Shows → Option StoredView
@@ -77,16 +80,20 @@ ShowsLike state serial shown = IfSome (stored_of shown) (IsLike state serial)
 -- The evidence lets the claimed chunk go: it is for it, and what it shows to be in a sink is the
 -- chunk's tag and entries.
 abbrev pub Serves : {A : Type 0} → Leaf → Takes A → State → Claimed → Shows → Type 0
-Serves leaf takes state claim shown = IsFor leaf takes claim shown × ShowsWhole state claim.serial shown
+Serves leaf takes state claim shown = IsFor leaf takes claim shown
+    × ShowsWhole state claim.serial shown
 
 -- what the evidence shows can be compared with what was appended: where it shows entries in a sink,
 -- the folder was honest when the buffer was opened, and had no gap of removed generations
 abbrev pub CanCompare : {D : Type 0} → (D → Type 0) → (D → History) → Held D → Shows → Type 0
-CanCompare is_honest history buffer shown = IsSome (stored_of shown) → BeganWell is_honest history buffer
+CanCompare is_honest history buffer shown = IsSome (stored_of shown)
+    → BeganWell is_honest history buffer
 
 -- the chunk's entries couldn't be read
 abbrev pub IsUnread : {T : Type 0} → Result T BufferFault → Type 0
-IsUnread result = (result ≡ Err BufferFault.Failed) ⊎ ((result ≡ Err BufferFault.Memory) ⊎ ((result ≡ Err BufferFault.Fault) ⊎ (result ≡ Err BufferFault.Damaged)))
+IsUnread result = (result ≡ Err BufferFault.Failed)
+    ⊎ ((result ≡ Err BufferFault.Memory)
+    ⊎ ((result ≡ Err BufferFault.Fault) ⊎ (result ≡ Err BufferFault.Damaged)))
 
 -- the chunk to drop to make room: the queued one of least serial, where chunks may be dropped
 abbrev pub to_drop : {A : Type 0} → Takes A → State → Option ℕ
@@ -110,7 +117,8 @@ pub record RefusesPurge {A D T : Type 0} (is_honest : D → Type 0) (history : D
   pub astray : (IsFor leaf takes claim shown → ⊥) → answer ≡ Err PurgeFault.Stranger
   pub stranger : CanCompare is_honest history old shown
       → answer ≡ Err PurgeFault.Stranger → Serves leaf takes old.chunks claim shown → ⊥
-  pub never : CanCompare is_honest history old shown → (Serves leaf takes old.chunks claim shown → ⊥)
+  pub never : CanCompare is_honest history old shown
+      → (Serves leaf takes old.chunks claim shown → ⊥)
       → OnErr answer ((answer ≡ Err PurgeFault.Stranger) ⊎ (IsSome (stored_of shown)
       × (IsRefused BufferFault.Failed answer
       ⊎ (IsRefused BufferFault.Memory answer ⊎ IsRefused BufferFault.Fault answer))))

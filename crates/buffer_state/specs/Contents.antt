@@ -7,4 +7,9 @@ use Rattle.buffer_state.specs.Told.{Told}
 -- what was told up to here
 abbrev pub told_by : {A : Type 0} → Link A → Told
 told_by (link.First entries) = record { times = 0; entries = entries.value }
-told_by (link.Then before entries) = record { times = suc before.value.value.times; entries = before.value.value.entries ++ entries.value }
+told_by (link.Then before entries) =
+    record {
+      times = suc before.value.value.times;
+      entries = before.value.value.entries
+          ++ entries.value;
+    }

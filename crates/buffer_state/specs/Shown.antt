@@ -14,7 +14,13 @@ pub record Facts : Type 0 where
 
 -- what is shown of the chunk of this serial
 abbrev pub facts_of : ℕ → Chunk → Facts
-facts_of serial chunk = record { serial = serial; tag = chunk.tag; count = length chunk.entries; size = size chunk.entries; stage = chunk.stage }
+facts_of serial chunk = record {
+  serial = serial;
+  tag = chunk.tag;
+  count = length chunk.entries;
+  size = size chunk.entries;
+  stage = chunk.stage;
+}
 
 -- what is shown of a chunk under its serial
 abbrev pub numbered_facts : Numbered → Facts
@@ -22,4 +28,10 @@ numbered_facts numbered = facts_of numbered.0 numbered.1
 
 -- the facts, without where they lie in memory
 abbrev pub seen : ChunkFacts → Facts
-seen facts = record { serial = facts.serial; tag = facts.tag.now; count = facts.count; size = facts.size; stage = facts.stage }
+seen facts = record {
+  serial = facts.serial;
+  tag = facts.tag.now;
+  count = facts.count;
+  size = facts.size;
+  stage = facts.stage;
+}

@@ -22,7 +22,8 @@ pub record AreKept (count bytes : ℕ) (entries : List (List ℕ)) : Type 0 wher
 
 -- with these entries behind the others
 abbrev pub grown : List (List ℕ) → Slot → Slot
-grown entries slot = record { chunk = record slot.chunk { entries = slot.chunk.entries ++ entries } }
+grown entries slot =
+    record { chunk = record slot.chunk { entries = slot.chunk.entries ++ entries } }
 
 -- in this stage
 abbrev pub put : Stage → Slot → Slot
@@ -38,7 +39,9 @@ slot_at slots serial = lookup (is_at (nat_cmp serial)) slots
 
 -- the slots with the one of this serial changed
 abbrev pub changed_at : ℕ → (Slot → Slot) → Slots → Slots
-changed_at serial change slots = option_map_or (λ slot. set_value (is_at (nat_cmp serial)) slots (change slot)) (slot_at slots serial) slots
+changed_at serial change slots =
+    option_map_or (λ slot. set_value (is_at (nat_cmp serial)) slots (change slot))
+    (slot_at slots serial) slots
 
 -- the chunks in the slots
 abbrev pub chunks_in : Slots → List Numbered

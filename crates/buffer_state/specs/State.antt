@@ -68,11 +68,14 @@ IsAt stage state serial = IsSomeAnd (chunk_at state serial) (λ chunk. chunk.sta
 
 -- the live chunk of this serial is staged and has this tag
 abbrev pub IsStagedOf : State → ℕ → List ℕ → Type 0
-IsStagedOf state serial tag = IsSomeAnd (chunk_at state serial) (λ chunk. (chunk.stage ≡ Staged) × (chunk.tag ≡ tag))
+IsStagedOf state serial tag = IsSomeAnd (chunk_at state serial)
+    (λ chunk. (chunk.stage ≡ Staged) × (chunk.tag ≡ tag))
 
 -- the serials of the staged chunks of this tag, rising
 abbrev pub staged_of : State → List ℕ → List ℕ
-staged_of state tag = keys_of (filter (λ numbered. is_staged numbered.1.stage && bytes_eq tag numbered.1.tag) state.chunks)
+staged_of state tag =
+    keys_of (filter (λ numbered. is_staged numbered.1.stage
+    && bytes_eq tag numbered.1.tag) state.chunks)
 
 -- the newest staged chunk of this tag
 abbrev pub newest_staged : State → List ℕ → Option ℕ

@@ -25,11 +25,13 @@ limit_of limits = min limits.chunk greatest_size
 
 -- the state with this chunk in the place of the live one of this serial
 abbrev pub with_chunk : ℕ → Chunk → State → State
-with_chunk serial chunk state = record state { chunks = set_value (is_at (nat_cmp serial)) state.chunks chunk }
+with_chunk serial chunk state =
+    record state { chunks = set_value (is_at (nat_cmp serial)) state.chunks chunk }
 
 -- The chunk of this serial takes these entries: it is staged and of this tag, or it is new and its
 -- serial isn't below the next. It doesn't grow beyond what any chunk may have.
-pub record CanAppend (state : State) (serial : ℕ) (tag : List ℕ) (entries : List (List ℕ)) : Type 0 where
+pub record CanAppend (state : State) (serial : ℕ) (tag : List ℕ)
+    (entries : List (List ℕ)) : Type 0 where
   pub place : IsStagedOf state serial tag ⊎ ((state.next ≤ serial) × (serial < last_serial))
   pub small : size_at state serial + size entries ≤ greatest_size
 
@@ -44,17 +46,24 @@ added serial tag entries state = record {
 -- the state with these entries behind those of the live chunk of this serial, or in a new one
 abbrev pub appended : ℕ → List ℕ → List (List ℕ) → State → State
 appended serial tag entries state =
-    option_map_or (λ chunk. with_chunk serial (record chunk { entries = chunk.entries ++ entries }) state) (chunk_at state serial) (added serial tag entries state)
+    option_map_or (λ chunk.
+    with_chunk serial (record chunk { entries = chunk.entries ++ entries }) state)
+    (chunk_at state serial) (added serial tag entries state)
 
 -- the state without the chunk of this serial, which comes next again
 abbrev pub taken_back : ℕ → State → State
-taken_back serial state = record { chunks = remove_entry (is_at (nat_cmp serial)) state.chunks; next = serial; queue = state.queue }
+taken_back serial state = record {
+  chunks = remove_entry (is_at (nat_cmp serial)) state.chunks;
+  next = serial;
+  queue = state.queue;
+}
 
 -- The place of an append of so many bytes: the newest staged chunk of the tag where they fit into
 -- it within this limit, else a new one.
 abbrev pub place_within : ℕ → State → List ℕ → ℕ → ℕ
 place_within limit state tag bytes =
-    option_map_or (λ serial. cond (nat_le (size_at state serial + bytes) limit) serial state.next) (newest_staged state tag) state.next
+    option_map_or (λ serial. cond (nat_le (size_at state serial + bytes) limit) serial state.next)
+    (newest_staged state tag) state.next
 
 -- the place of an append of these entries
 abbrev pub place_of : Limits → State → List ℕ → List (List ℕ) → ℕ
@@ -66,17 +75,21 @@ abbrev pub planned : Limits → State → List ℕ → List (List ℕ) → Resul
 planned limits state tag entries =
     cond (nat_lt (limit_of limits) (size entries)) (Err TooLarge)
     (cond (nat_lt limits.total (total_size state + size entries)) (Err Full)
-    (cond ((place_of limits state tag entries == state.next) && (state.next == last_serial)) (Err LastSerial)
+    (cond ((place_of limits state tag entries == state.next) && (state.next == last_serial))
+    (Err LastSerial)
     (Ok (place_of limits state tag entries))))
 
 -- the state with the live chunk of this serial in this stage
 abbrev pub restaged : ℕ → Stage → State → State
-restaged serial stage state = option_map_or (λ chunk. with_chunk serial (record chunk { stage = stage }) state) (chunk_at state serial) state
+restaged serial stage state =
+    option_map_or (λ chunk. with_chunk serial (record chunk { stage = stage }) state)
+    (chunk_at state serial) state
 
 -- The chunk of this serial is queued, behind all others. A staged one is queued so, and a claimed
 -- one given back.
 abbrev pub queued_last : ℕ → State → State
-queued_last serial state = record (restaged serial Queued state) { queue = state.queue ++ serial ∷ [] }
+queued_last serial state = record (restaged serial Queued state)
+    { queue = state.queue ++ serial ∷ [] }
 
 -- the serials without this one
 abbrev pub without : ℕ → List ℕ → List ℕ
@@ -93,7 +106,11 @@ claimed state = claimed_from state.queue state
 
 -- the chunk of this serial is gone
 abbrev pub removed : ℕ → State → State
-removed serial state = record { chunks = remove_entry (is_at (nat_cmp serial)) state.chunks; next = state.next; queue = without serial state.queue }
+removed serial state = record {
+  chunks = remove_entry (is_at (nat_cmp serial)) state.chunks;
+  next = state.next;
+  queue = without serial state.queue;
+}
 
 -- the first, where there is one
 abbrev pub first_of : List ℕ → Option ℕ
@@ -112,7 +129,8 @@ unclaimed Claimed = Queued
 
 -- the live chunks, claimed ones counted as queued
 abbrev pub unclaimed_chunks : List Numbered → List Numbered
-unclaimed_chunks chunks = map (λ numbered. (numbered.0, record numbered.1 { stage = unclaimed numbered.1.stage })) chunks
+unclaimed_chunks chunks =
+    map (λ numbered. (numbered.0, record numbered.1 { stage = unclaimed numbered.1.stage })) chunks
 
 -- the queue goes by rising serial
 abbrev pub settled : State → State

@@ -8,4 +8,5 @@ use Rattle.buffer_state.specs.declared.tags.TagIndex.{TagIndex}
 
 -- the serials that the index has at this tag
 abbrev pub serials_at : {A : Type 0} → TagIndex A → List ℕ → List ℕ
-serials_at index tag = option_map_or (λ serials. serials.keys) (get_by (λ key. slice_cmp nat_cmp tag key.items) index.sets) []
+serials_at index tag = option_map_or (λ serials. serials.keys)
+    (get_by (λ key. slice_cmp nat_cmp tag key.items) index.sets) []

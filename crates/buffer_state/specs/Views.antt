@@ -26,7 +26,8 @@ is_waiting stage = not (is_staged stage)
 
 -- whether the chunk of this serial passes, where there is one
 abbrev pub passes_at : (Stage → Bool) → Slots → ℕ → Bool
-passes_at test slots serial = option_map_or (λ slot. test slot.chunk.stage) (slot_at slots serial) false
+passes_at test slots serial = option_map_or (λ slot. test slot.chunk.stage)
+    (slot_at slots serial) false
 
 -- how many chunks are claimed
 abbrev pub claims : Slots → ℕ
@@ -34,14 +35,21 @@ claims slots = sum_by (λ slot. cond (is_claimed slot.chunk.stage) 1 0) (values_
 
 -- what these fields stand for
 abbrev pub state_of : Slots → List ℕ → ℕ → State
-state_of slots order next = record { chunks = chunks_in slots; next = next; queue = filter (passes_at is_queued slots) order }
+state_of slots order next =
+    record {
+      chunks = chunks_in slots;
+      next = next;
+      queue = filter (passes_at is_queued slots) order;
+    }
 
 -- A serial in the queue is that of a queued chunk, or of one that is gone.
 abbrev pub IsFree : Slots → ℕ → ℕ → Type 0
-IsFree slots next serial = (serial < next) × IfSome (slot_at slots serial) (λ slot. slot.chunk.stage ≡ Queued)
+IsFree slots next serial = (serial < next) × IfSome (slot_at slots serial)
+    (λ slot. slot.chunk.stage ≡ Queued)
 
 -- what holds of these fields
-pub record IsSound {A : Type 0} (slots : Slots) (waiting : BTreeSet ℕ) (order : VecDeque ℕ A) (next : ℕ) : Type 0 where
+pub record IsSound {A : Type 0} (slots : Slots) (waiting : BTreeSet ℕ) (order : VecDeque ℕ A)
+    (next : ℕ) : Type 0 where
   pub rising : IsStrictlySortedBy nat_cmp (keys_of slots)
   pub below : AreBelow next (keys_of slots)
   pub distinct : IsDistinct nat_eq order.items
@@ -56,12 +64,14 @@ IsEndOf end all = (before : List ℕ) × (all ≡ before ++ end)
 
 -- what holds of these fields where there is room for a step on the chunk of this serial, which is
 -- staged; it is among the waiting ones already
-pub record IsReady {A : Type 0} (slots : Slots) (waiting : BTreeSet ℕ) (order : VecDeque ℕ A) (next serial : ℕ) : Type 0 where
+pub record IsReady {A : Type 0} (slots : Slots) (waiting : BTreeSet ℕ) (order : VecDeque ℕ A)
+    (next serial : ℕ) : Type 0 where
   pub rising : IsStrictlySortedBy nat_cmp (keys_of slots)
   pub below : AreBelow next (keys_of slots)
   pub distinct : IsDistinct nat_eq order.items
   pub free : AllByRecursion (IsFree slots next) order.items
   pub room : deque_len order + claims slots + 1 ≤ deque_capacity order
-  pub waits : (other : ℕ) → contains nat_cmp waiting other ≡ cond (is_at (nat_cmp serial) other) true (passes_at is_waiting slots other)
+  pub waits : (other : ℕ) → contains nat_cmp waiting other
+      ≡ cond (is_at (nat_cmp serial) other) true (passes_at is_waiting slots other)
   pub listed : IsStrictlySortedBy nat_cmp waiting.keys
   pub ready : IsSomeAnd (slot_at slots serial) (λ slot. slot.chunk.stage ≡ Staged)

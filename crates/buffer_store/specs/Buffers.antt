@@ -23,7 +23,8 @@ pub record Held (D : Type 0) : Type 0 where
 
 -- The disk has the journal, whole, and it means the chunks in memory, claimed ones counted as
 -- queued.
-pub record Holds (journal : OpenJournal) (chunks : State) (disk : Disk) (t : JournalLog) : Type 0 where
+pub record Holds (journal : OpenJournal) (chunks : State) (disk : Disk)
+    (t : JournalLog) : Type 0 where
   pub keeps : Keeps journal disk t
   pub means : settled (state_of t) ≡ reopened chunks
 

@@ -19,7 +19,8 @@ pub record Flags {T : Type 0} (old new : Bool) (result : Result T BufferFault) :
 
 -- What each call that writes leaves alone. A refusal keeps the chunks, and but for a fault or
 -- damage the folder too; a buffer that the device failed before refuses the call.
-pub record Stays {D T : Type 0} (is_honest : D → Type 0) (history : D → History) (fault_count : D → ℕ) (old new : Held D) (result : Result T BufferFault) : Type 0 where
+pub record Stays {D T : Type 0} (is_honest : D → Type 0) (history : D → History)
+    (fault_count : D → ℕ) (old new : Held D) (result : Result T BufferFault) : Type 0 where
   pub err : OnErr result (new.chunks ≡ old.chunks)
   pub failed : (result ≡ Err BufferFault.Failed) ↔ (old.failed ≡ true)
   pub flags : Flags old.failed new.failed result
@@ -29,14 +30,19 @@ pub record Stays {D T : Type 0} (is_honest : D → Type 0) (history : D → Hist
   pub path : new.journal.path ≡ old.journal.path
   pub start : new.start ≡ old.start
   pub honest : is_honest old.dir → is_honest new.dir
-  pub untouched : is_honest old.dir → result ≢ Err BufferFault.Fault → result ≢ Err BufferFault.Damaged → OnErr result (SameDisk (now (history new.dir)) (now (history old.dir)))
+  pub untouched : is_honest old.dir → result ≢ Err BufferFault.Fault
+      → result ≢ Err BufferFault.Damaged
+      → OnErr result (SameDisk (now (history new.dir)) (now (history old.dir)))
   pub cause : HasReason (fault_count old.dir) (fault_count new.dir) result BufferFault.Fault
 
 -- the same of a call that stays within the generation: it keeps the files of all other names too
-pub record StaysWithin {D T : Type 0} (is_honest : D → Type 0) (history : D → History) (fault_count : D → ℕ) (old new : Held D) (result : Result T BufferFault) : Type 0 where
+pub record StaysWithin {D T : Type 0} (is_honest : D → Type 0) (history : D → History)
+    (fault_count : D → ℕ) (old new : Held D) (result : Result T BufferFault) : Type 0 where
   pub rest : Stays is_honest history fault_count old new result
   pub number : new.journal.number ≡ old.journal.number
-  pub elsewhere : is_honest old.dir → (name : List ℕ) → name ≢ journal_name old.journal.path old.journal.number → now (history new.dir) name ≡ now (history old.dir) name
+  pub elsewhere : is_honest old.dir → (name : List ℕ)
+      → name ≢ journal_name old.journal.path old.journal.number → now (history new.dir) name
+      ≡ now (history old.dir) name
 
 -- What a call makes of what the journal tells, where it begins this step, or none. After `Ok` the
 -- journal tells what is answered. After `Fault` each stop leaves the steps told before, with the
@@ -45,15 +51,27 @@ pub record StaysWithin {D T : Type 0} (is_honest : D → Type 0) (history : D �
 -- opens to the state after some of these steps, all durable ones among them; and of a buffer that
 -- the device failed before one that opens to what it could open to before the call. So it is with
 -- the chunks that were ever claimed.
-pub record Begins {D T : Type 0} (history : D → History) (old new : Held D) (more : Option Record) (answered : JournalLog → JournalLog) (result : Result T BufferFault) : Type 0 where
-  pub done : (t : JournalLog) → HoldsNow history old t → OnOk result (HoldsNow history new (answered (with_more more t)))
-  pub refused : (t : JournalLog) → HoldsNow history old t → result ≢ Err BufferFault.Fault → OnErr result (HoldsNow history new t)
-  pub recovers : (t : JournalLog) → HoldsNow history old t → result ≡ Err BufferFault.Fault → Recovers old.journal.path (now (history new.dir)) (with_more more t)
-  pub could : (t : JournalLog) → HoldsNow history old t → result ≡ Err BufferFault.Fault → IsJournalLog (with_more more t)
-  pub gap : (t : JournalLog) → HoldsNow history old t → result ≡ Err BufferFault.Fault → HasNoGap old.journal.path (now (history new.dir))
-  pub moments : (t : JournalLog) → HoldsNow history old t → LeavesOnly (history old.dir) (history new.dir) (OpensWithin old.journal.path (with_more more t))
-  pub quiet : (t : JournalLog) → HoldsNow history old t → result ≢ Err BufferFault.Fault → OnErr result (LeavesOnly (history old.dir) (history new.dir) (OpensWithin old.journal.path t))
-  pub failed : old.failed ≡ true → (t : JournalLog) → Recovers old.journal.path (now (history old.dir)) t → LeavesOnly (history old.dir) (history new.dir) (OpensWithin old.journal.path t)
+pub record Begins {D T : Type 0} (history : D → History) (old new : Held D) (more : Option Record)
+    (answered : JournalLog → JournalLog) (result : Result T BufferFault) : Type 0 where
+  pub done : (t : JournalLog) → HoldsNow history old t
+      → OnOk result (HoldsNow history new (answered (with_more more t)))
+  pub refused : (t : JournalLog) → HoldsNow history old t → result ≢ Err BufferFault.Fault
+      → OnErr result (HoldsNow history new t)
+  pub recovers : (t : JournalLog) → HoldsNow history old t → result ≡ Err BufferFault.Fault
+      → Recovers old.journal.path (now (history new.dir)) (with_more more t)
+  pub could : (t : JournalLog) → HoldsNow history old t → result ≡ Err BufferFault.Fault
+      → IsJournalLog (with_more more t)
+  pub gap : (t : JournalLog) → HoldsNow history old t → result ≡ Err BufferFault.Fault
+      → HasNoGap old.journal.path (now (history new.dir))
+  pub moments : (t : JournalLog) → HoldsNow history old t
+      → LeavesOnly (history old.dir) (history new.dir)
+      (OpensWithin old.journal.path (with_more more t))
+  pub quiet : (t : JournalLog) → HoldsNow history old t → result ≢ Err BufferFault.Fault
+      → OnErr result (LeavesOnly (history old.dir) (history new.dir)
+      (OpensWithin old.journal.path t))
+  pub failed : old.failed ≡ true → (t : JournalLog)
+      → Recovers old.journal.path (now (history old.dir)) t
+      → LeavesOnly (history old.dir) (history new.dir) (OpensWithin old.journal.path t)
   pub claims : KeepsClaims history old new
 
 -- What a call that only reads leaves alone: the buffer, what the disk has, and each chunk that
@@ -74,7 +92,8 @@ pub record NextGeneration {D T : Type 0} (is_honest : D → Type 0) (history : D
     (fault_count : D → ℕ) (old new : Held D) (result : Result T BufferFault) : Type 0 where
   pub number : OnOk result (new.journal.number ≡ old.journal.number + 1)
   pub gone : is_honest old.dir
-      → OnOk result (reads (now (history new.dir)) (journal_name old.journal.path old.journal.number) ≡ None)
+      → OnOk result (reads (now (history new.dir))
+      (journal_name old.journal.path old.journal.number) ≡ None)
   pub journal : OnErr result (new.journal ≡ old.journal)
   pub left : BeganWell is_honest history old
       → OnErr result (LeavesAtMost old.journal.path (old.journal.number + 1)

@@ -37,7 +37,8 @@ pub record IsKept {D : Type 0} (history : D → History) (buffer : Held D) : Typ
 -- it mean the chunks, claimed ones counted as queued. Each stop leaves those of them that can't be
 -- lost, with the one begun or without it. No gap of removed generations is left, so that the folder
 -- can be opened at once.
-pub record IsLeft {D : Type 0} (history : D → History) (buffer : Held D) (more : Option Record) : Type 0 where
+pub record IsLeft {D : Type 0} (history : D → History) (buffer : Held D)
+    (more : Option Record) : Type 0 where
   pub logged : JournalLog
   pub could : IsJournalLog (with_more more logged)
   pub told : IsJournalLog logged
@@ -48,7 +49,8 @@ pub record IsLeft {D : Type 0} (history : D → History) (buffer : Held D) (more
 
 -- The folder is honest; what the disk has of the buffer until the device fails it, and from then
 -- on.
-pub record IsDurable {D : Type 0} (is_honest : D → Type 0) (history : D → History) (buffer : Held D) : Type 0 where
+pub record IsDurable {D : Type 0} (is_honest : D → Type 0) (history : D → History)
+    (buffer : Held D) : Type 0 where
   pub honest : is_honest buffer.dir
   pub going : buffer.failed ≡ false → IsKept history buffer
   pub failed : buffer.failed ≡ true → (more : Option Record) × IsLeft history buffer more
@@ -56,10 +58,12 @@ pub record IsDurable {D : Type 0} (is_honest : D → Type 0) (history : D → Hi
 -- the folder was honest when the buffer was opened, and the generations that were removed of it
 -- left no gap
 abbrev pub BeganWell : {D : Type 0} → (D → Type 0) → (D → History) → Held D → Type 0
-BeganWell is_honest history buffer = is_honest buffer.start × HasNoGap buffer.journal.path (now (history buffer.start))
+BeganWell is_honest history buffer = is_honest buffer.start
+    × HasNoGap buffer.journal.path (now (history buffer.start))
 
 -- What every buffer keeps: no tag is too long, and it is durable where it began well.
-pub record IsSound {D : Type 0} (is_honest : D → Type 0) (history : D → History) (buffer : Held D) : Type 0 where
+pub record IsSound {D : Type 0} (is_honest : D → Type 0) (history : D → History)
+    (buffer : Held D) : Type 0 where
   pub tags : HasShortTags buffer.chunks
   pub durable : BeganWell is_honest history buffer → IsDurable is_honest history buffer
 
@@ -73,16 +77,20 @@ pub record Lasts (path : List ℕ) (serial : ℕ) (chunk : Chunk) (folder : Fold
   pub state : State
   pub opens : Opens path folder state
   pub above : serial < state.next
-  pub same : (chunk_at state serial ≡ Some (record chunk { stage = Queued })) ⊎ (chunk_at state serial ≡ None)
+  pub same : (chunk_at state serial ≡ Some (record chunk { stage = Queued }))
+      ⊎ (chunk_at state serial ≡ None)
 
 -- In this state the chunk of this serial is queued with this content, or gone, and the serial is
 -- given to no other.
 abbrev pub IsNamed : ℕ → Chunk → State → Type 0
-IsNamed serial chunk state = (serial < state.next) × ((chunk_at state serial ≡ Some (record chunk { stage = Queued })) ⊎ (chunk_at state serial ≡ None))
+IsNamed serial chunk state = (serial < state.next)
+    × ((chunk_at state serial ≡ Some (record chunk { stage = Queued }))
+    ⊎ (chunk_at state serial ≡ None))
 
 -- A chunk of this serial and content was claimed: the journal tells so much, durably, that whatever
 -- a stop leaves opens to a state in which it is queued as it was, or gone.
-pub record Endures {D : Type 0} (history : D → History) (buffer : Held D) (serial : ℕ) (chunk : Chunk) : Type 0 where
+pub record Endures {D : Type 0} (history : D → History) (buffer : Held D) (serial : ℕ)
+    (chunk : Chunk) : Type 0 where
   pub logged : JournalLog
   pub told : IsJournalLog logged
   pub named : IsNamed serial chunk (durably logged)
@@ -93,8 +101,10 @@ pub record Endures {D : Type 0} (history : D → History) (buffer : Held D) (ser
 -- leaves it queued as it was, or gone, and its serial is given to no other; and so it stays behind
 -- the call.
 pub record KeepsClaims {D : Type 0} (history : D → History) (old new : Held D) : Type 0 where
-  pub moments : (serial : ℕ) (chunk : Chunk) → Endures history old serial chunk → LeavesOnly (history old.dir) (history new.dir) (Lasts old.journal.path serial chunk)
-  pub after : (serial : ℕ) (chunk : Chunk) → Endures history old serial chunk → Endures history new serial chunk
+  pub moments : (serial : ℕ) (chunk : Chunk) → Endures history old serial chunk
+      → LeavesOnly (history old.dir) (history new.dir) (Lasts old.journal.path serial chunk)
+  pub after : (serial : ℕ) (chunk : Chunk) → Endures history old serial chunk
+      → Endures history new serial chunk
 
 -- Each folder that a stop may leave opens so: what was queued durably is the same or gone, and the
 -- next serial hasn't fallen.
@@ -102,11 +112,14 @@ pub record KeepsQueued (path : List ℕ) (t : JournalLog) (folder : Folder) : Ty
   pub state : State
   pub opens : Opens path folder state
   pub next : (durably t).next ≤ state.next
-  pub queued : (serial : ℕ) (chunk : Chunk) → chunk_at (durably t) serial ≡ Some chunk → chunk.stage ≡ Queued
-      → (serial < state.next) × ((chunk_at state serial ≡ Some chunk) ⊎ (chunk_at state serial ≡ None))
+  pub queued : (serial : ℕ) (chunk : Chunk) → chunk_at (durably t) serial ≡ Some chunk
+      → chunk.stage ≡ Queued
+      → (serial < state.next)
+      × ((chunk_at state serial ≡ Some chunk) ⊎ (chunk_at state serial ≡ None))
 
 -- whatever a stop leaves opens to a state above this serial, with its chunk queued as it is, or
 -- gone
 abbrev pub LastsNow : {D : Type 0} → (D → History) → Held D → ℕ → Type 0
 LastsNow history buffer serial = IfSome (chunk_at buffer.chunks serial)
-    (λ chunk. (folder : Folder) → StopLeaves (now (history buffer.dir)) folder → Lasts buffer.journal.path serial chunk folder)
+    (λ chunk. (folder : Folder) → StopLeaves (now (history buffer.dir)) folder
+    → Lasts buffer.journal.path serial chunk folder)

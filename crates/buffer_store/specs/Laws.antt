@@ -11,15 +11,19 @@ use Rattle.buffer_store.specs.Durability.{KeepsQueued}
 
 -- where the disk holds a buffer, each stop is recovered from
 abbrev pub HoldsRecovers : Type 0
-HoldsRecovers = (journal : OpenJournal) (chunks : State) (disk : Disk) (t : JournalLog) → Holds journal chunks disk t → Recovers journal.path disk t
+HoldsRecovers = (journal : OpenJournal) (chunks : State) (disk : Disk) (t : JournalLog)
+    → Holds journal chunks disk t → Recovers journal.path disk t
 
 -- a folder that such a stop leaves isn't damaged, and opens to the state after some of the steps
 -- told, all durable ones among them, and to no other
 abbrev pub RecoversWhatIsDurable : Type 0
-RecoversWhatIsDurable = (path : List ℕ) (disk : Disk) (t : JournalLog) (folder : Folder) → Recovers path disk t → StopLeaves disk folder
-    → OpensWithin path t folder × ((state : State) → Opens path folder state → IsOfSome t state) × (IsDamagedFolder path folder → ⊥)
+RecoversWhatIsDurable = (path : List ℕ) (disk : Disk) (t : JournalLog) (folder : Folder)
+    → Recovers path disk t → StopLeaves disk folder
+    → OpensWithin path t folder × ((state : State) → Opens path folder state → IsOfSome t state)
+    × (IsDamagedFolder path folder → ⊥)
 
 -- a folder that opens so has each chunk that was queued durably as it was, or not at all, and the
 -- next serial is above each of them
 abbrev pub QueuedLasts : Type 0
-QueuedLasts = (path : List ℕ) (t : JournalLog) (folder : Folder) → IsJournalLog t → OpensWithin path t folder → KeepsQueued path t folder
+QueuedLasts = (path : List ℕ) (t : JournalLog) (folder : Folder) → IsJournalLog t
+    → OpensWithin path t folder → KeepsQueued path t folder

@@ -58,18 +58,25 @@ abbrev pub KeepsNow : {D : Type 0} → (D → History) → Logged D → JournalL
 KeepsNow history log t = Keeps log.journal (now (history log.dir)) t
 
 -- The bytes of the entries of this chunk are read. Nothing but time changes.
-pub record Reads {D A : Type 0} (is_honest : D → Type 0) (history : D → History) (fault_count : D → ℕ) (old new : Logged D) (serial : ℕ) (result : Result (Vec ℕ A) BufferFault) : Type 0 where
+pub record Reads {D A : Type 0} (is_honest : D → Type 0) (history : D → History)
+    (fault_count : D → ℕ) (old new : Logged D) (serial : ℕ)
+    (result : Result (Vec ℕ A) BufferFault) : Type 0 where
   pub rest : new ≡ record old { dir = new.dir }
-  pub only : OnErr result ((result ≡ Err BufferFault.Memory) ⊎ ((result ≡ Err BufferFault.Fault) ⊎ (result ≡ Err BufferFault.Damaged)))
+  pub only : OnErr result ((result ≡ Err BufferFault.Memory)
+      ⊎ ((result ≡ Err BufferFault.Fault) ⊎ (result ≡ Err BufferFault.Damaged)))
   pub honest : is_honest old.dir → is_honest new.dir
   pub time : is_honest old.dir → Elapses (history old.dir) (history new.dir)
   pub same : is_honest old.dir → SameDisk (now (history new.dir)) (now (history old.dir))
   pub cause : HasReason (fault_count old.dir) (fault_count new.dir) result BufferFault.Fault
-  pub bytes : is_honest old.dir → (t : JournalLog) → KeepsNow history old t → IfOk result (λ bytes. bytes.items ≡ entries_at (state_of t) serial)
-  pub whole : is_honest old.dir → (t : JournalLog) → KeepsNow history old t → result ≢ Err BufferFault.Damaged
+  pub bytes : is_honest old.dir → (t : JournalLog) → KeepsNow history old t
+      → IfOk result (λ bytes. bytes.items ≡ entries_at (state_of t) serial)
+  pub whole : is_honest old.dir → (t : JournalLog) → KeepsNow history old t
+      → result ≢ Err BufferFault.Damaged
 
 -- One record more is told, and synced or not. The error is want of memory or the device's fault.
-pub record Writes {D T : Type 0} (is_honest : D → Type 0) (history : D → History) (fault_count : D → ℕ) (old new : Logged D) (item : Record) (synced : Bool) (result : Result T BufferFault) : Type 0 where
+pub record Writes {D T : Type 0} (is_honest : D → Type 0) (history : D → History)
+    (fault_count : D → ℕ) (old new : Logged D) (item : Record) (synced : Bool)
+    (result : Result T BufferFault) : Type 0 where
   pub only : OnErr result ((result ≡ Err BufferFault.Memory) ⊎ (result ≡ Err BufferFault.Fault))
   pub flags : Flags old.failed new.failed result
   pub kept : OnErr result (new.staged ≡ old.staged)
@@ -78,22 +85,35 @@ pub record Writes {D T : Type 0} (is_honest : D → Type 0) (history : D → His
   pub number : new.journal.number ≡ old.journal.number
   pub start : new.start ≡ old.start
   pub honest : is_honest old.dir → is_honest new.dir
-  pub elsewhere : is_honest old.dir → (name : List ℕ) → name ≢ journal_name old.journal.path old.journal.number → now (history new.dir) name ≡ now (history old.dir) name
-  pub untouched : is_honest old.dir → result ≢ Err BufferFault.Fault → OnErr result (SameDisk (now (history new.dir)) (now (history old.dir)))
+  pub elsewhere : is_honest old.dir → (name : List ℕ)
+      → name ≢ journal_name old.journal.path old.journal.number → now (history new.dir) name
+      ≡ now (history old.dir) name
+  pub untouched : is_honest old.dir → result ≢ Err BufferFault.Fault
+      → OnErr result (SameDisk (now (history new.dir)) (now (history old.dir)))
   pub cause : HasReason (fault_count old.dir) (fault_count new.dir) result BufferFault.Fault
-  pub done : is_honest old.dir → (t : JournalLog) → KeepsNow history old t → Allows (state_of t) item → OnOk result (KeepsNow history new (durable_if synced (begun item t)))
-  pub refused : is_honest old.dir → (t : JournalLog) → KeepsNow history old t → result ≢ Err BufferFault.Fault → OnErr result (KeepsNow history new t)
-  pub recovers : is_honest old.dir → (t : JournalLog) → KeepsNow history old t → Allows (state_of t) item → result ≡ Err BufferFault.Fault
+  pub done : is_honest old.dir → (t : JournalLog) → KeepsNow history old t
+      → Allows (state_of t) item
+      → OnOk result (KeepsNow history new (durable_if synced (begun item t)))
+  pub refused : is_honest old.dir → (t : JournalLog) → KeepsNow history old t
+      → result ≢ Err BufferFault.Fault → OnErr result (KeepsNow history new t)
+  pub recovers : is_honest old.dir → (t : JournalLog) → KeepsNow history old t
+      → Allows (state_of t) item → result ≡ Err BufferFault.Fault
       → Recovers old.journal.path (now (history new.dir)) (begun item t)
-  pub could : is_honest old.dir → (t : JournalLog) → KeepsNow history old t → Allows (state_of t) item → result ≡ Err BufferFault.Fault → IsJournalLog (begun item t)
-  pub gap : is_honest old.dir → (t : JournalLog) → KeepsNow history old t → Allows (state_of t) item → result ≡ Err BufferFault.Fault → HasNoGap old.journal.path (now (history new.dir))
-  pub moments : is_honest old.dir → (t : JournalLog) → KeepsNow history old t → Allows (state_of t) item
+  pub could : is_honest old.dir → (t : JournalLog) → KeepsNow history old t
+      → Allows (state_of t) item → result ≡ Err BufferFault.Fault → IsJournalLog (begun item t)
+  pub gap : is_honest old.dir → (t : JournalLog) → KeepsNow history old t → Allows (state_of t) item
+      → result ≡ Err BufferFault.Fault → HasNoGap old.journal.path (now (history new.dir))
+  pub moments : is_honest old.dir → (t : JournalLog) → KeepsNow history old t
+      → Allows (state_of t) item
       → LeavesOnly (history old.dir) (history new.dir) (OpensWithin old.journal.path (begun item t))
-  pub quiet : is_honest old.dir → (t : JournalLog) → KeepsNow history old t → result ≢ Err BufferFault.Fault
-      → OnErr result (LeavesOnly (history old.dir) (history new.dir) (OpensWithin old.journal.path t))
+  pub quiet : is_honest old.dir → (t : JournalLog) → KeepsNow history old t
+      → result ≢ Err BufferFault.Fault
+      → OnErr result (LeavesOnly (history old.dir) (history new.dir)
+      (OpensWithin old.journal.path t))
 
 -- All that was told is synced. The error is the device's fault.
-pub record Syncs {D T : Type 0} (is_honest : D → Type 0) (history : D → History) (fault_count : D → ℕ) (old new : Logged D) (result : Result T BufferFault) : Type 0 where
+pub record Syncs {D T : Type 0} (is_honest : D → Type 0) (history : D → History)
+    (fault_count : D → ℕ) (old new : Logged D) (result : Result T BufferFault) : Type 0 where
   pub only : OnErr result (result ≡ Err BufferFault.Fault)
   pub flags : Flags old.failed new.failed result
   pub kept : OnErr result (new.staged ≡ old.staged)
@@ -101,15 +121,24 @@ pub record Syncs {D T : Type 0} (is_honest : D → Type 0) (history : D → Hist
   pub journal : new.journal ≡ old.journal
   pub start : new.start ≡ old.start
   pub honest : is_honest old.dir → is_honest new.dir
-  pub elsewhere : is_honest old.dir → (name : List ℕ) → name ≢ journal_name old.journal.path old.journal.number → now (history new.dir) name ≡ now (history old.dir) name
+  pub elsewhere : is_honest old.dir → (name : List ℕ)
+      → name ≢ journal_name old.journal.path old.journal.number → now (history new.dir) name
+      ≡ now (history old.dir) name
   pub cause : HasReason (fault_count old.dir) (fault_count new.dir) result BufferFault.Fault
-  pub done : is_honest old.dir → (t : JournalLog) → KeepsNow history old t → OnOk result (KeepsNow history new (all_durable t))
-  pub failed : is_honest old.dir → (t : JournalLog) → KeepsNow history old t → OnErr result (KeepsNow history new t)
-  pub moments : is_honest old.dir → (t : JournalLog) → KeepsNow history old t → LeavesOnly (history old.dir) (history new.dir) (OpensWithin old.journal.path t)
+  pub done : is_honest old.dir → (t : JournalLog) → KeepsNow history old t
+      → OnOk result (KeepsNow history new (all_durable t))
+  pub failed : is_honest old.dir → (t : JournalLog) → KeepsNow history old t
+      → OnErr result (KeepsNow history new t)
+  pub moments : is_honest old.dir → (t : JournalLog) → KeepsNow history old t
+      → LeavesOnly (history old.dir) (history new.dir) (OpensWithin old.journal.path t)
 
 -- The journal goes on in a new generation that tells these chunks.
-pub record Renews {D T : Type 0} (is_honest : D → Type 0) (history : D → History) (fault_count : D → ℕ) (old new : Logged D) (chunks : State) (result : Result T BufferFault) : Type 0 where
-  pub only : OnErr result ((result ≡ Err BufferFault.LastSerial) ⊎ ((result ≡ Err BufferFault.Memory) ⊎ ((result ≡ Err BufferFault.Fault) ⊎ (result ≡ Err BufferFault.Damaged))))
+pub record Renews {D T : Type 0} (is_honest : D → Type 0) (history : D → History)
+    (fault_count : D → ℕ) (old new : Logged D) (chunks : State)
+    (result : Result T BufferFault) : Type 0 where
+  pub only : OnErr result ((result ≡ Err BufferFault.LastSerial)
+      ⊎ ((result ≡ Err BufferFault.Memory)
+      ⊎ ((result ≡ Err BufferFault.Fault) ⊎ (result ≡ Err BufferFault.Damaged))))
   pub last : (result ≡ Err BufferFault.LastSerial) ↔ (2 ^ 32 ≤ old.journal.number + 1)
   pub flags : Flags old.failed new.failed result
   pub kept : OnErr result (new.staged ≡ old.staged)
@@ -118,20 +147,36 @@ pub record Renews {D T : Type 0} (is_honest : D → Type 0) (history : D → His
   pub number : OnOk result (new.journal.number ≡ old.journal.number + 1)
   pub start : new.start ≡ old.start
   pub honest : is_honest old.dir → is_honest new.dir
-  pub elsewhere : is_honest old.dir → (name : List ℕ) → name ≢ journal_name old.journal.path old.journal.number → name ≢ journal_name old.journal.path (old.journal.number + 1)
+  pub elsewhere : is_honest old.dir → (name : List ℕ)
+      → name ≢ journal_name old.journal.path old.journal.number
+      → name ≢ journal_name old.journal.path (old.journal.number + 1)
       → now (history new.dir) name ≡ now (history old.dir) name
-  pub untouched : is_honest old.dir → result ≢ Err BufferFault.Fault → result ≢ Err BufferFault.Damaged → OnErr result (SameDisk (now (history new.dir)) (now (history old.dir)))
+  pub untouched : is_honest old.dir → result ≢ Err BufferFault.Fault
+      → result ≢ Err BufferFault.Damaged
+      → OnErr result (SameDisk (now (history new.dir)) (now (history old.dir)))
   pub cause : HasReason (fault_count old.dir) (fault_count new.dir) result BufferFault.Fault
-  pub gone : is_honest old.dir → OnOk result (reads (now (history new.dir)) (journal_name old.journal.path old.journal.number) ≡ None)
+  pub gone : is_honest old.dir
+      → OnOk result (reads (now (history new.dir))
+      (journal_name old.journal.path old.journal.number) ≡ None)
   pub journal : OnErr result (new.journal ≡ old.journal)
   pub starts : OnOk result (settled (state_of (new_generation chunks)) ≡ reopened chunks)
-  pub done : is_honest old.dir → (t : JournalLog) → KeepsNow history old t → settled (state_of t) ≡ reopened chunks → OnOk result (KeepsNow history new (new_generation chunks))
-  pub refused : is_honest old.dir → (t : JournalLog) → KeepsNow history old t → settled (state_of t) ≡ reopened chunks → result ≢ Err BufferFault.Fault → OnErr result (KeepsNow history new t)
-  pub recovers : is_honest old.dir → (t : JournalLog) → KeepsNow history old t → settled (state_of t) ≡ reopened chunks → result ≡ Err BufferFault.Fault
+  pub done : is_honest old.dir → (t : JournalLog) → KeepsNow history old t
+      → settled (state_of t) ≡ reopened chunks
+      → OnOk result (KeepsNow history new (new_generation chunks))
+  pub refused : is_honest old.dir → (t : JournalLog) → KeepsNow history old t
+      → settled (state_of t) ≡ reopened chunks → result ≢ Err BufferFault.Fault
+      → OnErr result (KeepsNow history new t)
+  pub recovers : is_honest old.dir → (t : JournalLog) → KeepsNow history old t
+      → settled (state_of t) ≡ reopened chunks → result ≡ Err BufferFault.Fault
       → Recovers old.journal.path (now (history new.dir)) t
-  pub gap : is_honest old.dir → (t : JournalLog) → KeepsNow history old t → HasNoGap old.journal.path (now (history new.dir))
-  pub moments : is_honest old.dir → (t : JournalLog) → KeepsNow history old t → settled (state_of t) ≡ reopened chunks
+  pub gap : is_honest old.dir → (t : JournalLog) → KeepsNow history old t
+      → HasNoGap old.journal.path (now (history new.dir))
+  pub moments : is_honest old.dir → (t : JournalLog) → KeepsNow history old t
+      → settled (state_of t) ≡ reopened chunks
       → LeavesOnly (history old.dir) (history new.dir) (OpensWithin old.journal.path t)
-  pub whole : is_honest old.dir → (t : JournalLog) → KeepsNow history old t → settled (state_of t) ≡ reopened chunks → result ≢ Err BufferFault.Damaged
-  pub left : is_honest old.dir → (t : JournalLog) → KeepsNow history old t → settled (state_of t) ≡ reopened chunks
-      → OnErr result (LeavesAtMost old.journal.path (old.journal.number + 1) (fault_count old.dir) (fault_count new.dir) (now (history old.dir)) (now (history new.dir)))
+  pub whole : is_honest old.dir → (t : JournalLog) → KeepsNow history old t
+      → settled (state_of t) ≡ reopened chunks → result ≢ Err BufferFault.Damaged
+  pub left : is_honest old.dir → (t : JournalLog) → KeepsNow history old t
+      → settled (state_of t) ≡ reopened chunks
+      → OnErr result (LeavesAtMost old.journal.path (old.journal.number + 1) (fault_count old.dir)
+      (fault_count new.dir) (now (history old.dir)) (now (history new.dir)))

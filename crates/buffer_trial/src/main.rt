@@ -1,14 +1,22 @@
 //! Tries a buffer in a folder of the system. ./test kills it at random moments and looks for each
 //! append that it had answered; bench/buffers times it.
 //!
-//!     buffer_trial append FOLDER             appends one numbered entry after another, and prints each number after its `Ok`
-//!     buffer_trial list FOLDER               prints the numbers of all entries in live chunks
-//!     buffer_trial fill FOLDER COUNT SIZE    appends so many entries of so many bytes
-//!     buffer_trial churn FOLDER COUNT SIZE   appends so many, and queues, claims and purges each at once
-//!     buffer_trial open FOLDER               prints how many bytes of entries the live chunks have
-//!     buffer_trial renew FOLDER              renews the journal, and prints how many entries the first chunk has, read from it
-//!     buffer_trial stage FOLDER COUNT SIZE EACH      stages so many entries of so many bytes, with one sync for each so many
-//!     buffer_trial queue COUNT               stages so many chunks of one tag in memory, and queues them
+//!     buffer_trial append FOLDER
+//!         appends one numbered entry after another, and prints each number after its `Ok`
+//!     buffer_trial list FOLDER
+//!         prints the numbers of all entries in live chunks
+//!     buffer_trial fill FOLDER COUNT SIZE
+//!         appends so many entries of so many bytes
+//!     buffer_trial churn FOLDER COUNT SIZE
+//!         appends so many, and queues, claims and purges each at once
+//!     buffer_trial open FOLDER
+//!         prints how many bytes of entries the live chunks have
+//!     buffer_trial renew FOLDER
+//!         renews the journal, and prints how many entries the first chunk has, read from it
+//!     buffer_trial stage FOLDER COUNT SIZE EACH
+//!         stages so many entries of so many bytes, with one sync for each so many
+//!     buffer_trial queue COUNT
+//!         stages so many chunks of one tag in memory, and queues them
 #![tactic(auto)]
 
 use buffer_state::Limits;

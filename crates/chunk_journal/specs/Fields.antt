@@ -25,7 +25,12 @@ pub record Fields : Type 0 where
 
 -- the parts, without where they lie in memory
 abbrev pub parts_of : Parts → Fields
-parts_of parts = record { serial = parts.serial; tag = parts.tag.now; count = parts.count; stored = parts.stored.now }
+parts_of parts = record {
+  serial = parts.serial;
+  tag = parts.tag.now;
+  count = parts.count;
+  stored = parts.stored.now;
+}
 
 -- a tag of this length at the front, and what is behind it
 abbrev pub tag_at : ℕ → List ℕ → Option (List ℕ × List ℕ)
@@ -36,5 +41,7 @@ tag_at n bytes =
 -- the fields of an Append from left to right
 unfoldable pub parts_from : List ℕ → Option Fields
 parts_from bytes =
-    option_and_then (λ serial. option_and_then (λ n. option_and_then (λ tag. option_and_then (λ count.
-    Some (record { serial = serial.0; tag = tag.0; count = count.0; stored = count.1 })) (number_at w32 tag.1)) (tag_at n.0 n.1)) (number_at w16 serial.1)) (number_at w64 bytes)
+    option_and_then (λ serial.
+    option_and_then (λ n. option_and_then (λ tag. option_and_then (λ count.
+    Some (record { serial = serial.0; tag = tag.0; count = count.0; stored = count.1 }))
+    (number_at w32 tag.1)) (tag_at n.0 n.1)) (number_at w16 serial.1)) (number_at w64 bytes)

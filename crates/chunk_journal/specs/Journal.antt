@@ -16,7 +16,8 @@ pub record IsLength (n : ℕ) : Type 0 where
 -- the bytes end before a record is whole: within its length, or with fewer bytes behind it than it
 -- says
 abbrev pub IsTorn : List ℕ → Type 0
-IsTorn bytes = (length bytes < 4) ⊎ (IsLength (said_length bytes) × (length bytes < 4 + said_length bytes))
+IsTorn bytes = (length bytes < 4)
+    ⊎ (IsLength (said_length bytes) × (length bytes < 4 + said_length bytes))
 
 -- something whole stands here that is no record: a length that none has, or as many bytes as it
 -- says that spell none
@@ -42,4 +43,5 @@ pub record IsJournal (bytes : List ℕ) (records : List Record) (rest : List ℕ
 abbrev pub within : List Record → ℕ → ℕ
 within [] n = 0
 within (item ∷ items) n =
-    if nat_lt n (length (record_bytes item)) then 0 else suc (within items (n - length (record_bytes item)))
+    if nat_lt n (length (record_bytes item)) then 0
+    else suc (within items (n - length (record_bytes item)))

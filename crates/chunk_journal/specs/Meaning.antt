@@ -21,7 +21,8 @@ Tells state (Purge serial) = ⊥
 -- next serial, a Queue of a staged chunk, a Purge of a queued one.
 abbrev pub Allows : State → Record → Type 0
 Allows state (Seal next) = ⊥
-Allows state (Append serial tag entries) = CanAppend state serial tag entries × (serial ≤ state.next)
+Allows state (Append serial tag entries) = CanAppend state serial tag entries
+    × (serial ≤ state.next)
 Allows state (Queue serial) = IsAt Staged state serial
 Allows state (Purge serial) = IsAt Queued state serial
 
@@ -111,7 +112,8 @@ queueing serial Claimed = Queue serial ∷ []
 
 -- the records that tell a live chunk
 abbrev pub chunk_records : Numbered → List Record
-chunk_records numbered = Append numbered.0 numbered.1.tag numbered.1.entries ∷ queueing numbered.0 numbered.1.stage
+chunk_records numbered =
+    Append numbered.0 numbered.1.tag numbered.1.entries ∷ queueing numbered.0 numbered.1.stage
 
 -- what a generation of these chunks begins with: the chunks by rising serial, and then one Seal
 abbrev pub beginning : List Numbered → ℕ → List Record
@@ -121,4 +123,5 @@ beginning chunks next = flat_map chunk_records chunks ++ Seal next ∷ []
 -- the next, and none has too many bytes
 abbrev pub AreTold : ℕ → List Numbered → ℕ → Type 0
 AreTold least [] next = least ≤ next
-AreTold least (numbered ∷ chunks) next = (least ≤ numbered.0) × (size numbered.1.entries ≤ greatest_size) × AreTold (numbered.0 + 1) chunks next
+AreTold least (numbered ∷ chunks) next = (least ≤ numbered.0)
+    × (size numbered.1.entries ≤ greatest_size) × AreTold (numbered.0 + 1) chunks next

@@ -67,7 +67,8 @@ entries_at state serial = option_map_or (λ chunk. concat chunk.entries) (chunk_
 
 -- the entries of each live chunk lie at its places
 abbrev pub ArePlaced : List ℕ → Spots → State → Type 0
-ArePlaced seen spots state = (serial : ℕ) → LieAt seen (places_at spots serial) (entries_at state serial)
+ArePlaced seen spots state = (serial : ℕ) → LieAt seen (places_at spots serial)
+    (entries_at state serial)
 
 -- the place of so many bytes that end there
 abbrev pub extent_before : ℕ → ℕ → Extent
@@ -83,7 +84,8 @@ entries_size (Purge serial) = 0
 -- a record's entries end at this place of the bytes
 abbrev pub EndsAt : List ℕ → Record → ℕ → Type 0
 EndsAt seen (Seal next) end = Unit {0}
-EndsAt seen (Append serial tag entries) end = (concat entries ≡ bytes_from seen (extent_before end (size entries))) × (end ≤ length seen)
+EndsAt seen (Append serial tag entries) end =
+    (concat entries ≡ bytes_from seen (extent_before end (size entries))) × (end ≤ length seen)
 EndsAt seen (Queue serial) end = Unit {0}
 EndsAt seen (Purge serial) end = Unit {0}
 
@@ -91,6 +93,7 @@ EndsAt seen (Purge serial) end = Unit {0}
 -- the chunk's
 abbrev pub MovesPlaces : Record → ℕ → Spots → Spots → Type 0
 MovesPlaces (Seal next) end old new = SamePlaces old new
-MovesPlaces (Append serial tag entries) end old new = AddsPlace serial (extent_before end (size entries)) old new
+MovesPlaces (Append serial tag entries) end old new =
+    AddsPlace serial (extent_before end (size entries)) old new
 MovesPlaces (Queue serial) end old new = SamePlaces old new
 MovesPlaces (Purge serial) end old new = DropsPlaces serial old new

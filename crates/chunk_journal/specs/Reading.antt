@@ -41,6 +41,7 @@ IsNext bytes (next.Whole read rest) = Begins bytes (parsed_of read) rest.now
 -- the record is an Append with these fields
 abbrev pub IsAppendOf : Record → List ℕ → Type 0
 IsAppendOf (Seal next) bytes = ⊥
-IsAppendOf (Append serial tag entries) bytes = IsAppend serial tag entries × (bytes ≡ append_fields serial tag entries)
+IsAppendOf (Append serial tag entries) bytes = IsAppend serial tag entries
+    × (bytes ≡ append_fields serial tag entries)
 IsAppendOf (Queue serial) bytes = ⊥
 IsAppendOf (Purge serial) bytes = ⊥

@@ -39,7 +39,9 @@ numbered kind number = kind ∷ to_be_bytes w64 number
 -- an Append's fields: the serial, the tag behind its length, and the entries behind their count
 abbrev pub append_fields : ℕ → List ℕ → List (List ℕ) → List ℕ
 append_fields serial tag entries =
-    to_be_bytes w64 serial ++ (to_be_bytes w16 (length tag) ++ (tag ++ (to_be_bytes w32 (length entries) ++ concat entries)))
+    to_be_bytes w64 serial
+    ++ (to_be_bytes w16 (length tag)
+    ++ (tag ++ (to_be_bytes w32 (length entries) ++ concat entries)))
 
 -- how many bytes an Append has behind its length beside its tag and its entries: the kind, the
 -- serial, the tag's length, and the entries' count
@@ -49,7 +51,9 @@ append_fixed = 15
 -- what an Append has before its entries, which are so many and have so many bytes
 abbrev pub append_head : ℕ → List ℕ → ℕ → ℕ → List ℕ
 append_head serial tag count size =
-    to_be_bytes w32 (append_fixed + length tag + size) ++ (append_kind ∷ (to_be_bytes w64 serial ++ (to_be_bytes w16 (length tag) ++ (tag ++ to_be_bytes w32 count))))
+    to_be_bytes w32 (append_fixed + length tag + size)
+    ++ (append_kind ∷ (to_be_bytes w64 serial
+    ++ (to_be_bytes w16 (length tag) ++ (tag ++ to_be_bytes w32 count))))
 
 -- what stands behind the length: the kind, and then the fields; each number has its highest byte
 -- first

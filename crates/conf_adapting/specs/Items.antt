@@ -36,7 +36,8 @@ parameter_item setting = item setting.line setting.name
 -- sections in it.
 abbrev mutual
   pub items_in : Tree → List Item
-  items_in (tree heading settings children) = section_item heading ∷ (map parameter_item settings ++ items_of children)
+  items_in (tree heading settings children) =
+      section_item heading ∷ (map parameter_item settings ++ items_of children)
 
   pub items_of : Trees → List Item
   items_of no_trees = []

@@ -20,7 +20,8 @@ is_among names name = list_any (λ one. bytes_eq one name) names
 
 -- whether all that has to be accepted of an entry is, by these names
 abbrev pub entry_accepted : {A : Type 0} → List (List ℕ) → Entry A → Bool
-entry_accepted names (entry.Of row) = list_all (λ decision. is_among names decision.items) row.decisions.items
+entry_accepted names (entry.Of row) =
+    list_all (λ decision. is_among names decision.items) row.decisions.items
 entry_accepted names (entry.End line text) = true
 
 -- whether all that has to be accepted is, by these names

@@ -13,12 +13,14 @@ use Rattle.conf_listing.specs.Lines.{AreLines}
 
 -- a text behind its byte order mark, the bytes ef, bb and bf; the text itself where it has none
 abbrev pub behind_mark : List ℕ → List ℕ
-behind_mark (a ∷ b ∷ c ∷ rest) = if a == 239 && (b == 187 && c == 191) then rest else a ∷ b ∷ c ∷ rest
+behind_mark (a ∷ b ∷ c ∷ rest) = if a == 239 && (b == 187 && c == 191) then rest
+    else a ∷ b ∷ c ∷ rest
 behind_mark text = text
 
 -- These elements are adapted: each of their sections and parameters has a row, in their order, and
 -- the lines are those of the rows; whether all is accepted that has to be, is as it says.
-pub record IsDraft {A : Type 0} (elements : List Tree) (names : List (List ℕ)) (draft : Draft A) : Type 0 where
+pub record IsDraft {A : Type 0} (elements : List Tree) (names : List (List ℕ))
+    (draft : Draft A) : Type 0 where
   pub accounted : all_stand_for draft.adapted.entries.items ≡ items_of (trees elements)
   pub accepted : draft.is_accepted ≡ all_accepted names draft.adapted.entries.items
   pub lines_are : AreLines draft.is_accepted draft.adapted.entries.items draft.lines.items
@@ -36,4 +38,5 @@ AreOneKind _ _ = ⊥
 
 -- a reason of the kind for which no relay reads the lines
 abbrev pub IsStopOfLines : List ℕ → ConfStop → Type 0
-IsStopOfLines lines stopped = (found : ConfStop) × IsConfStop (Some lines) found × AreOneKind found stopped
+IsStopOfLines lines stopped = (found : ConfStop) × IsConfStop (Some lines) found
+    × AreOneKind found stopped

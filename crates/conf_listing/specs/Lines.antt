@@ -12,5 +12,6 @@ mark_note false = []
 -- Where all is accepted: the entries, and what is said of a byte order mark. Else the lines say
 -- what isn't accepted, in words that nothing is stated of.
 abbrev pub AreLines : {A : Type 0} → Bool → List (Entry A) → List ℕ → Type 0
-AreLines true entries lines = (has_mark : Bool) × (lines ≡ printed_text entries ++ mark_note has_mark)
+AreLines true entries lines = (has_mark : Bool)
+    × (lines ≡ printed_text entries ++ mark_note has_mark)
 AreLines false entries lines = Unit {0}

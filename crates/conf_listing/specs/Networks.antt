@@ -31,8 +31,10 @@ AddsListing name found old new = (said : List ℕ) × IsListing name found said 
 -- What is said of configurations of these names, one behind another.
 pub data AreListed {A : Type 0} : List (List ℕ) → List (AdaptedConf A) → List ℕ → Type 0 where
   none : AreListed [] [] []
-  one_more : {names : List (List ℕ)} {outcomes : List (AdaptedConf A)} {before after : List ℕ} (name : List ℕ) (found : AdaptedConf A)
-      → AreListed names outcomes before → AddsListing name found before after → AreListed (names ++ name ∷ []) (outcomes ++ found ∷ []) after
+  one_more : {names : List (List ℕ)} {outcomes : List (AdaptedConf A)} {before after : List ℕ}
+      (name : List ℕ) (found : AdaptedConf A)
+      → AreListed names outcomes before → AddsListing name found before after
+      → AreListed (names ++ name ∷ []) (outcomes ++ found ∷ []) after
 
 -- no relay reads a text for it
 abbrev pub is_stopped : {A : Type 0} → AdaptedConf A → Bool
@@ -48,7 +50,8 @@ is_faulty (outcome.Faulty stopped) = true
 
 -- What is said of configurations of these names: each in its place, and behind them what would
 -- accept all that isn't accepted.
-pub record AreStopped {A : Type 0} (names : List (List ℕ)) (outcomes : List (AdaptedConf A)) (lines : List ℕ) (has_fault : Bool) : Type 0 where
+pub record AreStopped {A : Type 0} (names : List (List ℕ)) (outcomes : List (AdaptedConf A))
+    (lines : List ℕ) (has_fault : Bool) : Type 0 where
   pub said : List ℕ
   pub each : AreListed names outcomes said
   pub accepting : List ℕ
@@ -68,21 +71,28 @@ abbrev pub AreTextsOf : {A : Type 0} → List (AdaptedConf A) → List (List ℕ
 AreTextsOf outcomes found = AllZip IsTextIn outcomes found
 
 -- what becomes of each
-abbrev pub AreOutcomes : (A : Type 0) → List (List ℕ) → List (List ℕ) → List (AdaptedConf A) → Type 0
-AreOutcomes A confs accepted outcomes = AllZip (λ conf found. IsAdaptedConf A conf accepted found) confs outcomes
+abbrev pub AreOutcomes : (A : Type 0) → List (List ℕ) → List (List ℕ) → List (AdaptedConf A)
+    → Type 0
+AreOutcomes A confs accepted outcomes =
+    AllZip (λ conf found. IsAdaptedConf A conf accepted found) confs outcomes
 
 -- a relay reads these texts, and they are what stands for the configurations
 abbrev pub AreAdaptedTexts : (A : Type 0) → List (List ℕ) → List (List ℕ) → List (List ℕ) → Type 0
-AreAdaptedTexts A confs accepted found = AllZip (λ conf text. IsAdapted A conf accepted text) confs found
+AreAdaptedTexts A confs accepted found =
+    AllZip (λ conf text. IsAdapted A conf accepted text) confs found
 
 -- Some of these configurations isn't adapted, and this is said of them.
-pub record AreNotAdapted (A : Type 0) (names confs accepted : List (List ℕ)) (lines : List ℕ) (has_fault : Bool) : Type 0 where
+pub record AreNotAdapted (A : Type 0) (names confs accepted : List (List ℕ)) (lines : List ℕ)
+    (has_fault : Bool) : Type 0 where
   pub outcomes : List (AdaptedConf A)
   pub each : AreOutcomes A confs accepted outcomes
   pub stopped : list_any is_stopped outcomes ≡ true
   pub said : AreStopped names outcomes lines has_fault
 
 -- what becomes of the configurations of these names
-abbrev pub AreAdaptedConfs : (A : Type 0) → List (List ℕ) → List (List ℕ) → List (List ℕ) → AdaptedConfs A → Type 0
-AreAdaptedConfs A names confs accepted (adapted.Texts found) = AreAdaptedTexts A confs accepted (texts found.texts.items)
-AreAdaptedConfs A names confs accepted (adapted.Stopped found) = AreNotAdapted A names confs accepted found.lines.items found.has_fault
+abbrev pub AreAdaptedConfs : (A : Type 0) → List (List ℕ) → List (List ℕ) → List (List ℕ)
+    → AdaptedConfs A → Type 0
+AreAdaptedConfs A names confs accepted (adapted.Texts found) =
+    AreAdaptedTexts A confs accepted (texts found.texts.items)
+AreAdaptedConfs A names confs accepted (adapted.Stopped found) =
+    AreNotAdapted A names confs accepted found.lines.items found.has_fault

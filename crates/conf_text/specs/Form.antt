@@ -16,7 +16,8 @@ pub data LineForm : Type 0 where
 
 -- what stands between `<` and `>`: a name, and behind blanks an argument
 unfoldable pub opening_form : List ℕ → LineForm
-opening_form inside = if is_name (first_word inside) then opens (first_word inside) (trimmed (after_word inside)) else bad_name
+opening_form inside = if is_name (first_word inside) then opens (first_word inside)
+    (trimmed (after_word inside)) else bad_name
 
 -- what stands between `</` and `>`: a name alone
 unfoldable pub end_form : List ℕ → LineForm
@@ -34,17 +35,21 @@ section_form text = let whole = drop_blanks (without_comment text) in
 -- a value in quotes was read: only a comment may follow
 abbrev pub quoted_form : List ℕ → Option (List ℕ × List ℕ) → LineForm
 quoted_form name None = bad_quote
-quoted_form name (Some found) = if length (skip_blanks (without_comment found.1)) == 0 then parameter name found.0 else bad_quote
+quoted_form name (Some found) = if length (skip_blanks (without_comment found.1)) == 0
+    then parameter name found.0 else bad_quote
 
 -- what stands behind a parameter's name: a value in quotes where its first byte is a mark, else the
 -- text up to the comment
 unfoldable pub value_form : List ℕ → List ℕ → LineForm
 value_form name text = let value = skip_blanks text in
-    if begins 34 value || begins 39 value then quoted_form name (quoted (slice_index value 0) (drop 1 value)) else parameter name (trimmed (without_comment text))
+    if begins 34 value || begins 39 value
+    then quoted_form name (quoted (slice_index value 0) (drop 1 value))
+    else parameter name (trimmed (without_comment text))
 
 -- a name, and behind blanks a value
 unfoldable pub parameter_form : List ℕ → LineForm
-parameter_form text = if is_parameter_name (first_word text) then value_form (first_word text) (after_word text) else bad_name
+parameter_form text = if is_parameter_name (first_word text) then value_form (first_word text)
+    (after_word text) else bad_name
 
 -- a line without the blanks at its ends
 unfoldable pub text_form : List ℕ → LineForm

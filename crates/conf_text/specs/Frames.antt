@@ -8,7 +8,8 @@ use Rattle.conf_text.specs.Reading.{Stack, stack}
 
 -- one of them
 abbrev pub frame_of : {A : Type 0} → Section A → Frame
-frame_of s = frame (headed (string_bytes s.name) (string_bytes s.argument) s.line) (map setting s.pairs.items) (map tree_of s.children.items)
+frame_of s = frame (headed (string_bytes s.name) (string_bytes s.argument) s.line)
+    (map setting s.pairs.items) (map tree_of s.children.items)
 
 -- the sections round the innermost lie from the outside in
 abbrev pub stack_of : {A : Type 0} → Reader A → Stack

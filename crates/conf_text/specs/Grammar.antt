@@ -40,13 +40,18 @@ pub data IsContents : ℕ → List Line → List Setting → List Tree → Type 
   passed : {room line : ℕ} {rest : List Line} {settings : List Setting} {elements : List Tree}
       → IsContents room rest settings elements
       → IsContents room ((line, ignored) ∷ rest) settings elements
-  set : {room line : ℕ} {name value : List ℕ} {rest : List Line} {settings : List Setting} {elements : List Tree}
+  set : {room line : ℕ} {name value : List ℕ} {rest : List Line} {settings : List Setting}
+      {elements : List Tree}
       → IsContents room rest settings elements
-      → IsContents room ((line, parameter name value) ∷ rest) (set_to name value line ∷ settings) elements
-  section : {room line : ℕ} {name argument : List ℕ} {inside rest : List Line} {within settings : List Setting} {children elements : List Tree} (end : ℕ)
+      → IsContents room ((line, parameter name value) ∷ rest)
+      (set_to name value line ∷ settings) elements
+  section : {room line : ℕ} {name argument : List ℕ} {inside rest : List Line}
+      {within settings : List Setting} {children elements : List Tree} (end : ℕ)
       → IsContents room inside within children
       → IsContents (suc room) rest settings elements
-      → IsContents (suc room) (((line, opens name argument) ∷ inside) ++ ((end, ends name) ∷ rest)) settings (tree (headed name argument line) within (trees children) ∷ elements)
+      → IsContents (suc room)
+      (((line, opens name argument) ∷ inside) ++ ((end, ends name) ∷ rest)) settings
+      (tree (headed name argument line) within (trees children) ∷ elements)
 
 -- how many sections may be open at once: a limit chosen here
 abbrev pub most_open : ℕ
@@ -77,7 +82,8 @@ pub record Frame : Type 0 where
 
 -- a frame, by its parts
 abbrev pub frame : Heading → List Setting → List Tree → Frame
-frame heading settings elements = record { heading = heading; settings = settings; elements = elements }
+frame heading settings elements =
+    record { heading = heading; settings = settings; elements = elements }
 
 -- After these lines the first frame is the innermost, and the list has those round it, from the
 -- inside out: so many sections are open as the list is long.
@@ -85,11 +91,13 @@ pub data IsOpen : List Line → Frame → List Frame → Type 0 where
   outside : {before : List Line} {settings : List Setting} {elements : List Tree}
       → IsContents most_open before settings elements
       → IsOpen before (frame top settings elements) []
-  inside : {before within : List Line} {parent : Frame} {outer : List Frame} {room line : ℕ} {name argument : List ℕ} {settings : List Setting} {elements : List Tree}
+  inside : {before within : List Line} {parent : Frame} {outer : List Frame} {room line : ℕ}
+      {name argument : List ℕ} {settings : List Setting} {elements : List Tree}
       → IsOpen before parent outer
       → length outer + suc room ≡ most_open
       → IsContents room within settings elements
-      → IsOpen (before ++ ((line, opens name argument) ∷ within)) (frame (headed name argument line) settings elements) (parent ∷ outer)
+      → IsOpen (before ++ ((line, opens name argument) ∷ within))
+      (frame (headed name argument line) settings elements) (parent ∷ outer)
 
 -- the end of this name is no end of the innermost section
 abbrev pub IsWrong : List ℕ → Frame → List Frame → Type 0

@@ -10,19 +10,23 @@ use Rattle.conf_text.specs.Grammar.{headed, set_to, numbered, most_open, IsConte
 
 -- a text is a configuration of one list of elements alone
 abbrev pub HasOneReading : Type 0
-HasOneReading = (text : List ℕ) (xs ys : List Tree) → IsConfiguration text xs → IsConfiguration text ys → xs ≡ ys
+HasOneReading = (text : List ℕ) (xs ys : List Tree) → IsConfiguration text xs
+    → IsConfiguration text ys → xs ≡ ys
 
 -- a text has one first fault alone
 abbrev pub HasOneFault : Type 0
-HasOneFault = (text : List ℕ) (f g : ConfFault) → HasFault text f.kind f.line → HasFault text g.kind g.line → f ≡ g
+HasOneFault = (text : List ℕ) (f g : ConfFault) → HasFault text f.kind f.line
+    → HasFault text g.kind g.line → f ≡ g
 
 -- a configuration has no fault
 abbrev pub IsFaultless : Type 0
-IsFaultless = (text : List ℕ) (xs : List Tree) (f : ConfFault) → IsConfiguration text xs → HasFault text f.kind f.line → ⊥
+IsFaultless = (text : List ℕ) (xs : List Tree) (f : ConfFault) → IsConfiguration text xs
+    → HasFault text f.kind f.line → ⊥
 
 -- a text is a configuration, or has a fault
 abbrev pub IsOneOrOther : Type 0
-IsOneOrOther = (text : List ℕ) → ((xs : List Tree) × IsConfiguration text xs) ⊎ ((f : ConfFault) × HasFault text f.kind f.line)
+IsOneOrOther = (text : List ℕ) → ((xs : List Tree) × IsConfiguration text xs)
+    ⊎ ((f : ConfFault) × HasFault text f.kind f.line)
 
 -- each byte of a value between single quotes: `\` stands before a mark and before itself
 abbrev pub in_single : ℕ → List ℕ
@@ -30,12 +34,14 @@ in_single b = if b == 92 || b == 39 then 92 ∷ b ∷ [] else b ∷ []
 
 -- each value can be written between single quotes
 abbrev pub SingleQuotesKeep : Type 0
-SingleQuotesKeep = (value behind : List ℕ) → quoted 39 (flat_map in_single value ++ (39 ∷ behind)) ≡ Some (value, behind)
+SingleQuotesKeep = (value behind : List ℕ) → quoted 39 (flat_map in_single value ++ (39 ∷ behind))
+    ≡ Some (value, behind)
 
 -- each byte of a value between double quotes
 abbrev pub in_double : ℕ → List ℕ
 in_double b = if b == 92 || b == 34 then 92 ∷ b ∷ []
-    else (if b == 10 then 92 ∷ 110 ∷ [] else (if b == 13 then 92 ∷ 114 ∷ [] else (if b == 9 then 92 ∷ 116 ∷ [] else b ∷ [])))
+    else (if b == 10 then 92 ∷ 110 ∷ []
+    else (if b == 13 then 92 ∷ 114 ∷ [] else (if b == 9 then 92 ∷ 116 ∷ [] else b ∷ [])))
 
 -- no `{` stands behind a `#`
 abbrev pub HasNoCode : List ℕ → Type 0
@@ -45,7 +51,8 @@ HasNoCode (b ∷ c ∷ rest) = ((b == 35 && c == 123) ≡ false) × HasNoCode (c
 
 -- each value that embeds no code can be written between double quotes, in one line
 abbrev pub DoubleQuotesKeep : Type 0
-DoubleQuotesKeep = (value behind : List ℕ) → HasNoCode value → quoted 34 (flat_map in_double value ++ (34 ∷ behind)) ≡ Some (value, behind)
+DoubleQuotesKeep = (value behind : List ℕ) → HasNoCode value
+    → quoted 34 (flat_map in_double value ++ (34 ∷ behind)) ≡ Some (value, behind)
 
 -- a parameter's line, with its value between single quotes
 abbrev pub setting_line : List ℕ → List ℕ → List ℕ
@@ -53,7 +60,8 @@ setting_line name value = name ++ (32 ∷ 39 ∷ (flat_map in_single value ++ (3
 
 -- each name and each value is what its line is read as
 abbrev pub SettingsAreRead : Type 0
-SettingsAreRead = (name value : List ℕ) → is_parameter_name name ≡ true → line_form (setting_line name value) ≡ parameter name value
+SettingsAreRead = (name value : List ℕ) → is_parameter_name name ≡ true
+    → line_form (setting_line name value) ≡ parameter name value
 
 -- `<name argument>`
 abbrev pub opening_line : List ℕ → List ℕ → List ℕ
@@ -62,7 +70,9 @@ opening_line name argument = 60 ∷ ((name ++ (32 ∷ argument)) ++ (62 ∷ []))
 -- each name and each argument without a `#` and without blanks at its ends is what its line is read
 -- as
 abbrev pub OpeningsAreRead : Type 0
-OpeningsAreRead = (name argument : List ℕ) → is_name name ≡ true → trimmed argument ≡ argument → list_all (λ b. not (b == 35)) argument ≡ true → line_form (opening_line name argument) ≡ opens name argument
+OpeningsAreRead = (name argument : List ℕ) → is_name name ≡ true → trimmed argument ≡ argument
+    → list_all (λ b. not (b == 35)) argument ≡ true → line_form (opening_line name argument)
+    ≡ opens name argument
 
 -- `</name>`
 abbrev pub end_line : List ℕ → List ℕ
@@ -79,7 +89,8 @@ bare_setting s = set_to s.name s.value 0
 -- an element but for its lines, and so for several
 abbrev mutual
   pub bare : Tree → Tree
-  bare (tree heading settings children) = tree (headed heading.name heading.argument 0) (map bare_setting settings) (bares children)
+  bare (tree heading settings children) = tree (headed heading.name heading.argument 0)
+      (map bare_setting settings) (bares children)
 
   pub bares : Trees → Trees
   bares no_trees = no_trees
@@ -88,7 +99,9 @@ abbrev mutual
 -- the lines of an element: its opening, its parameters, its children, its end
 abbrev mutual
   pub element_lines : Tree → List (List ℕ)
-  element_lines (tree heading settings children) = opening_line heading.name heading.argument ∷ (map (λ s. setting_line s.name s.value) settings ++ (elements_lines children ++ (end_line heading.name ∷ [])))
+  element_lines (tree heading settings children) =
+      opening_line heading.name heading.argument ∷ (map (λ s. setting_line s.name s.value) settings
+      ++ (elements_lines children ++ (end_line heading.name ∷ [])))
 
   pub elements_lines : Trees → List (List ℕ)
   elements_lines no_trees = []
@@ -99,7 +112,10 @@ abbrev mutual
 abbrev mutual
   pub CanStand : Tree → ℕ → Type 0
   CanStand (tree heading settings children) zero = ⊥
-  CanStand (tree heading settings children) (suc room) = (is_name heading.name ≡ true) × (trimmed heading.argument ≡ heading.argument) × (list_all (λ b. not (b == 35)) heading.argument ≡ true) × AllByRecursion (λ s. is_parameter_name s.name ≡ true) settings × AllCanStand children room
+  CanStand (tree heading settings children) (suc room) = (is_name heading.name ≡ true)
+      × (trimmed heading.argument ≡ heading.argument)
+      × (list_all (λ b. not (b == 35)) heading.argument ≡ true)
+      × AllByRecursion (λ s. is_parameter_name s.name ≡ true) settings × AllCanStand children room
 
   pub AllCanStand : Trees → ℕ → Type 0
   AllCanStand no_trees room = Unit {0}
@@ -108,4 +124,5 @@ abbrev mutual
 -- the lines of such elements are contents of these elements, but for the numbers of their lines
 abbrev pub ElementsAreRead : Type 0
 ElementsAreRead = (elements : Trees) → AllCanStand elements most_open
-    → (read : List Tree) × IsContents most_open (numbered 1 (elements_lines elements)) [] read × (bares (trees read) ≡ bares elements)
+    → (read : List Tree) × IsContents most_open (numbered 1 (elements_lines elements)) [] read
+    × (bares (trees read) ≡ bares elements)

@@ -4,7 +4,10 @@ use Rattle.std.specs.Prelude.{ℕ, Bool, ◌&&◌, ◌||◌, List, [], ◌∷◌
 
 -- what a byte behind `\` stands for between double quotes: `\\`, `\"`, `\n`, `\r`, `\t`
 abbrev pub double_escape : ℕ → Option ℕ
-double_escape b = if b == 92 then Some 92 else (if b == 34 then Some 34 else (if b == 110 then Some 10 else (if b == 114 then Some 13 else (if b == 116 then Some 9 else None))))
+double_escape b = if b == 92 then Some 92
+    else (if b == 34 then Some 34
+    else (if b == 110 then Some 10
+    else (if b == 114 then Some 13 else (if b == 116 then Some 9 else None))))
 
 -- the same between single quotes: `\\`, `\'`
 abbrev pub single_escape : ℕ → Option ℕ

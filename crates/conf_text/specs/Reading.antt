@@ -10,7 +10,8 @@ use Rattle.conf_text.specs.Grammar.{Line, lines_of, headed, set_to, most_open, t
 
 infixl 10 ◌>>=◌
 -- goes on with what was read, or stays at a fault
-abbrev pub ◌>>=◌ : {A B : Type 0} → Result A ConfFault → (A → Result B ConfFault) → Result B ConfFault
+abbrev pub ◌>>=◌ : {A B : Type 0} → Result A ConfFault → (A → Result B ConfFault)
+    → Result B ConfFault
 (Ok x) >>= f = f x
 (Err e) >>= f = Err e
 
@@ -41,12 +42,15 @@ closed f = tree f.heading f.settings (trees f.elements)
 
 -- a section opens, where fewer are open than may be
 unfoldable pub open_one : ℕ → List ℕ → List ℕ → Stack → Result Stack ConfFault
-open_one line name argument s = if nat_lt (length s.outer) most_open then Ok (stack (frame (headed name argument line) [] []) (s.innermost ∷ s.outer)) else faulty kinds.TooDeep line
+open_one line name argument s = if nat_lt (length s.outer) most_open
+    then Ok (stack (frame (headed name argument line) [] []) (s.innermost ∷ s.outer))
+    else faulty kinds.TooDeep line
 
 -- the innermost section ends, where the name is its own
 abbrev pub close_in : ℕ → List ℕ → Frame → List Frame → Result Stack ConfFault
 close_in line name innermost [] = faulty kinds.WrongEnd line
-close_in line name innermost (parent ∷ outer) = if bytes_eq innermost.heading.name name then Ok (stack (with_element parent (closed innermost)) outer) else faulty kinds.WrongEnd line
+close_in line name innermost (parent ∷ outer) = if bytes_eq innermost.heading.name name
+    then Ok (stack (with_element parent (closed innermost)) outer) else faulty kinds.WrongEnd line
 
 -- the same at a stack
 unfoldable pub close_one : ℕ → List ℕ → Stack → Result Stack ConfFault
@@ -57,7 +61,8 @@ abbrev pub step : ℕ → LineForm → Stack → Result Stack ConfFault
 step line ignored s = Ok s
 step line (opens name argument) s = open_one line name argument s
 step line (ends name) s = close_one line name s
-step line (parameter name value) s = Ok (stack (with_setting s.innermost (set_to name value line)) s.outer)
+step line (parameter name value) s =
+    Ok (stack (with_setting s.innermost (set_to name value line)) s.outer)
 step line bad_name s = faulty kinds.BadName line
 step line bad_quote s = faulty kinds.BadQuote line
 
@@ -73,7 +78,8 @@ start = stack (frame top [] []) []
 -- parameters outside every section, where there are any, stand in a first element
 abbrev pub first_and : Heading → List Setting → List Tree → List Tree
 first_and heading [] elements = elements
-first_and heading (setting ∷ settings) elements = tree heading (setting ∷ settings) no_trees ∷ elements
+first_and heading (setting ∷ settings) elements =
+    tree heading (setting ∷ settings) no_trees ∷ elements
 
 -- at the end no section may be open
 abbrev pub end_in : Frame → List Frame → Result (List Tree) ConfFault
@@ -90,4 +96,5 @@ elements_of lines = steps lines start >>= λ s. end_of s
 
 -- all bytes of a text
 unfoldable pub reading : List ℕ → Result (List Tree) ConfFault
-reading text = if is_utf8 text then elements_of (lines_of text) else faulty kinds.NotUtf8 (bad_byte_line text)
+reading text = if is_utf8 text then elements_of (lines_of text)
+    else faulty kinds.NotUtf8 (bad_byte_line text)

@@ -8,12 +8,16 @@ use Rattle.conf_text.specs.Quoted.{quoted, with_front}
 -- the closing mark; a character of the value, spelled in n bytes of which the last is ASCII; or a
 -- fault
 abbrev pub IsAtFront : ℕ → List ℕ → Special → Type 0
-IsAtFront mark text Close = (0 < length text) × (slice_index text 0 < 128) × (quoted mark text ≡ Some ([], drop 1 text))
-IsAtFront mark text (Stands c n) = (c < 128) × (0 < n) × (n ≤ length text) × (slice_index text (n - 1) < 128) × (quoted mark text ≡ with_front (c ∷ []) (quoted mark (drop n text)))
+IsAtFront mark text Close = (0 < length text) × (slice_index text 0 < 128)
+    × (quoted mark text ≡ Some ([], drop 1 text))
+IsAtFront mark text (Stands c n) = (c < 128) × (0 < n) × (n ≤ length text)
+    × (slice_index text (n - 1) < 128)
+    × (quoted mark text ≡ with_front (c ∷ []) (quoted mark (drop n text)))
 IsAtFront mark text Bad = quoted mark text ≡ None
 
 -- the same, with the text behind it; a character leaves less text
 abbrev pub IsPiece : ℕ → List ℕ → Piece → Type 0
 IsPiece mark text (Piece.Close rest) = quoted mark text ≡ Some ([], rest.now)
-IsPiece mark text (Piece.Stands c rest) = (c < 128) × (length rest.now < length text) × (quoted mark text ≡ with_front (c ∷ []) (quoted mark rest.now))
+IsPiece mark text (Piece.Stands c rest) = (c < 128) × (length rest.now < length text)
+    × (quoted mark text ≡ with_front (c ∷ []) (quoted mark rest.now))
 IsPiece mark text Piece.Bad = quoted mark text ≡ None

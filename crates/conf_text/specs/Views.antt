@@ -23,7 +23,9 @@ setting p = record { name = string_bytes p.name; value = string_bytes p.value; l
 
 -- one element, with what its children are in their place
 abbrev pub tree_step : {A : Type 0} → Element-F A Tree → Tree
-tree_step e = tree (record { name = string_bytes e.name; argument = string_bytes e.argument; line = e.line }) (map setting e.pairs.items) (trees e.children.items)
+tree_step e =
+    tree (record { name = string_bytes e.name; argument = string_bytes e.argument; line = e.line })
+    (map setting e.pairs.items) (trees e.children.items)
 
 -- one element
 abbrev pub tree_of : {A : Type 0} → Element A → Tree

@@ -23,4 +23,5 @@ IsAmount factor_of text n = IsPlain text n ⊎ IsScaled factor_of text n
 
 -- a text has a value exactly where it is an amount below 2 to the 64th, and it has that value
 abbrev pub HasAmount : (ℕ → Option ℕ) → Type 0
-HasAmount factor_of = (text : List ℕ) (n : ℕ) → (amount_of factor_of text ≡ Some n) ↔ (IsAmount factor_of text n × (n < 2 ^ 64))
+HasAmount factor_of = (text : List ℕ) (n : ℕ) → (amount_of factor_of text ≡ Some n)
+    ↔ (IsAmount factor_of text n × (n < 2 ^ 64))

@@ -19,7 +19,8 @@ IsClient (sender.Chunk place buffer serial) = ⊥
 
 -- The message has this event's entry, a client sent it, and the event's tag is one that it may
 -- bear.
-pub record IsOriginOf {A : Type 0} (net : Network A) (event : Event) (message : Message) : Type 0 where
+pub record IsOriginOf {A : Type 0} (net : Network A) (event : Event)
+    (message : Message) : Type 0 where
   pub client : IsClient message.sender
   pub tag : IsRoutedTag net message.address message.tag event.tag
   pub entry : Contains message.entries event.entry

@@ -19,7 +19,8 @@ abbrev pub KeepsAt : {A : Type 0} → Network A → ℕ → ℕ → Type 0
 KeepsAt net place buffer = IsSomeAnd (output_at net place buffer) Keeps
 
 -- The step at this place of the list, counted from 0, queues the chunk.
-pub record IsQueuedAt {A : Type 0} (net : Network A) (steps : List (Step A)) (place buffer serial at : ℕ) : Type 0 where
+pub record IsQueuedAt {A : Type 0} (net : Network A) (steps : List (Step A))
+    (place buffer serial at : ℕ) : Type 0 where
   pub name : ChunkName
   pub there : slice_get steps at ≡ Some (step.Enqueue name)
   pub place_is : place_of net name.relay ≡ Some place
@@ -27,33 +28,41 @@ pub record IsQueuedAt {A : Type 0} (net : Network A) (steps : List (Step A)) (pl
   pub serial_is : name.serial ≡ serial
 
 -- A chunk's rank is the place of the first step that queues it.
-pub record IsRank {A : Type 0} (net : Network A) (steps : List (Step A)) (place buffer serial rank : ℕ) : Type 0 where
+pub record IsRank {A : Type 0} (net : Network A) (steps : List (Step A))
+    (place buffer serial rank : ℕ) : Type 0 where
   pub queued : IsQueuedAt net steps place buffer serial rank
   pub first : (at : ℕ) → at < rank → ¬ IsQueuedAt net steps place buffer serial at
 
 -- A live chunk of the buffer has the event, and has this rank or a higher one; or it is staged, and
 -- so ranks above all.
-pub record IsInChunkFrom {A : Type 0} (net : Network A) (steps : List (Step A)) (place buffer least : ℕ) (state : BufferState) (event : Event) : Type 0 where
+pub record IsInChunkFrom {A : Type 0} (net : Network A) (steps : List (Step A))
+    (place buffer least : ℕ) (state : BufferState) (event : Event) : Type 0 where
   pub serial : ℕ
   pub chunk : Chunk
   pub there : state.chunks serial ≡ Some chunk
   pub inside : IsInChunk chunk event
-  pub high : (chunk.stage ≡ Staged) ⊎ ((rank : ℕ) × IsRank net steps place buffer serial rank × (least ≤ rank))
+  pub high : (chunk.stage ≡ Staged)
+      ⊎ ((rank : ℕ) × IsRank net steps place buffer serial rank × (least ≤ rank))
 
 -- The entry of a message with this tag, sent to this address, is held from this rank on, under a
 -- tag that it may bear: in a sink, or in such a chunk of a buffer whose output keeps.
-pub record IsHeldFrom {A : Type 0} (net : Network A) (steps : List (Step A)) (w : World) (least : ℕ) (address : Address) (tag entry : List ℕ) : Type 0 where
+pub record IsHeldFrom {A : Type 0} (net : Network A) (steps : List (Step A)) (w : World) (least : ℕ)
+    (address : Address) (tag entry : List ℕ) : Type 0 where
   pub place : ℕ
   pub buffer : ℕ
   pub borne : List ℕ
   pub routed : IsRoutedTag net address tag borne
-  pub held : Contains (w.buffers place buffer).sink (record { tag = borne; entry = entry }) ⊎ (KeepsAt net place buffer × IsInChunkFrom net steps place buffer least (w.buffers place buffer) (record { tag = borne; entry = entry }))
+  pub held : Contains (w.buffers place buffer).sink (record { tag = borne; entry = entry })
+      ⊎ (KeepsAt net place buffer
+      × IsInChunkFrom net steps place buffer least (w.buffers place buffer)
+      (record { tag = borne; entry = entry }))
 
 -- The entries of a sender's messages have to be held from this rank on: those of a chunk above its
 -- own rank, those of a client from any.
 abbrev pub IsLeastAfter : {A : Type 0} → Network A → List (Step A) → Sender → ℕ → Type 0
 IsLeastAfter net steps (sender.Client client) least = least ≡ 0
-IsLeastAfter net steps (sender.Chunk place buffer serial) least = (rank : ℕ) × IsRank net steps place buffer serial rank × (least ≡ rank + 1)
+IsLeastAfter net steps (sender.Chunk place buffer serial) least = (rank : ℕ)
+    × IsRank net steps place buffer serial rank × (least ≡ rank + 1)
 
 -- the sender is a client, or a chunk of a buffer whose output keeps
 abbrev pub Hands : {A : Type 0} → Network A → Sender → Type 0
@@ -64,7 +73,14 @@ Hands net (sender.Chunk place buffer serial) = KeepsAt net place buffer
 -- that keeps sent, is held above its sender's rank; and so each event is that was acknowledged to a
 -- client. So no chunk is let go for the sake of one that goes before it, in a cycle of relays
 -- neither.
-pub record AreHeldOnward {A : Type 0} (net : Network A) (steps : List (Step A)) (w : World) : Type 0 where
-  pub messages : (number : ℕ) (message : Message) → slice_get w.messages number ≡ Some message → message.acknowledged ≡ true → Hands net message.sender
-      → (least : ℕ) × IsLeastAfter net steps message.sender least × ((entry : List ℕ) → Contains message.entries entry → IsHeldFrom net steps w least message.address message.tag entry)
-  pub clients : (told : Told) → Contains w.acknowledged told → IsSomeAnd (slice_get net.clients told.client) (λ client. IsHeldFrom net steps w 0 (address_of_client net client) told.event.tag told.event.entry)
+pub record AreHeldOnward {A : Type 0} (net : Network A) (steps : List (Step A))
+    (w : World) : Type 0 where
+  pub messages : (number : ℕ) (message : Message) → slice_get w.messages number ≡ Some message
+      → message.acknowledged ≡ true → Hands net message.sender
+      → (least : ℕ) × IsLeastAfter net steps message.sender least
+      × ((entry : List ℕ) → Contains message.entries entry
+      → IsHeldFrom net steps w least message.address message.tag entry)
+  pub clients : (told : Told) → Contains w.acknowledged told
+      → IsSomeAnd (slice_get net.clients told.client)
+      (λ client. IsHeldFrom net steps w 0 (address_of_client net client) told.event.tag
+      told.event.entry)

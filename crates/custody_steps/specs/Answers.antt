@@ -11,4 +11,5 @@ is_from place buffer serial (sender.Chunk p b s) = (p == place) && ((b == buffer
 
 -- it was sent from the chunk with this id, and acknowledged
 abbrev pub is_answer : ℕ → ℕ → ℕ → Message → Bool
-is_answer place buffer serial message = is_from place buffer serial message.sender && message.acknowledged
+is_answer place buffer serial message = is_from place buffer serial message.sender
+    && message.acknowledged

@@ -7,8 +7,10 @@ use Rattle.relay_net.specs.Network.{Network, is_in_memory}
 
 -- the contents of a buffer after its relay started again
 abbrev pub restarted_contents : Bool → Contents → Contents
-restarted_contents in_memory contents = record contents { chunks = restarted_chunks in_memory contents.chunks }
+restarted_contents in_memory contents =
+    record contents { chunks = restarted_chunks in_memory contents.chunks }
 
 -- All buffers of the relay at this place started again, and no others.
 abbrev pub AreRestarted : {A : Type 0} → Network A → Places A → Places A → ℕ → Type 0
-AreRestarted net before after place = (p b : ℕ) → contents_at after p b ≡ cond (p == place) (restarted_contents (is_in_memory net p b) (contents_at before p b)) (contents_at before p b)
+AreRestarted net before after place = (p b : ℕ) → contents_at after p b ≡ cond (p == place)
+    (restarted_contents (is_in_memory net p b) (contents_at before p b)) (contents_at before p b)

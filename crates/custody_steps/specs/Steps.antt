@@ -27,35 +27,41 @@ use Rattle.tag_pattern.specs.Parts.{most_tag_bytes}
 
 -- the live chunk of this name
 abbrev pub chunk_named : {A : Type 0} → Network A → World → ChunkName → Option Chunk
-chunk_named net w name = option_and_then (λ place. (w.buffers place name.buffer).chunks name.serial) (place_of net name.relay)
+chunk_named net w name = option_and_then (λ place. (w.buffers place name.buffer).chunks name.serial)
+    (place_of net name.relay)
 
 -- the output to whose buffer the name belongs
 abbrev pub output_named : {A : Type 0} → Network A → ChunkName → Option (Output A)
-output_named net name = option_and_then (λ place. output_at net place name.buffer) (place_of net name.relay)
+output_named net name = option_and_then (λ place. output_at net place name.buffer)
+    (place_of net name.relay)
 
 -- what is in the sink of the output with this buffer (nothing where the relay isn't there)
 abbrev pub sink_named : {A : Type 0} → Network A → World → ℕ → ℕ → List Event
-sink_named net w relay buffer = option_map_or (λ place. (w.buffers place buffer).sink) (place_of net relay) []
+sink_named net w relay buffer = option_map_or (λ place. (w.buffers place buffer).sink)
+    (place_of net relay) []
 
 -- Everything that the step names is there.
 abbrev pub Names : {A : Type 0} → Network A → World → Step A → Type 0
 Names net w (step.Send client tag entries) = client < length net.clients
 Names net w (step.Begin message) = message < length w.messages
-Names net w (step.Append delivery buffer serial) = IsSomeAnd (slice_get w.deliveries delivery) (λ d. IsSome (output_at net d.entrance.relay buffer))
+Names net w (step.Append delivery buffer serial) = IsSomeAnd (slice_get w.deliveries delivery)
+    (λ d. IsSome (output_at net d.entrance.relay buffer))
 Names net w (step.Ack delivery) = delivery < length w.deliveries
 Names net w (step.Abandon delivery) = delivery < length w.deliveries
 Names net w (step.Foreign message) = message < length w.messages
 Names net w (step.Enqueue name) = IsSome (chunk_named net w name)
 Names net w (step.Claim name) = IsSome (chunk_named net w name)
 Names net w (step.Back name) = IsSome (chunk_named net w name)
-Names net w (step.Forward name server) = IsSome (chunk_named net w name) × IsSomeAnd (output_named net name) (λ o. server < length (servers_of o))
+Names net w (step.Forward name server) = IsSome (chunk_named net w name)
+    × IsSomeAnd (output_named net name) (λ o. server < length (servers_of o))
 Names net w (step.Seen name) = IsSome (chunk_named net w name)
 Names net w (step.Write name) = IsSome (chunk_named net w name)
 Names net w (step.Part name count) = IsSome (chunk_named net w name)
 Names net w (step.Purge name) = IsSome (chunk_named net w name)
 Names net w (step.Done name) = IsSome (chunk_named net w name)
 Names net w (step.Discard name) = IsSome (chunk_named net w name)
-Names net w (step.Oldest relay buffer) = IsSomeAnd (place_of net relay) (λ place. IsSome (output_at net place buffer))
+Names net w (step.Oldest relay buffer) = IsSomeAnd (place_of net relay)
+    (λ place. IsSome (output_at net place buffer))
 Names net w (step.Restart relay) = IsSome (place_of net relay)
 
 -- When a step is allowed.
@@ -89,55 +95,78 @@ tag_of net message = tag_at net message.address message.tag
 -- A message may be taken where it comes in, if the tag that its events bear there is one, and its
 -- way ends.
 abbrev pub CanBegin : {A : Type 0} → Network A → Message → Type 0
-CanBegin net message = IsSomeAnd (entrance net message.address) (λ at. (length (tag_of net message) ≤ most_tag_bytes) × ¬ HasLoop net at (tag_of net message) message.entries)
+CanBegin net message = IsSomeAnd (entrance net message.address)
+    (λ at. (length (tag_of net message) ≤ most_tag_bytes)
+    × ¬ HasLoop net at (tag_of net message) message.entries)
 
 -- An open delivery of the message may be appended there: to a leaf that it wasn't appended to.
-pub record CanAppend {A : Type 0} (net : Network A) (w : World) (delivery : Delivery) (message : Message) (buffer serial : ℕ) : Type 0 where
+pub record CanAppend {A : Type 0} (net : Network A) (w : World) (delivery : Delivery)
+    (message : Message) (buffer serial : ℕ) : Type 0 where
   pub is_open : delivery.is_open ≡ true
   pub is_leaf : HasLeaf net delivery.entrance delivery.tag message.entries buffer
   pub is_new : ¬ Contains delivery.appended buffer
   pub can_take : CanTake (w.buffers delivery.entrance.relay buffer) delivery.tag serial
 
 -- An open delivery of the message may be acknowledged: it was appended to each leaf.
-pub record CanAcknowledge {A : Type 0} (net : Network A) (delivery : Delivery) (message : Message) : Type 0 where
+pub record CanAcknowledge {A : Type 0} (net : Network A) (delivery : Delivery)
+    (message : Message) : Type 0 where
   pub is_open : delivery.is_open ≡ true
-  pub is_whole : (buffer : ℕ) → HasLeaf net delivery.entrance delivery.tag message.entries buffer → Contains delivery.appended buffer
+  pub is_whole : (buffer : ℕ) → HasLeaf net delivery.entrance delivery.tag message.entries buffer
+      → Contains delivery.appended buffer
 
 -- of this delivery and its message
 abbrev pub OfDelivery : World → ℕ → (Delivery → Message → Type 0) → Type 0
-OfDelivery w number P = IsSomeAnd (slice_get w.deliveries number) (λ delivery. IsSomeAnd (slice_get w.messages delivery.message) (P delivery))
+OfDelivery w number P = IsSomeAnd (slice_get w.deliveries number)
+    (λ delivery. IsSomeAnd (slice_get w.messages delivery.message) (P delivery))
 
 -- a message was sent from the chunk with this id, and acknowledged
 abbrev pub IsAnswered : World → ℕ → ℕ → ℕ → Type 0
-IsAnswered w place buffer serial = Any (λ message. (message.sender ≡ sender.Chunk place buffer serial) × (message.acknowledged ≡ true)) w.messages
+IsAnswered w place buffer serial =
+    Any (λ message. (message.sender ≡ sender.Chunk place buffer serial)
+    × (message.acknowledged ≡ true)) w.messages
 
 -- one of the buffer's chunks is queued
 abbrev pub HasQueued : BufferState → Type 0
 HasQueued state = (serial : ℕ) × IsSomeAnd (state.chunks serial) (λ chunk. chunk.stage ≡ Queued)
 
 -- the chunk of this name is at this stage, and this holds of it
-abbrev pub OfChunk : {A : Type 0} → Network A → World → ChunkName → Stage → (Chunk → Type 0) → Type 0
-OfChunk net w name stage P = IsSomeAnd (chunk_named net w name) (λ chunk. (chunk.stage ≡ stage) × P chunk)
+abbrev pub OfChunk : {A : Type 0} → Network A → World → ChunkName → Stage → (Chunk → Type 0)
+    → Type 0
+OfChunk net w name stage P = IsSomeAnd (chunk_named net w name)
+    (λ chunk. (chunk.stage ≡ stage) × P chunk)
 
 -- What the step asks for holds.
 abbrev pub Allowed : {A : Type 0} → Network A → World → Step A → Type 0
-Allowed net w (step.Send client tag entries) = IsSomeAnd (slice_get net.clients client) (λ found. HaveTag found.patterns.items tag)
+Allowed net w (step.Send client tag entries) = IsSomeAnd (slice_get net.clients client)
+    (λ found. HaveTag found.patterns.items tag)
 Allowed net w (step.Begin message) = IsSomeAnd (slice_get w.messages message) (CanBegin net)
-Allowed net w (step.Append delivery buffer serial) = OfDelivery w delivery (λ d m. CanAppend net w d m buffer serial)
+Allowed net w (step.Append delivery buffer serial) =
+    OfDelivery w delivery (λ d m. CanAppend net w d m buffer serial)
 Allowed net w (step.Ack delivery) = OfDelivery w delivery (CanAcknowledge net)
-Allowed net w (step.Abandon delivery) = IsSomeAnd (slice_get w.deliveries delivery) (λ d. d.is_open ≡ true)
-Allowed net w (step.Foreign message) = IsSomeAnd (slice_get w.messages message) (λ m. entrance net m.address ≡ None)
+Allowed net w (step.Abandon delivery) = IsSomeAnd (slice_get w.deliveries delivery)
+    (λ d. d.is_open ≡ true)
+Allowed net w (step.Foreign message) = IsSomeAnd (slice_get w.messages message)
+    (λ m. entrance net m.address ≡ None)
 Allowed net w (step.Enqueue name) = OfChunk net w name Staged (λ _. Unit {0})
 Allowed net w (step.Claim name) = OfChunk net w name Queued (λ _. Unit {0})
 Allowed net w (step.Back name) = OfChunk net w name Claimed (λ _. Unit {0})
-Allowed net w (step.Forward name server) = OfChunk net w name Claimed (λ _. IsSomeAnd (output_named net name) (λ o. Forwards true o ⊎ Forwards false o))
-Allowed net w (step.Seen name) = OfChunk net w name Claimed (λ _. IsSomeAnd (output_named net name) (Forwards true)
+Allowed net w (step.Forward name server) =
+    OfChunk net w name Claimed (λ _. IsSomeAnd (output_named net name)
+    (λ o. Forwards true o ⊎ Forwards false o))
+Allowed net w (step.Seen name) =
+    OfChunk net w name Claimed (λ _. IsSomeAnd (output_named net name) (Forwards true)
     × IsSomeAnd (place_of net name.relay) (λ place. IsAnswered w place name.buffer name.serial))
-Allowed net w (step.Write name) = OfChunk net w name Claimed (λ _. IsSomeAnd (output_named net name) Stores)
-Allowed net w (step.Part name count) = OfChunk net w name Claimed (λ chunk. IsSomeAnd (output_named net name) Stores × (count ≤ length chunk.entries))
+Allowed net w (step.Write name) =
+    OfChunk net w name Claimed (λ _. IsSomeAnd (output_named net name) Stores)
+Allowed net w (step.Part name count) =
+    OfChunk net w name Claimed (λ chunk. IsSomeAnd (output_named net name) Stores
+    × (count ≤ length chunk.entries))
 Allowed net w (step.Purge name) = OfChunk net w name Claimed (λ chunk. chunk.evidence ≡ true)
-Allowed net w (step.Done name) = OfChunk net w name Claimed (λ chunk. IsSomeAnd (output_named net name) (Forwards false) × (chunk.forwarded ≡ true))
-Allowed net w (step.Discard name) = OfChunk net w name Claimed (λ _. IsSomeAnd (output_named net name) GivesUp)
+Allowed net w (step.Done name) =
+    OfChunk net w name Claimed (λ chunk. IsSomeAnd (output_named net name) (Forwards false)
+    × (chunk.forwarded ≡ true))
+Allowed net w (step.Discard name) =
+    OfChunk net w name Claimed (λ _. IsSomeAnd (output_named net name) GivesUp)
 Allowed net w (step.Oldest relay buffer) = IsSomeAnd (place_of net relay) (λ place.
     IsSomeAnd (output_at net place buffer) DropsOldest × HasQueued (w.buffers place buffer))
 Allowed net w (step.Restart relay) = Unit {0}
@@ -148,35 +177,53 @@ Allowed net w (step.Restart relay) = Unit {0}
 abbrev pub answered : World → ℕ → Message → World
 answered w number message = record w {
   messages = slice_set w.messages number (record message { acknowledged = true });
-  acknowledged = w.acknowledged ++ newly_acknowledged message.sender message.acknowledged message.tag message.entries;
+  acknowledged = w.acknowledged
+      ++ newly_acknowledged message.sender message.acknowledged message.tag message.entries;
 }
 
 -- the world after somebody outside of the network acknowledged a message to its sender
 abbrev pub with_answered : World → ℕ → World
-with_answered w number = option_map_or (λ m. record w { messages = slice_set w.messages number (record m { acknowledged = true }) }) (slice_get w.messages number) w
+with_answered w number =
+    option_map_or
+    (λ m. record w { messages = slice_set w.messages number (record m { acknowledged = true }) })
+    (slice_get w.messages number) w
 
 -- the world with the live chunk of this name changed
-abbrev pub with_named : {A : Type 0} → Network A → World → ChunkName → (Chunk → Option Chunk) → World
+abbrev pub with_named : {A : Type 0} → Network A → World → ChunkName → (Chunk → Option Chunk)
+    → World
 with_named net w name change = option_map_or
-    (λ place. with_buffer w place name.buffer (λ state. with_chunk name.serial (option_and_then change (state.chunks name.serial)) state)) (place_of net name.relay) w
+    (λ place. with_buffer w place name.buffer
+    (λ state. with_chunk name.serial (option_and_then change (state.chunks name.serial)) state))
+    (place_of net name.relay) w
 
 -- the world after so many first entries of the chunk of this name were stored in the sink of its
 -- output
-abbrev pub with_stored : {A : Type 0} → Network A → World → ChunkName → (List (List ℕ) → List (List ℕ)) → World
+abbrev pub with_stored : {A : Type 0} → Network A → World → ChunkName
+    → (List (List ℕ) → List (List ℕ)) → World
 with_stored net w name those = option_map_or
     (λ place. with_buffer w place name.buffer (λ state. record state {
-      sink = state.sink ++ option_map_or (λ chunk. events_of chunk.tag (those chunk.entries)) (state.chunks name.serial) [];
+      sink = state.sink ++ option_map_or (λ chunk. events_of chunk.tag (those chunk.entries))
+          (state.chunks name.serial) [];
     })) (place_of net name.relay) w
 
 -- the messages after the chunk was sent to the server, if that is there
-abbrev pub forwarded_to : {A : Type 0} → List Message → Sender → Chunk → Option (Server A) → List Message
+abbrev pub forwarded_to : {A : Type 0} → List Message → Sender → Chunk → Option (Server A)
+    → List Message
 forwarded_to messages sender chunk None = messages
 forwarded_to messages sender chunk (Some server) =
-    messages ++ record { sender = sender; address = address_of_server server; tag = chunk.tag; entries = chunk.entries; acknowledged = false } ∷ []
+    messages ++ record {
+      sender = sender;
+      address = address_of_server server;
+      tag = chunk.tag;
+      entries = chunk.entries;
+      acknowledged = false;
+    } ∷ []
 
 -- the world after this happened to an open delivery and its message
 abbrev pub with_delivery : World → ℕ → (Delivery → Message → World) → World
-with_delivery w number change = option_map_or (λ delivery. option_map_or (change delivery) (slice_get w.messages delivery.message) w) (slice_get w.deliveries number) w
+with_delivery w number change =
+    option_map_or (λ delivery. option_map_or (change delivery)
+    (slice_get w.messages delivery.message) w) (slice_get w.deliveries number) w
 
 -- the world after a delivery was appended to a buffer of its relay at this serial
 abbrev pub with_appended : World → ℕ → ℕ → ℕ → World
@@ -189,12 +236,26 @@ with_appended w delivery buffer serial = with_delivery w delivery (λ d m. recor
 abbrev pub effect : {A : Type 0} → Network A → World → Step A → World
 effect net w (step.Send client tag entries) = option_map_or
     (λ found. record w {
-      messages = w.messages ++ record { sender = sender.Client client; address = address_of_client net found; tag = tag; entries = map (λ entry. entry.items) entries.items; acknowledged = false } ∷ [];
+      messages = w.messages
+          ++ record {
+            sender = sender.Client client;
+            address = address_of_client net found;
+            tag = tag;
+            entries = map (λ entry. entry.items) entries.items;
+            acknowledged = false;
+          } ∷ [];
     }) (slice_get net.clients client) w
 effect net w (step.Begin message) = option_map_or
     (λ m. option_map_or
     (λ at. record w {
-      deliveries = w.deliveries ++ record { message = message; entrance = at; tag = tag_of net m; appended = []; is_open = true } ∷ [];
+      deliveries = w.deliveries
+          ++ record {
+            message = message;
+            entrance = at;
+            tag = tag_of net m;
+            appended = [];
+            is_open = true;
+          } ∷ [];
     }) (entrance net m.address) w) (slice_get w.messages message) w
 effect net w (step.Append delivery buffer serial) = with_appended w delivery buffer serial
 effect net w (step.Ack delivery) = with_delivery w delivery (λ d m. record w {
@@ -202,26 +263,37 @@ effect net w (step.Ack delivery) = with_delivery w delivery (λ d m. record w {
   acknowledged = (answered w d.message m).acknowledged;
   deliveries = slice_set w.deliveries delivery (ended d);
 })
-effect net w (step.Abandon delivery) = option_map_or (λ d. record w { deliveries = slice_set w.deliveries delivery (ended d) }) (slice_get w.deliveries delivery) w
+effect net w (step.Abandon delivery) =
+    option_map_or (λ d. record w { deliveries = slice_set w.deliveries delivery (ended d) })
+    (slice_get w.deliveries delivery) w
 effect net w (step.Foreign message) = with_answered w message
-effect net w (step.Enqueue name) = with_named net w name (λ chunk. Some (record chunk { stage = Queued }))
-effect net w (step.Claim name) = with_named net w name (λ chunk. Some (record chunk { stage = Claimed }))
-effect net w (step.Back name) = with_named net w name (λ chunk. Some (record chunk { stage = Queued }))
+effect net w (step.Enqueue name) =
+    with_named net w name (λ chunk. Some (record chunk { stage = Queued }))
+effect net w (step.Claim name) =
+    with_named net w name (λ chunk. Some (record chunk { stage = Claimed }))
+effect net w (step.Back name) =
+    with_named net w name (λ chunk. Some (record chunk { stage = Queued }))
 effect net w (step.Forward name server) = option_map_or
     (λ place. option_map_or
     (λ chunk. record (with_named net w name (λ c. Some (record c { forwarded = true }))) {
-      messages = forwarded_to w.messages (sender.Chunk place name.buffer name.serial) chunk (option_and_then (λ o. slice_get (servers_of o) server) (output_named net name));
+      messages = forwarded_to w.messages (sender.Chunk place name.buffer name.serial) chunk
+          (option_and_then (λ o. slice_get (servers_of o) server) (output_named net name));
     }) (chunk_named net w name) w) (place_of net name.relay) w
-effect net w (step.Seen name) = with_named net w name (λ chunk. Some (record chunk { evidence = true }))
-effect net w (step.Write name) = with_named net (with_stored net w name (λ entries. entries)) name (λ chunk. Some (record chunk { evidence = true }))
+effect net w (step.Seen name) =
+    with_named net w name (λ chunk. Some (record chunk { evidence = true }))
+effect net w (step.Write name) =
+    with_named net (with_stored net w name (λ entries. entries)) name
+    (λ chunk. Some (record chunk { evidence = true }))
 effect net w (step.Part name count) = with_stored net w name (take count)
 effect net w (step.Purge name) = with_named net w name (λ chunk. None)
 effect net w (step.Done name) = with_named net w name (λ chunk. None)
 effect net w (step.Discard name) = with_named net w name (λ chunk. None)
-effect net w (step.Oldest relay buffer) = option_map_or (λ place. with_buffer w place buffer without_oldest) (place_of net relay) w
+effect net w (step.Oldest relay buffer) =
+    option_map_or (λ place. with_buffer w place buffer without_oldest) (place_of net relay) w
 effect net w (step.Restart relay) = option_map_or
     (λ place. record w {
-      buffers = λ p b. cond (p == place) (started_again (is_in_memory net p b) (w.buffers p b)) (w.buffers p b);
+      buffers = λ p b. cond (p == place) (started_again (is_in_memory net p b) (w.buffers p b))
+          (w.buffers p b);
       deliveries = map (λ d. cond (d.entrance.relay == place) (ended d) d) w.deliveries;
     }) (place_of net relay) w
 
@@ -231,14 +303,18 @@ effect net w (step.Restart relay) = option_map_or
 -- other.
 abbrev pub Steps : {A : Type 0} → Network A → World → List (Step A) → World → Type 0
 Steps net before [] after = after ≡ before
-Steps net before (first ∷ steps) after = Names net before first × Allowed net before first × Steps net (effect net before first) steps after
+Steps net before (first ∷ steps) after = Names net before first × Allowed net before first
+    × Steps net (effect net before first) steps after
 
 -- Memory may run out in this step. Where an event goes is looked for in memory, so that it may
 -- before it is known whether the way, or the length of the tag with its prefix, allows the step;
 -- all else that the step asks for holds.
 abbrev pub MayRunOut : {A : Type 0} → Network A → World → Step A → Type 0
-MayRunOut net w (step.Begin message) = IsSomeAnd (slice_get w.messages message) (λ m. IsSome (entrance net m.address))
-MayRunOut net w (step.Append delivery buffer serial) = OfDelivery w delivery (λ d m. (d.is_open ≡ true) × (¬ Contains d.appended buffer) × CanTake (w.buffers d.entrance.relay buffer) d.tag serial)
+MayRunOut net w (step.Begin message) = IsSomeAnd (slice_get w.messages message)
+    (λ m. IsSome (entrance net m.address))
+MayRunOut net w (step.Append delivery buffer serial) =
+    OfDelivery w delivery (λ d m. (d.is_open ≡ true) × (¬ Contains d.appended buffer)
+    × CanTake (w.buffers d.entrance.relay buffer) d.tag serial)
 MayRunOut net w (step.Ack delivery) = OfDelivery w delivery (λ d m. d.is_open ≡ true)
 MayRunOut net w (step.Send client tag entries) = Allowed net w (step.Send client tag entries)
 MayRunOut net w (step.Abandon delivery) = Allowed net w (step.Abandon delivery)
@@ -265,7 +341,8 @@ IsRefused net w s fault.Memory = Names net w s × MayRunOut net w s
 
 -- The step of this number, counted from 1, is the first of the list that is refused, for this
 -- reason.
-pub record IsRefusedAt {A : Type 0} (net : Network A) (steps : List (Step A)) (number : ℕ) (fault : StepFault) : Type 0 where
+pub record IsRefusedAt {A : Type 0} (net : Network A) (steps : List (Step A)) (number : ℕ)
+    (fault : StepFault) : Type 0 where
   pub before : List (Step A)
   pub refused : Step A
   pub others : List (Step A)
@@ -283,12 +360,16 @@ Refuses names allowed fault.Memory = ⊥
 
 -- What a refusal or a success must mean, of a step with these names, this condition, a part of it
 -- that is known where memory runs out, and this effect. A refusal changes nothing.
-abbrev pub Answer : (names allowed known : Type 0) → World → World → World → Result (Unit {0}) StepFault → Type 0
+abbrev pub Answer : (names allowed known : Type 0) → World → World → World
+    → Result (Unit {0}) StepFault → Type 0
 Answer names allowed known before after effect (Ok done) = names × allowed × (after ≡ effect)
 Answer names allowed known before after effect (Err fault.NoSuch) = (¬ names) × (after ≡ before)
-Answer names allowed known before after effect (Err fault.NotAllowed) = names × (¬ allowed) × (after ≡ before)
+Answer names allowed known before after effect (Err fault.NotAllowed) = names × (¬ allowed)
+    × (after ≡ before)
 Answer names allowed known before after effect (Err fault.Memory) = names × known × (after ≡ before)
 
 -- what an answer to the step must mean
-abbrev pub Answers : {A : Type 0} → Network A → World → Step A → World → Result (Unit {0}) StepFault → Type 0
-Answers net before s after result = Answer (Names net before s) (Allowed net before s) (MayRunOut net before s) before after (effect net before s) result
+abbrev pub Answers : {A : Type 0} → Network A → World → Step A → World → Result (Unit {0}) StepFault
+    → Type 0
+Answers net before s after result = Answer (Names net before s) (Allowed net before s)
+    (MayRunOut net before s) before after (effect net before s) result

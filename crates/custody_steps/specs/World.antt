@@ -12,8 +12,17 @@ pub record World : Type 0 where
 
 -- before the first step
 abbrev pub initial_world : World
-initial_world = record { buffers = λ _ _. empty_buffer; messages = []; deliveries = []; acknowledged = [] }
+initial_world = record {
+  buffers = λ _ _. empty_buffer;
+  messages = [];
+  deliveries = [];
+  acknowledged = [];
+}
 
 -- the world with this buffer changed
 abbrev pub with_buffer : World → ℕ → ℕ → (BufferState → BufferState) → World
-with_buffer w place buffer change = record w { buffers = λ p b. cond ((p == place) && (b == buffer)) (change (w.buffers p b)) (w.buffers p b) }
+with_buffer w place buffer change =
+    record w {
+      buffers = λ p b. cond ((p == place) && (b == buffer)) (change (w.buffers p b))
+          (w.buffers p b);
+    }

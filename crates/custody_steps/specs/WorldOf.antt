@@ -10,12 +10,17 @@ use Rattle.custody_steps.specs.declared.world.World.{World as Kept}
 
 -- the delivery of this number, which a restart of its relay ended if it came later
 abbrev pub open_after : (ℕ → ℕ) → ℕ → Delivery → Delivery
-open_after closed number delivery = record delivery { is_open = delivery.is_open && not (nat_lt number (closed delivery.entrance.relay)) }
+open_after closed number delivery =
+    record delivery {
+      is_open = delivery.is_open
+          && not (nat_lt number (closed delivery.entrance.relay));
+    }
 
 -- the same of these deliveries, the first of which has this number
 abbrev pub deliveries_from : (ℕ → ℕ) → ℕ → List Delivery → List Delivery
 deliveries_from closed number [] = []
-deliveries_from closed number (delivery ∷ deliveries) = open_after closed number delivery ∷ deliveries_from closed (suc number) deliveries
+deliveries_from closed number (delivery ∷ deliveries) =
+    open_after closed number delivery ∷ deliveries_from closed (suc number) deliveries
 
 -- the world of what the relays have and of what was sent
 abbrev pub world_from : {A : Type 0} → Places A → Book → World

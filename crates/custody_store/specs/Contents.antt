@@ -31,11 +31,17 @@ flag_at flags serial = unwrap_or (slice_get flags serial) false
 
 -- the chunks after this happened to the live chunk of this serial
 abbrev pub changed : List (Option Chunk) → ℕ → (Chunk → Option Chunk) → List (Option Chunk)
-changed chunks serial change = slice_set chunks serial (option_and_then change (chunk_at chunks serial))
+changed chunks serial change =
+    slice_set chunks serial (option_and_then change (chunk_at chunks serial))
 
 -- what may be asked of a chunk
 abbrev pub look_of : Chunk → Look
-look_of chunk = record { stage = chunk.stage; evidence = chunk.evidence; forwarded = chunk.forwarded; count = length chunk.entries }
+look_of chunk = record {
+  stage = chunk.stage;
+  evidence = chunk.evidence;
+  forwarded = chunk.forwarded;
+  count = length chunk.entries;
+}
 
 -- what a chunk delivers
 pub record Parts : Type 0 where
@@ -52,12 +58,19 @@ longer entries chunk = Some (record chunk { entries = chunk.entries ++ entries }
 
 -- a new chunk of these entries
 abbrev pub new_chunk : List ℕ → List (List ℕ) → Chunk
-new_chunk tag entries = record { tag = tag; entries = entries; stage = Staged; evidence = false; forwarded = false }
+new_chunk tag entries = record {
+  tag = tag;
+  entries = entries;
+  stage = Staged;
+  evidence = false;
+  forwarded = false;
+}
 
 -- the chunks after these entries were appended at the serial: to the chunk that is there, else to a
 -- new one
 abbrev pub taken_in : List (Option Chunk) → ℕ → List ℕ → List (List ℕ) → List (Option Chunk)
-taken_in chunks serial tag entries = cond (nat_lt serial (length chunks)) (changed chunks serial (longer entries)) (chunks ++ Some (new_chunk tag entries) ∷ [])
+taken_in chunks serial tag entries = cond (nat_lt serial (length chunks))
+    (changed chunks serial (longer entries)) (chunks ++ Some (new_chunk tag entries) ∷ [])
 
 -- the chunks after a restart: those in memory are lost
 abbrev pub restarted_chunks : Bool → List (Option Chunk) → List (Option Chunk)
@@ -73,8 +86,13 @@ contents_of buffers b = unwrap_or (slice_get buffers b) empty_contents
 
 -- the buffer, as the steps of a network speak of it
 abbrev pub buffer_of : Contents → BufferState
-buffer_of contents = record { chunks = chunk_at contents.chunks; next = length contents.chunks; sink = contents.sink }
+buffer_of contents = record {
+  chunks = chunk_at contents.chunks;
+  next = length contents.chunks;
+  sink = contents.sink;
+}
 
 -- The flags are these, and this one besides.
 abbrev pub IsAnsweredToo : List Bool → ℕ → List Bool → Type 0
-IsAnsweredToo before serial after = (s : ℕ) → flag_at after s ≡ cond (s == serial) true (flag_at before s)
+IsAnsweredToo before serial after = (s : ℕ)
+    → flag_at after s ≡ cond (s == serial) true (flag_at before s)

@@ -77,15 +77,20 @@ sent_on now chunk = record chunk { forwarded = Some now }
 
 -- the first entries of the chunk, so many of them, as events
 abbrev pub first_of : {A : Type 0} → Option (KeptChunk A) → ℕ → List Event
-first_of slot count = option_map_or (λ chunk. events_of chunk.tag (take count (texts_of chunk.entries.items))) slot []
+first_of slot count =
+    option_map_or (λ chunk. events_of chunk.tag (take count (texts_of chunk.entries.items))) slot []
 
 -- the contents of a buffer with these parts, in this generation
-abbrev pub contents_from : {A : Type 0} → ℕ → List (Option (KeptChunk A)) → List (Stored A) → List Bool → Contents
-contents_from now chunks sink answered = record { chunks = map (slot_from now) chunks; sink = stored_events sink; answered = answered }
+abbrev pub contents_from : {A : Type 0} → ℕ → List (Option (KeptChunk A)) → List (Stored A)
+    → List Bool → Contents
+contents_from now chunks sink answered =
+    record { chunks = map (slot_from now) chunks; sink = stored_events sink; answered = answered }
 
 -- After so many claims the generation is new to no chunk: a restart finds one that no mark has.
 -- Below the least serial nothing is queued.
-pub record IsSound {A : Type 0} (count now least : ℕ) (chunks : List (Option (KeptChunk A))) : Type 0 where
+pub record IsSound {A : Type 0} (count now least : ℕ)
+    (chunks : List (Option (KeptChunk A))) : Type 0 where
   pub below : All (IsSlotBelow count) chunks
   pub now_is : now ≤ count
-  pub not_queued : (serial : ℕ) → serial < least → is_queued (chunk_at (map (slot_from now) chunks) serial) ≡ false
+  pub not_queued : (serial : ℕ) → serial < least
+      → is_queued (chunk_at (map (slot_from now) chunks) serial) ≡ false

@@ -15,11 +15,14 @@ closed_at places p = closed_in places.list.items p
 
 -- There is room for this buffer.
 abbrev pub IsThere : {A : Type 0} → Places A → ℕ → ℕ → Type 0
-IsThere places p b = IsSomeAnd (slice_get places.list.items p) (λ place. b < length place.buffers.items)
+IsThere places p b = IsSomeAnd (slice_get places.list.items p)
+    (λ place. b < length place.buffers.items)
 
 -- Only this buffer changed, and has this now.
-pub record IsChangedAt {A : Type 0} (before after : Places A) (place buffer : ℕ) (new : Contents) : Type 0 where
-  pub contents : (p b : ℕ) → contents_at after p b ≡ cond ((p == place) && (b == buffer)) new (contents_at before p b)
+pub record IsChangedAt {A : Type 0} (before after : Places A) (place buffer : ℕ)
+    (new : Contents) : Type 0 where
+  pub contents : (p b : ℕ)
+      → contents_at after p b ≡ cond ((p == place) && (b == buffer)) new (contents_at before p b)
   pub closed : (p : ℕ) → closed_at after p ≡ closed_at before p
 
 -- Nothing changed, but for room.

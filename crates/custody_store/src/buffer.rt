@@ -246,7 +246,8 @@ impl<A: Allocator + Copy> Buffer<A> {
         ensures ok { OnOk result
             (self.new ≡ record self.old {
               chunks = changed self.old.chunks serial
-                  (λ chunk. Some (record chunk { entries = chunk.entries ++ texts_of entries.now }));
+                  (λ chunk.
+                  Some (record chunk { entries = chunk.entries ++ texts_of entries.now }));
             }) }
         ensures err { OnErr result (self.new ≡ self.old) }
     {

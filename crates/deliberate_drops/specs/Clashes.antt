@@ -24,7 +24,8 @@ same_path None two = false
 
 -- whether the outputs clash
 abbrev pub clash : {A : Type 0} → Output A → Output A → Bool
-clash one two = same_number (buffer_number one) (buffer_number two) || (same_path (buffer_path one) (buffer_path two) || same_path (sink_path one) (sink_path two))
+clash one two = same_number (buffer_number one) (buffer_number two)
+    || (same_path (buffer_path one) (buffer_path two) || same_path (sink_path one) (sink_path two))
 
 -- whether they don't
 unfoldable pub are_apart : {A : Type 0} → Output A → Output A → Bool
@@ -42,10 +43,12 @@ is_free relay sink = list_all (is_free_scope sink) relay.scopes.items
 
 -- No output of the relay clashes with this one.
 abbrev pub IsFree : {A : Type 0} → Relay A → Output A → Type 0
-IsFree {A} relay sink = (scope rule output : ℕ) (other : Output A) → output_in_relay relay scope rule output ≡ Some other → ¬ Clash other sink
+IsFree {A} relay sink = (scope rule output : ℕ) (other : Output A)
+    → output_in_relay relay scope rule output ≡ Some other → ¬ Clash other sink
 
 -- The outputs are one sink that keeps, under this line, and no output of the relay clashes with it.
-pub record IsOwnSink {A : Type 0} (relay : Relay A) (line : ℕ) (outputs : List (Output A)) : Type 0 where
+pub record IsOwnSink {A : Type 0} (relay : Relay A) (line : ℕ)
+    (outputs : List (Output A)) : Type 0 where
   pub sink : Output A
   pub outputs_are : outputs ≡ sink ∷ []
   pub keeps : IsKeepingSink line sink

@@ -14,7 +14,8 @@ use Rattle.deliberate_drops.specs.Sinks.{EndsInSink}
 
 -- An event with this tag that comes into the scope ends in the one output of this match: its buffer
 -- is the only leaf of the event's way, which is no loop, and the output keeps.
-pub record EndsThere {A : Type 0} (net : Network A) (place scope rule : ℕ) (tag : List ℕ) : Type 0 where
+pub record EndsThere {A : Type 0} (net : Network A) (place scope rule : ℕ)
+    (tag : List ℕ) : Type 0 where
   pub sink : Output A
   pub sink_is : output_in_rule net place scope rule 0 ≡ Some sink
   pub keeps : Keeps sink
@@ -26,8 +27,12 @@ pub record EndsThere {A : Type 0} (net : Network A) (place scope rule : ℕ) (ta
 
 -- Each event that a match takes which ends in a sink of its own ends there.
 abbrev pub EventsEndInSinks : Type 0 → Type 0
-EventsEndInSinks A = (net : Network A) → BuffersAreDistinct net → (place scope rule : ℕ) → EndsInSink net place scope rule → (tag : List ℕ) → IsFirstTaker net place scope tag rule → EndsThere net place scope rule tag
+EventsEndInSinks A = (net : Network A) → BuffersAreDistinct net → (place scope rule : ℕ)
+    → EndsInSink net place scope rule → (tag : List ℕ) → IsFirstTaker net place scope tag rule
+    → EndsThere net place scope rule tag
 
 -- Such a match does what is asked of reached matches, whatever a plan asks.
 abbrev pub DroppedMatchesDo : Type 0 → Type 0
-DroppedMatchesDo A = (net : Network A) (place scope rule : ℕ) → EndsInSink net place scope rule → (found : MatchRule A) → rule_at net place scope rule ≡ Some found → (duty : Duty) → DoesDuty duty found
+DroppedMatchesDo A = (net : Network A) (place scope rule : ℕ) → EndsInSink net place scope rule
+    → (found : MatchRule A) → rule_at net place scope rule ≡ Some found → (duty : Duty)
+    → DoesDuty duty found

@@ -17,7 +17,8 @@ use Rattle.deliberate_drops.specs.Drops.{Means, IsThere, AreLetGo, HasNoRelay, H
 -- The name means the match that stands there, and this is its line.
 pub record IsMeant {A : Type 0} (net : Network A) (name : DropName) (at : MatchPlace) : Type 0 where
   pub means : Means net name at.place at.scope at.rule
-  pub line_is : option_map (λ found. found.line) (rule_at net at.place at.scope at.rule) ≡ Some at.line
+  pub line_is : option_map (λ found. found.line) (rule_at net at.place at.scope at.rule)
+      ≡ Some at.line
 
 -- the name, which has this place among the names, means no match, or memory ran out
 abbrev pub IsRefusedAt : {A : Type 0} → Network A → DropName → ℕ → DropError → Type 0
@@ -27,21 +28,26 @@ IsRefusedAt net name at (error.NoMatch n) = (n ≡ at) × HasNoMatch net name
 IsRefusedAt net name at error.Memory = Unit {0}
 
 -- In place of the outputs of the match that the name means a sink of its own was put.
-pub record LetsOneGo {A : Type 0} (before : Subject A) (name : DropName) (after : Subject A) : Type 0 where
+pub record LetsOneGo {A : Type 0} (before : Subject A) (name : DropName)
+    (after : Subject A) : Type 0 where
   pub at : MatchPlace
   pub meant : IsMeant before.net name at
   pub relay : Relay A
   pub relay_is : relay_at before.net at.place ≡ Some relay
   pub outputs : List (Output A)
   pub own : IsOwnSink relay at.line outputs
-  pub puts : ChangesAt (PutsInNode at.scope at.rule outputs) at.place before.net.relays after.net.relays
+  pub puts : ChangesAt (PutsInNode at.scope at.rule outputs) at.place before.net.relays
+      after.net.relays
   pub rest : after ≡ record before { net = network after.net.relays before.net.clients }
 
 -- one of so many first names means this match
 abbrev pub IsNamedBefore : {A : Type 0} → Network A → List DropName → ℕ → ℕ → ℕ → ℕ → Type 0
-IsNamedBefore net names count place scope rule = (at : ℕ) × (name : DropName) × (at < count) × (slice_get names at ≡ Some name) × Means net name place scope rule
+IsNamedBefore net names count place scope rule = (at : ℕ) × (name : DropName) × (at < count)
+    × (slice_get names at ≡ Some name) × Means net name place scope rule
 
 -- Each of so many first names means a match of the plan, and these are let go.
-pub record LetsSoManyGo {A : Type 0} (before : Subject A) (names : List DropName) (count : ℕ) (after : Subject A) : Type 0 where
-  pub are_there : (at : ℕ) (name : DropName) → at < count → slice_get names at ≡ Some name → IsThere before.net name
+pub record LetsSoManyGo {A : Type 0} (before : Subject A) (names : List DropName) (count : ℕ)
+    (after : Subject A) : Type 0 where
+  pub are_there : (at : ℕ) (name : DropName) → at < count → slice_get names at ≡ Some name
+      → IsThere before.net name
   pub are_let_go : AreLetGo before (IsNamedBefore before.net names count) after

@@ -27,10 +27,16 @@ abbrev pub match_outline : {A : Type 0} → MatchRule A → MatchOutline
 match_outline found = record { patterns = found.patterns.items; line = found.line }
 
 abbrev pub scope_outline : {A : Type 0} → Scope A → ScopeOutline
-scope_outline scope = record { name = string_bytes scope.name; matches = map match_outline scope.matches.items }
+scope_outline scope =
+    record { name = string_bytes scope.name; matches = map match_outline scope.matches.items }
 
 abbrev pub relay_outline : {A : Type 0} → Node A → RelayOutline A
-relay_outline node = record { number = node.number; host = string_bytes node.host; sources = node.relay.sources.items; scopes = map scope_outline node.relay.scopes.items }
+relay_outline node = record {
+  number = node.number;
+  host = string_bytes node.host;
+  sources = node.relay.sources.items;
+  scopes = map scope_outline node.relay.scopes.items;
+}
 
 -- the relays of a network, in their order, but for the outputs of their matches
 abbrev pub outline : {A : Type 0} → List (Node A) → List (RelayOutline A)

@@ -10,21 +10,25 @@ use Rattle.deliberate_drops.specs.declared.error.DroppedPlanError.TheVariants as
 use Rattle.deliberate_drops.specs.declared.name.DropName.{DropName}
 
 -- At the named matches of the plan events are let go; where there are no names, it is as it was.
-pub record IsDropped {A : Type 0} (before : Subject A) (names : List DropName) (after : Subject A) : Type 0 where
+pub record IsDropped {A : Type 0} (before : Subject A) (names : List DropName)
+    (after : Subject A) : Type 0 where
   pub lets_go : LetsGo before names after
   pub unchanged : names ≡ [] → after ≡ before
 
 -- The texts say a plan, and at its named matches events are let go.
-pub record IsDroppedPlanOf {A : Type 0} (text : List ℕ) (confs : List (List ℕ)) (names : List DropName) (plan : Subject A) : Type 0 where
+pub record IsDroppedPlanOf {A : Type 0} (text : List ℕ) (confs : List (List ℕ))
+    (names : List DropName) (plan : Subject A) : Type 0 where
   pub before : Subject A
   pub was : IsPlanOf text confs before
   pub dropped : IsDropped before names plan
 
 -- A name means no match of the plan that the texts say, or memory ran out.
 abbrev pub IsNoDrop : (A : Type 0) → List ℕ → List (List ℕ) → List DropName → DropError → Type 0
-IsNoDrop A text confs names why = (plan : Subject A) × IsPlanOf text confs plan × IsRefused plan.net names why
+IsNoDrop A text confs names why = (plan : Subject A) × IsPlanOf text confs plan
+    × IsRefused plan.net names why
 
 -- why texts and names are no such plan
-abbrev pub IsNoDroppedPlan : (A : Type 0) → List ℕ → List (List ℕ) → List DropName → DroppedPlanError → Type 0
+abbrev pub IsNoDroppedPlan : (A : Type 0) → List ℕ → List (List ℕ) → List DropName
+    → DroppedPlanError → Type 0
 IsNoDroppedPlan A text confs names (error.Plan fault) = IsRefusal A text confs fault
 IsNoDroppedPlan A text confs names (error.Drop why) = IsNoDrop A text confs names why

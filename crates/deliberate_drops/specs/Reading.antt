@@ -14,7 +14,8 @@ pub record AreFields (text relay scope index : List ℕ) : Type 0 where
   pub scope_has_none : HasNoColon scope
 
 -- These are the words of the number, the scope and the index.
-pub record AreWords (first second third : List ℕ) (relay : ℕ) (scope : List ℕ) (index : ℕ) : Type 0 where
+pub record AreWords (first second third : List ℕ) (relay : ℕ) (scope : List ℕ)
+    (index : ℕ) : Type 0 where
   pub relay_fits : relay < 2 ^ 32
   pub relay_is : decimal relay ≡ first
   pub scope_is : scope ≡ second

@@ -11,7 +11,8 @@ use Rattle.loss_rules.specs.Sites.{rule_at, output_in_rule}
 
 -- The outputs have one buffer's number, or share a path.
 abbrev pub Clash : {A : Type 0} → Output A → Output A → Type 0
-Clash one two = ((buffer : ℕ) × (buffer_number one ≡ Some buffer) × (buffer_number two ≡ Some buffer)) ⊎ SharePath one two
+Clash one two = ((buffer : ℕ) × (buffer_number one ≡ Some buffer)
+    × (buffer_number two ≡ Some buffer)) ⊎ SharePath one two
 
 -- The output stores in a sink, under this line of the configuration, and its buffer lets no chunk
 -- go before it is stored.
@@ -23,7 +24,9 @@ IsKeepingSink line (output.File settings at) = KeepsChunks settings.buffer × (a
 
 -- No other output of its relay clashes with this one.
 abbrev pub IsOwn : {A : Type 0} → Network A → ℕ → ℕ → ℕ → ℕ → Output A → Type 0
-IsOwn {A} net place scope rule output found = (s r o : ℕ) (other : Output A) → output_in_rule net place s r o ≡ Some other → Clash other found → (s ≡ scope) × (r ≡ rule) × (o ≡ output)
+IsOwn {A} net place scope rule output found = (s r o : ℕ) (other : Output A)
+    → output_in_rule net place s r o ≡ Some other → Clash other found → (s ≡ scope) × (r ≡ rule)
+    × (o ≡ output)
 
 -- The match has one output: a sink of its own, which keeps.
 pub record EndsInSink {A : Type 0} (net : Network A) (place scope rule : ℕ) : Type 0 where

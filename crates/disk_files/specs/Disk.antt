@@ -46,11 +46,13 @@ SameDisk a b = (name : List ℕ) → a name ≡ b name
 
 -- a file of this name, of which there was none, was made, and nothing else changed
 abbrev pub Makes : List ℕ → Disk → Disk → Type 0
-Makes name before after = (before name ≡ None) × SameDisk after (with_file before name (Some new_file))
+Makes name before after = (before name ≡ None)
+    × SameDisk after (with_file before name (Some new_file))
 
 -- the file of this name changed so, and nothing else did
 abbrev pub Changes : List ℕ → (File → File) → Disk → Disk → Type 0
-Changes name how before after = SameDisk after (with_file before name (option_map how (before name)))
+Changes name how before after =
+    SameDisk after (with_file before name (option_map how (before name)))
 
 -- what a read of a file finds: all that was written, and nothing once it was removed
 abbrev pub read_of : Option File → Option (List ℕ)
@@ -78,7 +80,12 @@ StopLeaves disk folder = (name : List ℕ) → MayStay (disk name) (folder name)
 
 -- a file all of which is on the disk
 abbrev pub kept_file : List ℕ → File
-kept_file bytes = record { written = bytes; synced = length bytes; is_durable = true; is_removed = false }
+kept_file bytes = record {
+  written = bytes;
+  synced = length bytes;
+  is_durable = true;
+  is_removed = false;
+}
 
 -- the disk after a stop that left this folder: what is left counts as synced
 abbrev pub after_stop : Folder → Disk

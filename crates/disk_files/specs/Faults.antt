@@ -15,6 +15,7 @@ pub record HasCause {T : Type 0} (before after : ℕ) (result : Result T DirErro
   pub refused : OnErr result ((result ≡ Err Memory) ⊎ Rises before after)
 
 -- A call of the device fails exactly where it was to, and each later one is a call nearer.
-pub record FailsInTurn {T : Type 0} (before after : ℕ → Bool) (result : Result T DirError) : Type 0 where
+pub record FailsInTurn {T : Type 0} (before after : ℕ → Bool)
+    (result : Result T DirError) : Type 0 where
   pub first : IsErrOf result Fault ↔ (before 0 ≡ true)
   pub later : (k : ℕ) → after k ≡ before (k + 1)

@@ -23,7 +23,8 @@ all_after passes below k = cond (nat_lt k passes) (below k) true
 -- which calls fail: so many are passed on, the next one fails and isn't passed on, and all later
 -- ones are
 abbrev pub one_after : ℕ → (ℕ → Bool) → ℕ → Bool
-one_after passes below k = cond (nat_lt k passes) (below k) (cond (k == passes) true (below (k - 1)))
+one_after passes below k = cond (nat_lt k passes) (below k)
+    (cond (k == passes) true (below (k - 1)))
 
 -- which calls fail, over a device that fails those
 abbrev pub failures : Fails → ℕ → (ℕ → Bool) → ℕ → Bool

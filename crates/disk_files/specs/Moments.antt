@@ -22,4 +22,5 @@ pub record Elapses (old new : History) : Type 0 where
 pub record LeavesOnly (old new : History) (P : Folder → Type 0) : Type 0 where
   pub later : old.moment ≤ new.moment
   pub past : (t : ℕ) → t ≤ old.moment → SameDisk (new.disk_at t) (old.disk_at t)
-  pub each : (t : ℕ) → old.moment ≤ t → t ≤ new.moment → (folder : Folder) → StopLeaves (new.disk_at t) folder → P folder
+  pub each : (t : ℕ) → old.moment ≤ t → t ≤ new.moment → (folder : Folder)
+      → StopLeaves (new.disk_at t) folder → P folder

@@ -9,7 +9,8 @@ use Rattle.disk_files.specs.Moments.{History}
 -- the disk at a moment: as it is from the last change on, else as it was then
 abbrev pub disk_then : List Entry → List (List Entry) → ℕ → Disk
 disk_then files [] t = disk_of files
-disk_then files (before ∷ earlier) t = cond (nat_lt (length earlier) t) (disk_of files) (disk_then before earlier t)
+disk_then files (before ∷ earlier) t = cond (nat_lt (length earlier) t) (disk_of files)
+    (disk_then before earlier t)
 
 -- the disk at each moment, where each change is a moment
 abbrev pub history_of : List Entry → List (List Entry) → History

@@ -12,7 +12,8 @@ disk_of (e ∷ rest) name = cond (bytes_eq e.name name) (Some e.state) (disk_of 
 -- no two files share a name, and of each file no more is synced than was written
 abbrev pub IsSound : List Entry → Type 0
 IsSound [] = Unit {0}
-IsSound (e ∷ rest) = (disk_of rest e.name ≡ None) × (e.state.synced ≤ length e.state.written) × IsSound rest
+IsSound (e ∷ rest) = (disk_of rest e.name ≡ None) × (e.state.synced ≤ length e.state.written)
+    × IsSound rest
 
 -- the name of a file that is there: one that wasn't removed
 abbrev pub name_of : Option Entry → Option (List ℕ)
@@ -39,7 +40,13 @@ pub record ChangesAt (at : ℕ) (how : File → File) (old new : List Entry) : T
   pub room : ℕ
   pub is_open : Bool
   pub found : slice_get old at ≡ Some entry
-  pub set : new ≡ slice_set old at (record { name = entry.name; state = how entry.state; room = room; is_open = is_open })
+  pub set : new
+      ≡ slice_set old at (record {
+        name = entry.name;
+        state = how entry.state;
+        room = room;
+        is_open = is_open;
+      })
 
 -- the same files are open
 abbrev pub SameOpen : List Entry → List Entry → Type 0

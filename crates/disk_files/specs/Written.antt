@@ -7,10 +7,12 @@ use Rattle.disk_files.specs.Entry.{Entry}
 abbrev pub place_written : List Entry → List Entry → Option ℕ
 place_written [] after = None
 place_written (b ∷ before) [] = None
-place_written (b ∷ before) (a ∷ after) = cond (length a.state.written == length b.state.written) (option_map (λ n. n + 1) (place_written before after)) (Some 0)
+place_written (b ∷ before) (a ∷ after) = cond (length a.state.written == length b.state.written)
+    (option_map (λ n. n + 1) (place_written before after)) (Some 0)
 
 -- the place of the file that was written to last, with the files as they are and what they were
 -- before each change, the last change first
 abbrev pub last_place : List Entry → List (List Entry) → Option ℕ
 last_place files [] = None
-last_place files (before ∷ earlier) = option_or (place_written before files) (last_place before earlier)
+last_place files (before ∷ earlier) = option_or (place_written before files)
+    (last_place before earlier)

@@ -268,7 +268,8 @@ pub fn cut_last<A: Allocator>(files: &mut Vec<MemoryFile<A>, A>, last: Option<us
     ensures sound { IsSound files.old.items → IsSound files.new.items }
     ensures left { IsSound files.old.items → (name : List ℕ)
         → left_state false (disk_of files.new.items name)
-        ≡ after_stop (left_of (Last n) (name_at files.old.items last) (disk_of files.old.items)) name }
+        ≡ after_stop (left_of (Last n) (name_at files.old.items last) (disk_of files.old.items))
+        name }
 {
     let Some(at) = last else {
         return;

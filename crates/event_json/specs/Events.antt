@@ -30,17 +30,22 @@ pub record IsDated (seconds : ℤ) : Type 0 where
 
 -- a time in whole seconds
 pub data IsSecondsJson (seconds : ℤ) (tokens : List Token) : Type 0 where
-  Dated : (text : List ℕ) → IsDated seconds → IsInstant 0 (seconds *ℤ pos second) text → tokens ≡ string text ∷ [] → IsSecondsJson seconds tokens
-  Undated : (IsDated seconds → ⊥) → tokens ≡ number (signed_decimal seconds) ∷ [] → IsSecondsJson seconds tokens
+  Dated : (text : List ℕ) → IsDated seconds → IsInstant 0 (seconds *ℤ pos second) text
+      → tokens ≡ string text ∷ [] → IsSecondsJson seconds tokens
+  Undated : (IsDated seconds → ⊥) → tokens ≡ number (signed_decimal seconds) ∷ []
+      → IsSecondsJson seconds tokens
 
 -- the nanoseconds since the beginning of 1970 that the content of an EventTime says: seconds, and
 -- nanoseconds
 abbrev pub event_nanos : List ℕ → ℤ
-event_nanos content = pos (from_be_bytes w32 (take 4 content)) *ℤ pos second +ℤ pos (from_be_bytes w32 (drop 4 content))
+event_nanos content =
+    pos (from_be_bytes w32 (take 4 content)) *ℤ pos second +ℤ pos
+    (from_be_bytes w32 (drop 4 content))
 
 -- those that a time says
 pub data IsNanoseconds (time : List ℕ) (nanos : ℤ) : Type 0 where
-  OfSeconds : (seconds : ℤ) → IsInteger time seconds → nanos ≡ seconds *ℤ pos second → IsNanoseconds time nanos
+  OfSeconds : (seconds : ℤ) → IsInteger time seconds → nanos ≡ seconds *ℤ pos second
+      → IsNanoseconds time nanos
   OfEventTime : (is : IsEventTime time) → nanos ≡ event_nanos is.content → IsNanoseconds time nanos
 
 -- those of a stored entry's time
@@ -53,12 +58,14 @@ pub data IsEventTimeJson (content : List ℕ) (tokens : List Token) : Type 0 whe
   Sound : (text : List ℕ) → from_be_bytes w32 (drop 4 content) < second
       → IsInstant 9 (event_nanos content) text
       → tokens ≡ string text ∷ [] → IsEventTimeJson content tokens
-  Unsound : second ≤ from_be_bytes w32 (drop 4 content) → tokens ≡ ext_tokens 0 content → IsEventTimeJson content tokens
+  Unsound : second ≤ from_be_bytes w32 (drop 4 content) → tokens ≡ ext_tokens 0 content
+      → IsEventTimeJson content tokens
 
 -- the value that stands for a time: without a fraction where it is an integer, and with one where
 -- it is an EventTime
 pub data IsTimeJson (time : List ℕ) (tokens : List Token) : Type 0 where
-  Seconds : (seconds : ℤ) → IsInteger time seconds → IsSecondsJson seconds tokens → IsTimeJson time tokens
+  Seconds : (seconds : ℤ) → IsInteger time seconds → IsSecondsJson seconds tokens
+      → IsTimeJson time tokens
   Nanoseconds : (is : IsEventTime time) → IsEventTimeJson is.content tokens → IsTimeJson time tokens
 
 -- the object that stands for an event: its tag, as a str of the same content would be written, its
@@ -71,7 +78,9 @@ pub record IsEventJson (tag entry : List ℕ) (tokens : List Token) : Type 0 whe
   pub time_is : IsTimeJson entry_is.time time_value
   pub record_value : List Token
   pub record_is : IsJson entry_is.fields record_value
-  pub whole : tokens ≡ begin_object ∷ key (codes "tag") ∷ (tag_value ++ key (codes "time") ∷ (time_value ++ key (codes "record") ∷ (record_value ++ end_object ∷ [])))
+  pub whole : tokens ≡ begin_object ∷ key (codes "tag") ∷ (tag_value
+      ++ key (codes "time") ∷ (time_value
+      ++ key (codes "record") ∷ (record_value ++ end_object ∷ [])))
 
 -- the line of an event: the text of its object, with no space, and a line feed
 pub record IsEventLine (tag entry line : List ℕ) : Type 0 where

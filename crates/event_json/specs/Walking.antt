@@ -47,25 +47,29 @@ IsOfScalar (head.Array count next) = ⊥
 IsOfScalar (head.Map count next) = ⊥
 
 -- an array of these items
-pub record IsArrayOf (Is : List ℕ → List Token → Type 0) (items : List (List ℕ)) (tokens : List Token) : Type 0 where
+pub record IsArrayOf (Is : List ℕ → List Token → Type 0) (items : List (List ℕ))
+    (tokens : List Token) : Type 0 where
   pub values : List Token
   pub each : AreJson Is items values
   pub whole : tokens ≡ begin_array ∷ (values ++ end_array ∷ [])
 
 -- an object with these pairs as its members
-pub record IsObjectOf (Is : List ℕ → List Token → Type 0) (pairs : List Pair) (tokens : List Token) : Type 0 where
+pub record IsObjectOf (Is : List ℕ → List Token → Type 0) (pairs : List Pair)
+    (tokens : List Token) : Type 0 where
   pub members : List Token
   pub each : AreMembers Is pairs members
   pub whole : tokens ≡ begin_object ∷ (members ++ end_object ∷ [])
 
 -- an object with an array of these pairs
-pub record IsPairsOf (Is : List ℕ → List Token → Type 0) (pairs : List Pair) (tokens : List Token) : Type 0 where
+pub record IsPairsOf (Is : List ℕ → List Token → Type 0) (pairs : List Pair)
+    (tokens : List Token) : Type 0 where
   pub values : List Token
   pub each : ArePairs Is pairs values
   pub whole : tokens ≡ marked (codes "$map") (begin_array ∷ (values ++ end_array ∷ []))
 
 -- an array of a key and its value
-pub record IsPairOf (IsKey IsValue : List ℕ → List Token → Type 0) (key value : List ℕ) (tokens : List Token) : Type 0 where
+pub record IsPairOf (IsKey IsValue : List ℕ → List Token → Type 0) (key value : List ℕ)
+    (tokens : List Token) : Type 0 where
   pub first : List Token
   pub second : List Token
   pub first_is : IsKey key first
@@ -73,7 +77,8 @@ pub record IsPairOf (IsKey IsValue : List ℕ → List Token → Type 0) (key va
   pub whole : tokens ≡ begin_array ∷ (first ++ (second ++ end_array ∷ []))
 
 -- the one where each key can be a name, and else the other
-pub data IsMapOf (Is : List ℕ → List Token → Type 0) (pairs : List Pair) (tokens : List Token) : Type 0 where
+pub data IsMapOf (Is : List ℕ → List Token → Type 0) (pairs : List Pair)
+    (tokens : List Token) : Type 0 where
   Object : IsObjectOf Is pairs tokens → IsMapOf Is pairs tokens
   Pairs : (AllByRecursion IsNamed pairs → ⊥) → IsPairsOf Is pairs tokens → IsMapOf Is pairs tokens
 

@@ -33,7 +33,8 @@ spelled_run form events = flat_map (spelled form) events
 
 -- no event is whole at the front of the bytes
 abbrev pub BeginsNo : Form → List ℕ → Type 0
-BeginsNo form bytes = (event : Event) (rest : List ℕ) → IsIn form event → bytes ≢ spelled form event ++ rest
+BeginsNo form bytes = (event : Event) (rest : List ℕ) → IsIn form event → bytes ≢ spelled form event
+    ++ rest
 
 -- no stored entry is whole at the front of the bytes
 abbrev pub BeginsNoEntry : List ℕ → Type 0

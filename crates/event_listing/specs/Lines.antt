@@ -10,8 +10,10 @@ use Rattle.event_listing.specs.Forms.{Form, spelled, spelled_run, BeginsNo, IsIn
 
 -- what is printed of an event: its line where it is chosen, and else nothing
 pub data IsPrintedOf (chosen : Chosen) (event : Event) (text : List ℕ) : Type 0 where
-  Line : (nanos : ℤ) → IsTimeOf event.entry nanos → IsChosen chosen event.tag nanos → IsEventLine event.tag event.entry text → IsPrintedOf chosen event text
-  Nothing : (nanos : ℤ) → IsTimeOf event.entry nanos → (IsChosen chosen event.tag nanos → ⊥) → text ≡ [] → IsPrintedOf chosen event text
+  Line : (nanos : ℤ) → IsTimeOf event.entry nanos → IsChosen chosen event.tag nanos
+      → IsEventLine event.tag event.entry text → IsPrintedOf chosen event text
+  Nothing : (nanos : ℤ) → IsTimeOf event.entry nanos → (IsChosen chosen event.tag nanos → ⊥)
+      → text ≡ [] → IsPrintedOf chosen event text
 
 -- what is printed of events, one after another
 abbrev pub ArePrinted : Chosen → List Event → List ℕ → Type 0
@@ -36,7 +38,8 @@ pub record PrintsSome (form : Form) (chosen : Chosen) (bytes text : List ℕ) : 
 
 -- the bytes begin with an event, behind which stand these, and what is printed of it is added to
 -- the lines
-pub record PrintsFirst (form : Form) (chosen : Chosen) (bytes behind before lines : List ℕ) : Type 0 where
+pub record PrintsFirst (form : Form) (chosen : Chosen)
+    (bytes behind before lines : List ℕ) : Type 0 where
   pub event : Event
   pub is : IsIn form event
   pub first : bytes ≡ spelled form event ++ behind
@@ -47,4 +50,5 @@ pub record PrintsFirst (form : Form) (chosen : Chosen) (bytes behind before line
 -- that is so, or no event is whole at the front of the bytes
 abbrev pub TakesFirst : Form → Chosen → List ℕ → Option (Bor (List ℕ)) → List ℕ → List ℕ → Type 0
 TakesFirst form chosen bytes None before lines = BeginsNo form bytes × (lines ≡ before)
-TakesFirst form chosen bytes (Some behind) before lines = PrintsFirst form chosen bytes behind.now before lines
+TakesFirst form chosen bytes (Some behind) before lines =
+    PrintsFirst form chosen bytes behind.now before lines

@@ -46,7 +46,8 @@ pub record PrintsSomeLive (chosen : Chosen) (bytes text : List ℕ) : Type 0 whe
 -- the text is what is printed of a journal of these bytes: all that it holds live, or nothing where
 -- it isn't sealed
 abbrev pub IsJournalWhole : Chosen → List ℕ → List ℕ → Type 0
-IsJournalWhole chosen bytes text = ((used : ℕ) × PrintsAllLive chosen bytes text used) ⊎ ((text ≡ []) × EndsUnsealed bytes)
+IsJournalWhole chosen bytes text = ((used : ℕ) × PrintsAllLive chosen bytes text used)
+    ⊎ ((text ≡ []) × EndsUnsealed bytes)
 
 -- the text is what is printed of the beginning of that
 abbrev pub IsJournalBegun : Chosen → List ℕ → List ℕ → Type 0
@@ -54,7 +55,8 @@ IsJournalBegun chosen bytes text = (text ≡ []) ⊎ PrintsSomeLive chosen bytes
 
 -- a journal of these bytes, of which this is printed, ends so
 abbrev pub IsJournalEnd : Chosen → List ℕ → List ℕ → JournalEnd → Type 0
-IsJournalEnd chosen bytes text (Sealed at behind) = PrintsAllLive chosen bytes text at × (behind ≡ length bytes - at)
+IsJournalEnd chosen bytes text (Sealed at behind) = PrintsAllLive chosen bytes text at
+    × (behind ≡ length bytes - at)
 IsJournalEnd chosen bytes text Unsealed = (text ≡ []) × EndsUnsealed bytes
 IsJournalEnd chosen bytes text Damaged = (text ≡ []) × IsDamaged bytes
 
@@ -65,7 +67,8 @@ is_readable Damaged = false
 
 -- How a journal is read, where it is known what it has: all that it holds live is printed; or some
 -- is.
-pub record PrintsJournal (chosen : Chosen) (known : Option (List ℕ)) (old new : Shown) (result : Result JournalEnd Stop) : Type 0 where
+pub record PrintsJournal (chosen : Chosen) (known : Option (List ℕ)) (old new : Shown)
+    (result : Result JournalEnd Stop) : Type 0 where
   pub text : List ℕ
   pub shown : MatchResult result (λ end. ShowsAll old new text) (IsShown old new text)
   pub ends :
@@ -74,16 +77,20 @@ pub record PrintsJournal (chosen : Chosen) (known : Option (List ℕ)) (old new 
 
 -- Of live chunks, whose entries lie at these places of a file, all events are printed, where it is
 -- known what the file has; or some are.
-pub record PrintsLive (chosen : Chosen) (state : State) (places : Spots) (known : Option (List ℕ)) (old new : Shown) (result : Result (Unit {0}) Stop) : Type 0 where
+pub record PrintsLive (chosen : Chosen) (state : State) (places : Spots) (known : Option (List ℕ))
+    (old new : Shown) (result : Result (Unit {0}) Stop) : Type 0 where
   pub text : List ℕ
   pub shown : MatchResult result (λ _. ShowsAll old new text) (IsShown old new text)
   pub ends :
-      MatchResult result (λ _. IfSome known (λ bytes. ArePlaced bytes places state → ArePrinted chosen (live_events state) text))
-      (λ stop. IfSome known (λ bytes. ArePlaced bytes places state → PrintsFirstOf chosen (live_events state) text))
+      MatchResult result (λ _. IfSome known (λ bytes. ArePlaced bytes places state
+      → ArePrinted chosen (live_events state) text))
+      (λ stop. IfSome known (λ bytes. ArePlaced bytes places state
+      → PrintsFirstOf chosen (live_events state) text))
 
 -- Of the bytes of a chunk that has this tag all events are printed, and nothing stands behind them;
 -- or some are printed.
-pub record PrintsChunk (chosen : Chosen) (tag : List ℕ) (known : Option (List ℕ)) (old new : Shown) (result : Result (Unit {0}) Stop) : Type 0 where
+pub record PrintsChunk (chosen : Chosen) (tag : List ℕ) (known : Option (List ℕ)) (old new : Shown)
+    (result : Result (Unit {0}) Stop) : Type 0 where
   pub text : List ℕ
   pub shown : MatchResult result (λ _. ShowsAll old new text) (IsShown old new text)
   pub ends :

@@ -24,18 +24,23 @@ is_ended (Damaged at) = false
 
 -- How bytes that spell events so are read, where it is known what they are: to the end of the
 -- events, all of which are printed; or some are.
-pub record PrintsFile (form : Form) (chosen : Chosen) (known : Option (List ℕ)) (old new : Shown) (result : Result End Stop) : Type 0 where
+pub record PrintsFile (form : Form) (chosen : Chosen) (known : Option (List ℕ)) (old new : Shown)
+    (result : Result End Stop) : Type 0 where
   pub text : List ℕ
   pub shown : MatchResult result (λ end. ShowsAll old new text) (IsShown old new text)
   pub ends :
-      MatchResult result (λ end. IfSome known (λ bytes. (rest : List ℕ) × PrintsAll form chosen bytes text rest × IsEnd bytes rest end))
+      MatchResult result (λ end.
+      IfSome known (λ bytes. (rest : List ℕ) × PrintsAll form chosen bytes text rest
+      × IsEnd bytes rest end))
       (λ stop. IfSome known (λ bytes. PrintsSome form chosen bytes text))
 
 -- Of the bytes that are held with a piece, from this place of the file on, all events are printed
 -- and taken off; or some are printed.
-pub record PrintsPiece (form : Form) (chosen : Chosen) (held left : ℕ × List ℕ) (old new : Shown) (result : Result (Unit {0}) Stop) : Type 0 where
+pub record PrintsPiece (form : Form) (chosen : Chosen) (held left : ℕ × List ℕ) (old new : Shown)
+    (result : Result (Unit {0}) Stop) : Type 0 where
   pub text : List ℕ
   pub shown : MatchResult result (λ _. ShowsAll old new text) (IsShown old new text)
   pub ends :
-      MatchResult result (λ _. PrintsAll form chosen held.1 text left.1 × (left.0 + length left.1 ≡ held.0 + length held.1))
+      MatchResult result (λ _. PrintsAll form chosen held.1 text left.1
+      × (left.0 + length left.1 ≡ held.0 + length held.1))
       (λ stop. PrintsSome form chosen held.1 text)

@@ -16,7 +16,8 @@ pub record Shown : Type 0 where
 -- repeat none
 abbrev pub IsKept : Option Recent → List ℕ → List ℕ → Option Recent → Type 0
 IsKept None text kept now = (kept ≡ text) × (now ≡ None)
-IsKept (Some recent) text kept now = (last : Recent) × Keeps recent text kept last × (now ≡ Some last)
+IsKept (Some recent) text kept now = (last : Recent) × Keeps recent text kept last
+    × (now ≡ Some last)
 
 -- what is to be written of a text was written
 pub record ShowsAll (old new : Shown) (text : List ℕ) : Type 0 where

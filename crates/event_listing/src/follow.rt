@@ -27,8 +27,8 @@ pub enum Growth {
     Ended,
 }
 
-/// A sink's file that is printed in passes. Contracts see its name, and the place up to which it was
-/// printed.
+/// A sink's file that is printed in passes. Contracts see its name, and the place up to which it
+/// was printed.
 #[derive(Drop)]
 pub struct FollowedFile<A: Allocator> {
     name: String<A>,

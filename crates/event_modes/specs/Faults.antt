@@ -32,7 +32,8 @@ EventFault time fields _ = ⊥
 -- an entry: first that it is an array of two
 abbrev pub EntryFault : ModeFault → List ℕ → Type 0
 EntryFault BadEntry bytes = (time fields : List ℕ) → IsArray (time ∷ fields ∷ []) bytes → ⊥
-EntryFault fault bytes = (time : List ℕ) × (fields : List ℕ) × IsArray (time ∷ fields ∷ []) bytes × EventFault time fields fault
+EntryFault fault bytes = (time : List ℕ) × (fields : List ℕ) × IsArray (time ∷ fields ∷ []) bytes
+    × EventFault time fields fault
 
 -- an array of a time and a record
 abbrev pub IsGoodEntry : List ℕ → Type 0
@@ -47,14 +48,17 @@ PackedEnd rest _ = ⊥
 -- what stands behind the last good entry of a PackedForward message's entries
 abbrev pub PackedFault : ModeFault → List ℕ → Type 0
 PackedFault fault rest = (rest ≢ []) × (PackedEnd rest fault
-    ⊎ ((item : List ℕ) × (more : List ℕ) × IsItemWithin item × EntryFault fault item × (rest ≡ item ++ more)))
+    ⊎ ((item : List ℕ) × (more : List ℕ) × IsItemWithin item × EntryFault fault item
+    × (rest ≡ item ++ more)))
 
 -- the first bad entry; only packed entries can be torn or no items at all
 abbrev pub CarriedFault : Carrier → ModeFault → Type 0
 CarriedFault (Single time fields) fault = EventFault time fields fault
-CarriedFault (Forward array) fault = (items : List (List ℕ)) × IsArray items array × FirstBad IsGoodEntry (EntryFault fault) items
+CarriedFault (Forward array) fault = (items : List (List ℕ)) × IsArray items array
+    × FirstBad IsGoodEntry (EntryFault fault) items
 CarriedFault (Packed content) fault = (items : List (List ℕ)) × (rest : List ℕ)
-    × AllByRecursion IsItemWithin items × AllByRecursion IsGoodEntry items × (content ≡ concat items ++ rest) × PackedFault fault rest
+    × AllByRecursion IsItemWithin items × AllByRecursion IsGoodEntry items
+    × (content ≡ concat items ++ rest) × PackedFault fault rest
 
 -- what is wrong with one pair of an option
 abbrev pub PairFault : ModeFault → Pair → Type 0
@@ -73,7 +77,8 @@ OptionFault (Some bytes) fault =
 abbrev pub FrameFault : Frame → ModeFault → Type 0
 FrameFault frame fault = ((fault ≡ BadTag) × ((tag : List ℕ) → IsTag frame.tag tag → ⊥))
     ⊎ (((tag : List ℕ) × IsTag frame.tag tag × CarriedFault frame.carrier fault)
-    ⊎ ((tag : List ℕ) × (entries : List (List ℕ)) × IsTag frame.tag tag × Carries frame.carrier entries × OptionFault frame.option fault))
+    ⊎ ((tag : List ℕ) × (entries : List (List ℕ)) × IsTag frame.tag tag
+    × Carries frame.carrier entries × OptionFault frame.option fault))
 
 -- an item that is neither nil nor a message: it has not the places of any mode, or the first fault
 -- in them
@@ -85,4 +90,5 @@ ItemFault bytes fault =
 -- what keeps the bytes from beginning with a message or a nil, however they go on
 abbrev pub StreamFault : List ℕ → ModeFault → Type 0
 StreamFault bytes fault = ((why : MsgFault) × (fault ≡ Bytes why) × IsFaulty why bytes)
-    ⊎ ((item : List ℕ) × (more : List ℕ) × IsItemWithin item × ItemFault item fault × (bytes ≡ item ++ more))
+    ⊎ ((item : List ℕ) × (more : List ℕ) × IsItemWithin item × ItemFault item fault
+    × (bytes ≡ item ++ more))

@@ -28,7 +28,8 @@ abbrev pub Takes : {A : Type 0} → Feeding → Next A → Feeding → Type 0
 Takes old (next.Message m) new = TakesOff old (Sent (meaning m)) new
 Takes old next.Heartbeat new = TakesOff old Heartbeat new
 Takes old next.Need new = (new ≡ old) × (old.fault ≡ None) × ((old.held ≡ []) ⊎ IsOpen old.held)
-Takes old (next.Bad fault) new = (new.held ≡ old.held) × (new.fault ≡ Some fault) × StreamFault old.held fault
+Takes old (next.Bad fault) new = (new.held ≡ old.held) × (new.fault ≡ Some fault)
+    × StreamFault old.held fault
 
 -- the fault that is remembered is the one of the bytes held
 abbrev pub IsRemembered : List ℕ → Option ModeFault → Type 0

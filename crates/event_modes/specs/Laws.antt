@@ -6,7 +6,8 @@ use Rattle.event_modes.specs.Stream.{Arrival, IsStream}
 
 -- an item means at most one message
 abbrev pub MeansOne : Type 0
-MeansOne = (bytes : List ℕ) (one other : Parts) → IsMessage bytes one → IsMessage bytes other → one ≡ other
+MeansOne = (bytes : List ℕ) (one other : Parts) → IsMessage bytes one → IsMessage bytes other
+    → one ≡ other
 
 -- a heartbeat is no message
 abbrev pub IsNeverBoth : Type 0

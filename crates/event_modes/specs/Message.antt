@@ -19,7 +19,7 @@ pub record Parts : Type 0 where
 pub data Carrier : Type 0 where
   Single : (time fields : List ℕ) → Carrier  -- "Message Mode": one time and one record
   Forward : (array : List ℕ) → Carrier  -- "Forward Mode": an array of entries
-  Packed : (content : List ℕ) → Carrier  -- "PackedForward Mode": the content of a bin or str, entries one after another
+  Packed : (content : List ℕ) → Carrier  -- "PackedForward Mode": a bin's or str's content
 
 -- the places of a message, each with what stands there
 pub record Frame : Type 0 where
@@ -29,8 +29,10 @@ pub record Frame : Type 0 where
 
 -- the elements of a message of each mode; the second element alone decides the mode
 abbrev pub IsLaidOut : List ℕ → Carrier → Option (List ℕ) → List (List ℕ) → Type 0
-IsLaidOut tag (Single time fields) option elements = (elements ≡ tag ∷ time ∷ fields ∷ option_to_list option)
-    × ((items : List (List ℕ)) → IsArray items time → ⊥) × ((content : List ℕ) → IsText time content → ⊥)
+IsLaidOut tag (Single time fields) option elements =
+    (elements ≡ tag ∷ time ∷ fields ∷ option_to_list option)
+    × ((items : List (List ℕ)) → IsArray items time → ⊥)
+    × ((content : List ℕ) → IsText time content → ⊥)
 IsLaidOut tag (Forward array) option elements = (elements ≡ tag ∷ array ∷ option_to_list option)
     × ((items : List (List ℕ)) × IsArray items array)
 IsLaidOut tag (Packed content) option elements =
@@ -52,10 +54,13 @@ IsTag bytes tag = IsText bytes tag × (length tag ≤ longest_tag)
 
 -- the events that are carried, as they are stored and in their order
 abbrev pub Carries : Carrier → List (List ℕ) → Type 0
-Carries (Single time fields) entries = IsTime time × IsRecord fields × (entries ≡ stored_entry time fields ∷ [])
-Carries (Forward array) entries = (items : List (List ℕ)) × IsArray items array × AllZip IsEntry items entries
+Carries (Single time fields) entries = IsTime time × IsRecord fields
+    × (entries ≡ stored_entry time fields ∷ [])
+Carries (Forward array) entries = (items : List (List ℕ)) × IsArray items array
+    × AllZip IsEntry items entries
 Carries (Packed content) entries =
-    (items : List (List ℕ)) × AllByRecursion IsItemWithin items × (content ≡ concat items) × AllZip IsEntry items entries
+    (items : List (List ℕ)) × AllByRecursion IsItemWithin items × (content ≡ concat items)
+    × AllZip IsEntry items entries
 
 -- the item is a message that says this
 pub record IsMessage (bytes : List ℕ) (parts : Parts) : Type 0 where

@@ -11,7 +11,8 @@ longest_chunk = 1024
 
 -- what may stand under "chunk": nil for none, or a str or bin that is not too long
 abbrev pub IsChunk : List ℕ → Type 0
-IsChunk value = IsNil value ⊎ ((content : List ℕ) × IsText value content × (length value ≤ longest_chunk))
+IsChunk value = IsNil value
+    ⊎ ((content : List ℕ) × IsText value content × (length value ≤ longest_chunk))
 
 -- what may stand under "compressed": nil, or the name of what is sent as it is
 abbrev pub IsUncompressed : List ℕ → Type 0
@@ -25,7 +26,8 @@ pub record IsFit (pair : Pair) : Type 0 where
 -- the item that an acknowledgement has to repeat: the last "chunk", unless that is nil or there is
 -- none
 abbrev pub AsksFor : List Pair → Option (List ℕ) → Type 0
-AsksFor pairs None = HasNoKey (codes "chunk") pairs ⊎ ((value : List ℕ) × IsLastValue (codes "chunk") pairs value × IsNil value)
+AsksFor pairs None = HasNoKey (codes "chunk") pairs
+    ⊎ ((value : List ℕ) × IsLastValue (codes "chunk") pairs value × IsNil value)
 AsksFor pairs (Some item) = IsLastValue (codes "chunk") pairs item × (IsNil item → ⊥)
 
 -- what the last element of a message asks for, if there is one; nil is no option

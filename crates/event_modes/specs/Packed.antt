@@ -10,11 +10,13 @@ use Rattle.msgpack_bytes.specs.Spelling.{uint_of, str_of, bin_of, array_header_o
 -- the option: how many entries there are, and the chunk that is to be acknowledged, if one is
 abbrev pub option_of : ℕ → Option (List ℕ) → List ℕ
 option_of count None = map_header_of 1 ++ (str_of (codes "size") ++ uint_of count)
-option_of count (Some chunk) = map_header_of 2 ++ (str_of (codes "size") ++ (uint_of count ++ (str_of (codes "chunk") ++ str_of chunk)))
+option_of count (Some chunk) = map_header_of 2
+    ++ (str_of (codes "size") ++ (uint_of count ++ (str_of (codes "chunk") ++ str_of chunk)))
 
 -- the tag as a str, the entries as a bin, and the option
 abbrev pub packed_message : List ℕ → List (List ℕ) → Option (List ℕ) → List ℕ
-packed_message tag entries chunk = array_header_of 3 ++ (str_of tag ++ (bin_of (concat entries) ++ option_of (length entries) chunk))
+packed_message tag entries chunk = array_header_of 3
+    ++ (str_of tag ++ (bin_of (concat entries) ++ option_of (length entries) chunk))
 
 -- what it says: the chunk's text is to be repeated as it is spelled
 abbrev pub said : List ℕ → List (List ℕ) → Option (List ℕ) → Parts

@@ -17,7 +17,8 @@ use Rattle.event_modes.specs.Message.{Carrier, Single, Forward, Packed, Frame}
 abbrev pub elements_list : Elements → List (List ℕ)
 elements_list (Two first second) = first.now ∷ second.now ∷ []
 elements_list (Three first second third) = first.now ∷ second.now ∷ third.now ∷ []
-elements_list (Four first second third fourth) = first.now ∷ second.now ∷ third.now ∷ fourth.now ∷ []
+elements_list (Four first second third fourth) =
+    first.now ∷ second.now ∷ third.now ∷ fourth.now ∷ []
 
 -- what carries the events, without where it lies
 abbrev pub carrier_of : Carried → Carrier
@@ -27,7 +28,11 @@ carrier_of (carried.Packed content) = Packed content.now
 
 -- the places of a message without where they lie in memory
 abbrev pub frame_of : Places → Frame
-frame_of places = record { tag = places.tag.now; carrier = carrier_of places.carried; option = option_map (λ x. x.now) places.option }
+frame_of places = record {
+  tag = places.tag.now;
+  carrier = carrier_of places.carried;
+  option = option_map (λ x. x.now) places.option;
+}
 
 -- a second element that carries entries, and as what
 abbrev pub IsBulk : List ℕ → Carrier → Type 0
@@ -37,11 +42,13 @@ IsBulk second (Packed content) = IsText second content
 
 -- a second element that carries none
 abbrev pub IsNoBulk : List ℕ → Type 0
-IsNoBulk second = ((items : List (List ℕ)) → IsArray items second → ⊥) × ((content : List ℕ) → IsText second content → ⊥)
+IsNoBulk second = ((items : List (List ℕ)) → IsArray items second → ⊥)
+    × ((content : List ℕ) → IsText second content → ⊥)
 
 -- a carrier that lies in an item
 abbrev pub CanCarry : Carrier → Type 0
-CanCarry (Single time fields) = IsPart time × IsPart fields × (length time + length fields < longest)
+CanCarry (Single time fields) = IsPart time × IsPart fields
+    × (length time + length fields < longest)
 CanCarry (Forward array) = IsItemWithin array × ((items : List (List ℕ)) × IsArray items array)
 CanCarry (Packed content) = Unit {0}
 

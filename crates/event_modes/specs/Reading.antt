@@ -11,7 +11,11 @@ use Rattle.event_modes.specs.Faults.{ItemFault, StreamFault}
 
 -- what a message in memory says
 abbrev pub meaning : {A : Type 0} → Message A → Parts
-meaning m = record { tag = m.tag.items; entries = m.entries; ack = option_map (λ item. item.items) m.ack }
+meaning m = record {
+  tag = m.tag.items;
+  entries = m.entries;
+  ack = option_map (λ item. item.items) m.ack;
+}
 
 -- an answer without where it lies in memory
 pub data Answer : Type 0 where

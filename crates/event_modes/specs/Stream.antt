@@ -36,7 +36,8 @@ IsRest rest = (rest ≡ []) ⊎ (IsOpen rest ⊎ (BeginsOtherwise rest ⊎ IsLos
 abbrev pub Splits : List ℕ → List Arrival → List ℕ → Type 0
 Splits bytes [] rest = bytes ≡ rest
 Splits bytes (arrival ∷ arrivals) rest =
-    (front : List ℕ) × (back : List ℕ) × IsArrival front arrival × Splits back arrivals rest × (bytes ≡ front ++ back)
+    (front : List ℕ) × (back : List ℕ) × IsArrival front arrival × Splits back arrivals rest
+    × (bytes ≡ front ++ back)
 
 -- the same, up to where the messages end
 pub record IsStream (bytes : List ℕ) (arrivals : List Arrival) (rest : List ℕ) : Type 0 where

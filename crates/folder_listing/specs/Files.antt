@@ -28,7 +28,8 @@ pub data Finding : Type 0 where
 
 -- this is what the bytes of a journal mean
 abbrev pub IsMeaningOf : List ℕ → Finding → Type 0
-IsMeaningOf bytes (Means state torn) = (used : ℕ) × IsReplayed bytes state used × (torn ≡ length bytes - used)
+IsMeaningOf bytes (Means state torn) = (used : ℕ) × IsReplayed bytes state used
+    × (torn ≡ length bytes - used)
 IsMeaningOf bytes Unsealed = EndsUnsealed bytes
 IsMeaningOf bytes Damaged = IsDamaged bytes
 IsMeaningOf bytes (Holds events torn) = ⊥
@@ -49,7 +50,8 @@ IsIn Sink bytes finding = IsContentOf bytes finding
 
 -- the bytes are read, and this is found in them; or they aren't read
 abbrev pub IsFindingOf : Kind → Option (List ℕ) → Finding → Type 0
-IsFindingOf kind known finding = ((bytes : List ℕ) × IsTextOf known bytes × IsIn kind bytes finding) ⊎ (finding ≡ Unread)
+IsFindingOf kind known finding = ((bytes : List ℕ) × IsTextOf known bytes × IsIn kind bytes finding)
+    ⊎ (finding ≡ Unread)
 
 -- what a file is called
 abbrev pub kind_text : Kind → List ℕ
@@ -66,16 +68,21 @@ stage_text Claimed = codes "claimed"
 -- these have
 abbrev pub chunk_line : Facts → List ℕ
 chunk_line facts =
-    line (codes "chunk " ++ decimal facts.serial ++ codes " " ++ stage_text facts.stage ++ codes " " ++ facts.tag ++ codes " " ++ decimal facts.count ++ codes " entries " ++ decimal facts.size ++ codes " bytes")
+    line (codes "chunk " ++ decimal facts.serial ++ codes " " ++ stage_text facts.stage ++ codes " "
+    ++ facts.tag ++ codes " " ++ decimal facts.count ++ codes " entries " ++ decimal facts.size
+    ++ codes " bytes")
 
 -- the line of a file of this kind and name, and behind that of a journal those of its chunks, by
 -- rising serial
 abbrev pub shown_lines : Kind → List ℕ → Finding → List ℕ
 shown_lines kind name (Means state torn) =
-    line (kind_text kind ++ codes " " ++ name ++ codes " bytes " ++ decimal (total_size state) ++ codes " torn " ++ decimal torn) ++ flat_map chunk_line (map numbered_facts state.chunks)
+    line (kind_text kind ++ codes " " ++ name ++ codes " bytes " ++ decimal (total_size state)
+    ++ codes " torn " ++ decimal torn) ++ flat_map chunk_line (map numbered_facts state.chunks)
 shown_lines kind name Unsealed = line (kind_text kind ++ codes " " ++ name ++ codes " unsealed")
 shown_lines kind name Damaged = line (kind_text kind ++ codes " " ++ name ++ codes " damaged")
-shown_lines kind name (Holds events torn) = line (kind_text kind ++ codes " " ++ name ++ codes " events " ++ decimal events ++ codes " torn " ++ decimal torn)
+shown_lines kind name (Holds events torn) =
+    line (kind_text kind ++ codes " " ++ name ++ codes " events " ++ decimal events
+    ++ codes " torn " ++ decimal torn)
 shown_lines kind name Unread = line (kind_text kind ++ codes " " ++ name ++ codes " unread")
 
 -- the file is read, and not damaged
@@ -88,12 +95,14 @@ is_sound Unread = false
 
 -- this is said of a file of this kind and name
 abbrev pub IsShownAs : Kind → List ℕ → Finding → List ℕ → Bool → Type 0
-IsShownAs kind name finding lines sound = (lines ≡ shown_lines kind name finding) × (sound ≡ is_sound finding)
+IsShownAs kind name finding lines sound = (lines ≡ shown_lines kind name finding)
+    × (sound ≡ is_sound finding)
 
 -- This is said of the file of this kind and name, whose bytes are what `named` has, where that is
 -- known.
 abbrev pub IsShown : (List ℕ → Option (List ℕ)) → Kind → List ℕ → List ℕ → Bool → Type 0
-IsShown named kind name lines sound = (finding : Finding) × IsFindingOf kind (named name) finding × IsShownAs kind name finding lines sound
+IsShown named kind name lines sound = (finding : Finding) × IsFindingOf kind (named name) finding
+    × IsShownAs kind name finding lines sound
 
 -- the kind and the name of a file
 abbrev pub Named : Type 0
@@ -118,7 +127,8 @@ all_sound [] = true
 all_sound (shown ∷ others) = is_sound shown.finding && all_sound others
 
 -- This is said of these files, one behind another, and whether all are sound.
-pub record AreShown (named : List ℕ → Option (List ℕ)) (files : List Named) (lines : List ℕ) (sound : Bool) : Type 0 where
+pub record AreShown (named : List ℕ → Option (List ℕ)) (files : List Named) (lines : List ℕ)
+    (sound : Bool) : Type 0 where
   pub shown : List Shown
   pub files_are : map (λ one. one.file) shown ≡ files
   pub each : AllByRecursion (λ one. IsFindingOf one.file.0 (named one.file.1) one.finding) shown
@@ -130,12 +140,15 @@ abbrev pub shown_status : Bool → Status
 shown_status sound = cond sound Done No
 
 -- These files are listed, and this is printed.
-pub record PrintsListing (named : List ℕ → Option (List ℕ)) (files : List Named) (old new : Option (List ℕ)) (status : Status) : Type 0 where
+pub record PrintsListing (named : List ℕ → Option (List ℕ)) (files : List Named)
+    (old new : Option (List ℕ)) (status : Status) : Type 0 where
   pub lines : List ℕ
   pub sound : Bool
   pub shown : AreShown named files lines sound
   pub printed : IsPrinted old new lines (shown_status sound) status
 
 -- all that `show` does to a writer, and its status: the listing, or that memory ran out
-abbrev pub PrintsShown : (List ℕ → Option (List ℕ)) → List Named → Option (List ℕ) → Option (List ℕ) → Status → Type 0
-PrintsShown named files old new status = PrintsListing named files old new status ⊎ IsPrinted old new memory_line Usage status
+abbrev pub PrintsShown : (List ℕ → Option (List ℕ)) → List Named → Option (List ℕ) → Option (List ℕ)
+    → Status → Type 0
+PrintsShown named files old new status = PrintsListing named files old new status
+    ⊎ IsPrinted old new memory_line Usage status

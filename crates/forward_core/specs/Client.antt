@@ -47,7 +47,13 @@ pub record ClientState : Type 0 where
 abbrev pub initial_client : Option Security → (salt : List ℕ) → ClientState
 initial_client None salt = record { phase = Ready; held = []; outgoing = [] }
 initial_client (Some security) salt = record {
-  phase = AwaitsHelo (record { host = security.self_hostname.now; key = security.shared_key.now; salt = salt; nonce = None });
+  phase =
+      AwaitsHelo (record {
+        host = security.self_hostname.now;
+        key = security.shared_key.now;
+        salt = salt;
+        nonce = None;
+      });
   held = [];
   outgoing = [];
 }
@@ -81,18 +87,23 @@ IsOther item = (IsNil item → ⊥) × ((content : List ℕ) → IsAcknowledgeme
 -- no item begins so, or the one that does is neither a heartbeat nor an acknowledgement
 abbrev pub IsNoReply : List ℕ → Type 0
 IsNoReply bytes = ((why : MsgFault) × IsFaulty why bytes)
-    ⊎ ((item : List ℕ) × (more : List ℕ) × IsItemWithin item × IsOther item × (bytes ≡ item ++ more))
+    ⊎ ((item : List ℕ) × (more : List ℕ) × IsItemWithin item × IsOther item
+    × (bytes ≡ item ++ more))
 
 -- what comes of the first item that isn't passed over: the acknowledgement that is awaited is taken
 -- off and is evidence of this chunk; of what is no reply nothing is taken, and the session is over
 abbrev pub HearsNext : Option ChunkId → ClientState → List ℕ → Said → ClientState → Type 0
-HearsNext chunk old rest (Sees shown) new = (id : ChunkId) × (item : List ℕ) × (more : List ℕ) × (chunk ≡ Some id) × (shown ≡ Acknowledged id)
-    × IsAcknowledgement item (chunk_text id) × (rest ≡ item ++ more) × (new ≡ record old { held = more })
+HearsNext chunk old rest (Sees shown) new = (id : ChunkId) × (item : List ℕ) × (more : List ℕ)
+    × (chunk ≡ Some id) × (shown ≡ Acknowledged id)
+    × IsAcknowledgement item (chunk_text id) × (rest ≡ item ++ more)
+    × (new ≡ record old { held = more })
 HearsNext chunk old rest Waits new = IsOpen rest × (new ≡ record old { held = rest })
-HearsNext chunk old rest (Fails fault) new = (fault ≡ BadAck) × IsNoReply rest × (new ≡ record old { phase = Ended; held = rest })
+HearsNext chunk old rest (Fails fault) new = (fault ≡ BadAck) × IsNoReply rest
+    × (new ≡ record old { phase = Ended; held = rest })
 
 -- replies are read in order, up to the first that isn't passed over
-pub record Listens (chunk : Option ChunkId) (old : ClientState) (says : Said) (new : ClientState) : Type 0 where
+pub record Listens (chunk : Option ChunkId) (old : ClientState) (says : Said)
+    (new : ClientState) : Type 0 where
   pub items : List (List ℕ)
   pub rest : List ℕ
   pub passed : AllByRecursion (IsPassed chunk) items
@@ -105,7 +116,8 @@ IsWaiting old says new = IsOpen old.held × (says ≡ Waits) × (new ≡ old)
 
 -- the handshake failed, and the session is over
 abbrev pub IsFailing : HandshakeFault → ClientState → Said → ClientState → Type 0
-IsFailing fault old says new = (says ≡ Fails (Handshake fault)) × (new ≡ record old { phase = Ended })
+IsFailing fault old says new = (says ≡ Fails (Handshake fault))
+    × (new ≡ record old { phase = Ended })
 
 -- What a session makes of an item that should be a PONG: what the client's end does. But it takes
 -- none under the client's own name, since whoever has no key can send the client's own digest back
@@ -119,9 +131,11 @@ IsJudged client item (Err fault) = IsVerdict client item (Err fault)
 -- is refused
 abbrev pub ReadsPong : ClientEnd → ClientState → Said → ClientState → Type 0
 ReadsPong client old says new = IsWaiting old says new
-    ⊎ (((item : List ℕ) × (more : List ℕ) × IsShown old.held item more × IsJudged client item (Ok tt)
+    ⊎ (((item : List ℕ) × (more : List ℕ) × IsShown old.held item more
+    × IsJudged client item (Ok tt)
     × Listens None (record old { phase = Ready; held = more }) says new)
-    ⊎ ((item : List ℕ) × (more : List ℕ) × (fault : HandshakeFault) × IsShown old.held item more × IsJudged client item (Err fault)
+    ⊎ ((item : List ℕ) × (more : List ℕ) × (fault : HandshakeFault) × IsShown old.held item more
+    × IsJudged client item (Err fault)
     × IsFailing fault old says new))
 
 -- a session that took a HELO with this nonce: the PING is to be sent
@@ -136,9 +150,11 @@ greeted client nonce more old = record {
 -- it is refused
 abbrev pub ReadsHelo : ClientEnd → ClientState → Said → ClientState → Type 0
 ReadsHelo client old says new = IsWaiting old says new
-    ⊎ (((item : List ℕ) × (more : List ℕ) × (nonce : List ℕ) × IsShown old.held item more × IsHelo item nonce
+    ⊎ (((item : List ℕ) × (more : List ℕ) × (nonce : List ℕ) × IsShown old.held item more
+    × IsHelo item nonce
     × ReadsPong (record client { nonce = Some nonce }) (greeted client nonce more old) says new)
-    ⊎ ((item : List ℕ) × (more : List ℕ) × IsShown old.held item more × ((nonce : List ℕ) → IsHelo item nonce → ⊥)
+    ⊎ ((item : List ℕ) × (more : List ℕ) × IsShown old.held item more
+    × ((nonce : List ℕ) → IsHelo item nonce → ⊥)
     × IsFailing NotHelo old says new))
 
 -- what a session makes of all that it holds unread
@@ -179,7 +195,8 @@ awaited _ = None
 
 -- what one item is to a client that awaits the acknowledgement of this chunk
 abbrev pub IsReply : {A : Type 0} → Option ChunkId → List ℕ → Reply A → Type 0
-IsReply chunk item (reply.Seen evidence) = (id : ChunkId) × (chunk ≡ Some id) × (evidence ≡ Acknowledged id) × IsAcknowledgement item (chunk_text id)
+IsReply chunk item (reply.Seen evidence) = (id : ChunkId) × (chunk ≡ Some id)
+    × (evidence ≡ Acknowledged id) × IsAcknowledgement item (chunk_text id)
 IsReply chunk item reply.Passed = IsPassed chunk item
 IsReply chunk item reply.Other = IsOther item
 
@@ -197,15 +214,20 @@ pub record IsHeard (chunk : Option ChunkId) (bytes : List ℕ) (n : ℕ) (says :
 
 -- what a client makes of what should be a HELO
 abbrev pub TakesHelo : ClientEnd → List ℕ → List ℕ → First → ClientEnd → List ℕ → Type 0
-TakesHelo client outgoing bytes (first.Taken n) new sends = (n ≤ length bytes) × ((nonce : List ℕ) × IsShown bytes (take n bytes) (drop n bytes)
+TakesHelo client outgoing bytes (first.Taken n) new sends = (n ≤ length bytes)
+    × ((nonce : List ℕ) × IsShown bytes (take n bytes) (drop n bytes)
     × IsHelo (take n bytes) nonce × (new ≡ record client { nonce = Some nonce })
     × (sends ≡ outgoing ++ ping_bytes client.host client.salt (client_digest client nonce)))
-TakesHelo client outgoing bytes first.Waits new sends = IsOpen bytes × (new ≡ client) × (sends ≡ outgoing)
-TakesHelo client outgoing bytes (first.Refused fault) new sends = (fault ≡ NotHelo) × ((item : List ℕ) × (more : List ℕ) × IsShown bytes item more
+TakesHelo client outgoing bytes first.Waits new sends = IsOpen bytes × (new ≡ client)
+    × (sends ≡ outgoing)
+TakesHelo client outgoing bytes (first.Refused fault) new sends = (fault ≡ NotHelo)
+    × ((item : List ℕ) × (more : List ℕ) × IsShown bytes item more
     × ((nonce : List ℕ) → IsHelo item nonce → ⊥)) × (new ≡ client) × (sends ≡ outgoing)
 
 -- what a client makes of what should be a PONG
 abbrev pub TakesPong : ClientEnd → List ℕ → First → Type 0
-TakesPong client bytes (first.Taken n) = (n ≤ length bytes) × IsShown bytes (take n bytes) (drop n bytes) × IsJudged client (take n bytes) (Ok tt)
+TakesPong client bytes (first.Taken n) = (n ≤ length bytes) × IsShown bytes (take n bytes)
+    (drop n bytes) × IsJudged client (take n bytes) (Ok tt)
 TakesPong client bytes first.Waits = IsOpen bytes
-TakesPong client bytes (first.Refused fault) = (item : List ℕ) × (more : List ℕ) × IsShown bytes item more × IsJudged client item (Err fault)
+TakesPong client bytes (first.Refused fault) = (item : List ℕ) × (more : List ℕ)
+    × IsShown bytes item more × IsJudged client item (Err fault)

@@ -18,4 +18,5 @@ asked_before (asked.Then before demands) = record {
 -- the answers up to here
 abbrev pub taken_before : {A : Type 0} → TakenLink A → ToldAnswers
 taken_before taken.Start = record { times = 0; all = [] }
-taken_before (taken.Then before reserved) = record { times = suc before.value.times; all = before.value.all ++ reserved.value ∷ [] }
+taken_before (taken.Then before reserved) =
+    record { times = suc before.value.times; all = before.value.all ++ reserved.value ∷ [] }

@@ -88,18 +88,29 @@ pub record ShutsOut (server : ServerEnd) (bytes : List ℕ) (out : Outcome) : Ty
   pub fault : HandshakeFault
   pub shown : IsShown bytes item more
   pub refused : IsAnswer server item (Refused fault) pong
-  pub is : out ≡ record { phase = Over; rest = bytes; sends = pong; wants = Closes (Handshake fault) ∷ [] }
+  pub is : out ≡ record {
+    phase = Over;
+    rest = bytes;
+    sends = pong;
+    wants = Closes (Handshake fault) ∷ [];
+  }
 
 -- The first item isn't whole, and more has come of it than may: nothing is sent, none of it is
 -- kept, and the connection is to be closed.
 pub record Overruns (bytes : List ℕ) (out : Outcome) : Type 0 where
   pub begun : IsOpen bytes
   pub past : most_before_ping < length bytes
-  pub is : out ≡ record { phase = Over; rest = []; sends = []; wants = Closes (Handshake NotPing) ∷ [] }
+  pub is : out ≡ record {
+    phase = Over;
+    rest = [];
+    sends = [];
+    wants = Closes (Handshake NotPing) ∷ [];
+  }
 
 -- what the bytes come to while a PING has to come first
 abbrev pub Greets : ServerEnd → List ℕ → Outcome → Type 0
-Greets server bytes out = Waits server bytes out ⊎ (LetsIn server bytes out ⊎ (ShutsOut server bytes out ⊎ Overruns bytes out))
+Greets server bytes out = Waits server bytes out
+    ⊎ (LetsIn server bytes out ⊎ (ShutsOut server bytes out ⊎ Overruns bytes out))
 
 -- A session that stands so may wait for more behind these bytes, which only begin an item.
 abbrev pub MayWait : ServerPhase → List ℕ → Type 0
@@ -140,13 +151,24 @@ after session out = record {
 
 -- a session with nothing but what is to be sent
 abbrev pub idle_server : ServerPhase → List ℕ → ServerState
-idle_server phase outgoing = record { phase = phase; held = []; outgoing = outgoing; asked = []; taken = [] }
+idle_server phase outgoing = record {
+  phase = phase;
+  held = [];
+  outgoing = outgoing;
+  asked = [];
+  taken = [];
+}
 
 -- a session that begins: with security the HELO is to be sent, and a PING has to come first
 abbrev pub initial_server : Option Security → (nonce : List ℕ) → ServerState
 initial_server None nonce = idle_server Opened []
 initial_server (Some security) nonce =
-    idle_server (Awaiting (record { host = security.self_hostname.now; key = security.shared_key.now; nonce = nonce })) (helo_bytes nonce)
+    idle_server
+    (Awaiting (record {
+      host = security.self_hostname.now;
+      key = security.shared_key.now;
+      nonce = nonce;
+    })) (helo_bytes nonce)
 
 -- where a session stands, without where it lies in memory
 abbrev pub phase_of : {A : Type 0} → Phase A → ServerPhase

@@ -19,7 +19,8 @@ EndsSo rest (Some fault) = StreamFault rest fault
 
 -- the bytes are these messages in this order, heartbeats left out, and then a rest in which none is
 -- whole
-pub record IsStreamOf (bytes : List ℕ) (messages : List Parts) (rest : List ℕ) (fault : Option ModeFault) : Type 0 where
+pub record IsStreamOf (bytes : List ℕ) (messages : List Parts) (rest : List ℕ)
+    (fault : Option ModeFault) : Type 0 where
   pub arrivals : List Arrival
   pub splits : Splits bytes arrivals rest
   pub are : messages ≡ messages_in arrivals

@@ -132,7 +132,8 @@ impl<A: Allocator + Copy> ClientSession<A> {
         requires entries { length (concat entries.now) < 2 ^ 32 }
         ensures ok { OnOk result (self.new ≡ record self.old {
           phase = HasSent (named ask id);
-          outgoing = self.old.outgoing ++ packed_message tag.now entries.now (option_map chunk_text (named ask id));
+          outgoing = self.old.outgoing
+              ++ packed_message tag.now entries.now (option_map chunk_text (named ask id));
         }) }
         ensures err { OnErr result (self.new ≡ self.old) }
     {

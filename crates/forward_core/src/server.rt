@@ -284,7 +284,8 @@ impl<A: Allocator + Copy> ServerSession<A> {
     fn read_all(&self) -> Result<TakenItem<A>, AllocError>
         requires { self.now.phase ≡ Over → ⊥ }
         ensures reads { IfOk result (λ taken.
-            ServerReads self.now.phase self.now.held (outcome_of self.now.phase self.now.held taken)) }
+            ServerReads self.now.phase self.now.held
+            (outcome_of self.now.phase self.now.held taken)) }
         ensures len { IfOk result (λ taken. taken.len ≤ length self.now.held) }
     {
         let alloc = self.held.alloc();

@@ -12,12 +12,14 @@ pub record Credentials : Type 0 where
 -- those of a configuration, if it has some
 abbrev pub credentials_of : {A : Type 0} → Option (Secret A) → Option Credentials
 credentials_of None = None
-credentials_of (Some secret) = Some (record { host = string_bytes secret.self_hostname; key = string_bytes secret.shared_key })
+credentials_of (Some secret) =
+    Some (record { host = string_bytes secret.self_hostname; key = string_bytes secret.shared_key })
 
 -- those that a handshake shows, if there is one
 abbrev pub credentials_in : Option Security → Option Credentials
 credentials_in None = None
-credentials_in (Some security) = Some (record { host = security.self_hostname.now; key = security.shared_key.now })
+credentials_in (Some security) =
+    Some (record { host = security.self_hostname.now; key = security.shared_key.now })
 
 -- there is a host name, which is longer than a handshake may show
 abbrev pub HasLongName : Option Credentials → Type 0

@@ -18,7 +18,12 @@ pub record Keeps (journal : OpenJournal) (disk : Disk) (t : JournalLog) : Type 0
   pub last : journal.number < 2 ^ 32
   pub synced : ℕ
   pub there : disk (journal_name journal.path journal.number)
-      ≡ Some (record { written = journal_bytes (records_of t); synced = synced; is_durable = true; is_removed = false })
+      ≡ Some (record {
+        written = journal_bytes (records_of t);
+        synced = synced;
+        is_durable = true;
+        is_removed = false;
+      })
   pub holds : length (journal_bytes (durable_records t)) ≤ synced
   pub fits : synced ≤ length (journal_bytes (records_of t))
   pub counted : journal.len ≡ length (journal_bytes (records_of t))
@@ -36,7 +41,8 @@ HasNoneFrom path disk number = (n : ℕ) → number ≤ n → n < 2 ^ 32 → dis
 
 -- no generation below this one reads
 abbrev pub HasNoneBelow : List ℕ → Disk → ℕ → Type 0
-HasNoneBelow path disk number = (n : ℕ) → 1 ≤ n → n < number → reads disk (journal_name path n) ≡ None
+HasNoneBelow path disk number = (n : ℕ) → 1 ≤ n → n < number → reads disk (journal_name path n)
+    ≡ None
 
 -- Each generation that was ever begun is at or below one that reads. (So no removed one comes back
 -- above all that are there.)
@@ -48,13 +54,16 @@ pub record IsBelowSome (path : List ℕ) (disk : Disk) (n : ℕ) : Type 0 where
 
 -- no generation that was ever begun is above all that read
 abbrev pub HasNoStray : List ℕ → Disk → Type 0
-HasNoStray path disk = (n : ℕ) → 1 ≤ n → n < 2 ^ 32 → IsSome (disk (journal_name path n)) → IsBelowSome path disk n
+HasNoStray path disk = (n : ℕ) → 1 ≤ n → n < 2 ^ 32 → IsSome (disk (journal_name path n))
+    → IsBelowSome path disk n
 
 -- each generation below this one was begun at some time, or is at or below one that reads
 abbrev pub HasAllBelow : List ℕ → Disk → ℕ → Type 0
-HasAllBelow path disk number = (n : ℕ) → 1 ≤ n → n < number → IsSome (disk (journal_name path n)) ⊎ IsBelowSome path disk n
+HasAllBelow path disk number = (n : ℕ) → 1 ≤ n → n < number → IsSome (disk (journal_name path n))
+    ⊎ IsBelowSome path disk n
 
 -- Above all that read, the generations that were begun and removed follow one another without a
 -- gap. (So the first number that is free is above all that were ever begun.)
 abbrev pub HasNoGap : List ℕ → Disk → Type 0
-HasNoGap path disk = (n : ℕ) → 1 ≤ n → n < 2 ^ 32 → IsSome (disk (journal_name path n)) → HasAllBelow path disk n
+HasNoGap path disk = (n : ℕ) → 1 ≤ n → n < 2 ^ 32 → IsSome (disk (journal_name path n))
+    → HasAllBelow path disk n

@@ -9,7 +9,8 @@ use Rattle.file_pieces.specs.declared.error.PieceError.{PieceError}
 use Rattle.file_pieces.specs.declared.error.PieceError.TheVariants as piece
 
 -- The count of the device's refusals rises where the call answers so, and at no other answer.
-pub record HasReason {T E : Type 0} (before after : ℕ) (result : Result T E) (fault : E) : Type 0 where
+pub record HasReason {T E : Type 0} (before after : ℕ) (result : Result T E)
+    (fault : E) : Type 0 where
   pub later : before ≤ after
   pub passed : OnOk result (after ≡ before)
   pub failed : IsErrOf result fault → Rises before after

@@ -21,7 +21,8 @@ IsPassedOver (Some bytes) = EndsUnsealed bytes
 
 -- each generation above this one is passed over
 abbrev pub PassesAbove : List ℕ → Folder → ℕ → Type 0
-PassesAbove path folder number = (n : ℕ) → number < n → n < 2 ^ 32 → IsPassedOver (folder (journal_name path n))
+PassesAbove path folder number = (n : ℕ) → number < n → n < 2 ^ 32
+    → IsPassedOver (folder (journal_name path n))
 
 -- the file of a generation, above which all are passed over
 pub record IsHighest (path : List ℕ) (folder : Folder) (number : ℕ) (bytes : List ℕ) : Type 0 where
@@ -54,5 +55,7 @@ pub record IsDamagedFolder (path : List ℕ) (folder : Folder) : Type 0 where
 -- is none
 pub record IsNext (path : List ℕ) (disk : Disk) (number : ℕ) : Type 0 where
   pub some : 0 < number
-  pub before : (number ≡ 1) ⊎ (IsSome (reads disk (journal_name path (number - 1))) ⊎ WasRemoved disk (journal_name path (number - 1)))
+  pub before : (number ≡ 1)
+      ⊎ (IsSome (reads disk (journal_name path (number - 1)))
+      ⊎ WasRemoved disk (journal_name path (number - 1)))
   pub above : (n : ℕ) → number ≤ n → n < 2 ^ 32 → reads disk (journal_name path n) ≡ None

@@ -16,7 +16,9 @@ pub record IsFound (path : List ℕ) (folder : Folder) (number : ℕ) : Type 0 w
 -- the last number that is taken: that of a generation that is there or was removed, or 0, with none
 -- there above it, and the next one free
 pub record IsLastTaken (path : List ℕ) (disk : Disk) (number : ℕ) : Type 0 where
-  pub begun : (number ≡ 0) ⊎ (IsSome (reads disk (journal_name path number)) ⊎ WasRemoved disk (journal_name path number))
+  pub begun : (number ≡ 0)
+      ⊎ (IsSome (reads disk (journal_name path number))
+      ⊎ WasRemoved disk (journal_name path number))
   pub above : (n : ℕ) → number < n → n < 2 ^ 32 → reads disk (journal_name path n) ≡ None
   pub free : WasRemoved disk (journal_name path (number + 1)) → ⊥
 
@@ -41,7 +43,8 @@ pub record HasHeard (heard : Heard) : Type 0 where
 
 -- the open file is that of a generation, at most this one, and the entries lie at these places of
 -- it
-pub record IsGeneration (opened : FileNo → Option (List ℕ)) (disk : Disk) (path : List ℕ) (greatest : ℕ) (file : FileNo) (spots : Spots) (state : State) : Type 0 where
+pub record IsGeneration (opened : FileNo → Option (List ℕ)) (disk : Disk) (path : List ℕ)
+    (greatest : ℕ) (file : FileNo) (spots : Spots) (state : State) : Type 0 where
   pub number : ℕ
   pub within : number ≤ greatest
   pub named : opened file ≡ Some (journal_name path number)
@@ -51,6 +54,8 @@ pub record IsGeneration (opened : FileNo → Option (List ℕ)) (disk : Disk) (p
   pub placed : ArePlaced bytes spots state
 
 -- so it is with the file that was found; and where none was, there are no chunks
-abbrev pub FindsSource : (FileNo → Option (List ℕ)) → Disk → List ℕ → ℕ → Option FileNo → Spots → State → Type 0
+abbrev pub FindsSource : (FileNo → Option (List ℕ)) → Disk → List ℕ → ℕ → Option FileNo → Spots
+    → State → Type 0
 FindsSource opened disk path greatest None spots state = state.chunks ≡ []
-FindsSource opened disk path greatest (Some file) spots state = IsGeneration opened disk path greatest file spots state
+FindsSource opened disk path greatest (Some file) spots state =
+    IsGeneration opened disk path greatest file spots state

@@ -61,7 +61,12 @@ all_durable t = record t { durable = length t.steps }
 
 -- a generation that only begins: it tells these chunks, claimed ones as queued
 abbrev pub new_generation : State → JournalLog
-new_generation state = record { told = flat_map chunk_records state.chunks; next = state.next; steps = []; durable = 0 }
+new_generation state = record {
+  told = flat_map chunk_records state.chunks;
+  next = state.next;
+  steps = [];
+  durable = 0;
+}
 
 -- The folder opens to the state after some of the steps, and those that each stop leaves are among
 -- them.

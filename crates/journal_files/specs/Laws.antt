@@ -10,11 +10,13 @@ use Rattle.journal_files.specs.Disks.{Keeps, Recovers, HasNoStray, HasNoGap}
 -- Recovery: whatever a stop leaves of a journal opens to the state after some of its steps, all
 -- durable ones among them.
 abbrev pub RecoversAll : Type 0
-RecoversAll = (journal : OpenJournal) (disk : Disk) (t : JournalLog) → Keeps journal disk t → Recovers journal.path disk t
+RecoversAll = (journal : OpenJournal) (disk : Disk) (t : JournalLog) → Keeps journal disk t
+    → Recovers journal.path disk t
 
 -- where the disk has a journal whole, no generation that was ever begun is above all that read
 abbrev pub KeepsNoStray : Type 0
-KeepsNoStray = (journal : OpenJournal) (disk : Disk) (t : JournalLog) → Keeps journal disk t → HasNoStray journal.path disk
+KeepsNoStray = (journal : OpenJournal) (disk : Disk) (t : JournalLog) → Keeps journal disk t
+    → HasNoStray journal.path disk
 
 -- nor is one after a stop
 abbrev pub LeavesNoStray : Type 0
@@ -26,8 +28,10 @@ StrayIsGap = (path : List ℕ) (disk : Disk) → HasNoStray path disk → HasNoG
 
 -- a folder opens one way
 abbrev pub OpensOneWay : Type 0
-OpensOneWay = (path : List ℕ) (folder : Folder) (one other : State) → Opens path folder one → Opens path folder other → one ≡ other
+OpensOneWay = (path : List ℕ) (folder : Folder) (one other : State) → Opens path folder one
+    → Opens path folder other → one ≡ other
 
 -- a folder that opens isn't damaged
 abbrev pub OpensUndamaged : Type 0
-OpensUndamaged = (path : List ℕ) (folder : Folder) (state : State) → Opens path folder state → IsDamagedFolder path folder → ⊥
+OpensUndamaged = (path : List ℕ) (folder : Folder) (state : State) → Opens path folder state
+    → IsDamagedFolder path folder → ⊥

@@ -23,7 +23,8 @@ pub record StaysBegun (first last : ℕ) (name : List ℕ) (before after : Disk)
 
 -- nothing is left of the file that was begun, or it stays
 abbrev pub IsGivenUp : ℕ → ℕ → List ℕ → Disk → Disk → Type 0
-IsGivenUp first last name before after = ReadsAs before after ⊎ StaysBegun first last name before after
+IsGivenUp first last name before after = ReadsAs before after
+    ⊎ StaysBegun first last name before after
 
 -- the generation of this number is whole, and synced
 pub record IsWholeAt (path : List ℕ) (number : ℕ) (disk : Disk) : Type 0 where
@@ -36,7 +37,8 @@ pub record IsWholeAt (path : List ℕ) (number : ℕ) (disk : Disk) : Type 0 whe
 -- the file of the generation of this number was given up; or it is whole, and older ones may be
 -- gone
 abbrev pub LeavesAtMost : List ℕ → ℕ → ℕ → ℕ → Disk → Disk → Type 0
-LeavesAtMost path number first last before after = IsGivenUp first last (journal_name path number) before after ⊎ IsWholeAt path number after
+LeavesAtMost path number first last before after =
+    IsGivenUp first last (journal_name path number) before after ⊎ IsWholeAt path number after
 
 -- so it is with the next generation
 pub record LeavesNext (path : List ℕ) (first last : ℕ) (before after : Disk) : Type 0 where

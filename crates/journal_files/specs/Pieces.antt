@@ -31,11 +31,13 @@ sealed bytes f = flushed (with_bytes bytes f)
 -- nothing changed yet, or some of these bytes were added, or all of them and they are synced with
 -- all before them
 abbrev pub IsSealing : List ℕ → List ℕ → Disk → Disk → Type 0
-IsSealing name bytes before after = SameDisk after before ⊎ (Partly name bytes before after ⊎ Changes name (sealed bytes) before after)
+IsSealing name bytes before after = SameDisk after before
+    ⊎ (Partly name bytes before after ⊎ Changes name (sealed bytes) before after)
 
 -- the file of this name was removed, or the disk is as it was, and the device failed
 abbrev pub IsTakenAway : ℕ → ℕ → List ℕ → Disk → Disk → Type 0
-IsTakenAway first last name before after = Changes name unlinked before after ⊎ (SameDisk after before × Rises first last)
+IsTakenAway first last name before after = Changes name unlinked before after
+    ⊎ (SameDisk after before × Rises first last)
 
 -- the answer is the refusal, or `Fault` where the device failed
 pub record AnswersFor (first last : ℕ) (refused answer : JournalError) : Type 0 where
@@ -48,13 +50,17 @@ IsAbove path number name = (n : ℕ) → n < number → name ≢ journal_name pa
 
 -- only generations below this one changed
 abbrev pub ChangesBelow : List ℕ → ℕ → Disk → Disk → Type 0
-ChangesBelow path number before after = (name : List ℕ) → IsAbove path number name → after name ≡ before name
+ChangesBelow path number before after = (name : List ℕ) → IsAbove path number name
+    → after name ≡ before name
 
 -- these are open files of generations, by their numbers, which are below this one
-pub record AreOlder (path : List ℕ) (number : ℕ) (opened : FileNo → Option (List ℕ)) (older : BTreeMap ℕ FileNo) : Type 0 where
+pub record AreOlder (path : List ℕ) (number : ℕ) (opened : FileNo → Option (List ℕ))
+    (older : BTreeMap ℕ FileNo) : Type 0 where
   pub below : (n : ℕ) → IsSome (get nat_cmp older n) → n < number
-  pub named : (n : ℕ) (file : FileNo) → get nat_cmp older n ≡ Some file → opened file ≡ Some (journal_name path n)
+  pub named : (n : ℕ) (file : FileNo) → get nat_cmp older n ≡ Some file
+      → opened file ≡ Some (journal_name path n)
 
 -- no file of this number reads, but one that is among these
 abbrev pub IsGoneBut : List ℕ → BTreeMap ℕ FileNo → Disk → ℕ → Type 0
-IsGoneBut path older disk n = (reads disk (journal_name path n) ≡ None) ⊎ IsSome (get nat_cmp older n)
+IsGoneBut path older disk n = (reads disk (journal_name path n) ≡ None)
+    ⊎ IsSome (get nat_cmp older n)

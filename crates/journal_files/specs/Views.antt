@@ -26,7 +26,8 @@ IsOpenIn journal opened = opened journal.file ≡ Some (journal_name journal.pat
 
 -- no live chunk's tag is too long
 abbrev pub HasShortTags : State → Type 0
-HasShortTags state = AllByRecursion (λ (numbered : Numbered). length numbered.1.tag ≤ longest_tag) state.chunks
+HasShortTags state = AllByRecursion (λ (numbered : Numbered). length numbered.1.tag
+    ≤ longest_tag) state.chunks
 
 -- this record is told next
 pub record IsReady (journal : OpenJournal) (item : Record) : Type 0 where

@@ -49,7 +49,8 @@ impl<A: Allocator + Copy> Journal<A> {
     /// file is whole, and the device failed as older ones were removed.
     pub fn open<D: Dir>(alloc: A, dir: &mut D, path: &[u8]) -> Result<Opened<A>, JournalError>
         ensures opens { D.is_honest dir.old → IfOk result (λ opened.
-            OpensNext path.now (now (D.history dir.old)) (now (D.history dir.new)) opened.journal opened.chunks) }
+            OpensNext path.now (now (D.history dir.old))
+            (now (D.history dir.new)) opened.journal opened.chunks) }
         ensures fresh { IfOk result
             (λ opened. IsFresh path.now (D.opened dir.new) opened.journal opened.chunks) }
         ensures refused { D.is_honest dir.old → IfErr result (IsRefused path.now
@@ -276,7 +277,8 @@ fn read_generation<A: Allocator + Copy, D: Dir>(
     ensures same { D.is_honest dir.old
         → SameDisk (now (D.history dir.new)) (now (D.history dir.old)) }
     ensures meant { D.is_honest dir.old → IfOk result (λ found. IfSome found (λ meant.
-        IsMeant (reads (now (D.history dir.old)) (journal_name path.now number)) meant.outlined.chunks meant.outlined.places)) }
+        IsMeant (reads (now (D.history dir.old)) (journal_name path.now number))
+        meant.outlined.chunks meant.outlined.places)) }
     ensures unsealed { D.is_honest dir.old → result ≡ Ok None
         → IsSo (reads (now (D.history dir.old)) (journal_name path.now number)) EndsUnsealed }
     ensures damaged { D.is_honest dir.old → result ≡ Err JournalError.Damaged

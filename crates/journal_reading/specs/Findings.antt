@@ -7,7 +7,8 @@ use Rattle.journal_reading.specs.declared.journal.FoundJournal.{FoundJournal}
 use Rattle.journal_reading.specs.declared.journal.FoundJournal.TheVariants.{Sealed, Unsealed, Damaged, Unread}
 
 -- a journal of these bytes means this, and so many bytes are torn at its end
-pub record IsSealedIn {A : Type 0} (bytes : List ℕ) (outlined : Outlined A) (torn : ℕ) : Type 0 where
+pub record IsSealedIn {A : Type 0} (bytes : List ℕ) (outlined : Outlined A)
+    (torn : ℕ) : Type 0 where
   pub means : IsOutlined bytes outlined.chunks outlined.places outlined.used
   pub torn_is : torn ≡ length bytes - outlined.used
 

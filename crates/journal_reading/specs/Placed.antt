@@ -25,4 +25,5 @@ known_at known places done = option_map (λ bytes. left_at bytes places done) kn
 
 -- the same stands at the one places and at the others, whatever the file has
 abbrev pub SameLeft : List Extent → ℕ → List Extent → ℕ → Type 0
-SameLeft places done others also = (bytes : List ℕ) → left_at bytes places done ≡ left_at bytes others also
+SameLeft places done others also = (bytes : List ℕ)
+    → left_at bytes places done ≡ left_at bytes others also

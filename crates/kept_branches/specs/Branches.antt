@@ -20,7 +20,8 @@ buffers_of places = λ place buffer. buffer_of (contents_at places place buffer)
 
 -- The events of a message with this tag, sent to this address, come to the buffer of the relay at
 -- this place under that tag: the buffer is a leaf of their way, which ends, and the tag is one.
-pub record Reaches {A : Type 0} (net : Network A) (address : Address) (tag : List ℕ) (place buffer : ℕ) (borne : List ℕ) : Type 0 where
+pub record Reaches {A : Type 0} (net : Network A) (address : Address) (tag : List ℕ)
+    (place buffer : ℕ) (borne : List ℕ) : Type 0 where
   pub at : Entrance
   pub enters : entrance net address ≡ Some at
   pub place_is : place ≡ at.relay
@@ -34,7 +35,8 @@ IsFromBuffer place buffer (sender.Client client) = ⊥
 IsFromBuffer place buffer (sender.Chunk p b serial) = (p ≡ place) × (b ≡ buffer)
 
 -- The message was sent from this buffer with the entry under this tag, and acknowledged.
-pub record IsPassedOn (entry : List ℕ) (place buffer : ℕ) (tag : List ℕ) (message : Message) : Type 0 where
+pub record IsPassedOn (entry : List ℕ) (place buffer : ℕ) (tag : List ℕ)
+    (message : Message) : Type 0 where
   pub from : IsFromBuffer place buffer message.sender
   pub tag_is : message.tag ≡ tag
   pub inside : Contains message.entries entry
@@ -43,18 +45,25 @@ pub record IsPassedOn (entry : List ℕ) (place buffer : ℕ) (tag : List ℕ) (
 -- The buffer keeps the entry under this tag: a live chunk of it has that, or its sink; or a message
 -- with that was acknowledged to it whose events come to a buffer, and each buffer that they come to
 -- keeps the entry. It is the least such relation.
-pub data KeepsAlong {A : Type 0} (net : Network A) (buffers : ℕ → ℕ → BufferState) (messages : List Message) (entry : List ℕ) : ℕ → ℕ → List ℕ → Type 0 where
-  has : {place buffer : ℕ} {tag : List ℕ} → Holds (buffers place buffer) (record { tag = tag; entry = entry }) → KeepsAlong net buffers messages entry place buffer tag
-  passed : {place buffer : ℕ} {tag : List ℕ} (message : Message) → Contains messages message → IsPassedOn entry place buffer tag message
+pub data KeepsAlong {A : Type 0} (net : Network A) (buffers : ℕ → ℕ → BufferState)
+    (messages : List Message) (entry : List ℕ) : ℕ → ℕ → List ℕ → Type 0 where
+  has : {place buffer : ℕ} {tag : List ℕ}
+      → Holds (buffers place buffer) (record { tag = tag; entry = entry })
+      → KeepsAlong net buffers messages entry place buffer tag
+  passed : {place buffer : ℕ} {tag : List ℕ} (message : Message) → Contains messages message
+      → IsPassedOn entry place buffer tag message
       → (p b : ℕ) (t : List ℕ) → Reaches net message.address message.tag p b t
-      → ((p b : ℕ) (t : List ℕ) → Reaches net message.address message.tag p b t → KeepsAlong net buffers messages entry p b t)
+      → ((p b : ℕ) (t : List ℕ) → Reaches net message.address message.tag p b t
+      → KeepsAlong net buffers messages entry p b t)
       → KeepsAlong net buffers messages entry place buffer tag
 
 -- The event of a message with this tag, sent to this address, comes to a buffer, and each buffer
 -- that it comes to keeps it.
-pub record EachKeeps {A : Type 0} (net : Network A) (buffers : ℕ → ℕ → BufferState) (messages : List Message) (address : Address) (tag entry : List ℕ) : Type 0 where
+pub record EachKeeps {A : Type 0} (net : Network A) (buffers : ℕ → ℕ → BufferState)
+    (messages : List Message) (address : Address) (tag entry : List ℕ) : Type 0 where
   pub place : ℕ
   pub buffer : ℕ
   pub borne : List ℕ
   pub leaf : Reaches net address tag place buffer borne
-  pub each : (p b : ℕ) (t : List ℕ) → Reaches net address tag p b t → KeepsAlong net buffers messages entry p b t
+  pub each : (p b : ℕ) (t : List ℕ) → Reaches net address tag p b t
+      → KeepsAlong net buffers messages entry p b t

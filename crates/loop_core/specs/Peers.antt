@@ -42,7 +42,10 @@ pub record OneMoreWaits (old new : List Waits) : Type 0 where
 pub record IsTaken (reserved : Reservation) (old new : ServerState) : Type 0 where
   pub answer : Answer
   pub filled : reserved.filled ≡ Some answer
-  pub is : new ≡ record old { outgoing = old.outgoing ++ answer.bytes; taken = old.taken ++ reserved ∷ [] }
+  pub is : new ≡ record old {
+    outgoing = old.outgoing ++ answer.bytes;
+    taken = old.taken ++ reserved ∷ [];
+  }
 
 -- the delivery is of a message that was demanded, and goes where that has to go
 pub record IsOwed (entry : Entry) (asked : List Asked) (waits : Waits) : Type 0 where
@@ -51,11 +54,13 @@ pub record IsOwed (entry : Entry) (asked : List Asked) (waits : Waits) : Type 0 
 
 -- the answer names the tag and the buffers that its message had to be stored under and in
 pub record IsEarned (entry : Entry) (reserved : Reservation) : Type 0 where
-  pub goes : IsSomeAnd reserved.filled (λ answer. IsRoutedTo entry reserved.asked answer.tag answer.leaves)
+  pub goes : IsSomeAnd reserved.filled
+      (λ answer. IsRoutedTo entry reserved.asked answer.tag answer.leaves)
 
 -- what a connection keeps of the messages that were demanded, the answers that were taken and the
 -- deliveries that wait
-pub record IsFaithful (entry : Entry) (asked : List Asked) (taken : List Reservation) (waits : List Waits) : Type 0 where
+pub record IsFaithful (entry : Entry) (asked : List Asked) (taken : List Reservation)
+    (waits : List Waits) : Type 0 where
   pub owed : All (IsOwed entry asked) waits
   pub earned : All (IsEarned entry) taken
 
@@ -104,9 +109,11 @@ IsShutOut old new = new ≡ record old { closing = true }
 
 -- what becomes of a delivery: it is answered, or waits on, or ends without an answer
 abbrev pub Becomes : Waits → Standing → Standing → Type 0
-Becomes waits old new = IsAnswered waits old new ⊎ (WaitsOn waits old new ⊎ (IsRefused waits old new ⊎ IsShutOut old new))
+Becomes waits old new = IsAnswered waits old new
+    ⊎ (WaitsOn waits old new ⊎ (IsRefused waits old new ⊎ IsShutOut old new))
 
 -- what becomes of these, in their order
 abbrev pub BecomeInOrder : List Waits → Standing → Standing → Type 0
 BecomeInOrder [] old new = new ≡ old
-BecomeInOrder (waits ∷ more) old new = (between : Standing) × Becomes waits old between × BecomeInOrder more between new
+BecomeInOrder (waits ∷ more) old new = (between : Standing) × Becomes waits old between
+    × BecomeInOrder more between new

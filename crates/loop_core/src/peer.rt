@@ -317,8 +317,8 @@ fn closing_of(fault: SessionFault) -> Closing {
     }
 }
 
-// Begins the delivery of a message that comes in here, unless its way is a loop. It waits behind the
-// others, but where a buffer refuses it.
+// Begins the delivery of a message that comes in here, unless its way is a loop. It waits behind
+// the others, but where a buffer refuses it.
 fn begin<R: Wait, D: Dir + Drop, A: Allocator + Copy>(
     rt: &R,
     alloc: A,

@@ -20,14 +20,18 @@ IsListed {A} found rule = (one : BrokenRule A) × Contains found one × (one.rul
 -- The rules stand in their order, each once.
 abbrev pub StandInOrder : {A : Type 0} → List (BrokenRule A) → Type 0
 StandInOrder [] = Unit {0}
-StandInOrder {A} (first ∷ others) = ((other : BrokenRule A) → Contains others other → rule_number first.rule < rule_number other.rule) × StandInOrder others
+StandInOrder {A} (first ∷ others) =
+    ((other : BrokenRule A) → Contains others other
+    → rule_number first.rule < rule_number other.rule) × StandInOrder others
 
 -- These are the broken rules of the plan: each is broken first at its place, and with the others
 -- these are all places where it is broken; each rule that isn't listed holds; they stand in their
 -- order, so that the first of them is the checker's answer, which is a yes where there are none.
-pub record AreBrokenRules {A : Type 0} (plan : Subject A) (found : List (BrokenRule A)) : Type 0 where
+pub record AreBrokenRules {A : Type 0} (plan : Subject A)
+    (found : List (BrokenRule A)) : Type 0 where
   pub broken : (one : BrokenRule A) → Contains found one → IsBrokenAt plan one.rule one.place
-  pub places : (one : BrokenRule A) → Contains found one → AreBrokenPlaces plan one.rule (one.place ∷ one.others.items)
+  pub places : (one : BrokenRule A) → Contains found one
+      → AreBrokenPlaces plan one.rule (one.place ∷ one.others.items)
   pub others : (rule : Rule) → IsKept plan rule ⊎ IsListed found rule
   pub ordered : StandInOrder found
   pub answered : IsAnswer plan (answer_of found)
@@ -38,9 +42,11 @@ IsFirstBefore plan number [] = AreKeptBefore plan number
 IsFirstBefore plan number (first ∷ others) = IsAnswer plan (answer.No first.rule first.place)
 
 -- The same of the rules with lower numbers than this one.
-pub record AreBrokenBefore {A : Type 0} (plan : Subject A) (number : ℕ) (found : List (BrokenRule A)) : Type 0 where
+pub record AreBrokenBefore {A : Type 0} (plan : Subject A) (number : ℕ)
+    (found : List (BrokenRule A)) : Type 0 where
   pub broken : (one : BrokenRule A) → Contains found one → IsBrokenAt plan one.rule one.place
-  pub places : (one : BrokenRule A) → Contains found one → AreBrokenPlaces plan one.rule (one.place ∷ one.others.items)
+  pub places : (one : BrokenRule A) → Contains found one
+      → AreBrokenPlaces plan one.rule (one.place ∷ one.others.items)
   pub below : (one : BrokenRule A) → Contains found one → rule_number one.rule < number
   pub others : (rule : Rule) → rule_number rule < number → IsKept plan rule ⊎ IsListed found rule
   pub ordered : StandInOrder found

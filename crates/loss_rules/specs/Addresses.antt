@@ -4,4 +4,5 @@ use Rattle.relay_net.specs.declared.node.Node.{Node}
 
 -- The relay has a source with this address.
 abbrev pub HasAddress : {A : Type 0} → List ℕ → ℕ → Node A → Type 0
-HasAddress host port node = (string_bytes node.host ≡ host) × Any (λ source. source.port ≡ port) node.relay.sources.items
+HasAddress host port node = (string_bytes node.host ≡ host)
+    × Any (λ source. source.port ≡ port) node.relay.sources.items

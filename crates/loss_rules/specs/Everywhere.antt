@@ -31,13 +31,16 @@ AreInPlan Breaks places = (lines : List ℕ) × AreLines Breaks lines × (places
 
 -- These are the places in these relays, of which the first has this place in the plan: one relay
 -- after another, as it is said of each.
-abbrev pub AreByRelays : {A : Type 0} → (ℕ → Node A → List Place → Type 0) → ℕ → List (Node A) → List Place → Type 0
+abbrev pub AreByRelays : {A : Type 0} → (ℕ → Node A → List Place → Type 0) → ℕ → List (Node A)
+    → List Place → Type 0
 AreByRelays Are at [] places = places ≡ []
-AreByRelays Are at (node ∷ nodes) places = (here later : List Place) × Are at node here × AreByRelays Are (at + 1) nodes later × (places ≡ here ++ later)
+AreByRelays Are at (node ∷ nodes) places = (here later : List Place) × Are at node here
+    × AreByRelays Are (at + 1) nodes later × (places ≡ here ++ later)
 
 -- These are the places of the lines of the relay's configuration in which this is broken.
 abbrev pub AreInRelay : {A : Type 0} → (ℕ → ℕ → Type 0) → ℕ → Node A → List Place → Type 0
-AreInRelay Breaks at node places = (lines : List ℕ) × AreLines (Breaks at) lines × (places ≡ conf_places node.number lines)
+AreInRelay Breaks at node places = (lines : List ℕ) × AreLines (Breaks at) lines
+    × (places ≡ conf_places node.number lines)
 
 -- This is so of each relay, in the order of the plan.
 abbrev pub AreInConf : {A : Type 0} → Network A → (ℕ → ℕ → Type 0) → List Place → Type 0
@@ -49,11 +52,14 @@ AreInConf net Breaks places = AreByRelays (AreInRelay Breaks) 0 net.relays place
 -- This is the place of the relay's line of the plan, if the relay isn't new.
 abbrev pub IsOwnPlace : {A : Type 0} → Network A → List (RelayLine A) → ℕ → List Place → Type 0
 IsOwnPlace {A} net lines at own = (RelayIsNew net lines at × (own ≡ []))
-    ⊎ ((found : RelayLine A) × (slice_get lines at ≡ Some found) × ¬ RelayIsNew net lines at × (own ≡ place.Plan found.line ∷ []))
+    ⊎ ((found : RelayLine A) × (slice_get lines at ≡ Some found) × ¬ RelayIsNew net lines at
+    × (own ≡ place.Plan found.line ∷ []))
 
 -- These are the places of the relay's line and of its sources, as far as they aren't new.
-abbrev pub AreTwiceInRelay : {A : Type 0} → Network A → List (RelayLine A) → ℕ → Node A → List Place → Type 0
-AreTwiceInRelay net lines at node places = (own sources : List Place) × IsOwnPlace net lines at own × AreInRelay (BreaksAtSource net) at node sources
+abbrev pub AreTwiceInRelay : {A : Type 0} → Network A → List (RelayLine A) → ℕ → Node A → List Place
+    → Type 0
+AreTwiceInRelay net lines at node places = (own sources : List Place) × IsOwnPlace net lines at own
+    × AreInRelay (BreaksAtSource net) at node sources
     × (places ≡ own ++ sources)
 
 -- This is so of each relay, in the order of the plan.
@@ -64,12 +70,28 @@ AreTwice net lines places = AreByRelays (AreTwiceInRelay net lines) 0 net.relays
 -- or by relays and then by their lines.
 abbrev pub AreBrokenPlaces : {A : Type 0} → Subject A → Rule → List Place → Type 0
 AreBrokenPlaces s rule.AddressesAreDistinct = AreTwice s.net s.relay_lines
-AreBrokenPlaces s rule.ServersAreSources = AreInConf s.net (BreaksAtServer s.net (λ p scope r server. IsSome (entrance s.net (address_of_server server))))
-AreBrokenPlaces s rule.ClientsAreLabelled = AreInPlan (BreaksAtClient s.net s.client_lines (IsLabelledClient s.net s.labels))
+AreBrokenPlaces s rule.ServersAreSources =
+    AreInConf s.net
+    (BreaksAtServer s.net (λ p scope r server. IsSome (entrance s.net (address_of_server server))))
+AreBrokenPlaces s rule.ClientsAreLabelled =
+    AreInPlan (BreaksAtClient s.net s.client_lines (IsLabelledClient s.net s.labels))
 AreBrokenPlaces s rule.LabelsAreMatched = AreInPlan (BreaksAtLabel s.labels (IsMatchedLabel s.net))
-AreBrokenPlaces s rule.ReachesCover = AreInPlan (BreaksAtLabel s.labels (IsCoveredLabel s.net s.reaches))
-AreBrokenPlaces s rule.ReachedMatchesKeep = AreInConf s.net (BreaksAtMatch s.net (λ p scope r found. IsReached s.reaches p scope r → DoesDuty s.duty found))
-AreBrokenPlaces s rule.RelabelsAreLabelled = AreInConf s.net (BreaksAtOutput s.net (λ p scope r output found. IsLabelledRelabel s.labels s.reaches p scope r found))
-AreBrokenPlaces s rule.ForwardsAreLabelled = AreInConf s.net (BreaksAtServer s.net (λ p scope r server. IsLabelledServer s.net s.labels s.reaches p scope r (address_of_server server)))
-AreBrokenPlaces s rule.PathsAreDistinct = AreInConf s.net (BreaksAtOutput s.net (IsFirstOfPath s.net))
-AreBrokenPlaces s rule.NoRelabelCycle = AreInConf s.net (BreaksAtOutput s.net (λ p scope r output found. IsOnNoCycle s.net s.reaches p scope r found))
+AreBrokenPlaces s rule.ReachesCover =
+    AreInPlan (BreaksAtLabel s.labels (IsCoveredLabel s.net s.reaches))
+AreBrokenPlaces s rule.ReachedMatchesKeep =
+    AreInConf s.net (BreaksAtMatch s.net (λ p scope r found. IsReached s.reaches p scope r
+    → DoesDuty s.duty found))
+AreBrokenPlaces s rule.RelabelsAreLabelled =
+    AreInConf s.net
+    (BreaksAtOutput s.net
+    (λ p scope r output found. IsLabelledRelabel s.labels s.reaches p scope r found))
+AreBrokenPlaces s rule.ForwardsAreLabelled =
+    AreInConf s.net
+    (BreaksAtServer s.net
+    (λ p scope r server.
+    IsLabelledServer s.net s.labels s.reaches p scope r (address_of_server server)))
+AreBrokenPlaces s rule.PathsAreDistinct =
+    AreInConf s.net (BreaksAtOutput s.net (IsFirstOfPath s.net))
+AreBrokenPlaces s rule.NoRelabelCycle =
+    AreInConf s.net
+    (BreaksAtOutput s.net (λ p scope r output found. IsOnNoCycle s.net s.reaches p scope r found))

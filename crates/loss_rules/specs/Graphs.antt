@@ -22,7 +22,8 @@ relabels_at graph scope = slice_index_or graph scope []
 
 -- A relabel in this line leads from the one scope to the other.
 abbrev pub HasRelabel : List (List Relabel) → ℕ → ℕ → ℕ → Type 0
-HasRelabel graph scope target line = Contains (relabels_at graph scope) (record { target = target; line = line })
+HasRelabel graph scope target line = Contains (relabels_at graph scope)
+    (record { target = target; line = line })
 
 -- A relabel leads from the one scope to the other.
 abbrev pub Leads : List (List Relabel) → ℕ → ℕ → Type 0
@@ -30,7 +31,8 @@ Leads graph scope target = (line : ℕ) × HasRelabel graph scope target line
 
 -- In this line the scope has a relabel from whose target a chain leads back to the scope.
 abbrev pub IsOnCycleFrom : List (List Relabel) → ℕ → ℕ → Type 0
-IsOnCycleFrom graph scope line = (target : ℕ) × HasRelabel graph scope target line × Chain (Leads graph) target scope
+IsOnCycleFrom graph scope line = (target : ℕ) × HasRelabel graph scope target line
+    × Chain (Leads graph) target scope
 
 -- In this line some scope has such a relabel.
 abbrev pub IsOnCycle : List (List Relabel) → ℕ → Type 0
@@ -38,4 +40,5 @@ IsOnCycle graph line = (scope : ℕ) × IsOnCycleFrom graph scope line
 
 -- The graph has the relabels of the reached matches of the relay at this place, and no others.
 abbrev pub IsGraphOf : {A : Type 0} → Network A → List (Reach A) → ℕ → List (List Relabel) → Type 0
-IsGraphOf net reaches place graph = (scope target line : ℕ) → HasRelabel graph scope target line ↔ HasReachedRelabel net reaches place scope target line
+IsGraphOf net reaches place graph = (scope target line : ℕ) → HasRelabel graph scope target line
+    ↔ HasReachedRelabel net reaches place scope target line

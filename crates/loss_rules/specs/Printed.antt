@@ -24,7 +24,8 @@ rule_code rule.NoRelabelCycle = codes "K10"
 -- a line of the plan, or of a relay's configuration
 abbrev pub place_text : Place → List ℕ
 place_text (place.Plan line) = codes "plan line " ++ decimal line
-place_text (place.Conf relay line) = codes "relay " ++ decimal relay ++ codes " line " ++ decimal line
+place_text (place.Conf relay line) = codes "relay " ++ decimal relay ++ codes " line "
+    ++ decimal line
 
 -- `yes`, or `no` with the rule and its place
 abbrev pub answer_text : Answer → List ℕ

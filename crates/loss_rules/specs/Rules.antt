@@ -28,8 +28,10 @@ use Rattle.loss_rules.specs.declared.label.RelayLine.{RelayLine}
 -- The relay at this place has another number than that at the other place, and another folder.
 abbrev pub IsNewTo : {A : Type 0} → Network A → List (RelayLine A) → ℕ → ℕ → Type 0
 IsNewTo {A} net lines place other =
-    ((one two : Node A) → slice_get net.relays other ≡ Some one → slice_get net.relays place ≡ Some two → one.number ≢ two.number)
-    × ((one two : RelayLine A) → slice_get lines other ≡ Some one → slice_get lines place ≡ Some two → string_bytes one.folder ≢ string_bytes two.folder)
+    ((one two : Node A) → slice_get net.relays other ≡ Some one → slice_get net.relays place
+    ≡ Some two → one.number ≢ two.number)
+    × ((one two : RelayLine A) → slice_get lines other ≡ Some one → slice_get lines place ≡ Some two
+    → string_bytes one.folder ≢ string_bytes two.folder)
 
 -- So it is with each relay before it.
 abbrev pub RelayIsNew : {A : Type 0} → Network A → List (RelayLine A) → ℕ → Type 0
@@ -37,7 +39,8 @@ RelayIsNew net lines place = (before : ℕ) → before < place → IsNewTo net l
 
 -- the source with this place in the relay at this place
 abbrev pub source_in : {A : Type 0} → Network A → ℕ → ℕ → Option (Source A)
-source_in net place source = option_and_then (λ node. slice_get node.relay.sources.items source) (slice_get net.relays place)
+source_in net place source = option_and_then (λ node. slice_get node.relay.sources.items source)
+    (slice_get net.relays place)
 
 -- The source is before this one: in a relay before its relay, or before it in its relay.
 abbrev pub IsBefore : (place source : ℕ) → (other_place other_source : ℕ) → Type 0
@@ -46,12 +49,15 @@ IsBefore place source p s = (p < place) ⊎ ((p ≡ place) × (s < source))
 -- The source with this place in the relay at this place has another address than each source before
 -- it.
 abbrev pub SourceIsNew : {A : Type 0} → Network A → ℕ → ℕ → Type 0
-SourceIsNew {A} net place source = (p s : ℕ) → IsBefore place source p s → (one two : Source A) (first second : Node A)
-    → source_in net p s ≡ Some one → source_in net place source ≡ Some two → slice_get net.relays p ≡ Some first → slice_get net.relays place ≡ Some second
+SourceIsNew {A} net place source = (p s : ℕ) → IsBefore place source p s
+    → (one two : Source A) (first second : Node A)
+    → source_in net p s ≡ Some one → source_in net place source ≡ Some two
+    → slice_get net.relays p ≡ Some first → slice_get net.relays place ≡ Some second
     → one.port ≡ two.port → string_bytes first.host ≢ string_bytes second.host
 
 -- All relays have numbers, folders and addresses of their own.
-pub record AddressesAreDistinct {A : Type 0} (net : Network A) (lines : List (RelayLine A)) : Type 0 where
+pub record AddressesAreDistinct {A : Type 0} (net : Network A)
+    (lines : List (RelayLine A)) : Type 0 where
   pub relays : (place : ℕ) → RelayIsNew net lines place
   pub sources : (place source : ℕ) → SourceIsNew net place source
 
@@ -59,14 +65,18 @@ pub record AddressesAreDistinct {A : Type 0} (net : Network A) (lines : List (Re
 
 -- Each server's address is that of a source of the plan.
 abbrev pub ServersAreSources : {A : Type 0} → Network A → Type 0
-ServersAreSources net = EachServer net (λ place scope rule server. IsSome (entrance net (address_of_server server)))
+ServersAreSources net =
+    EachServer net (λ place scope rule server. IsSome (entrance net (address_of_server server)))
 
 -- 3. Clients are labelled.
 
 -- Each pattern of the client, with the prefix of its source in front, fits a label of the scope
 -- that the source leads into.
 abbrev pub IsLabelledClient : {A : Type 0} → Network A → List (Label A) → Client A → Type 0
-IsLabelledClient net labels client = IsSomeAnd (entrance net (address_of_client net client)) (λ at. All (FitsLabelWith labels at.relay at.scope (prefix_at net (address_of_client net client))) client.patterns.items)
+IsLabelledClient net labels client = IsSomeAnd (entrance net (address_of_client net client))
+    (λ at.
+    All (FitsLabelWith labels at.relay at.scope (prefix_at net (address_of_client net client)))
+    client.patterns.items)
 
 -- This is so of all clients.
 abbrev pub ClientsAreLabelled : {A : Type 0} → Network A → List (Label A) → Type 0
@@ -80,7 +90,8 @@ FitsMatch pattern rule = Any (Fits pattern) rule.patterns.items
 
 -- The pattern fits a pattern of some match of the scope.
 abbrev pub IsMatched : {A : Type 0} → Network A → ℕ → ℕ → List Item → Type 0
-IsMatched {A} net place scope pattern = (rule : ℕ) × (found : MatchRule A) × (rule_at net place scope rule ≡ Some found) × FitsMatch pattern found
+IsMatched {A} net place scope pattern = (rule : ℕ) × (found : MatchRule A)
+    × (rule_at net place scope rule ≡ Some found) × FitsMatch pattern found
 
 -- Each pattern of the label is.
 abbrev pub IsMatchedLabel : {A : Type 0} → Network A → Label A → Type 0
@@ -95,21 +106,27 @@ LabelsAreMatched net labels = All (IsMatchedLabel net) labels
 -- The label's pattern and this pattern of the match have nothing in common, or one of them fits a
 -- reach of the match.
 abbrev pub IsCovered : {A : Type 0} → List (Reach A) → ℕ → ℕ → ℕ → List Item → List Item → Type 0
-IsCovered reaches place scope rule label pattern = (¬ Meets pattern label) ⊎ (FitsReach reaches place scope rule label ⊎ FitsReach reaches place scope rule pattern)
+IsCovered reaches place scope rule label pattern = (¬ Meets pattern label)
+    ⊎ (FitsReach reaches place scope rule label ⊎ FitsReach reaches place scope rule pattern)
 
 -- The label's pattern fits no match of the scope before this one.
 abbrev pub FitsNoneBefore : {A : Type 0} → Network A → ℕ → ℕ → ℕ → List Item → Type 0
-FitsNoneBefore {A} net place scope rule label = (before : ℕ) (found : MatchRule A) → before < rule → rule_at net place scope before ≡ Some found → ¬ FitsMatch label found
+FitsNoneBefore {A} net place scope rule label = (before : ℕ) (found : MatchRule A) → before < rule
+    → rule_at net place scope before ≡ Some found → ¬ FitsMatch label found
 
 -- The reaches of each match, up to and with the first that the label's pattern fits, cover what the
 -- two may have in common. Where it fits none, nothing is asked for.
-abbrev pub ReachesCoverLabel : {A : Type 0} → Network A → List (Reach A) → ℕ → ℕ → List Item → Type 0
-ReachesCoverLabel {A} net reaches place scope label = IsMatched net place scope label → (rule : ℕ) (found : MatchRule A) → rule_at net place scope rule ≡ Some found
-    → FitsNoneBefore net place scope rule label → All (IsCovered reaches place scope rule label) found.patterns.items
+abbrev pub ReachesCoverLabel : {A : Type 0} → Network A → List (Reach A) → ℕ → ℕ → List Item
+    → Type 0
+ReachesCoverLabel {A} net reaches place scope label = IsMatched net place scope label
+    → (rule : ℕ) (found : MatchRule A) → rule_at net place scope rule ≡ Some found
+    → FitsNoneBefore net place scope rule label
+    → All (IsCovered reaches place scope rule label) found.patterns.items
 
 -- This is so of each pattern of the label.
 abbrev pub IsCoveredLabel : {A : Type 0} → Network A → List (Reach A) → Label A → Type 0
-IsCoveredLabel net reaches label = All (ReachesCoverLabel net reaches label.place label.scope) label.patterns.items
+IsCoveredLabel net reaches label =
+    All (ReachesCoverLabel net reaches label.place label.scope) label.patterns.items
 
 -- This is so of all labels.
 abbrev pub ReachesCover : {A : Type 0} → Network A → List (Label A) → List (Reach A) → Type 0
@@ -119,15 +136,19 @@ ReachesCover net labels reaches = All (IsCoveredLabel net reaches) labels
 
 -- One of the match's outputs keeps, or sends events on to another scope.
 abbrev pub KeepsOrRelabels : {A : Type 0} → MatchRule A → Type 0
-KeepsOrRelabels rule = Any (λ found. Keeps found ⊎ ((scope : ℕ) × RelabelsTo found scope)) rule.outputs.items
+KeepsOrRelabels rule =
+    Any (λ found. Keeps found ⊎ ((scope : ℕ) × RelabelsTo found scope)) rule.outputs.items
 
 -- This is so of each reached match.
 abbrev pub ReachedMatchesKeep : {A : Type 0} → Network A → List (Reach A) → Type 0
-ReachedMatchesKeep net reaches = EachMatch net (λ place scope rule found. IsReached reaches place scope rule → KeepsOrRelabels found)
+ReachedMatchesKeep net reaches =
+    EachMatch net (λ place scope rule found. IsReached reaches place scope rule
+    → KeepsOrRelabels found)
 
 -- Each of the match's outputs keeps, or sends events on to another scope.
 abbrev pub AllKeepOrRelabel : {A : Type 0} → MatchRule A → Type 0
-AllKeepOrRelabel rule = All (λ found. Keeps found ⊎ ((scope : ℕ) × RelabelsTo found scope)) rule.outputs.items
+AllKeepOrRelabel rule =
+    All (λ found. Keeps found ⊎ ((scope : ℕ) × RelabelsTo found scope)) rule.outputs.items
 
 -- The match does what the plan asks of it: one of its outputs keeps or sends events on, and under
 -- the duty every each of them.
@@ -137,32 +158,46 @@ DoesDuty duty.Every rule = KeepsOrRelabels rule × AllKeepOrRelabel rule
 
 -- This is so of each reached match.
 abbrev pub ReachedMatchesDo : {A : Type 0} → Network A → Duty → List (Reach A) → Type 0
-ReachedMatchesDo net duty reaches = EachMatch net (λ place scope rule found. IsReached reaches place scope rule → DoesDuty duty found)
+ReachedMatchesDo net duty reaches =
+    EachMatch net (λ place scope rule found. IsReached reaches place scope rule
+    → DoesDuty duty found)
 
 -- Each output of each reached match keeps, or sends events on to another scope.
 abbrev pub EachOutputKeeps : {A : Type 0} → Network A → List (Reach A) → Type 0
-EachOutputKeeps net reaches = EachMatch net (λ place scope rule found. IsReached reaches place scope rule → AllKeepOrRelabel found)
+EachOutputKeeps net reaches =
+    EachMatch net (λ place scope rule found. IsReached reaches place scope rule
+    → AllKeepOrRelabel found)
 
 -- 7. Relabels are labelled.
 
 -- Each reach of the output's match fits a label of the scope that it sends events on to.
-abbrev pub IsLabelledRelabel : {A : Type 0} → List (Label A) → List (Reach A) → ℕ → ℕ → ℕ → Output A → Type 0
-IsLabelledRelabel labels reaches place scope rule found = (target : ℕ) → RelabelsTo found target → EachReach reaches place scope rule (FitsLabel labels place target)
+abbrev pub IsLabelledRelabel : {A : Type 0} → List (Label A) → List (Reach A) → ℕ → ℕ → ℕ → Output A
+    → Type 0
+IsLabelledRelabel labels reaches place scope rule found = (target : ℕ) → RelabelsTo found target
+    → EachReach reaches place scope rule (FitsLabel labels place target)
 
 -- This is so of each output.
 abbrev pub RelabelsAreLabelled : {A : Type 0} → Network A → List (Label A) → List (Reach A) → Type 0
-RelabelsAreLabelled net labels reaches = EachOutput net (λ place scope rule output found. IsLabelledRelabel labels reaches place scope rule found)
+RelabelsAreLabelled net labels reaches =
+    EachOutput net (λ place scope rule output found.
+    IsLabelledRelabel labels reaches place scope rule found)
 
 -- 8. Forwards are labelled.
 
 -- Each reach of the match, with the prefix of the source that the server is in front, fits a label
 -- of the scope that this source leads into. Where the server is no source, nothing is asked for.
-abbrev pub IsLabelledServer : {A : Type 0} → Network A → List (Label A) → List (Reach A) → ℕ → ℕ → ℕ → Address → Type 0
-IsLabelledServer net labels reaches place scope rule address = (at : _) → entrance net address ≡ Some at → EachReach reaches place scope rule (FitsLabelWith labels at.relay at.scope (prefix_at net address))
+abbrev pub IsLabelledServer : {A : Type 0} → Network A → List (Label A) → List (Reach A) → ℕ → ℕ → ℕ
+    → Address → Type 0
+IsLabelledServer net labels reaches place scope rule address = (at : _)
+    → entrance net address ≡ Some at
+    → EachReach reaches place scope rule
+    (FitsLabelWith labels at.relay at.scope (prefix_at net address))
 
 -- This is so of each server.
 abbrev pub ForwardsAreLabelled : {A : Type 0} → Network A → List (Label A) → List (Reach A) → Type 0
-ForwardsAreLabelled net labels reaches = EachServer net (λ place scope rule server. IsLabelledServer net labels reaches place scope rule (address_of_server server))
+ForwardsAreLabelled net labels reaches =
+    EachServer net (λ place scope rule server.
+    IsLabelledServer net labels reaches place scope rule (address_of_server server))
 
 -- 9. Paths are distinct.
 
@@ -179,36 +214,45 @@ sink_path (output.File settings line) = Some (string_bytes settings.path)
 
 -- The outputs share a path of their buffers, or one of their sinks.
 abbrev pub SharePath : {A : Type 0} → Output A → Output A → Type 0
-SharePath one two = (path : List ℕ) × (((buffer_path one ≡ Some path) × (buffer_path two ≡ Some path)) ⊎ ((sink_path one ≡ Some path) × (sink_path two ≡ Some path)))
+SharePath one two = (path : List ℕ)
+    × (((buffer_path one ≡ Some path) × (buffer_path two ≡ Some path))
+    ⊎ ((sink_path one ≡ Some path) × (sink_path two ≡ Some path)))
 
 -- No two outputs of a relay share a path.
 abbrev pub PathsAreDistinct : {A : Type 0} → Network A → Type 0
-PathsAreDistinct {A} net = EachOutput net (λ place scope rule output found. (s r o : ℕ) (other : Output A) → output_in_rule net place s r o ≡ Some other
+PathsAreDistinct {A} net =
+    EachOutput net (λ place scope rule output found. (s r o : ℕ) (other : Output A)
+    → output_in_rule net place s r o ≡ Some other
     → SharePath other found → (s ≡ scope) × (r ≡ rule) × (o ≡ output))
 
 -- 10. Relabels don't come back.
 
 -- In this line of the relay a reached match of the scope has a relabel to that target.
 abbrev pub HasReachedRelabel : {A : Type 0} → Network A → List (Reach A) → ℕ → ℕ → ℕ → ℕ → Type 0
-HasReachedRelabel {A} net reaches place scope target line = (rule output : ℕ) × (found : Output A) × (output_in_rule net place scope rule output ≡ Some found)
+HasReachedRelabel {A} net reaches place scope target line = (rule output : ℕ) × (found : Output A)
+    × (output_in_rule net place scope rule output ≡ Some found)
     × IsReached reaches place scope rule × RelabelsTo found target × (line_of found ≡ line)
 
 -- A reached match of the scope sends events on to the other scope, in whatever line.
 abbrev pub GoesOn : {A : Type 0} → Network A → List (Reach A) → ℕ → ℕ → ℕ → Type 0
-GoesOn net reaches place scope target = (line : ℕ) × HasReachedRelabel net reaches place scope target line
+GoesOn net reaches place scope target = (line : ℕ)
+    × HasReachedRelabel net reaches place scope target line
 
 -- Where the output is a relabel of a reached match, no chain of such relabels leads from its target
 -- back to its scope.
 abbrev pub IsOnNoCycle : {A : Type 0} → Network A → List (Reach A) → ℕ → ℕ → ℕ → Output A → Type 0
-IsOnNoCycle net reaches place scope rule found = IsReached reaches place scope rule → (target : ℕ) → RelabelsTo found target → ¬ Chain (GoesOn net reaches place) target scope
+IsOnNoCycle net reaches place scope rule found = IsReached reaches place scope rule → (target : ℕ)
+    → RelabelsTo found target → ¬ Chain (GoesOn net reaches place) target scope
 
 -- This is so of each output.
 abbrev pub NoRelabelCycle : {A : Type 0} → Network A → List (Reach A) → Type 0
-NoRelabelCycle net reaches = EachOutput net (λ place scope rule output found. IsOnNoCycle net reaches place scope rule found)
+NoRelabelCycle net reaches =
+    EachOutput net (λ place scope rule output found. IsOnNoCycle net reaches place scope rule found)
 
 -- The rules that keep events: all but those on what is distinct, which serve that no two relays,
 -- buffers or sinks are taken for one.
-pub record AreKeepingRulesKept {A : Type 0} (net : Network A) (labels : List (Label A)) (reaches : List (Reach A)) : Type 0 where
+pub record AreKeepingRulesKept {A : Type 0} (net : Network A) (labels : List (Label A))
+    (reaches : List (Reach A)) : Type 0 where
   pub servers : ServersAreSources net
   pub clients : ClientsAreLabelled net labels
   pub labels_matched : LabelsAreMatched net labels

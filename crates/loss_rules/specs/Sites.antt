@@ -12,12 +12,14 @@ use Rattle.relay_net.specs.Outputs.{servers_of}
 
 -- the match with this place in this scope of the relay at this place, each counted from 0
 abbrev pub rule_at : {A : Type 0} → Network A → ℕ → ℕ → ℕ → Option (MatchRule A)
-rule_at net place scope rule = option_and_then (λ found. slice_get found.matches.items rule) (option_and_then (λ relay. slice_get relay.scopes.items scope) (relay_at net place))
+rule_at net place scope rule = option_and_then (λ found. slice_get found.matches.items rule)
+    (option_and_then (λ relay. slice_get relay.scopes.items scope) (relay_at net place))
 
 -- the matches of this scope of the relay at this place, in the order of the text; none, where there
 -- is no such scope
 abbrev pub matches_at : {A : Type 0} → Network A → ℕ → ℕ → List (MatchRule A)
-matches_at net place scope = option_map_or (λ found. found.matches.items) (option_and_then (λ relay. slice_get relay.scopes.items scope) (relay_at net place)) []
+matches_at net place scope = option_map_or (λ found. found.matches.items)
+    (option_and_then (λ relay. slice_get relay.scopes.items scope) (relay_at net place)) []
 
 -- how many scopes the relay at this place has; one that isn't there has none
 abbrev pub scope_count_of : {A : Type 0} → Network A → ℕ → ℕ
@@ -25,20 +27,24 @@ scope_count_of net place = option_map_or (λ relay. length relay.scopes.items) (
 
 -- the output with this place among those of that match
 abbrev pub output_in_rule : {A : Type 0} → Network A → ℕ → ℕ → ℕ → ℕ → Option (Output A)
-output_in_rule net place scope rule output = option_and_then (λ found. slice_get found.outputs.items output) (rule_at net place scope rule)
+output_in_rule net place scope rule output =
+    option_and_then (λ found. slice_get found.outputs.items output) (rule_at net place scope rule)
 
 -- This holds of each match, by the places of its relay, of its scope and of itself.
 abbrev pub EachMatch : {A : Type 0} → Network A → (ℕ → ℕ → ℕ → MatchRule A → Type 0) → Type 0
-EachMatch {A} net P = (place scope rule : ℕ) (found : MatchRule A) → rule_at net place scope rule ≡ Some found → P place scope rule found
+EachMatch {A} net P = (place scope rule : ℕ) (found : MatchRule A) → rule_at net place scope rule
+    ≡ Some found → P place scope rule found
 
 -- This holds of each output, by the places of its relay, of its scope, of its match and of itself.
 abbrev pub EachOutput : {A : Type 0} → Network A → (ℕ → ℕ → ℕ → ℕ → Output A → Type 0) → Type 0
-EachOutput {A} net P = (place scope rule output : ℕ) (found : Output A) → output_in_rule net place scope rule output ≡ Some found → P place scope rule output found
+EachOutput {A} net P = (place scope rule output : ℕ) (found : Output A)
+    → output_in_rule net place scope rule output ≡ Some found → P place scope rule output found
 
 -- This holds of each server of each output, by the places of the relay, of the scope and of the
 -- match.
 abbrev pub EachServer : {A : Type 0} → Network A → (ℕ → ℕ → ℕ → Server A → Type 0) → Type 0
-EachServer {A} net P = EachOutput net (λ place scope rule output found. (server : Server A) → Contains (servers_of found) server → P place scope rule server)
+EachServer {A} net P = EachOutput net (λ place scope rule output found. (server : Server A)
+    → Contains (servers_of found) server → P place scope rule server)
 
 -- the line of an output: that of its `<store>`, or of its `<match>` without a copy
 abbrev pub line_of : {A : Type 0} → Output A → ℕ
@@ -56,4 +62,5 @@ RelabelsTo (output.File settings line) scope = ⊥
 
 -- Each relay's outputs have buffers of their own.
 abbrev pub BuffersAreDistinct : {A : Type 0} → Network A → Type 0
-BuffersAreDistinct {A} net = (place : ℕ) (relay : Relay A) → relay_at net place ≡ Some relay → HaveOwnBuffers relay
+BuffersAreDistinct {A} net = (place : ℕ) (relay : Relay A) → relay_at net place ≡ Some relay
+    → HaveOwnBuffers relay

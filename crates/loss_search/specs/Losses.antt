@@ -18,7 +18,8 @@ pub record HasLost {A : Type 0} (asked : Duty) (net : Network A) (w : World) : T
 
 -- The network takes each of the steps, from before its first one, and has lost an acknowledged
 -- event then.
-pub record Loses {A : Type 0} (asked : Duty) (net : Network A) (steps : List (Step A)) : Type 0 where
+pub record Loses {A : Type 0} (asked : Duty) (net : Network A)
+    (steps : List (Step A)) : Type 0 where
   pub world : World
   pub taken : Steps net initial_world steps world
   pub lost : HasLost asked net world

@@ -39,14 +39,15 @@ pub record Told : Type 0 where
 
 -- these entries, under the client's tag
 abbrev pub told_to : ℕ → List ℕ → List (List ℕ) → List Told
-told_to client tag entries = map (λ entry. record { client = client; event = record { tag = tag; entry = entry } }) entries
+told_to client tag entries =
+    map (λ entry. record { client = client; event = record { tag = tag; entry = entry } }) entries
 
 -- What was ever sent, delivered and acknowledged.
 pub record Book : Type 0 where
   pub messages : List Message  -- all that were ever sent, in that order
   pub deliveries : List Delivery  -- all that were ever opened, in that order
   pub acknowledged : List Told  -- the events that were acknowledged to clients, in that order
-  pub room : List ℕ  -- for each delivery, to how many more buffers it may be appended without new memory
+  pub room : List ℕ  -- for each delivery, how many more appends need no new memory
 
 -- the book of these messages, of these deliveries with the room that they have, and of these events
 abbrev pub book_from : List Message → List Opened → List Told → Book
@@ -63,7 +64,8 @@ empty_book = record { messages = []; deliveries = []; acknowledged = []; room = 
 
 -- the list after this happened to its element of this number, if it has one
 abbrev pub changed_at : {X : Type 0} → List X → ℕ → (X → X) → List X
-changed_at xs number change = option_map_or (λ x. slice_set xs number (change x)) (slice_get xs number) xs
+changed_at xs number change = option_map_or (λ x. slice_set xs number (change x))
+    (slice_get xs number) xs
 
 -- the message, acknowledged to its sender
 abbrev pub acknowledged_message : Message → Message
@@ -78,7 +80,8 @@ newly_acknowledged (Chunk place buffer serial) before tag entries = []
 
 -- the same of a message
 abbrev pub events_told : Message → List Told
-events_told message = newly_acknowledged message.sender message.acknowledged message.tag message.entries
+events_told message =
+    newly_acknowledged message.sender message.acknowledged message.tag message.entries
 
 -- the delivery after it was appended to this buffer too
 abbrev pub appended_to_buffer : ℕ → Delivery → Delivery

@@ -25,7 +25,13 @@ impl<A: Allocator> Model for Delivery<A> {
     ghost Value = { Opened };
 
     ghost view = { λ d. record {
-      delivery = record { message = d.message; entrance = d.entrance; tag = d.tag; appended = d.appended.items; is_open = d.is_open };
+      delivery = record {
+        message = d.message;
+        entrance = d.entrance;
+        tag = d.tag;
+        appended = d.appended.items;
+        is_open = d.is_open;
+      };
       room = vec_capacity d.appended - vec_len d.appended;
     } };
 }

@@ -11,7 +11,8 @@ use Rattle.msgpack_bytes.specs.Fault.{IsFaulty}
 
 -- where the item at `at` ends
 abbrev pub IsScanned : List ℕ → ℕ → Scan → Type 0
-IsScanned bytes at (End end) = (at ≤ end) × (end ≤ length bytes) × IsItemWithin (slice_range bytes at end)
+IsScanned bytes at (End end) = (at ≤ end) × (end ≤ length bytes)
+    × IsItemWithin (slice_range bytes at end)
 IsScanned bytes at Need = IsOpen (drop at bytes)
 IsScanned bytes at (Bad fault) = IsFaulty fault (drop at bytes)
 
@@ -35,10 +36,15 @@ IsHead bytes at (Some (head.Bool value)) = Begins (IsBool value) (drop at bytes)
 IsHead bytes at (Some (head.Int value)) = Begins (λ front. IsInteger front value) (drop at bytes)
 IsHead bytes at (Some head.Float) = Begins IsFloat (drop at bytes)
 IsHead bytes at (Some (head.Str start end)) =
-    (at < start) × (start ≤ end) × (end ≤ length bytes) × IsStr (slice_range bytes at end) (slice_range bytes start end)
+    (at < start) × (start ≤ end) × (end ≤ length bytes) × IsStr (slice_range bytes at end)
+    (slice_range bytes start end)
 IsHead bytes at (Some (head.Bin start end)) =
-    (at < start) × (start ≤ end) × (end ≤ length bytes) × IsBin (slice_range bytes at end) (slice_range bytes start end)
+    (at < start) × (start ≤ end) × (end ≤ length bytes) × IsBin (slice_range bytes at end)
+    (slice_range bytes start end)
 IsHead bytes at (Some (head.Ext type_byte start end)) =
-    (at < start) × (start ≤ end) × (end ≤ length bytes) × IsExt type_byte (slice_range bytes at end) (slice_range bytes start end)
-IsHead bytes at (Some (head.Array count next)) = (at < next) × (next ≤ length bytes) × IsArrayHeader count (slice_range bytes at next)
-IsHead bytes at (Some (head.Map count next)) = (at < next) × (next ≤ length bytes) × IsMapHeader count (slice_range bytes at next)
+    (at < start) × (start ≤ end) × (end ≤ length bytes) × IsExt type_byte (slice_range bytes at end)
+    (slice_range bytes start end)
+IsHead bytes at (Some (head.Array count next)) = (at < next) × (next ≤ length bytes)
+    × IsArrayHeader count (slice_range bytes at next)
+IsHead bytes at (Some (head.Map count next)) = (at < next) × (next ≤ length bytes)
+    × IsMapHeader count (slice_range bytes at next)

@@ -11,7 +11,8 @@ pub record IsPart (bytes : List ℕ) : Type 0 where
 
 -- an array of these elements, each of which is such an item: its header, in any spelling, and the
 -- elements one after another
-pub record IsArrayOf (IsElement : List ℕ → Type 0) (items : List (List ℕ)) (bytes : List ℕ) : Type 0 where
+pub record IsArrayOf (IsElement : List ℕ → Type 0) (items : List (List ℕ))
+    (bytes : List ℕ) : Type 0 where
   pub header : List ℕ
   pub counted : IsArrayHeader (length items) header
   pub each : AllByRecursion IsElement items

@@ -27,7 +27,8 @@ pub record IsWithin (part rest : List ℕ → Type 0) (bytes : List ℕ) : Type 
 -- nest `left` deep
 unfoldable pub Awaits : ℕ → ℕ → List ℕ → Type 0
 Awaits left zero bytes = (bytes ≡ []) × (left ≡ 0)
-Awaits left (suc depth) bytes = ((bytes ≡ []) × (left ≡ suc depth)) ⊎ IsWithin (Item depth) (Awaits left depth) bytes
+Awaits left (suc depth) bytes = ((bytes ≡ []) × (left ≡ suc depth))
+    ⊎ IsWithin (Item depth) (Awaits left depth) bytes
 
 -- first bytes of arrays and maps
 abbrev pub IsOfContainer : Shape → Type 0

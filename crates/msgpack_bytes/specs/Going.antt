@@ -26,7 +26,9 @@ pub record Stands (seen piece front missing : List ℕ) (place : Place) (at : �
 
 -- how far the scan went
 abbrev pub Goes : List ℕ → List ℕ → List ℕ → List ℕ → Went → Type 0
-Goes seen piece front missing (Ended n) = (end : ℕ) × IsScanned (seen ++ piece) 0 (scan.End end) × (n ≡ end - length seen)
+Goes seen piece front missing (Ended n) = (end : ℕ) × IsScanned (seen ++ piece) 0 (scan.End end)
+    × (n ≡ end - length seen)
 Goes seen piece front missing (Bad fault) = IsScanned (seen ++ piece) 0 (scan.Bad fault)
 Goes seen piece front missing (Cut place at) =
-    (stands : Stands seen piece front missing place at) × LacksBytes (drop stands.done (seen ++ piece)) × IsScanned (seen ++ piece) 0 scan.Need
+    (stands : Stands seen piece front missing place at)
+    × LacksBytes (drop stands.done (seen ++ piece)) × IsScanned (seen ++ piece) 0 scan.Need

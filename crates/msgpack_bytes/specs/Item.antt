@@ -9,7 +9,8 @@ use Rattle.msgpack_bytes.specs.Format.{big_endian, items_in, shape_of}
 -- behind a first byte of this shape stands the length of a content of this kind, which has n bytes
 abbrev pub Sizes : Shape → Kind → ℕ → List ℕ → Type 0
 Sizes (Fixed kind content) k n length_bytes = (kind ≡ k) × (length_bytes ≡ []) × (n ≡ content)
-Sizes (Sized kind width extra) k n length_bytes = (kind ≡ k) × (length length_bytes ≡ width) × (n ≡ big_endian length_bytes + extra)
+Sizes (Sized kind width extra) k n length_bytes = (kind ≡ k) × (length length_bytes ≡ width)
+    × (n ≡ big_endian length_bytes + extra)
 Sizes (Holds container count) k n length_bytes = ⊥
 Sizes (Counted container width) k n length_bytes = ⊥
 Sizes Never k n length_bytes = ⊥
@@ -19,7 +20,8 @@ abbrev pub Counts : Shape → Container → ℕ → List ℕ → Type 0
 Counts (Fixed kind content) c n count_bytes = ⊥
 Counts (Sized kind width extra) c n count_bytes = ⊥
 Counts (Holds container count) c n count_bytes = (container ≡ c) × (count_bytes ≡ []) × (n ≡ count)
-Counts (Counted container width) c n count_bytes = (container ≡ c) × (length count_bytes ≡ width) × (n ≡ big_endian count_bytes)
+Counts (Counted container width) c n count_bytes = (container ≡ c) × (length count_bytes ≡ width)
+    × (n ≡ big_endian count_bytes)
 Counts Never c n count_bytes = ⊥
 
 -- the header of a scalar of this kind with n bytes of content: a first byte, and the length if
@@ -31,7 +33,8 @@ IsScalarHeader kind n (first ∷ length_bytes) = Sizes (shape_of first) kind n l
 -- the header of such a container with n entries: a first byte, and the count if there is one
 abbrev pub IsContainerHeader : Container → ℕ → List ℕ → Type 0
 IsContainerHeader container n [] = ⊥
-IsContainerHeader container n (first ∷ count_bytes) = Counts (shape_of first) container n count_bytes
+IsContainerHeader container n (first ∷ count_bytes) =
+    Counts (shape_of first) container n count_bytes
 
 -- a whole scalar of this kind: its header, and a content of the stated length
 pub record Spells (kind : Kind) (bytes content : List ℕ) : Type 0 where
@@ -48,7 +51,8 @@ pub record IsScalar (bytes : List ℕ) : Type 0 where
 -- n parts, one after another
 abbrev pub Row : (List ℕ → Type 0) → ℕ → List ℕ → Type 0
 Row part zero bytes = bytes ≡ []
-Row part (suc n) bytes = (front : List ℕ) × (back : List ℕ) × part front × Row part n back × (bytes ≡ front ++ back)
+Row part (suc n) bytes = (front : List ℕ) × (back : List ℕ) × part front × Row part n back
+    × (bytes ≡ front ++ back)
 
 -- a whole container: its header, and as many parts as it holds
 pub record IsContainer (part : List ℕ → Type 0) (bytes : List ℕ) : Type 0 where

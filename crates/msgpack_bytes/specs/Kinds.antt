@@ -44,9 +44,12 @@ twos_complement bytes =
 -- on; no byte is above ff
 pub data IsInteger (bytes : List ℕ) (value : ℤ) : Type 0 where
   Positive : (byte : ℕ) → byte < 0x80 → bytes ≡ byte ∷ [] → value ≡ pos byte → IsInteger bytes value
-  Negative : (byte : ℕ) → 0xe0 ≤ byte → bytes ≡ byte ∷ [] → value ≡ pos byte -ℤ pos 0x100 → IsInteger bytes value
-  Unsigned : (content : List ℕ) → Spells kind.Unsigned bytes content → value ≡ pos (big_endian content) → IsInteger bytes value
-  Signed : (content : List ℕ) → Spells kind.Signed bytes content → value ≡ twos_complement content → IsInteger bytes value
+  Negative : (byte : ℕ) → 0xe0 ≤ byte → bytes ≡ byte ∷ [] → value ≡ pos byte -ℤ pos 0x100
+      → IsInteger bytes value
+  Unsigned : (content : List ℕ) → Spells kind.Unsigned bytes content
+      → value ≡ pos (big_endian content) → IsInteger bytes value
+  Signed : (content : List ℕ) → Spells kind.Signed bytes content → value ≡ twos_complement content
+      → IsInteger bytes value
 
 -- "array format family": the header of an array of n items
 abbrev pub IsArrayHeader : ℕ → List ℕ → Type 0

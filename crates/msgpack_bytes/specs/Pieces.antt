@@ -19,7 +19,8 @@ counted_from before (scan.Bad fault) = taken.Bad fault
 -- what is right to answer to a piece, behind the bytes that were seen before: what a scan of all of
 -- them answers
 abbrev pub IsTaken : List ℕ → List ℕ → PieceScan → Type 0
-IsTaken seen piece answer = (whole : Scan) × IsScanned (seen ++ piece) 0 whole × (answer ≡ counted_from (length seen) whole)
+IsTaken seen piece answer = (whole : Scan) × IsScanned (seen ++ piece) 0 whole
+    × (answer ≡ counted_from (length seen) whole)
 
 -- what a scanner keeps
 pub record Scanning : Type 0 where
@@ -37,11 +38,13 @@ owed counts (suc k) = slice_index counts k + owed counts k
 -- depth
 abbrev pub finish : List ℕ → ℕ → ℕ → List ℕ → Result (List ℕ) Stop
 finish counts depth zero bytes = Ok bytes
-finish counts depth (suc k) bytes = then_ (many (run depth) (slice_index counts k) bytes) (owed counts k) (finish counts (suc depth) k)
+finish counts depth (suc k) bytes = then_ (many (run depth) (slice_index counts k) bytes)
+    (owed counts k) (finish counts (suc depth) k)
 
 -- what the levels still owe, of the bytes behind those that are read
 abbrev pub Reads : List ℕ → List ℕ → ℕ → ℕ → Type 0
-Reads front missing depth levels = (back : List ℕ) → run deepest (front ++ back) ≡ finish missing depth levels back
+Reads front missing depth levels = (back : List ℕ) → run deepest (front ++ back)
+    ≡ finish missing depth levels back
 
 -- the bytes up to i are read, on so many levels items are missing, and so many bytes may be added
 -- to the least end

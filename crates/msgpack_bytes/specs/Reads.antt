@@ -65,7 +65,8 @@ count_in (Fixed kind size) start rest = None
 count_in (Sized kind width extra) start rest = None
 count_in (Holds container n) start rest = Some (record { count = n; next = start })
 count_in (Counted container width) start rest =
-    if nat_lt (length rest) width then None else Some (record { count = number width rest; next = start + width })
+    if nat_lt (length rest) width then None
+    else Some (record { count = number width rest; next = start + width })
 count_in Never start rest = None
 
 -- the head of a scalar of this kind, whose first byte and content these are
@@ -74,12 +75,15 @@ scalar_head Nil first bytes content = head.Nil
 scalar_head Bool first bytes content = head.Bool (first == 0xc3)
 scalar_head PositiveFixint first bytes content = head.Int (pos first)
 scalar_head NegativeFixint first bytes content = head.Int (pos first -ℤ pos 0x100)
-scalar_head Unsigned first bytes content = head.Int (pos (big_endian (slice_range bytes content.start content.end)))
-scalar_head Signed first bytes content = head.Int (twos_complement (slice_range bytes content.start content.end))
+scalar_head Unsigned first bytes content =
+    head.Int (pos (big_endian (slice_range bytes content.start content.end)))
+scalar_head Signed first bytes content =
+    head.Int (twos_complement (slice_range bytes content.start content.end))
 scalar_head Float first bytes content = head.Float
 scalar_head Str first bytes content = head.Str content.start content.end
 scalar_head Bin first bytes content = head.Bin content.start content.end
-scalar_head Ext first bytes content = head.Ext (slice_index bytes content.start) (content.start + 1) content.end
+scalar_head Ext first bytes content = head.Ext (slice_index bytes content.start)
+    (content.start + 1) content.end
 
 -- the head of a container
 abbrev pub container_head : Container → Count → Head
@@ -98,10 +102,14 @@ some_container container (Some found) = Some (container_head container found)
 
 -- the head behind a first byte of this shape
 abbrev pub head_by : Shape → ℕ → List ℕ → ℕ → List ℕ → Option Head
-head_by (Fixed kind size) first bytes start rest = some_scalar kind first bytes (content_in (Fixed kind size) start rest)
-head_by (Sized kind width extra) first bytes start rest = some_scalar kind first bytes (content_in (Sized kind width extra) start rest)
-head_by (Holds container count) first bytes start rest = some_container container (count_in (Holds container count) start rest)
-head_by (Counted container width) first bytes start rest = some_container container (count_in (Counted container width) start rest)
+head_by (Fixed kind size) first bytes start rest =
+    some_scalar kind first bytes (content_in (Fixed kind size) start rest)
+head_by (Sized kind width extra) first bytes start rest =
+    some_scalar kind first bytes (content_in (Sized kind width extra) start rest)
+head_by (Holds container count) first bytes start rest =
+    some_container container (count_in (Holds container count) start rest)
+head_by (Counted container width) first bytes start rest =
+    some_container container (count_in (Counted container width) start rest)
 head_by Never first bytes start rest = None
 
 -- the head of these bytes, which lie at this index

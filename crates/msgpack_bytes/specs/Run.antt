@@ -14,7 +14,7 @@ number (suc width) (byte ∷ bytes) = byte * 256 ^ width + number width bytes
 -- the front of the bytes
 pub data Front : Type 0 where
   Whole : (rest : List ℕ) → Front  -- a scalar, and what is behind it
-  Opens : (n : ℕ) (rest : List ℕ) → Front  -- the header of a container of n items, and what is behind it
+  Opens : (n : ℕ) (rest : List ℕ) → Front  -- a container's header, n items, and what is behind
   Lacks : (n : ℕ) → Front  -- neither is whole: at least n bytes are missing
   Wrong : Front  -- no item begins so
 
@@ -24,14 +24,16 @@ content n bytes = if nat_lt (length bytes) n then Lacks (n - length bytes) else 
 
 -- the front where a count of so many bytes follows, for n items
 abbrev pub counted : ℕ → ℕ → List ℕ → Front
-counted width n bytes = if nat_lt (length bytes) width then Lacks (width - length bytes + n) else Opens n (drop width bytes)
+counted width n bytes = if nat_lt (length bytes) width then Lacks (width - length bytes + n)
+    else Opens n (drop width bytes)
 
 -- the front behind a first byte of this shape
 abbrev pub behind_first : Shape → List ℕ → Front
 behind_first (Fixed kind n) bytes = content n bytes
 behind_first (Sized kind width extra) bytes = content (width + number width bytes + extra) bytes
 behind_first (Holds container n) bytes = Opens (items_in container n) bytes
-behind_first (Counted container width) bytes = counted width (items_in container (number width bytes)) bytes
+behind_first (Counted container width) bytes =
+    counted width (items_in container (number width bytes)) bytes
 behind_first Never bytes = Wrong
 
 -- the front of these bytes
@@ -71,7 +73,8 @@ none n bytes = Err Deep
 -- where no container may begin: the first byte of one is refused, whatever follows it
 abbrev pub flat : Shape → List ℕ → Result (List ℕ) Stop
 flat (Fixed kind n) bytes = behind none (content n bytes)
-flat (Sized kind width extra) bytes = behind none (content (width + number width bytes + extra) bytes)
+flat (Sized kind width extra) bytes =
+    behind none (content (width + number width bytes + extra) bytes)
 flat (Holds container n) bytes = Err Deep
 flat (Counted container width) bytes = Err Deep
 flat Never bytes = Err Reserved

@@ -59,7 +59,8 @@ IsBytes bytes = (i : ℕ) → slice_index bytes i < 256
 
 -- these bytes say it, and no fewer do
 abbrev pub IsShortest : (List ℕ → Type 0) → List ℕ → Type 0
-IsShortest Says bytes = Says bytes × ((other : List ℕ) → IsBytes other → Says other → length bytes ≤ length other)
+IsShortest Says bytes = Says bytes
+    × ((other : List ℕ) → IsBytes other → Says other → length bytes ≤ length other)
 
 -- what is written of an integer says it, in the fewest bytes
 abbrev pub IsUintSpelled : Type 0
@@ -67,11 +68,13 @@ IsUintSpelled = (n : ℕ) → n < 2 ^ 64 → IsShortest (λ bytes. IsInteger byt
 
 -- what is written of a str says it, in the fewest bytes
 abbrev pub IsStrSpelled : Type 0
-IsStrSpelled = (content : List ℕ) → length content < 2 ^ 32 → IsShortest (λ bytes. IsStr bytes content) (str_of content)
+IsStrSpelled = (content : List ℕ) → length content < 2 ^ 32
+    → IsShortest (λ bytes. IsStr bytes content) (str_of content)
 
 -- what is written of a bin says it, in the fewest bytes
 abbrev pub IsBinSpelled : Type 0
-IsBinSpelled = (content : List ℕ) → length content < 2 ^ 32 → IsShortest (λ bytes. IsBin bytes content) (bin_of content)
+IsBinSpelled = (content : List ℕ) → length content < 2 ^ 32
+    → IsShortest (λ bytes. IsBin bytes content) (bin_of content)
 
 -- what is written of an array's header says it, in the fewest bytes
 abbrev pub IsArraySpelled : Type 0

@@ -32,4 +32,5 @@ IsThere family folder n = (1 ≤ n) × (n < 2 ^ 32) × IsSome (folder (file_name
 
 -- no two numbers of 32 bits have one name
 abbrev pub NamesDiffer : Type 0
-NamesDiffer = (family : Family) (n m : ℕ) → n < 2 ^ 32 → m < 2 ^ 32 → file_name family n ≡ file_name family m → n ≡ m
+NamesDiffer = (family : Family) (n m : ℕ) → n < 2 ^ 32 → m < 2 ^ 32
+    → file_name family n ≡ file_name family m → n ≡ m

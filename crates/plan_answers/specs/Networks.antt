@@ -26,19 +26,22 @@ use Rattle.program_text.specs.Texts.{IsTextOf}
 
 -- The text of a plan, and of each configuration that it names, as they were read: `named` has what
 -- each name's text is, where that is known.
-pub record AreRead (net : Option (List ℕ)) (named : List ℕ → Option (List ℕ)) (text : List ℕ) (confs : List (List ℕ)) : Type 0 where
+pub record AreRead (net : Option (List ℕ)) (named : List ℕ → Option (List ℕ)) (text : List ℕ)
+    (confs : List (List ℕ)) : Type 0 where
   pub net_is : IsTextOf net text
   pub confs_are : AllZip (λ name conf. IsTextOf (named name) conf) (confs_named text) confs
 
 -- The texts that are read say this plan.
-pub record IsPlanRead {A : Type 0} (net : Option (List ℕ)) (named : List ℕ → Option (List ℕ)) (plan : Subject A) : Type 0 where
+pub record IsPlanRead {A : Type 0} (net : Option (List ℕ)) (named : List ℕ → Option (List ℕ))
+    (plan : Subject A) : Type 0 where
   pub text : List ℕ
   pub confs : List (List ℕ)
   pub read : AreRead net named text confs
   pub plan_is : IsPlanOf text confs plan
 
 -- The texts that are read say no plan, and this is why.
-pub record IsRefusedPlan (A : Type 0) (net : Option (List ℕ)) (named : List ℕ → Option (List ℕ)) (fault : PlanError) : Type 0 where
+pub record IsRefusedPlan (A : Type 0) (net : Option (List ℕ)) (named : List ℕ → Option (List ℕ))
+    (fault : PlanError) : Type 0 where
   pub text : List ℕ
   pub confs : List (List ℕ)
   pub read : AreRead net named text confs
@@ -56,7 +59,8 @@ answer_status answer.Yes = Done
 answer_status (answer.No rule place) = No
 
 -- The plan that is read has this answer.
-pub record IsAnswered (A : Type 0) (net : Option (List ℕ)) (named : List ℕ → Option (List ℕ)) (plan : Subject A) (found : Answer) : Type 0 where
+pub record IsAnswered (A : Type 0) (net : Option (List ℕ)) (named : List ℕ → Option (List ℕ))
+    (plan : Subject A) (found : Answer) : Type 0 where
   pub plan_is : IsPlanRead net named plan
   pub answer_is : IsAnswer plan found
 
@@ -65,7 +69,8 @@ abbrev pub plan_fault_line : PlanError → List ℕ
 plan_fault_line fault = line (codes "fault " ++ error_text fault)
 
 -- No plan is read, and this is the line that says why.
-pub record IsFaultLine (A : Type 0) (net : Option (List ℕ)) (named : List ℕ → Option (List ℕ)) (lines : List ℕ) (status : Status) : Type 0 where
+pub record IsFaultLine (A : Type 0) (net : Option (List ℕ)) (named : List ℕ → Option (List ℕ))
+    (lines : List ℕ) (status : Status) : Type 0 where
   pub fault : PlanError
   pub refused : IsRefusedPlan A net named fault
   pub named_fault : fault ≢ refusal.Memory
@@ -99,7 +104,8 @@ pub record PrintsStop (stopped : Stop) (old new : Option (List ℕ)) (status : S
   pub printed : IsPrinted old new lines Usage status
 
 -- Steps of a text are taken in the network of a plan with this answer, and this is listed of them.
-pub record AreReplayed {A : Type 0} (plan : Subject A) (found : Answer) (steps : Option (List ℕ)) (lines : List ℕ) (status : Status) : Type 0 where
+pub record AreReplayed {A : Type 0} (plan : Subject A) (found : Answer) (steps : Option (List ℕ))
+    (lines : List ℕ) (status : Status) : Type 0 where
   pub text : List ℕ
   pub text_is : IsTextOf steps text
   pub replayed : IsReplayed plan found text lines status
@@ -112,7 +118,8 @@ pub record IsStopLine (lines : List ℕ) (status : Status) : Type 0 where
   pub is_status : status ≡ Usage
 
 -- The plan that is read has an answer, and this is its line.
-pub record IsAnswerLine (A : Type 0) (net : Option (List ℕ)) (named : List ℕ → Option (List ℕ)) (lines : List ℕ) (status : Status) : Type 0 where
+pub record IsAnswerLine (A : Type 0) (net : Option (List ℕ)) (named : List ℕ → Option (List ℕ))
+    (lines : List ℕ) (status : Status) : Type 0 where
   pub plan : Subject A
   pub found : Answer
   pub answered : IsAnswered A net named plan found
@@ -120,8 +127,10 @@ pub record IsAnswerLine (A : Type 0) (net : Option (List ℕ)) (named : List ℕ
   pub is_status : status ≡ answer_status found
 
 -- what `check` prints of a plan
-abbrev pub IsChecked : (A : Type 0) → Option (List ℕ) → (List ℕ → Option (List ℕ)) → List ℕ → Status → Type 0
-IsChecked A net named lines status = IsAnswerLine A net named lines status ⊎ (IsFaultLine A net named lines status ⊎ IsStopLine lines status)
+abbrev pub IsChecked : (A : Type 0) → Option (List ℕ) → (List ℕ → Option (List ℕ)) → List ℕ → Status
+    → Type 0
+IsChecked A net named lines status = IsAnswerLine A net named lines status
+    ⊎ (IsFaultLine A net named lines status ⊎ IsStopLine lines status)
 
 -- the status of a plan's answer and of steps in it: a no stays a no, whatever becomes of the events
 abbrev pub joined_status : Answer → Status → Status
@@ -131,29 +140,35 @@ joined_status (answer.No rule place) No = No
 joined_status (answer.No rule place) Usage = Usage
 
 -- Behind the line of the answer this stands of the steps.
-pub record IsBehindAnswer (A : Type 0) (net : Option (List ℕ)) (named : List ℕ → Option (List ℕ)) (steps : Option (List ℕ)) (lines : List ℕ) (status : Status) : Type 0 where
+pub record IsBehindAnswer (A : Type 0) (net : Option (List ℕ)) (named : List ℕ → Option (List ℕ))
+    (steps : Option (List ℕ)) (lines : List ℕ) (status : Status) : Type 0 where
   pub plan : Subject A
   pub found : Answer
   pub answered : IsAnswered A net named plan found
   pub behind : List ℕ
   pub lines_are : lines ≡ answer_line found ++ behind
-  pub said : ((after : Status) × AreReplayed plan found steps behind after × (status ≡ joined_status found after)) ⊎ IsStopLine behind status
+  pub said : ((after : Status) × AreReplayed plan found steps behind after
+      × (status ≡ joined_status found after)) ⊎ IsStopLine behind status
 
 -- what `replay` prints of a plan and steps
-abbrev pub IsReplayedIn : (A : Type 0) → Option (List ℕ) → (List ℕ → Option (List ℕ)) → Option (List ℕ) → List ℕ → Status → Type 0
-IsReplayedIn A net named steps lines status = IsBehindAnswer A net named steps lines status ⊎ (IsFaultLine A net named lines status ⊎ IsStopLine lines status)
+abbrev pub IsReplayedIn : (A : Type 0) → Option (List ℕ) → (List ℕ → Option (List ℕ))
+    → Option (List ℕ) → List ℕ → Status → Type 0
+IsReplayedIn A net named steps lines status = IsBehindAnswer A net named steps lines status
+    ⊎ (IsFaultLine A net named lines status ⊎ IsStopLine lines status)
 
 -- What a writer gets.
 
 -- all that `check` does to a writer, and its status
-pub record PrintsCheck (A : Type 0) (net : Option (List ℕ)) (named : List ℕ → Option (List ℕ)) (old new : Option (List ℕ)) (status : Status) : Type 0 where
+pub record PrintsCheck (A : Type 0) (net : Option (List ℕ)) (named : List ℕ → Option (List ℕ))
+    (old new : Option (List ℕ)) (status : Status) : Type 0 where
   pub lines : List ℕ
   pub meant : Status
   pub checked : IsChecked A net named lines meant
   pub printed : IsPrinted old new lines meant status
 
 -- `replay` ends where the writer fails in the answer's line, before it reads steps.
-pub record EndsAtAnswer (A : Type 0) (net : Option (List ℕ)) (named : List ℕ → Option (List ℕ)) (old new : Option (List ℕ)) (status : Status) : Type 0 where
+pub record EndsAtAnswer (A : Type 0) (net : Option (List ℕ)) (named : List ℕ → Option (List ℕ))
+    (old new : Option (List ℕ)) (status : Status) : Type 0 where
   pub plan : Subject A
   pub found : Answer
   pub answered : IsAnswered A net named plan found
@@ -163,12 +178,15 @@ pub record EndsAtAnswer (A : Type 0) (net : Option (List ℕ)) (named : List ℕ
   pub is_status : status ≡ Usage
 
 -- `replay` prints these lines.
-pub record PrintsLines (A : Type 0) (net : Option (List ℕ)) (named : List ℕ → Option (List ℕ)) (steps old new : Option (List ℕ)) (status : Status) : Type 0 where
+pub record PrintsLines (A : Type 0) (net : Option (List ℕ)) (named : List ℕ → Option (List ℕ))
+    (steps old new : Option (List ℕ)) (status : Status) : Type 0 where
   pub lines : List ℕ
   pub meant : Status
   pub replayed : IsReplayedIn A net named steps lines meant
   pub printed : IsPrinted old new lines meant status
 
 -- all that `replay` does to a writer, and its status
-abbrev pub PrintsReplay : (A : Type 0) → Option (List ℕ) → (List ℕ → Option (List ℕ)) → Option (List ℕ) → Option (List ℕ) → Option (List ℕ) → Status → Type 0
-PrintsReplay A net named steps old new status = PrintsLines A net named steps old new status ⊎ EndsAtAnswer A net named old new status
+abbrev pub PrintsReplay : (A : Type 0) → Option (List ℕ) → (List ℕ → Option (List ℕ))
+    → Option (List ℕ) → Option (List ℕ) → Option (List ℕ) → Status → Type 0
+PrintsReplay A net named steps old new status = PrintsLines A net named steps old new status
+    ⊎ EndsAtAnswer A net named old new status

@@ -29,7 +29,8 @@ pub record Fate : Type 0 where
 
 -- These are the events of the world that were acknowledged to clients, in that order, each with
 -- what became of it.
-pub record AreFates {A : Type 0} (asked : Duty) (net : Network A) (w : World) (fates : List Fate) : Type 0 where
+pub record AreFates {A : Type 0} (asked : Duty) (net : Network A) (w : World)
+    (fates : List Fate) : Type 0 where
   pub events : map (λ fate. fate.told) fates ≡ w.acknowledged
   pub held : All (λ fate. IsTrue fate.is_held ↔ IsKeptAs asked net w fate.told) fates
 
@@ -39,7 +40,9 @@ lost_among fates = count_by (λ fate. not fate.is_held) fates
 
 -- the line of an event: whether it is held, its tag, and its entry in hex
 abbrev pub told_line : Bool → Event → List ℕ
-told_line is_held event = line (cond is_held (codes "held ") (codes "lost ") ++ event.tag ++ codes " " ++ encode_lower event.entry)
+told_line is_held event =
+    line (cond is_held (codes "held ") (codes "lost ") ++ event.tag ++ codes " "
+    ++ encode_lower event.entry)
 
 -- the line of what became of an event, under the tag that the client sent
 abbrev pub fate_line : Fate → List ℕ
@@ -48,14 +51,17 @@ fate_line fate = told_line fate.is_held fate.told.event
 -- the last line: how many steps were taken, how many events acknowledged, and how many of these are
 -- lost
 abbrev pub summary_line : ℕ → ℕ → ℕ → List ℕ
-summary_line steps acknowledged lost = line (codes "steps " ++ decimal steps ++ codes " acknowledged " ++ decimal acknowledged ++ codes " lost " ++ decimal lost)
+summary_line steps acknowledged lost =
+    line (codes "steps " ++ decimal steps ++ codes " acknowledged " ++ decimal acknowledged
+    ++ codes " lost " ++ decimal lost)
 
 -- the status where so many events are lost
 abbrev pub lost_status : ℕ → Status
 lost_status lost = cond (lost == 0) Done No
 
 -- These lines are those of the world's acknowledged events, one each, and so many of them are lost.
-pub record AreListed {A : Type 0} (asked : Duty) (net : Network A) (w : World) (lines : List ℕ) (lost : ℕ) : Type 0 where
+pub record AreListed {A : Type 0} (asked : Duty) (net : Network A) (w : World) (lines : List ℕ)
+    (lost : ℕ) : Type 0 where
   pub fates : List Fate
   pub are_fates : AreFates asked net w fates
   pub lines_are : lines ≡ flat_map fate_line fates
@@ -63,7 +69,8 @@ pub record AreListed {A : Type 0} (asked : Duty) (net : Network A) (w : World) (
 
 -- The listing of a world after so many steps: a line for each event that was acknowledged, and the
 -- last line.
-pub record IsWorldListing {A : Type 0} (asked : Duty) (net : Network A) (w : World) (steps : ℕ) (written : List ℕ) (status : Status) : Type 0 where
+pub record IsWorldListing {A : Type 0} (asked : Duty) (net : Network A) (w : World) (steps : ℕ)
+    (written : List ℕ) (status : Status) : Type 0 where
   pub lines : List ℕ
   pub lost : ℕ
   pub listed : AreListed asked net w lines lost
@@ -77,7 +84,8 @@ IsCodeOf refusal.NotAllowed code = code ≡ codes "S2"
 IsCodeOf refusal.Memory code = ⊥
 
 -- The line of a step that is refused: which one, counted from 1, and why.
-pub record IsRefusalLine (number : ℕ) (fault : StepFault) (written : List ℕ) (status : Status) : Type 0 where
+pub record IsRefusalLine (number : ℕ) (fault : StepFault) (written : List ℕ)
+    (status : Status) : Type 0 where
   pub code : List ℕ
   pub code_is : IsCodeOf fault code
   pub lines : written ≡ line (codes "refused step " ++ decimal number ++ codes " " ++ code)
@@ -87,24 +95,28 @@ pub record IsRefusalLine (number : ℕ) (fault : StepFault) (written : List ℕ)
 -- asks of each match.
 pub record IsYesEarned {A : Type 0} (plan : Subject A) (found : Answer) : Type 0 where
   pub rules : found ≡ answer.Yes → AreKeepingRulesKept plan.net plan.labels plan.reaches
-  pub each_output : found ≡ answer.Yes → plan.duty ≡ duty.Every → EachOutputKeeps plan.net plan.reaches
+  pub each_output : found ≡ answer.Yes → plan.duty ≡ duty.Every
+      → EachOutputKeeps plan.net plan.reaches
 
 -- The steps of the text were all taken in the network of a plan with this answer, and this is
 -- listed of what they lead to. In that world nothing is made up, whatever the answer is; where it
 -- is yes, nothing that was acknowledged is lost, and, where the plan asks for it, each branch
 -- keeps.
-pub record AreTaken {A : Type 0} (plan : Subject A) (found : Answer) (text written : List ℕ) (status : Status) : Type 0 where
+pub record AreTaken {A : Type 0} (plan : Subject A) (found : Answer) (text written : List ℕ)
+    (status : Status) : Type 0 where
   pub steps : List (Step A)
   pub read : SayAll (text_lines text) steps
   pub world : World
   pub taken : Steps plan.net initial_world steps world
   pub nothing_is_made_up : NothingIsMadeUp plan.net world
   pub nothing_is_lost : found ≡ answer.Yes → NothingIsLost plan.net world
-  pub each_branch_keeps : found ≡ answer.Yes → plan.duty ≡ duty.Every → EachBranchKeeps plan.net world
+  pub each_branch_keeps : found ≡ answer.Yes → plan.duty ≡ duty.Every
+      → EachBranchKeeps plan.net world
   pub listed : IsWorldListing plan.duty plan.net world (length steps) written status
 
 -- A step of the text is refused, and this is its line.
-pub record IsRefusal {A : Type 0} (net : Network A) (text written : List ℕ) (status : Status) : Type 0 where
+pub record IsRefusal {A : Type 0} (net : Network A) (text written : List ℕ)
+    (status : Status) : Type 0 where
   pub steps : List (Step A)
   pub read : SayAll (text_lines text) steps
   pub number : ℕ
@@ -125,4 +137,5 @@ pub record IsBadText (A : Type 0) (text written : List ℕ) (status : Status) : 
 
 -- the listing of the steps that a text says, in the network of a plan with this answer
 abbrev pub IsReplayed : {A : Type 0} → Subject A → Answer → List ℕ → List ℕ → Status → Type 0
-IsReplayed {A} plan found text written status = AreTaken plan found text written status ⊎ (IsRefusal plan.net text written status ⊎ IsBadText A text written status)
+IsReplayed {A} plan found text written status = AreTaken plan found text written status
+    ⊎ (IsRefusal plan.net text written status ⊎ IsBadText A text written status)

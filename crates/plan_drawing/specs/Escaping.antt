@@ -5,7 +5,8 @@ use Rattle.hex.specs.Hex.{encode_lower}
 
 -- a byte as itself where it is a printed character of ASCII, else `\x` and its two hex digits
 abbrev pub shown : ℕ → List ℕ
-shown byte = cond (nat_le 32 byte && nat_lt byte 127) (byte ∷ []) (92 ∷ 120 ∷ encode_lower (byte ∷ []))
+shown byte = cond (nat_le 32 byte && nat_lt byte 127) (byte ∷ [])
+    (92 ∷ 120 ∷ encode_lower (byte ∷ []))
 
 -- a byte with `\` in front where it is a quote or `\`
 abbrev pub inside_quotes : ℕ → List ℕ

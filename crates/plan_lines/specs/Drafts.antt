@@ -7,7 +7,14 @@ use Rattle.plan_lines.specs.Plans.{network}
 
 -- the plan that it is
 abbrev pub draft_of : {A : Type 0} → Draft A → Subject A
-draft_of draft = record { net = network draft.relays draft.clients.items; relay_lines = draft.relay_lines.items; client_lines = draft.client_lines.items; labels = draft.labels.items; reaches = draft.reaches.items; duty = draft.duty }
+draft_of draft = record {
+  net = network draft.relays draft.clients.items;
+  relay_lines = draft.relay_lines.items;
+  client_lines = draft.client_lines.items;
+  labels = draft.labels.items;
+  reaches = draft.reaches.items;
+  duty = draft.duty;
+}
 
 -- behind so many relays there is a configuration for one more, where the line is a relay's
 abbrev pub HasItsConf : LineForm → ℕ → ℕ → Type 0

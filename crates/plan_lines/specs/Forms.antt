@@ -31,7 +31,8 @@ is_folder text = list_all is_folder_byte text
 
 -- `relay NUMBER HOST FOLDER CONF`
 abbrev pub relay_form : List (List ℕ) → LineForm
-relay_form (number ∷ host ∷ folder ∷ conf ∷ []) = if is_folder folder then a_relay number host folder conf else no_form
+relay_form (number ∷ host ∷ folder ∷ conf ∷ []) = if is_folder folder
+    then a_relay number host folder conf else no_form
 relay_form _ = no_form
 
 -- `client NUMBER PORT PATTERN ..`, with one pattern at least
@@ -51,7 +52,8 @@ reach_form _ = no_form
 
 -- `duty any` or `duty every`
 abbrev pub duty_form : List (List ℕ) → LineForm
-duty_form (word ∷ []) = if bytes_eq word (codes "any") then a_duty Any else (if bytes_eq word (codes "every") then a_duty Every else no_form)
+duty_form (word ∷ []) = if bytes_eq word (codes "any") then a_duty Any
+    else (if bytes_eq word (codes "every") then a_duty Every else no_form)
 duty_form _ = no_form
 
 -- a line that begins with this word and goes on with these fields
@@ -87,7 +89,8 @@ relay_number word = option_and_then below_the_limit (number_of word)
 
 -- the last of five fields, of which the first is `relay`
 abbrev pub conf_field : List (List ℕ) → Option (List ℕ)
-conf_field (word ∷ number ∷ host ∷ folder ∷ conf ∷ []) = if bytes_eq word (codes "relay") then Some conf else None
+conf_field (word ∷ number ∷ host ∷ folder ∷ conf ∷ []) = if bytes_eq word (codes "relay")
+    then Some conf else None
 conf_field _ = None
 
 -- the configuration that a line names

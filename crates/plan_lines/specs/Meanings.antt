@@ -74,19 +74,33 @@ pub record PlanMeaning : Type 0 where
 
 -- a match
 abbrev pub match_view : {A : Type 0} → MatchRule A → MatchMeaning
-match_view rule = record { patterns = rule.patterns.items; outputs = map output_view rule.outputs.items; line = rule.line }
+match_view rule = record {
+  patterns = rule.patterns.items;
+  outputs = map output_view rule.outputs.items;
+  line = rule.line;
+}
 
 -- a scope
 abbrev pub scope_view : {A : Type 0} → Scope A → ScopeMeaning
-scope_view scope = record { name = string_bytes scope.name; matches = map match_view scope.matches.items }
+scope_view scope = record {
+  name = string_bytes scope.name;
+  matches = map match_view scope.matches.items;
+}
 
 -- a configuration
 abbrev pub conf_view : {A : Type 0} → Relay A → ConfMeaning
-conf_view relay = record { sources = map source_view relay.sources.items; scopes = map scope_view relay.scopes.items }
+conf_view relay = record {
+  sources = map source_view relay.sources.items;
+  scopes = map scope_view relay.scopes.items;
+}
 
 -- a relay
 abbrev pub relay_view : {A : Type 0} → Node A → RelayMeaning
-relay_view node = record { number = node.number; host = string_bytes node.host; conf = conf_view node.relay }
+relay_view node = record {
+  number = node.number;
+  host = string_bytes node.host;
+  conf = conf_view node.relay;
+}
 
 -- a relay's folder and line
 abbrev pub relay_line_view : {A : Type 0} → RelayLine A → RelayLineMeaning
@@ -94,15 +108,30 @@ relay_line_view entry = record { folder = string_bytes entry.folder; line = entr
 
 -- a client
 abbrev pub client_view : {A : Type 0} → Client A → ClientMeaning
-client_view client = record { relay = client.relay; port = client.port; patterns = client.patterns.items }
+client_view client = record {
+  relay = client.relay;
+  port = client.port;
+  patterns = client.patterns.items;
+}
 
 -- a label
 abbrev pub label_view : {A : Type 0} → Label A → LabelMeaning
-label_view label = record { place = label.place; scope = label.scope; patterns = label.patterns.items; line = label.line }
+label_view label = record {
+  place = label.place;
+  scope = label.scope;
+  patterns = label.patterns.items;
+  line = label.line;
+}
 
 -- a reach
 abbrev pub reach_view : {A : Type 0} → Reach A → ReachMeaning
-reach_view reach = record { place = reach.place; scope = reach.scope; rule = reach.rule; patterns = reach.patterns.items; line = reach.line }
+reach_view reach = record {
+  place = reach.place;
+  scope = reach.scope;
+  rule = reach.rule;
+  patterns = reach.patterns.items;
+  line = reach.line;
+}
 
 -- a plan
 abbrev pub plan_view : {A : Type 0} → Subject A → PlanMeaning

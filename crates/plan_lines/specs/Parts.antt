@@ -8,7 +8,14 @@ use Rattle.plan_lines.specs.declared.parts.PlanParts.{PlanParts}
 
 -- the plan that these parts are
 abbrev pub plan_of : {A : Type 0} → PlanParts A → Subject A
-plan_of parts = record { net = network parts.relays.items parts.clients.items; relay_lines = parts.relay_lines.items; client_lines = parts.client_lines.items; labels = parts.labels.items; reaches = parts.reaches.items; duty = parts.duty }
+plan_of parts = record {
+  net = network parts.relays.items parts.clients.items;
+  relay_lines = parts.relay_lines.items;
+  client_lines = parts.client_lines.items;
+  labels = parts.labels.items;
+  reaches = parts.reaches.items;
+  duty = parts.duty;
+}
 
 -- Nothing is missing, and nothing is there twice: each client sends to a source, each relay and
 -- each client has a line, and no two outputs of a relay share a buffer.

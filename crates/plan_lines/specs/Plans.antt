@@ -27,7 +27,14 @@ network relays clients = record { relays = relays; clients = clients }
 
 -- the plan that says nothing: it asks for one output
 abbrev pub empty_plan : (A : Type 0) → Subject A
-empty_plan A = record { net = network [] []; relay_lines = []; client_lines = []; labels = []; reaches = []; duty = duty.Any }
+empty_plan A = record {
+  net = network [] [];
+  relay_lines = [];
+  client_lines = [];
+  labels = [];
+  reaches = [];
+  duty = duty.Any;
+}
 
 -- Where the relay, the scope or the match stands that a line names. Relays and matches are counted
 -- from 0, and so are scopes, of which the main one is the first.
@@ -38,11 +45,13 @@ scope_name word = if bytes_eq word (46 ∷ []) then [] else word
 
 -- the place of the scope that a field means, in its relay
 abbrev pub scope_of : {A : Type 0} → Relay A → List ℕ → Option ℕ
-scope_of relay word = position (λ scope. bytes_eq (string_bytes scope.name) (scope_name word)) relay.scopes.items
+scope_of relay word =
+    position (λ scope. bytes_eq (string_bytes scope.name) (scope_name word)) relay.scopes.items
 
 -- the same, in the relay at this place
 abbrev pub scope_at : {A : Type 0} → List (Node A) → ℕ → List ℕ → Option ℕ
-scope_at nodes place word = option_and_then (λ node. scope_of node.relay word) (slice_get nodes place)
+scope_at nodes place word = option_and_then (λ node. scope_of node.relay word)
+    (slice_get nodes place)
 
 -- What a line adds to the plan of the lines before it.
 
@@ -54,7 +63,8 @@ pub record IsRelayOfText {A : Type 0} (text : List ℕ) (relay : Relay A) : Type
   pub described : IsRelayOf elements relay
 
 -- A relay: its configuration is that of its place among the relays.
-pub record AddsRelay {A : Type 0} (confs : List (List ℕ)) (line : ℕ) (number host folder : List ℕ) (before after : Subject A) : Type 0 where
+pub record AddsRelay {A : Type 0} (confs : List (List ℕ)) (line : ℕ) (number host folder : List ℕ)
+    (before after : Subject A) : Type 0 where
   pub node : Node A
   pub entry : RelayLine A
   pub number_is : relay_number number ≡ Some node.number
@@ -64,19 +74,29 @@ pub record AddsRelay {A : Type 0} (confs : List (List ℕ)) (line : ℕ) (number
   pub relay_is : IsRelayOfText text node.relay
   pub folder_is : string_bytes entry.folder ≡ folder
   pub line_is : entry.line ≡ line
-  pub after_is : after ≡ record before { net = network (before.net.relays ++ node ∷ []) before.net.clients; relay_lines = before.relay_lines ++ entry ∷ [] }
+  pub after_is : after
+      ≡ record before {
+        net = network (before.net.relays ++ node ∷ []) before.net.clients;
+        relay_lines = before.relay_lines ++ entry ∷ [];
+      }
 
 -- A client: a relay before it has its number, and a source of its port.
-pub record AddsClient {A : Type 0} (line : ℕ) (number port : List ℕ) (patterns : List (List ℕ)) (before after : Subject A) : Type 0 where
+pub record AddsClient {A : Type 0} (line : ℕ) (number port : List ℕ) (patterns : List (List ℕ))
+    (before after : Subject A) : Type 0 where
   pub client : Client A
   pub number_is : relay_number number ≡ Some client.relay
   pub port_is : number_of port ≡ Some client.port
   pub source_is : enters before.net.relays client ≡ true
   pub patterns_are : AreOfWords patterns client.patterns.items
-  pub after_is : after ≡ record before { net = network before.net.relays (before.net.clients ++ client ∷ []); client_lines = before.client_lines ++ line ∷ [] }
+  pub after_is : after
+      ≡ record before {
+        net = network before.net.relays (before.net.clients ++ client ∷ []);
+        client_lines = before.client_lines ++ line ∷ [];
+      }
 
 -- Tags that may reach a scope of a relay before the line.
-pub record AddsLabel {A : Type 0} (line : ℕ) (number scope : List ℕ) (patterns : List (List ℕ)) (before after : Subject A) : Type 0 where
+pub record AddsLabel {A : Type 0} (line : ℕ) (number scope : List ℕ) (patterns : List (List ℕ))
+    (before after : Subject A) : Type 0 where
   pub label : Label A
   pub meant : ℕ
   pub number_is : relay_number number ≡ Some meant
@@ -87,7 +107,8 @@ pub record AddsLabel {A : Type 0} (line : ℕ) (number scope : List ℕ) (patter
   pub after_is : after ≡ record before { labels = before.labels ++ label ∷ [] }
 
 -- Tags that may reach a match of a relay before the line.
-pub record AddsReach {A : Type 0} (line : ℕ) (number scope index : List ℕ) (patterns : List (List ℕ)) (before after : Subject A) : Type 0 where
+pub record AddsReach {A : Type 0} (line : ℕ) (number scope index : List ℕ)
+    (patterns : List (List ℕ)) (before after : Subject A) : Type 0 where
   pub reach : Reach A
   pub meant : ℕ
   pub number_is : relay_number number ≡ Some meant
@@ -102,10 +123,14 @@ pub record AddsReach {A : Type 0} (line : ℕ) (number scope index : List ℕ) (
 -- what a line of this form adds
 abbrev pub Adds : {A : Type 0} → List (List ℕ) → ℕ → LineForm → Subject A → Subject A → Type 0
 Adds confs line nothing before after = after ≡ before
-Adds confs line (a_relay number host folder conf) before after = AddsRelay confs line number host folder before after
-Adds confs line (a_client number port patterns) before after = AddsClient line number port patterns before after
-Adds confs line (a_label number scope patterns) before after = AddsLabel line number scope patterns before after
-Adds confs line (a_reach number scope index patterns) before after = AddsReach line number scope index patterns before after
+Adds confs line (a_relay number host folder conf) before after =
+    AddsRelay confs line number host folder before after
+Adds confs line (a_client number port patterns) before after =
+    AddsClient line number port patterns before after
+Adds confs line (a_label number scope patterns) before after =
+    AddsLabel line number scope patterns before after
+Adds confs line (a_reach number scope index patterns) before after =
+    AddsReach line number scope index patterns before after
 Adds confs line (a_duty asked) before after = after ≡ record before { duty = asked }
 Adds confs line no_form before after = ⊥
 

@@ -16,6 +16,8 @@ error_text (errors.BadLine line) = coded (codes "N1") line
 error_text (errors.BadNumber line) = coded (codes "N2") line
 error_text (errors.BadPattern line) = coded (codes "N3") line
 error_text (errors.NoSuch line) = coded (codes "N4") line
-error_text (errors.BadText line fault) = coded (codes "N5") line ++ codes " " ++ conf_fault_text fault
-error_text (errors.BadRelay line fault) = coded (codes "N5") line ++ codes " " ++ relay_fault_text fault
+error_text (errors.BadText line fault) = coded (codes "N5") line ++ codes " "
+    ++ conf_fault_text fault
+error_text (errors.BadRelay line fault) = coded (codes "N5") line ++ codes " "
+    ++ relay_fault_text fault
 error_text errors.Memory = codes "memory"

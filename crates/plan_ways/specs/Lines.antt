@@ -49,7 +49,8 @@ way_text net place Loop = codes " loop"
 
 -- The events bear this tag, of at most 1,024 bytes, in the relay, they go this way there, and this
 -- is the text of both.
-pub record IsWayText {A : Type 0} (net : Network A) (at : Entrance) (tag text : List ℕ) : Type 0 where
+pub record IsWayText {A : Type 0} (net : Network A) (at : Entrance)
+    (tag text : List ℕ) : Type 0 where
   pub short : length tag ≤ most_tag_bytes
   pub way : Way A
   pub is_way : IsWay (table_at net at.relay) tag at.scope way
@@ -58,11 +59,13 @@ pub record IsWayText {A : Type 0} (net : Network A) (at : Entrance) (tag text : 
 -- what stands behind the relay's folder: the tag that the events of the message bear there, with
 -- its way, or that it is too long for one
 abbrev pub IsBehind : {A : Type 0} → Network A → Entrance → (borne text : List ℕ) → Type 0
-IsBehind net at borne text = ((most_tag_bytes < length borne) × (text ≡ codes " is no tag")) ⊎ IsWayText net at borne text
+IsBehind net at borne text = ((most_tag_bytes < length borne) × (text ≡ codes " is no tag"))
+    ⊎ IsWayText net at borne text
 
 -- the folder of the relay at this place
 abbrev pub folder_at : {A : Type 0} → Subject A → ℕ → List ℕ
-folder_at plan place = option_map_or (λ line. string_bytes line.folder) (slice_get plan.relay_lines place) []
+folder_at plan place = option_map_or (λ line. string_bytes line.folder)
+    (slice_get plan.relay_lines place) []
 
 -- A message comes in at a relay, and this is said of it: the relay's folder, and what stands behind
 -- it.
@@ -75,18 +78,24 @@ pub record ComesIn {A : Type 0} (plan : Subject A) (sent : Sending) (text : List
 
 -- it comes in, or it is sent to no source of the plan
 abbrev pub IsSaid : {A : Type 0} → Subject A → Sending → List ℕ → Type 0
-IsSaid plan sent text = ComesIn plan sent text ⊎ ((entrance plan.net sent.address ≡ None) × (text ≡ codes " is no source of the plan"))
+IsSaid plan sent text = ComesIn plan sent text
+    ⊎ ((entrance plan.net sent.address ≡ None) × (text ≡ codes " is no source of the plan"))
 
 -- the line of a message: host and port that it is sent to, its tag, and what is said of it
-pub record IsSentLine {A : Type 0} (plan : Subject A) (sent : Sending) (text : List ℕ) : Type 0 where
+pub record IsSentLine {A : Type 0} (plan : Subject A) (sent : Sending)
+    (text : List ℕ) : Type 0 where
   pub said : List ℕ
   pub is_said : IsSaid plan sent said
-  pub text_is : text ≡ line (sent.address.host ++ (codes ":" ++ decimal sent.address.port ++ codes " ") ++ sent.tag ++ said)
+  pub text_is : text
+      ≡ line (sent.address.host ++ (codes ":" ++ decimal sent.address.port ++ codes " ") ++ sent.tag
+      ++ said)
 
 -- the line of a tag that none of these messages has; of another nothing
 abbrev pub IsUnsentLine : List Sending → List ℕ → List ℕ → Type 0
 IsUnsentLine starts tag text =
-    ((Any (λ one. one.tag ≡ tag) starts → ⊥) × (text ≡ line (codes "# no client of the plan sends " ++ tag))) ⊎ (Any (λ one. one.tag ≡ tag) starts × (text ≡ []))
+    ((Any (λ one. one.tag ≡ tag) starts → ⊥)
+    × (text ≡ line (codes "# no client of the plan sends " ++ tag)))
+    ⊎ (Any (λ one. one.tag ≡ tag) starts × (text ≡ []))
 
 -- the last line, where more messages are on their way than are listed
 abbrev pub last_note : Bool → List ℕ
@@ -96,7 +105,8 @@ last_note false = line (codes "# what follows isn't listed")
 -- The messages with these tags that the plan's clients send, and those on the way from them, have a
 -- line each, and behind these each of the tags that no client sends; a last line says so where
 -- there are more messages.
-pub record AreWays {A : Type 0} (plan : Subject A) (tags : List (List ℕ)) (lines : List ℕ) : Type 0 where
+pub record AreWays {A : Type 0} (plan : Subject A) (tags : List (List ℕ))
+    (lines : List ℕ) : Type 0 where
   pub starts : List Sending
   pub start : Adds (IsOfClient plan.net tags) [] starts
   pub sent : List Sending
@@ -109,7 +119,8 @@ pub record AreWays {A : Type 0} (plan : Subject A) (tags : List (List ℕ)) (lin
   pub lines_are : lines ≡ listed ++ unsent ++ last_note are_all
 
 -- The plan is read, and the ways of these tags are printed.
-pub record PrintsListing (A : Type 0) (net : Option (List ℕ)) (named : List ℕ → Option (List ℕ)) (tags : List (List ℕ)) (old new : Option (List ℕ)) (status : Status) : Type 0 where
+pub record PrintsListing (A : Type 0) (net : Option (List ℕ)) (named : List ℕ → Option (List ℕ))
+    (tags : List (List ℕ)) (old new : Option (List ℕ)) (status : Status) : Type 0 where
   pub plan : Subject A
   pub is_read : IsPlanRead net named plan
   pub lines : List ℕ
@@ -117,12 +128,15 @@ pub record PrintsListing (A : Type 0) (net : Option (List ℕ)) (named : List �
   pub printed : IsPrinted old new lines Done status
 
 -- No plan is read, and why is printed.
-pub record PrintsNoPlan (A : Type 0) (net : Option (List ℕ)) (named : List ℕ → Option (List ℕ)) (old new : Option (List ℕ)) (status : Status) : Type 0 where
+pub record PrintsNoPlan (A : Type 0) (net : Option (List ℕ)) (named : List ℕ → Option (List ℕ))
+    (old new : Option (List ℕ)) (status : Status) : Type 0 where
   pub stopped : Stop
   pub is_stop : IsStopOf A net named stopped
   pub printed : PrintsStop stopped old new status
 
 -- all that `ways` does to a writer with a plan, and its status: the ways, or why no plan is read,
 -- or that memory ran out
-abbrev pub PrintsPlanWays : (A : Type 0) → Option (List ℕ) → (List ℕ → Option (List ℕ)) → List (List ℕ) → (old new : Option (List ℕ)) → Status → Type 0
-PrintsPlanWays A net named tags old new status = PrintsListing A net named tags old new status ⊎ (PrintsNoPlan A net named old new status ⊎ IsPrinted old new memory_line Usage status)
+abbrev pub PrintsPlanWays : (A : Type 0) → Option (List ℕ) → (List ℕ → Option (List ℕ))
+    → List (List ℕ) → (old new : Option (List ℕ)) → Status → Type 0
+PrintsPlanWays A net named tags old new status = PrintsListing A net named tags old new status
+    ⊎ (PrintsNoPlan A net named old new status ⊎ IsPrinted old new memory_line Usage status)

@@ -23,14 +23,16 @@ Through {X} P xs y = (x : X) × Contains xs x × P x y
 
 -- To this address goes a message with this tag, of at most 1,024 bytes, which one of the patterns
 -- has.
-pub record IsSentUnder (patterns : List (List Item)) (address : Address) (tag : List ℕ) (sent : Sending) : Type 0 where
+pub record IsSentUnder (patterns : List (List Item)) (address : Address) (tag : List ℕ)
+    (sent : Sending) : Type 0 where
   pub short : length tag ≤ most_tag_bytes
   pub has : HaveTag patterns tag
   pub is : sending address tag ≡ sent
 
 -- This client sends it, with one of these tags.
 abbrev pub Sends : {A : Type 0} → Network A → List (List ℕ) → Client A → Sending → Type 0
-Sends net tags client sent = Through (λ tag. IsSentUnder client.patterns.items (address_of_client net client) tag) tags sent
+Sends net tags client sent =
+    Through (λ tag. IsSentUnder client.patterns.items (address_of_client net client) tag) tags sent
 
 -- A client of the network sends it, with one of these tags.
 abbrev pub IsOfClient : {A : Type 0} → Network A → List (List ℕ) → Sending → Type 0
@@ -44,7 +46,8 @@ pub record GoesOn {A : Type 0} (net : Network A) (here next : Sending) : Type 0 
 -- So they may in so many steps, from one of these.
 pub data IsOnItsWay {A : Type 0} (net : Network A) (starts : List Sending) : Sending → Type 0 where
   begun : {one : Sending} → Contains starts one → IsOnItsWay net starts one
-  goes_on : {here next : Sending} → IsOnItsWay net starts here → GoesOn net here next → IsOnItsWay net starts next
+  goes_on : {here next : Sending} → IsOnItsWay net starts here → GoesOn net here next
+      → IsOnItsWay net starts next
 
 -- how many messages are looked at: a prefix that each round of a circle puts in front makes a new
 -- tag each time
@@ -53,7 +56,8 @@ most_looked_at = 10000
 
 -- These are on their way from the first ones, each once: those themselves, and all that are, or
 -- else some of more than are looked at.
-pub record AreOnTheirWay {A : Type 0} (net : Network A) (starts sent : List Sending) (are_all : Bool) : Type 0 where
+pub record AreOnTheirWay {A : Type 0} (net : Network A) (starts sent : List Sending)
+    (are_all : Bool) : Type 0 where
   pub begin : (one : Sending) → Contains starts one → Contains sent one
   pub only : (one : Sending) → Contains sent one → IsOnItsWay net starts one
   pub all : are_all ≡ true → (one : Sending) → IsOnItsWay net starts one → Contains sent one

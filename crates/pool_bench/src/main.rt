@@ -1,9 +1,13 @@
 //! What bench/pool measures: workers at a shared buffer in memory, with a courier that does
 //! nothing, claims while many chunks wait, and messages that are settled as they go.
 //!
-//!     pool_bench purge WORKERS THOUSANDS    purges so many thousand queued chunks by so many workers, and prints how many a second
-//!     pool_bench claim QUEUED THOUSANDS     claims and gives back so many thousand times while so many thousand chunks are queued
-//!     pool_bench settle CHUNKS THOUSANDS    appends so many thousand messages for each of so many chunks, settles each, and lets the chunks go
+//!     pool_bench purge WORKERS THOUSANDS
+//!         purges so many thousand queued chunks by so many workers, and prints how many a second
+//!     pool_bench claim QUEUED THOUSANDS
+//!         claims and gives back so many thousand times while so many thousand chunks are queued
+//!     pool_bench settle CHUNKS THOUSANDS
+//!         appends so many thousand messages for each of so many chunks, settles each, and lets
+//!         the chunks go
 #![tactic(auto)]
 
 use ack_receipt::{Basis, Delivery, Evidence, Leaf, Numbers, SharedBuffer, Stub, Takes};

@@ -10,4 +10,5 @@ IsAmong lines line = (same : List ℕ) × Contains lines same × (sha256 same �
 
 -- where none was kept before, each line is among those that are kept
 abbrev pub NoneGoesMissing : Type 0
-NoneGoesMissing = (recent now : Recent) (lines kept : List (List ℕ)) → recent.digests ≡ [] → AreKept recent lines kept now → AllByRecursion (IsAmong kept) lines
+NoneGoesMissing = (recent now : Recent) (lines kept : List (List ℕ)) → recent.digests ≡ []
+    → AreKept recent lines kept now → AllByRecursion (IsAmong kept) lines

@@ -20,7 +20,8 @@ IsRepeat recent line = Contains recent.digests (sha256 line)
 
 -- they and this line, where there were too many without the first of them
 abbrev pub remembering : Recent → List ℕ → Recent
-remembering recent line = record { most = recent.most; digests = sha256 line ∷ take (recent.most - 1) recent.digests }
+remembering recent line =
+    record { most = recent.most; digests = sha256 line ∷ take (recent.most - 1) recent.digests }
 
 -- whether a line repeats none of them, and which are the last then
 abbrev pub IsTold : Recent → List ℕ → Bool → Recent → Type 0
@@ -33,7 +34,9 @@ abbrev pub AreKept : Recent → List (List ℕ) → List (List ℕ) → Recent �
 AreKept recent [] kept now = (kept ≡ []) × (now ≡ recent)
 AreKept recent (line ∷ lines) kept now =
     (IsRepeat recent line × AreKept recent lines kept now)
-    ⊎ ((IsRepeat recent line → ⊥) × ((others : List (List ℕ)) × (kept ≡ line ∷ others) × AreKept (remembering recent line) lines others now))
+    ⊎ ((IsRepeat recent line → ⊥)
+    × ((others : List (List ℕ)) × (kept ≡ line ∷ others)
+    × AreKept (remembering recent line) lines others now))
 
 -- Of the lines of a text, one after another, this is the text of those that are kept.
 pub record Keeps (recent : Recent) (text kept : List ℕ) (now : Recent) : Type 0 where

@@ -28,12 +28,15 @@ pub record OpenState (D A : Type 0) : Type 0 where
   pub plan : Plan
 
 -- each of these buffers was opened in the folder of the system that its kind has, or in memory
-abbrev pub ArePlaced : {A : Type 0} → (path : BufferKind A → Option (List ℕ)) → List (Owned A) → Type 0
+abbrev pub ArePlaced : {A : Type 0} → (path : BufferKind A → Option (List ℕ)) → List (Owned A)
+    → Type 0
 ArePlaced path owned = All (λ one. one.path ≡ path (settings_of one.output).kind) owned
 
 -- A buffer was opened as its output's settings say, in a folder for its kind: if that is honest,
 -- its chunks are those that the journal there means.
-pub record IsOpenIn {D A : Type 0} (is_for : BufferKind A → D → Type 0) (is_honest : D → Type 0) (history : D → History) (one : OpenState D A) : Type 0 where
+pub record IsOpenIn {D A : Type 0} (is_for : BufferKind A → D → Type 0) (is_honest : D → Type 0)
+    (history : D → History) (one : OpenState D A) : Type 0 where
   pub set : IsSetAs (settings_of one.owned.output) one.owned.opened
   pub folder : is_for (settings_of one.owned.output).kind one.folder
-  pub chunks : is_honest one.folder → Opens one.owned.opened.name (reads (now (history one.folder))) one.owned.opened.chunks
+  pub chunks : is_honest one.folder
+      → Opens one.owned.opened.name (reads (now (history one.folder))) one.owned.opened.chunks

@@ -21,7 +21,12 @@ pub record Opened : Type 0 where
 
 -- what is remembered of this buffer
 abbrev pub opened_as : {D : Type 0} → Held D → Opened
-opened_as buffer = record { limits = buffer.limits; renewed_past = buffer.renewed_past; name = buffer.journal.path; chunks = buffer.chunks }
+opened_as buffer = record {
+  limits = buffer.limits;
+  renewed_past = buffer.renewed_past;
+  name = buffer.journal.path;
+  chunks = buffer.chunks;
+}
 
 -- a buffer that is shared: its terms, and the buffer itself as it was opened
 pub record Shared (D A : Type 0) : Type 0 where
@@ -51,7 +56,8 @@ pub record IsSetAs {A : Type 0} (settings : BufferSettings A) (buffer : Opened) 
 
 -- the buffer is of this output of the relay with this number: it has the output's number, and its
 -- chunks go as the output's settings say
-pub record IsBufferOf {A B : Type 0} (number : ℕ) (found : BufferedOutput A) (terms : Terms B) : Type 0 where
+pub record IsBufferOf {A B : Type 0} (number : ℕ) (found : BufferedOutput A)
+    (terms : Terms B) : Type 0 where
   pub leaf : terms.leaf ≡ record { relay = number; buffer = number_of found }
   pub takes : AreTakesOf found terms.takes
 
@@ -65,8 +71,16 @@ pub record Owned (A : Type 0) : Type 0 where
   pub path : Option (List ℕ)
 
 -- this output of the relay with this number, and this buffer, which was opened there
-abbrev pub owned_by : {D A : Type 0} → (number : ℕ) → BufferedOutput A → Shared D A → (path : Option (List ℕ)) → Owned A
-owned_by number output share path = record { number = number; output = output; terms = share.terms; opened = opened_as share.opened; path = path }
+abbrev pub owned_by : {D A : Type 0} → (number : ℕ) → BufferedOutput A → Shared D A
+    → (path : Option (List ℕ)) → Owned A
+owned_by number output share path =
+    record {
+      number = number;
+      output = output;
+      terms = share.terms;
+      opened = opened_as share.opened;
+      path = path;
+    }
 
 -- the buffer is the output's own, and was opened as the output's settings say
 pub record IsOwned {A : Type 0} (owned : Owned A) : Type 0 where
@@ -76,7 +90,8 @@ pub record IsOwned {A : Type 0} (owned : Owned A) : Type 0 where
 -- staged chunks are queued when these settings say: at once, or after their interval, which is in
 -- milliseconds here
 abbrev pub IsScheduledBy : {A : Type 0} → BufferSettings A → Plan → Type 0
-IsScheduledBy settings plan = (plan.mode ≡ settings.flush_mode) × (plan.interval ≡ min (settings.flush_interval * 1000) (2 ^ 64 - 1))
+IsScheduledBy settings plan = (plan.mode ≡ settings.flush_mode)
+    × (plan.interval ≡ min (settings.flush_interval * 1000) (2 ^ 64 - 1))
 
 -- The output's staged chunks are queued when its settings say: they are those that its buffer had
 -- when it was opened, since then.

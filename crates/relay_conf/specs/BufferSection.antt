@@ -53,11 +53,13 @@ pub record BufferMeaning : Type 0 where
 
 -- the default acts as the interval, since tags alone tell chunks apart
 abbrev pub flush_mode_of : List ℕ → Option FlushMode
-flush_mode_of text = if bytes_eq text (codes "default") || bytes_eq text (codes "interval") then Some Interval else (if bytes_eq text (codes "immediate") then Some Immediate else None)
+flush_mode_of text = if bytes_eq text (codes "default") || bytes_eq text (codes "interval")
+    then Some Interval else (if bytes_eq text (codes "immediate") then Some Immediate else None)
 
 -- what follows where a buffer is full
 abbrev pub overflow_of : List ℕ → Option OverflowAction
-overflow_of text = if bytes_eq text (codes "throw_exception") then Some ThrowException else (if bytes_eq text (codes "drop_oldest_chunk") then Some DropOldestChunk else None)
+overflow_of text = if bytes_eq text (codes "throw_exception") then Some ThrowException
+    else (if bytes_eq text (codes "drop_oldest_chunk") then Some DropOldestChunk else None)
 
 -- a number of threads is a whole number from 1 to 64
 abbrev pub few_threads : ℕ → Option ℕ
@@ -73,17 +75,20 @@ is_retry_type text = bytes_eq text (codes "exponential_backoff")
 
 -- whether a buffer's chunks are in files
 abbrev pub is_file_of : List ℕ → Option Bool
-is_file_of text = if bytes_eq text (codes "file") then Some true else (if bytes_eq text (codes "memory") then Some false else None)
+is_file_of text = if bytes_eq text (codes "file") then Some true
+    else (if bytes_eq text (codes "memory") then Some false else None)
 
 -- whether the chunks are in files: in memory, where the section has no type
 abbrev pub has_files : List Setting → Bool
-has_files settings = unwrap_or (option_and_then is_file_of (value_of (codes "@type") settings)) false
+has_files settings = unwrap_or (option_and_then is_file_of (value_of (codes "@type") settings))
+    false
 
 -- when a delivery is tried again: after 1 s, then twice as long each time, for 72 hours
 abbrev pub retry_of : List Setting → RetrySettings
 retry_of settings = record {
   wait = read_or seconds_of 1 (value_of (codes "retry_wait") settings);
-  exponential_backoff_base = read_or number_of 2 (value_of (codes "retry_exponential_backoff_base") settings);
+  exponential_backoff_base =
+      read_or number_of 2 (value_of (codes "retry_exponential_backoff_base") settings);
   max_interval = option_and_then seconds_of (value_of (codes "retry_max_interval") settings);
   max_times = option_and_then number_of (value_of (codes "retry_max_times") settings);
   timeout = read_or seconds_of (72 * 60 * 60) (value_of (codes "retry_timeout") settings);
@@ -92,7 +97,8 @@ retry_of settings = record {
 
 -- a buffer's files, or none where it is in memory
 abbrev pub path_of : List Setting → Option (List ℕ)
-path_of settings = if has_files settings then Some (unwrap_or (value_of (codes "path") settings) []) else None
+path_of settings = if has_files settings then Some (unwrap_or (value_of (codes "path") settings) [])
+    else None
 
 -- how much a chunk may have: 8 MB in memory, 256 MB in a file
 abbrev pub chunk_limit : Bool → ℕ
@@ -110,9 +116,12 @@ buffer_of settings = record {
   flush_interval = read_or seconds_of 60 (value_of (codes "flush_interval") settings);
   flush_thread_count = read_or threads_of 1 (value_of (codes "flush_thread_count") settings);
   retry = retry_of settings;
-  overflow_action = read_or overflow_of ThrowException (value_of (codes "overflow_action") settings);
-  chunk_limit_size = read_or size_of (chunk_limit (has_files settings)) (value_of (codes "chunk_limit_size") settings);
-  total_limit_size = read_or size_of (total_limit (has_files settings)) (value_of (codes "total_limit_size") settings);
+  overflow_action = read_or overflow_of ThrowException
+      (value_of (codes "overflow_action") settings);
+  chunk_limit_size = read_or size_of (chunk_limit (has_files settings))
+      (value_of (codes "chunk_limit_size") settings);
+  total_limit_size = read_or size_of (total_limit (has_files settings))
+      (value_of (codes "total_limit_size") settings);
 }
 
 -- the last buffer section, or all defaults where there is none

@@ -45,7 +45,8 @@ read_or f default value = unwrap_or (option_and_then f value) default
 -- the last of the elements of this name, if there is one
 abbrev pub last_child : List ℕ → List Tree → Option Tree
 last_child name [] = None
-last_child name (t ∷ rest) = or_else (last_child name rest) (if is_named name t then Some t else None)
+last_child name (t ∷ rest) = or_else (last_child name rest)
+    (if is_named name t then Some t else None)
 
 -- the parameters of an element, if there is one
 abbrev pub settings_in : Option Tree → List Setting

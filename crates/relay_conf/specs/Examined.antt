@@ -52,7 +52,9 @@ patterns_in line (word ∷ words) = a_pattern word line ∷ patterns_in line wor
 
 -- a match has patterns, none of which begins with `/`
 abbrev pub patterns_found : List (List ℕ) → ℕ → List Finding
-patterns_found words line = found_if (length words == 0 || list_any begins_with_slash words) kinds.OutOfProfile line ++ patterns_in line words
+patterns_found words line =
+    found_if (length words == 0 || list_any begins_with_slash words) kinds.OutOfProfile line
+    ++ patterns_in line words
 
 -- a buffer's chunk key is the tag, written or not
 abbrev pub is_chunk_key : List ℕ → Bool
@@ -62,8 +64,10 @@ is_chunk_key argument = bytes_eq argument [] || bytes_eq argument (codes "tag")
 abbrev pub opening_found : Option Opening → Heading → List Finding
 opening_found None h = a_fault (refusal h.name) h.line ∷ []
 opening_found (Some opening.Match) h = patterns_found (words_of h.argument) h.line
-opening_found (Some (opening.Plain sections.Label)) h = found_if (not (is_label_name h.argument)) kinds.BadValue h.line
-opening_found (Some (opening.Plain sections.Buffer)) h = found_if (not (is_chunk_key h.argument)) kinds.OutOfProfile h.line
+opening_found (Some (opening.Plain sections.Label)) h =
+    found_if (not (is_label_name h.argument)) kinds.BadValue h.line
+opening_found (Some (opening.Plain sections.Buffer)) h =
+    found_if (not (is_chunk_key h.argument)) kinds.OutOfProfile h.line
 opening_found (Some _) h = []
 
 -- a section that must have a type
@@ -132,8 +136,10 @@ output_lacks outputs.Null settings children = false
 -- whether a section lacks what it must have
 abbrev pub section_lacks : Section → List Setting → List Tree → Bool
 section_lacks sections.Server settings children = lacks (codes "host") settings
-section_lacks sections.Security settings children = lacks (codes "self_hostname") settings || lacks (codes "shared_key") settings
-section_lacks sections.Buffer settings children = has_files settings && lacks (codes "path") settings
+section_lacks sections.Security settings children = lacks (codes "self_hostname") settings
+    || lacks (codes "shared_key") settings
+section_lacks sections.Buffer settings children = has_files settings
+    && lacks (codes "path") settings
 section_lacks (sections.Match kind) settings children = output_lacks kind settings children
 section_lacks (sections.Store kind) settings children = output_lacks kind settings children
 section_lacks _ settings children = false
@@ -147,11 +153,13 @@ front_found o h settings =
 
 -- the section that an element is, in another
 abbrev pub section_in : Section → Heading → List Setting → Section
-section_in parent h settings = section_of (opening_in parent h.name) (value_of (codes "@type") settings)
+section_in parent h settings = section_of (opening_in parent h.name)
+    (value_of (codes "@type") settings)
 
 -- what is missing in a section
 abbrev pub missing_found : Section → Heading → List Setting → List Tree → List Finding
-missing_found section h settings children = found_if (section_lacks section settings children) kinds.Missing h.line
+missing_found section h settings children =
+    found_if (section_lacks section settings children) kinds.Missing h.line
 
 -- what is wrong with an element in a section, and with elements one after the other
 abbrev mutual

@@ -25,7 +25,8 @@ Passes (a_pattern text line) = (slots : List Slot) × IsPattern slots text
 -- the finding is this fault
 abbrev pub Stands : Finding → RelayFault → Type 0
 Stands (a_fault kind line) f = f ≡ fault_at kind line
-Stands (a_pattern text line) f = ((slots : List Slot) → ¬ IsPattern slots text) × (f ≡ fault_at kinds.BadValue line)
+Stands (a_pattern text line) f = ((slots : List Slot) → ¬ IsPattern slots text)
+    × (f ≡ fault_at kinds.BadValue line)
 
 -- nothing is wrong anywhere
 abbrev pub AllPass : List Finding → Type 0

@@ -25,7 +25,8 @@ path_fault text = if has_slash text then Some kinds.OutOfProfile else bad_unless
 
 -- events go to a label of the configuration, never to one of Fluentd's own
 abbrev pub target_fault : List ℕ → Option RelayFaultKind
-target_fault text = if is_no_target text then Some kinds.OutOfProfile else bad_unless (is_label_name text)
+target_fault text = if is_no_target text then Some kinds.OutOfProfile
+    else bad_unless (is_label_name text)
 
 -- what is wrong with a value of this form
 abbrev pub value_fault : Form → List ℕ → Option RelayFaultKind

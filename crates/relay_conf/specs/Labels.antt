@@ -22,7 +22,9 @@ has_label name elements = list_any (is_label_of name) elements
 
 -- an `@label` line names a label that some section has
 abbrev pub target_found : List Tree → Setting → List Finding
-target_found elements s = found_if (bytes_eq s.name (codes "@label") && not (has_label s.value elements)) kinds.NoSuchLabel s.line
+target_found elements s =
+    found_if (bytes_eq s.name (codes "@label")
+    && not (has_label s.value elements)) kinds.NoSuchLabel s.line
 
 -- the same of each parameter
 abbrev pub targets_found : List Tree → List Setting → List Finding
@@ -34,7 +36,8 @@ targets_found elements (s ∷ rest) = target_found elements s ++ targets_found e
 abbrev mutual
   pub tree_targets : List Tree → Tree → List Finding
   tree_targets elements (tree h settings children) =
-      if bytes_eq h.name (codes "system") then [] else targets_found elements settings ++ trees_targets elements children
+      if bytes_eq h.name (codes "system") then [] else targets_found elements settings
+      ++ trees_targets elements children
 
   pub trees_targets : List Tree → Trees → List Finding
   trees_targets elements no_trees = []
@@ -42,12 +45,15 @@ abbrev mutual
 
 -- no two sections have one label: the later one is the fault
 abbrev pub double_found : List Tree → Tree → List Finding
-double_found before t = found_if (is_label t && has_label (heading_of t).argument before) kinds.DoubleName (heading_of t).line
+double_found before t =
+    found_if (is_label t && has_label (heading_of t).argument before) kinds.DoubleName
+    (heading_of t).line
 
 -- what is wrong with the labels of these elements, which begin at place k of all
 abbrev pub labels_from : List Tree → ℕ → List Tree → List Finding
 labels_from elements k [] = []
-labels_from elements k (t ∷ ts) = double_found (take k elements) t ++ (tree_targets elements t ++ labels_from elements (k + 1) ts)
+labels_from elements k (t ∷ ts) = double_found (take k elements) t
+    ++ (tree_targets elements t ++ labels_from elements (k + 1) ts)
 
 -- what is wrong with the labels of a configuration
 abbrev pub labels_found : List Tree → List Finding

@@ -64,7 +64,8 @@ security_of settings = record {
 
 -- the last security section, if there is one
 abbrev pub security_in : List Tree → Option SecurityMeaning
-security_in children = option_map (λ t. security_of (settings_of t)) (last_child (codes "security") children)
+security_in children = option_map (λ t. security_of (settings_of t))
+    (last_child (codes "security") children)
 
 -- a source: port 24224 of every local address, the main scope, and no prefix, where nothing else is
 -- said
@@ -90,8 +91,10 @@ server_of t = record {
 abbrev pub forward_of : ℕ → Tree → ForwardMeaning
 forward_of number t = record {
   servers = map server_of (filter (is_named (codes "server")) (children_of t));
-  require_ack_response = read_or boolean_of false (value_of (codes "require_ack_response") (settings_of t));
-  ack_response_timeout = read_or seconds_of 190 (value_of (codes "ack_response_timeout") (settings_of t));
+  require_ack_response =
+      read_or boolean_of false (value_of (codes "require_ack_response") (settings_of t));
+  ack_response_timeout =
+      read_or seconds_of 190 (value_of (codes "ack_response_timeout") (settings_of t));
   security = security_in (children_of t);
   buffer = buffer_in (children_of t);
   number = number;
@@ -111,9 +114,11 @@ kind_of settings = option_and_then output_type_of (value_of (codes "@type") sett
 
 -- an output by its type
 abbrev pub output_by : Option OutputType → List Tree → ℕ → Tree → OutputMeaning
-output_by (Some outputs.Forward) elements number t = to_relays (forward_of number t) (heading_of t).line
+output_by (Some outputs.Forward) elements number t = to_relays (forward_of number t)
+    (heading_of t).line
 output_by (Some outputs.File) elements number t = to_sink (file_of number t) (heading_of t).line
-output_by (Some outputs.Relabel) elements number t = to_scope (target_of elements (value_of (codes "@label") (settings_of t))) (heading_of t).line
+output_by (Some outputs.Relabel) elements number t =
+    to_scope (target_of elements (value_of (codes "@label") (settings_of t))) (heading_of t).line
 output_by _ elements number t = to_nowhere (heading_of t).line
 
 -- an output
@@ -128,7 +133,8 @@ is_buffered _ = false
 
 -- whether a section of this heading and these parameters is an output that has a buffer
 abbrev pub has_buffer : Heading → List Setting → Bool
-has_buffer h settings = (bytes_eq h.name (codes "match") || bytes_eq h.name (codes "store")) && is_buffered (kind_of settings)
+has_buffer h settings = (bytes_eq h.name (codes "match") || bytes_eq h.name (codes "store"))
+    && is_buffered (kind_of settings)
 
 -- one where it holds, else none
 abbrev pub one_if : Bool → ℕ
@@ -139,7 +145,8 @@ one_if b = if b then 1 else 0
 abbrev mutual
   pub tree_buffers : Tree → ℕ
   tree_buffers (tree h settings children) =
-      if bytes_eq h.name (codes "system") then 0 else one_if (has_buffer h settings) + trees_buffers children
+      if bytes_eq h.name (codes "system") then 0 else one_if (has_buffer h settings)
+      + trees_buffers children
 
   pub trees_buffers : Trees → ℕ
   trees_buffers no_trees = 0
@@ -149,7 +156,8 @@ abbrev mutual
 -- before the first.
 abbrev pub numbered : List ℕ → ℕ → List Tree → List (ℕ × Tree)
 numbered name n [] = []
-numbered name n (t ∷ ts) = if is_named name t then (n, t) ∷ numbered name (n + tree_buffers t) ts else numbered name (n + tree_buffers t) ts
+numbered name n (t ∷ ts) = if is_named name t then (n, t) ∷ numbered name (n + tree_buffers t) ts
+    else numbered name (n + tree_buffers t) ts
 
 -- whether an output is a copy
 abbrev pub is_copy : Option OutputType → Bool
@@ -160,5 +168,6 @@ is_copy _ = false
 -- is a copy, else its own
 abbrev pub outputs_of : List Tree → ℕ → Tree → List OutputMeaning
 outputs_of elements n t =
-    if is_copy (kind_of (settings_of t)) then map (λ p. output_of elements p.0 p.1) (numbered (codes "store") n (children_of t))
+    if is_copy (kind_of (settings_of t)) then map (λ p. output_of elements p.0 p.1)
+    (numbered (codes "store") n (children_of t))
     else output_of elements n t ∷ []

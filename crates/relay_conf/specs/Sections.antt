@@ -84,7 +84,8 @@ other_form section name = form_in (section_rows section) name
 
 -- what the value of this name must be, if the section has it
 abbrev pub form_of : Section → List ℕ → Option Form
-form_of section name = if bytes_eq name (codes "@type") then type_form section else other_form section name
+form_of section name = if bytes_eq name (codes "@type") then type_form section
+    else other_form section name
 
 -- what is wrong with a value, where it must be of this form, or where the section has no such name
 abbrev pub form_fault : Option Form → List ℕ → Option RelayFaultKind
@@ -121,7 +122,8 @@ forward_opening name =
 -- the sections in an output
 abbrev pub output_opening : OutputType → List ℕ → Option Opening
 output_opening outputs.Forward name = forward_opening name
-output_opening outputs.File name = only_opening name (codes "buffer") (opening.Plain sections.Buffer)
+output_opening outputs.File name = only_opening name (codes "buffer")
+    (opening.Plain sections.Buffer)
 output_opening outputs.Copy name = only_opening name (codes "store") opening.Store
 output_opening outputs.Relabel name = None
 output_opening outputs.Null name = None
@@ -129,7 +131,8 @@ output_opening outputs.Null name = None
 -- what a section of this name is in another, if it may stand there
 abbrev pub opening_in : Section → List ℕ → Option Opening
 opening_in sections.Top name = top_opening name
-opening_in sections.Source name = only_opening name (codes "security") (opening.Plain sections.Security)
+opening_in sections.Source name = only_opening name (codes "security")
+    (opening.Plain sections.Security)
 opening_in sections.Label name = only_opening name (codes "match") opening.Match
 opening_in (sections.Match kind) name = output_opening kind name
 opening_in (sections.Store kind) name = output_opening kind name
@@ -141,4 +144,5 @@ opening_in _ name = None
 -- what is wrong with a section that may not stand where it does: Fluentd's other sections are out
 -- of the profile
 abbrev pub refusal : List ℕ → RelayFaultKind
-refusal name = if bytes_eq name (codes "filter") || bytes_eq name (codes "worker") || bytes_eq name (codes "secondary") then kinds.OutOfProfile else kinds.UnknownSection
+refusal name = if bytes_eq name (codes "filter") || bytes_eq name (codes "worker")
+    || bytes_eq name (codes "secondary") then kinds.OutOfProfile else kinds.UnknownSection

@@ -13,11 +13,21 @@ use Rattle.relay_conf.specs.Meaning.{SecurityMeaning, SourceMeaning, ServerMeani
 
 -- a security section
 abbrev pub security_view : {A : Type 0} → Security A → SecurityMeaning
-security_view s = record { self_hostname = string_bytes s.self_hostname; shared_key = string_bytes s.shared_key }
+security_view s = record {
+  self_hostname = string_bytes s.self_hostname;
+  shared_key = string_bytes s.shared_key;
+}
 
 -- a source
 abbrev pub source_view : {A : Type 0} → Source A → SourceMeaning
-source_view s = record { port = s.port; bind = string_bytes s.bind; label = s.label.0; prefix = s.prefix; security = option_map security_view s.security; line = s.line }
+source_view s = record {
+  port = s.port;
+  bind = string_bytes s.bind;
+  label = s.label.0;
+  prefix = s.prefix;
+  security = option_map security_view s.security;
+  line = s.line;
+}
 
 -- a server
 abbrev pub server_view : {A : Type 0} → Server A → ServerMeaning
@@ -36,7 +46,11 @@ forward_view f = record {
 
 -- a file output
 abbrev pub file_view : {A : Type 0} → FileSettings A → FileMeaning
-file_view f = record { path = string_bytes f.path; buffer = buffer_view f.buffer; number = f.number.0 }
+file_view f = record {
+  path = string_bytes f.path;
+  buffer = buffer_view f.buffer;
+  number = f.number.0;
+}
 
 -- an output
 abbrev pub output_view : {A : Type 0} → Output A → OutputMeaning

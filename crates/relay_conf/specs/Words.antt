@@ -8,7 +8,10 @@ use Rattle.tag_pattern.specs.Prefixes.{is_prefix}
 
 -- the type of a store of a copy
 abbrev pub store_type_of : List ℕ → Option OutputType
-store_type_of text = if bytes_eq text (codes "forward") then Some outputs.Forward else (if bytes_eq text (codes "file") then Some outputs.File else (if bytes_eq text (codes "relabel") then Some outputs.Relabel else (if bytes_eq text (codes "null") then Some outputs.Null else None)))
+store_type_of text = if bytes_eq text (codes "forward") then Some outputs.Forward
+    else (if bytes_eq text (codes "file") then Some outputs.File
+    else (if bytes_eq text (codes "relabel") then Some outputs.Relabel
+    else (if bytes_eq text (codes "null") then Some outputs.Null else None)))
 
 -- the type of a match: a copy, or what a store may be
 abbrev pub output_type_of : List ℕ → Option OutputType

@@ -12,6 +12,9 @@ pub record IsLookup {A B : Type 0} (lookup : Lookup A) (relay : Relay B) : Type 
   pub outputs : IsIndexOf lookup.outputs relay
 
 -- These are the routes and the indexes of the relays, one for each.
-pub record AreLookups {A : Type 0} (lookups : List (Lookup A)) (nodes : List (Node A)) : Type 0 where
+pub record AreLookups {A : Type 0} (lookups : List (Lookup A))
+    (nodes : List (Node A)) : Type 0 where
   pub routes : map (λ lookup. lookup.routes) lookups ≡ map (λ node. table_of node.relay) nodes
-  pub outputs : (place : ℕ) (lookup : Lookup A) (node : Node A) → slice_get lookups place ≡ Some lookup → slice_get nodes place ≡ Some node → IsIndexOf lookup.outputs node.relay
+  pub outputs : (place : ℕ) (lookup : Lookup A) (node : Node A)
+      → slice_get lookups place ≡ Some lookup → slice_get nodes place ≡ Some node
+      → IsIndexOf lookup.outputs node.relay

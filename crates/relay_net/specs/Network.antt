@@ -47,7 +47,8 @@ source_of_port relay port = find (λ source. source.port == port) relay.sources.
 
 -- the first source of the relay with this address, if there is one
 abbrev pub source_at : {A : Type 0} → Node A → Address → Option (Source A)
-source_at node address = cond (bytes_eq (string_bytes node.host) address.host) (source_of_port node.relay address.port) None
+source_at node address = cond (bytes_eq (string_bytes node.host) address.host)
+    (source_of_port node.relay address.port) None
 
 -- the entrance of the relay at this place, if it has that source, else the other one
 abbrev pub entrance_or : {A : Type 0} → Option (Source A) → ℕ → Option Entrance → Option Entrance
@@ -57,7 +58,8 @@ entrance_or (Some source) place other = Some (record { relay = place; scope = so
 -- the entrance at an address, where this is the place of the first of these relays
 abbrev pub entrance_from : {A : Type 0} → ℕ → List (Node A) → Address → Option Entrance
 entrance_from place [] address = None
-entrance_from place (node ∷ nodes) address = entrance_or (source_at node address) place (entrance_from (suc place) nodes address)
+entrance_from place (node ∷ nodes) address =
+    entrance_or (source_at node address) place (entrance_from (suc place) nodes address)
 
 -- where a message to this address comes in: the first source of the plan that has it
 abbrev pub entrance : {A : Type 0} → Network A → Address → Option Entrance
@@ -86,11 +88,13 @@ tag_at net address tag = entered_tag (prefix_at net address) tag
 -- the host of the relay that this number means (empty where it means none)
 abbrev pub host_from : {A : Type 0} → List (Node A) → ℕ → List ℕ
 host_from [] number = []
-host_from (node ∷ nodes) number = cond (node.number == number) (string_bytes node.host) (host_from nodes number)
+host_from (node ∷ nodes) number = cond (node.number == number) (string_bytes node.host)
+    (host_from nodes number)
 
 -- the address that a client sends to
 abbrev pub address_of_client : {A : Type 0} → Network A → Client A → Address
-address_of_client net client = record { host = host_from net.relays client.relay; port = client.port }
+address_of_client net client =
+    record { host = host_from net.relays client.relay; port = client.port }
 
 -- the address of a server
 abbrev pub address_of_server : {A : Type 0} → Server A → Address
@@ -98,7 +102,8 @@ address_of_server server = record { host = string_bytes server.host; port = serv
 
 -- the relay that the client's number means has a source of its port
 abbrev pub enters : {A : Type 0} → List (Node A) → Client A → Bool
-enters nodes client = option_map_or (λ node. is_some (source_of_port node.relay client.port)) (node_of nodes client.relay) false
+enters nodes client = option_map_or (λ node. is_some (source_of_port node.relay client.port))
+    (node_of nodes client.relay) false
 
 -- each client sends to a source
 abbrev pub all_enter : {A : Type 0} → List (Node A) → List (Client A) → Bool
@@ -108,7 +113,8 @@ all_enter nodes clients = list_all (enters nodes) clients
 
 -- all outputs of a relay, in the order of the text
 abbrev pub outputs_of : {A : Type 0} → Relay A → List (Output A)
-outputs_of relay = flat_map (λ scope. flat_map (λ rule. rule.outputs.items) scope.matches.items) relay.scopes.items
+outputs_of relay = flat_map (λ scope. flat_map (λ rule. rule.outputs.items) scope.matches.items)
+    relay.scopes.items
 
 -- the output of this buffer of a relay; of equal numbers the first is meant
 abbrev pub output_of : {A : Type 0} → Relay A → ℕ → Option (Output A)
@@ -120,4 +126,5 @@ output_at net place buffer = option_and_then (λ relay. output_of relay buffer) 
 
 -- the chunks of this buffer are in memory
 abbrev pub is_in_memory : {A : Type 0} → Network A → ℕ → ℕ → Bool
-is_in_memory net place buffer = option_map_or (λ settings. is_memory settings.kind) (option_and_then settings_of (output_at net place buffer)) false
+is_in_memory net place buffer = option_map_or (λ settings. is_memory settings.kind)
+    (option_and_then settings_of (output_at net place buffer)) false

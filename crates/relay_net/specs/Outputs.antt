@@ -53,7 +53,8 @@ pub record KeepsChunks {A : Type 0} (settings : BufferSettings A) : Type 0 where
 abbrev pub Keeps : {A : Type 0} → Output A → Type 0
 Keeps (output.Null line) = ⊥
 Keeps (output.Relabel target line) = ⊥
-Keeps (output.Forward settings line) = KeepsChunks settings.buffer × (settings.require_ack_response ≡ true)
+Keeps (output.Forward settings line) = KeepsChunks settings.buffer
+    × (settings.require_ack_response ≡ true)
 Keeps (output.File settings line) = KeepsChunks settings.buffer
 
 -- a full buffer refuses what comes
@@ -63,4 +64,5 @@ is_refusing DropOldestChunk = false
 
 -- whether a buffer lets no chunk go before it is delivered
 abbrev pub keeps_chunks : {A : Type 0} → BufferSettings A → Bool
-keeps_chunks settings = not (is_memory settings.kind) && (settings.retry.forever && is_refusing settings.overflow_action)
+keeps_chunks settings = not (is_memory settings.kind)
+    && (settings.retry.forever && is_refusing settings.overflow_action)

@@ -13,7 +13,8 @@ use Rattle.relay_net.specs.declared.sources.SourceIndex.{SourceIndex}
 
 -- the place that these hosts and their ports have for an address
 abbrev pub place_at : {A : Type 0} → BTreeMap (Vec ℕ A) (BTreeMap ℕ ℕ) → Address → Option ℕ
-place_at hosts address = option_and_then (λ ports. get nat_cmp ports address.port) (get_by (λ key. slice_cmp nat_cmp address.host key.items) hosts)
+place_at hosts address = option_and_then (λ ports. get nat_cmp ports address.port)
+    (get_by (λ key. slice_cmp nat_cmp address.host key.items) hosts)
 
 -- the place that the index has for an address
 abbrev pub first_place : {A : Type 0} → SourceIndex A → Address → Option ℕ
@@ -27,13 +28,17 @@ has_source node address = is_some (source_at node address)
 -- the first of them
 abbrev pub among_nodes : {A : Type 0} → ℕ → List (Node A) → Address → Option ℕ
 among_nodes place [] address = None
-among_nodes place (node ∷ nodes) address = cond (has_source node address) (Some place) (among_nodes (suc place) nodes address)
+among_nodes place (node ∷ nodes) address = cond (has_source node address) (Some place)
+    (among_nodes (suc place) nodes address)
 
 -- the first of these relays' sources with this address, behind the place of its relay
 abbrev pub first_source : {A : Type 0} → ℕ → List (Node A) → Address → Option (ℕ × Source A)
 first_source place [] address = None
-first_source place (node ∷ nodes) address = option_or (option_map (λ source. (place, source)) (source_at node address)) (first_source (suc place) nodes address)
+first_source place (node ∷ nodes) address =
+    option_or (option_map (λ source. (place, source)) (source_at node address))
+    (first_source (suc place) nodes address)
 
 -- The index has the first relay with a source of each address.
 abbrev pub IsSourceIndex : {A B : Type 0} → SourceIndex A → List (Node B) → Type 0
-IsSourceIndex index nodes = (address : Address) → first_place index address ≡ among_nodes 0 nodes address
+IsSourceIndex index nodes = (address : Address)
+    → first_place index address ≡ among_nodes 0 nodes address

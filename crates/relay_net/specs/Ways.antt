@@ -13,7 +13,8 @@ table_at net place = option_map_or table_of (relay_at net place) []
 -- A message with these entries that came in there has the buffer as a leaf. Without entries it has
 -- none.
 abbrev pub HasLeaf : {A : Type 0} → Network A → Entrance → List ℕ → List (List ℕ) → ℕ → Type 0
-HasLeaf net at tag entries buffer = (entries ≢ []) × IsLeaf (table_at net at.relay) tag at.scope buffer
+HasLeaf net at tag entries buffer = (entries ≢ [])
+    × IsLeaf (table_at net at.relay) tag at.scope buffer
 
 -- The way of such a message is a loop. Without entries it is none.
 abbrev pub HasLoop : {A : Type 0} → Network A → Entrance → List ℕ → List (List ℕ) → Type 0

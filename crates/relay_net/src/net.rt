@@ -22,9 +22,9 @@ use tag_pattern::{Prefix, Tag};
 /// A network: its relays and its clients, each in the order of the plan. To contracts it is these
 /// two lists.
 ///
-/// Beside them it keeps, for each relay, its routes and where its outputs stand, and the first relay
-/// with a source of each address, so that no step of the network looks through a configuration for
-/// an output or a way, or through the relays for an address.
+/// Beside them it keeps, for each relay, its routes and where its outputs stand, and the first
+/// relay with a source of each address, so that no step of the network looks through a
+/// configuration for an output or a way, or through the relays for an address.
 #[derive(Drop)]
 pub struct Net<A: Allocator> {
     alloc: A,

@@ -18,7 +18,11 @@ is_good _ = false
 
 -- a place of which nothing was told
 abbrev pub untold : Slot
-untold = record { pending = None; due = 0; tally = record { is_failing = false; failures = 0; works = 0 } }
+untold = record {
+  pending = None;
+  due = 0;
+  tally = record { is_failing = false; failures = 0; works = 0 };
+}
 
 -- one more, as far as 64 bits go
 abbrev pub one_more : ℕ → ℕ
@@ -26,7 +30,8 @@ one_more n = min (n + 1) (2 ^ 64 - 1)
 
 -- how often a place worked and failed, with this notice: it fails where this says so
 abbrev pub counted : Notice → Tally → Tally
-counted notice tally = if is_good notice then record { is_failing = false; failures = tally.failures; works = one_more tally.works }
+counted notice tally = if is_good notice
+    then record { is_failing = false; failures = tally.failures; works = one_more tally.works }
     else record { is_failing = true; failures = one_more tally.failures; works = tally.works }
 
 -- how many notices are left out of the next line, with one notice more
@@ -42,7 +47,11 @@ pending_with notice slot = if is_good notice && not slot.tally.is_failing then s
 
 -- a place once this was told
 abbrev pub told : Notice → Slot → Slot
-told notice slot = record { pending = pending_with notice slot; due = slot.due; tally = counted notice slot.tally }
+told notice slot = record {
+  pending = pending_with notice slot;
+  due = slot.due;
+  tally = counted notice slot.tally;
+}
 
 -- places once this was told of that one
 abbrev pub told_of : ℕ → Notice → List Slot → Option Slot → List Slot

@@ -24,7 +24,8 @@ leaf_of relay buffer = record { relay = relay; buffer = buffer.0 }
 -- the buffers that it reaches, each once.
 abbrev pub AreLeavesOf : Entry → List ℕ → List Leaf → Type 0
 AreLeavesOf entry tag leaves = (¬ IsLoop entry.table tag entry.scope)
-    × ((buffers : List BufferNo) × AreFirstReached entry.table tag entry.scope (numbers_of buffers) × (leaves ≡ map (leaf_of entry.number) buffers))
+    × ((buffers : List BufferNo) × AreFirstReached entry.table tag entry.scope (numbers_of buffers)
+    × (leaves ≡ map (leaf_of entry.number) buffers))
 
 -- These are the buffers that have to store a message before it is answered: none where it has no
 -- entries, and else the leaves of this tag.
@@ -34,6 +35,7 @@ AreLeavesFor entry asked tag leaves = ((asked.count ≡ 0) × (leaves ≡ []))
 
 -- The message is stored under its tag as it enters at the source, in the buffers that have to store
 -- it.
-pub record IsRoutedTo (entry : Entry) (asked : Asked) (tag : List ℕ) (leaves : List Leaf) : Type 0 where
+pub record IsRoutedTo (entry : Entry) (asked : Asked) (tag : List ℕ)
+    (leaves : List Leaf) : Type 0 where
   pub entered : tag ≡ entered_tag entry.prefix asked.tag
   pub reached : AreLeavesFor entry asked tag leaves

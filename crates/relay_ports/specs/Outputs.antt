@@ -49,7 +49,8 @@ outputs_in scopes = flat_map of_scope scopes
 
 -- each output has the number of its place
 abbrev pub AreInOrder : {A : Type 0} → List (BufferedOutput A) → Type 0
-AreInOrder outputs = (place : ℕ) → IfSome (slice_get outputs place) (λ found. number_of found ≡ place)
+AreInOrder outputs = (place : ℕ)
+    → IfSome (slice_get outputs place) (λ found. number_of found ≡ place)
 
 -- the path of an output's buffer, if it has one that has files
 abbrev pub buffer_path : {A : Type 0} → BufferedOutput A → Option (List ℕ)

@@ -31,7 +31,8 @@ IsTextStop text (stop.Unread fault) = fault ≡ unread.Memory
 
 -- why no relay is read
 abbrev pub IsConfStop : Option (List ℕ) → ConfStop → Type 0
-IsConfStop conf (stop.Text fault) = (text : List ℕ) × IsTextOf conf text × HasTextFault text fault.kind fault.line
+IsConfStop conf (stop.Text fault) = (text : List ℕ) × IsTextOf conf text
+    × HasTextFault text fault.kind fault.line
 IsConfStop conf (stop.Relay fault) = (text : List ℕ) × IsTextOf conf text × HasRelayFault text fault
 IsConfStop conf (stop.Unread fault) = Unit {0}
 
@@ -45,7 +46,8 @@ stop_line (stop.Unread unread.Memory) = memory_line
 stop_line (stop.Unread unread.Read) = read_line
 
 -- What is said of a stop is printed; where there is no memory for its line, that is said.
-pub record PrintsConfStop (stopped : ConfStop) (old new : Option (List ℕ)) (status : Status) : Type 0 where
+pub record PrintsConfStop (stopped : ConfStop) (old new : Option (List ℕ))
+    (status : Status) : Type 0 where
   pub lines : List ℕ
   pub said : (lines ≡ stop_line stopped) ⊎ (lines ≡ memory_line)
   pub printed : IsPrinted old new lines Usage status

@@ -81,7 +81,8 @@ LetsAll gate serial = Unit {0}
 abbrev pub HaveEnded : {S : Type 0} → (origin : S → Origin) → (traffic : S → Traffic)
     → PoolEnded → Type 0
 HaveEnded origin traffic end = (gate : OpenGate)
-    × HaveWorked LetsAll (IsCarriedBy origin traffic) (at end.pool.job.terms end.pool.carrier gate (settings_of end.pool.job.output).retry)
+    × HaveWorked LetsAll (IsCarriedBy origin traffic)
+    (at end.pool.job.terms end.pool.carrier gate (settings_of end.pool.job.output).retry)
     (settings_of end.pool.job.output).flush_thread_count end.done
 
 -- the fault of a relay whose workers at a buffer ended so
@@ -106,12 +107,17 @@ pub record RelayEnded : Type 0 where
 
 -- what ran
 abbrev pub relay_of : RelayEnded → RelayState
-relay_of ended = record { turning = ended.turning; ports = ended.ports; pools = map (λ end. end.pool) ended.pools }
+relay_of ended = record {
+  turning = ended.turning;
+  ports = ended.ports;
+  pools = map (λ end. end.pool) ended.pools;
+}
 
 -- A relay that listens goes on to run, with its files in this folder. It takes messages in at the
 -- same sources and addresses, it has a buffer for each of its outputs, and each output has what
 -- delivers its chunks, from the very buffer that the loop has for it.
-pub record Continues (folder : List ℕ) (bound : BoundState heap.the_row.Denot) (relay : RelayState) : Type 0 where
+pub record Continues (folder : List ℕ) (bound : BoundState heap.the_row.Denot)
+    (relay : RelayState) : Type 0 where
   pub sources : relay.turning.sources ≡ bound.sources
   pub listens : relay.turning.bound ≡ bound.bound
   pub ports : ArePortsOf bound.sources relay.ports
@@ -123,7 +129,8 @@ pub record Continues (folder : List ℕ) (bound : BoundState heap.the_row.Denot)
 
 -- A relay listens at the address of each source of this setup, and nowhere else, and has its number
 -- and its outputs.
-pub record IsBoundAs (setup : Setup heap.the_row.Denot) (bound : BoundState heap.the_row.Denot) : Type 0 where
+pub record IsBoundAs (setup : Setup heap.the_row.Denot)
+    (bound : BoundState heap.the_row.Denot) : Type 0 where
   pub sources : bound.sources ≡ map (served_as setup.number setup.table) setup.sources
   pub listens : bound.bound ≡ map (λ source. source.endpoint) bound.sources
   pub number : bound.number ≡ setup.number
@@ -131,7 +138,8 @@ pub record IsBoundAs (setup : Setup heap.the_row.Denot) (bound : BoundState heap
 
 -- What runs is this relay, whole, with its files in this folder: it listened as its setup says, and
 -- went on so.
-pub record Runs (folder : List ℕ) (setup : Setup heap.the_row.Denot) (relay : RelayState) : Type 0 where
+pub record Runs (folder : List ℕ) (setup : Setup heap.the_row.Denot)
+    (relay : RelayState) : Type 0 where
   pub bound : BoundState heap.the_row.Denot
   pub is : IsBoundAs setup bound
   pub continues : Continues folder bound relay

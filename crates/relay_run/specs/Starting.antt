@@ -48,10 +48,12 @@ pub record PrintsReady (ports : List ℕ) (old new : Option (List ℕ)) : Type 0
 -- why a relay that was open ended: it ran to the fault of its loop, or else the first of a pool's,
 -- if there is one; or there was no memory to run it
 abbrev pub EndsBy : RelayState → Option LoopFault → Type 0
-EndsBy relay ended = ((ran : RelayEnded) × (relay_of ran ≡ relay) × (ended ≡ first_fault ran.fault ran.pools)) ⊎ (ended ≡ Some ends.Memory)
+EndsBy relay ended = ((ran : RelayEnded) × (relay_of ran ≡ relay)
+    × (ended ≡ first_fault ran.fault ran.pools)) ⊎ (ended ≡ Some ends.Memory)
 
 -- A relay that was open ended so: its own sources were printed, and behind these why it ended.
-pub record PrintsEnd (relay : RelayState) (old new : Option (List ℕ)) (status : Status) : Type 0 where
+pub record PrintsEnd (relay : RelayState) (old new : Option (List ℕ))
+    (status : Status) : Type 0 where
   pub between : Option (List ℕ)
   pub ready : PrintsReady relay.ports old between
   pub ended : Option LoopFault
@@ -59,23 +61,29 @@ pub record PrintsEnd (relay : RelayState) (old new : Option (List ℕ)) (status 
   pub printed : IsPrinted between new (end_line ended) (end_status ended) status
 
 -- The relay of this setup was opened with its files in this folder, and ended so.
-pub record PrintsOpened (folder : List ℕ) (setup : Setup heap.the_row.Denot) (old new : Option (List ℕ)) (status : Status) : Type 0 where
+pub record PrintsOpened (folder : List ℕ) (setup : Setup heap.the_row.Denot)
+    (old new : Option (List ℕ)) (status : Status) : Type 0 where
   pub relay : RelayState
   pub runs : Runs folder setup relay
   pub ends : PrintsEnd relay old new status
 
 -- what running the relay of this setup does to a writer: it was opened and ended; or it wasn't, and
 -- none of its sources is printed, but why
-abbrev pub PrintsRun : (folder : List ℕ) → Setup heap.the_row.Denot → (old new : Option (List ℕ)) → Status → Type 0
-PrintsRun folder setup old new status = PrintsOpened folder setup old new status ⊎ ((fault : LoopFault) × IsPrinted old new (fault_line fault) Usage status)
+abbrev pub PrintsRun : (folder : List ℕ) → Setup heap.the_row.Denot → (old new : Option (List ℕ))
+    → Status → Type 0
+PrintsRun folder setup old new status = PrintsOpened folder setup old new status
+    ⊎ ((fault : LoopFault) × IsPrinted old new (fault_line fault) Usage status)
 
 -- A relay was read from the configuration, and ended so under this number.
-pub record PrintsRunOf (folder : List ℕ) (number : ℕ) (conf old new : Option (List ℕ)) (status : Status) : Type 0 where
+pub record PrintsRunOf (folder : List ℕ) (number : ℕ) (conf old new : Option (List ℕ))
+    (status : Status) : Type 0 where
   pub relay : Relay heap.the_row.Denot
   pub read : IsRelayRead conf relay
   pub prints : PrintsRun folder (setup_of number relay) old new status
 
 -- all that `relay` does to a writer, and its status: it runs the relay that the configuration
 -- describes, with its files in this folder, or says why there is none
-abbrev pub PrintsRelay : (folder : List ℕ) → (number : ℕ) → Option (List ℕ) → Option (List ℕ) → Option (List ℕ) → Status → Type 0
-PrintsRelay folder number conf old new status = PrintsRunOf folder number conf old new status ⊎ PrintsNoRelay conf old new status
+abbrev pub PrintsRelay : (folder : List ℕ) → (number : ℕ) → Option (List ℕ) → Option (List ℕ)
+    → Option (List ℕ) → Status → Type 0
+PrintsRelay folder number conf old new status = PrintsRunOf folder number conf old new status
+    ⊎ PrintsNoRelay conf old new status

@@ -77,7 +77,8 @@ where
         ensures number { IfSome result (λ _. relay_number number.now ≢ None) }
         ensures none { IfNone result (relay_number number.now ≡ None) }
         ensures printed { IfSome result (λ status. IfSome (relay_number number.now) (λ n.
-            PrintsRelay self.now n (I.remaining conf.old) (W.contents out.old) (W.contents out.new) status)) }
+            PrintsRelay self.now n (I.remaining conf.old) (W.contents out.old)
+            (W.contents out.new) status)) }
         ensures nothing { IfNone result (out.new ≡ out.old) }
     {
         let number = number_of(number)?;

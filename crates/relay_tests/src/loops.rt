@@ -157,7 +157,8 @@ fn talk_apart<R: Wait + Net + AllocGlobal, N: Network + Drop, D: Dir + Drop>(
     Ok(hears_three(&mut two, OTHER_ANSWER, rt.alloc())? && first)
 }
 
-// Whether two clients of this loop hear this, and six deliveries of a part each are left of it then.
+// Whether two clients of this loop hear this, and six deliveries of a part each are left of it
+// then.
 fn ends_apart<R, N, D>(rt: &R, turning: InLoop<N, D, Global>) -> Result<bool, Fail>
 where
     R: Wait + Net + AllocGlobal,
@@ -223,8 +224,8 @@ fn are_of_one_part(left: &Ended<Global>) -> bool {
     }
 }
 
-// Whether clients of this loop, which has a small buffer, hear this, and so is what is left of their
-// deliveries.
+// Whether clients of this loop, which has a small buffer, hear this, and so is what is left of
+// their deliveries.
 fn ends_in_turn<R, N, D>(rt: &R, turning: InLoop<N, D, Global>) -> Result<bool, Fail>
 where
     R: Wait + Net,

@@ -79,8 +79,8 @@ fn are_two<D: Dir + Drop>(jobs: &[DeliveryJob<D, Global>]) -> bool {
     }
 }
 
-// What such clients make of their chunks at the two sources of this hub, and whether its two buffers
-// have what was taken, and their books account for it.
+// What such clients make of their chunks at the two sources of this hub, and whether its two
+// buffers have what was taken, and their books account for it.
 fn sent_by<R, N, D, F>(
     rt: &R,
     folders: &F,

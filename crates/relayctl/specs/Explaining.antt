@@ -41,7 +41,8 @@ IsBehind names plan answer.Yes said = AreListed plan names said
 IsBehind names plan (answer.No rule place) said = IsLossOrNotes plan said
 
 -- what is said of a plan's answer: its line, what stands behind that, and the answer's status
-pub record SaysAnswer {A : Type 0} (names : List DropName) (plan : Subject A) (found : Answer) (lines : List ℕ) (status : Status) : Type 0 where
+pub record SaysAnswer {A : Type 0} (names : List DropName) (plan : Subject A) (found : Answer)
+    (lines : List ℕ) (status : Status) : Type 0 where
   pub said : List ℕ
   pub is_behind : IsBehind names plan found said
   pub lines_are : lines ≡ answer_line found ++ said
@@ -49,7 +50,8 @@ pub record SaysAnswer {A : Type 0} (names : List DropName) (plan : Subject A) (f
 
 -- The texts that are read say a plan. Once events are let go at its named matches, it has an
 -- answer, and this is said of it.
-pub record IsExplained (A : Type 0) (net : Option (List ℕ)) (named : List ℕ → Option (List ℕ)) (names : List DropName) (lines : List ℕ) (status : Status) : Type 0 where
+pub record IsExplained (A : Type 0) (net : Option (List ℕ)) (named : List ℕ → Option (List ℕ))
+    (names : List DropName) (lines : List ℕ) (status : Status) : Type 0 where
   pub text : List ℕ
   pub confs : List (List ℕ)
   pub read : AreRead net named text confs
@@ -66,32 +68,40 @@ pub record SaysFault (fault : PlanError) (lines : List ℕ) (status : Status) : 
   pub is_status : status ≡ Usage
 
 -- what is said of a plan's first fault, and of further ones: a line for each, and notes
-pub record SaysFaults (first : PlanError) (further : List PlanError) (lines : List ℕ) (status : Status) : Type 0 where
+pub record SaysFaults (first : PlanError) (further : List PlanError) (lines : List ℕ)
+    (status : Status) : Type 0 where
   pub notes : List ℕ
   pub lines_are : lines ≡ (plan_fault_line first ++ flat_map plan_fault_line further) ++ notes
   pub is_status : status ≡ Usage
 
 -- No plan is read, and this is said of its fault.
-pub record IsExplainedFault (A : Type 0) (net : Option (List ℕ)) (named : List ℕ → Option (List ℕ)) (lines : List ℕ) (status : Status) : Type 0 where
+pub record IsExplainedFault (A : Type 0) (net : Option (List ℕ)) (named : List ℕ → Option (List ℕ))
+    (lines : List ℕ) (status : Status) : Type 0 where
   pub fault : PlanError
   pub refused : IsRefusedPlan A net named fault
   pub named_fault : fault ≢ refusal.Memory
   pub says : SaysFault fault lines status
 
 -- A plan is read, of which one of the names means no match, and this is said of that.
-pub record IsExplainedMissing (A : Type 0) (net : Option (List ℕ)) (named : List ℕ → Option (List ℕ)) (names : List DropName) (lines : List ℕ) (status : Status) : Type 0 where
+pub record IsExplainedMissing (A : Type 0) (net : Option (List ℕ))
+    (named : List ℕ → Option (List ℕ)) (names : List DropName) (lines : List ℕ)
+    (status : Status) : Type 0 where
   pub text : List ℕ
   pub confs : List (List ℕ)
   pub read : AreRead net named text confs
   pub missing : IsMissing A text confs names lines status
 
 -- what is said of the texts that are read
-abbrev pub IsExplanation : (A : Type 0) → Option (List ℕ) → (List ℕ → Option (List ℕ)) → List DropName → List ℕ → Status → Type 0
+abbrev pub IsExplanation : (A : Type 0) → Option (List ℕ) → (List ℕ → Option (List ℕ))
+    → List DropName → List ℕ → Status → Type 0
 IsExplanation A net named names lines status =
-    IsExplained A net named names lines status ⊎ (IsExplainedFault A net named lines status ⊎ IsExplainedMissing A net named names lines status)
+    IsExplained A net named names lines status
+    ⊎ (IsExplainedFault A net named lines status
+    ⊎ IsExplainedMissing A net named names lines status)
 
 -- all that `explain` does to a writer, and its status
-pub record PrintsExplanation (A : Type 0) (net : Option (List ℕ)) (named : List ℕ → Option (List ℕ)) (names : List DropName) (old new : Option (List ℕ)) (status : Status) : Type 0 where
+pub record PrintsExplanation (A : Type 0) (net : Option (List ℕ)) (named : List ℕ → Option (List ℕ))
+    (names : List DropName) (old new : Option (List ℕ)) (status : Status) : Type 0 where
   pub lines : List ℕ
   pub meant : Status
   pub explained : IsExplanation A net named names lines meant ⊎ IsStopLine lines meant

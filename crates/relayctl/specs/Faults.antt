@@ -18,12 +18,15 @@ IsBlanked text other = AllZip IsByteOrBlank text other
 -- of their bytes.
 pub data AreLeft : List (List ℕ) → List (List ℕ) → Type 0 where
   none : AreLeft [] []
-  kept : {texts left : List (List ℕ)} (text other : List ℕ) → AreLeft texts left → IsBlanked text other → AreLeft (texts ++ text ∷ []) (left ++ other ∷ [])
-  gone : {texts left : List (List ℕ)} (text : List ℕ) → AreLeft texts left → AreLeft (texts ++ text ∷ []) left
+  kept : {texts left : List (List ℕ)} (text other : List ℕ) → AreLeft texts left
+      → IsBlanked text other → AreLeft (texts ++ text ∷ []) (left ++ other ∷ [])
+  gone : {texts left : List (List ℕ)} (text : List ℕ) → AreLeft texts left
+      → AreLeft (texts ++ text ∷ []) left
 
 -- The plan has this fault first, where something of its text and of its configurations is blank,
 -- and those that it doesn't name then aren't there.
-pub record IsFaultLeft (A : Type 0) (given : List ℕ) (confs : List (List ℕ)) (fault : PlanError) : Type 0 where
+pub record IsFaultLeft (A : Type 0) (given : List ℕ) (confs : List (List ℕ))
+    (fault : PlanError) : Type 0 where
   pub net : List ℕ
   pub net_is : IsBlanked given net
   pub left : List (List ℕ)

@@ -11,22 +11,28 @@ use Rattle.program_text.specs.declared.status.Status.{Status}
 use Rattle.program_text.specs.declared.status.Status.TheVariants.{Done, No, Usage}
 
 -- The text is that of the plan that is read, with the labels and reaches that it lacks.
-pub record IsLabelledPlan (A : Type 0) (net : Option (List ℕ)) (named : List ℕ → Option (List ℕ)) (text : List ℕ) : Type 0 where
+pub record IsLabelledPlan (A : Type 0) (net : Option (List ℕ)) (named : List ℕ → Option (List ℕ))
+    (text : List ℕ) : Type 0 where
   pub given : List ℕ
   pub confs : List (List ℕ)
   pub read : AreRead net named given confs
   pub labelled : IsLabelled A confs given text
 
 -- Such a text, or that none was found.
-abbrev pub IsTextOrNone : (A : Type 0) → Option (List ℕ) → (List ℕ → Option (List ℕ)) → List ℕ → Status → Type 0
-IsTextOrNone A net named lines status = (IsLabelledPlan A net named lines × (status ≡ Done)) ⊎ ((lines ≡ line (codes "no labels")) × (status ≡ No))
+abbrev pub IsTextOrNone : (A : Type 0) → Option (List ℕ) → (List ℕ → Option (List ℕ)) → List ℕ
+    → Status → Type 0
+IsTextOrNone A net named lines status = (IsLabelledPlan A net named lines × (status ≡ Done))
+    ⊎ ((lines ≡ line (codes "no labels")) × (status ≡ No))
 
 -- what `label` prints of a plan
-abbrev pub AreLabels : (A : Type 0) → Option (List ℕ) → (List ℕ → Option (List ℕ)) → List ℕ → Status → Type 0
-AreLabels A net named lines status = IsTextOrNone A net named lines status ⊎ (IsFaultLine A net named lines status ⊎ IsStopLine lines status)
+abbrev pub AreLabels : (A : Type 0) → Option (List ℕ) → (List ℕ → Option (List ℕ)) → List ℕ → Status
+    → Type 0
+AreLabels A net named lines status = IsTextOrNone A net named lines status
+    ⊎ (IsFaultLine A net named lines status ⊎ IsStopLine lines status)
 
 -- all that `label` does to a writer, and its status
-pub record PrintsLabels (A : Type 0) (net : Option (List ℕ)) (named : List ℕ → Option (List ℕ)) (old new : Option (List ℕ)) (status : Status) : Type 0 where
+pub record PrintsLabels (A : Type 0) (net : Option (List ℕ)) (named : List ℕ → Option (List ℕ))
+    (old new : Option (List ℕ)) (status : Status) : Type 0 where
   pub lines : List ℕ
   pub meant : Status
   pub labels : AreLabels A net named lines meant
@@ -40,7 +46,9 @@ pub record IsWithoutLabels {A : Type 0} (net : Option (List ℕ)) (text : Vec �
 
 -- all that `label --fresh` does to a writer, and its status: what `label` does of such a text, or
 -- it says that there is none
-abbrev pub PrintsFreshLabels : (A : Type 0) → Option (List ℕ) → (List ℕ → Option (List ℕ)) → Option (List ℕ) → Option (List ℕ) → Status → Type 0
+abbrev pub PrintsFreshLabels : (A : Type 0) → Option (List ℕ) → (List ℕ → Option (List ℕ))
+    → Option (List ℕ) → Option (List ℕ) → Status → Type 0
 PrintsFreshLabels A net named old new status =
-    ((text : Vec ℕ A) × IsWithoutLabels net text × PrintsLabels A (Some text.items) named old new status)
+    ((text : Vec ℕ A) × IsWithoutLabels net text
+    × PrintsLabels A (Some text.items) named old new status)
     ⊎ ((lines : List ℕ) × IsStopLine lines Usage × IsPrinted old new lines Usage status)

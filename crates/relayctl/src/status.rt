@@ -130,9 +130,9 @@ fn number_of(word: &str) -> Option<u64> {
     }
 }
 
-/// Prints what the journals and sinks of a data folder hold, and what its relay says of its outputs.
-/// Where there are no journals and no sinks, that is said on standard error; so it is where ages are
-/// asked for and the host has no time, with the status `Usage`.
+/// Prints what the journals and sinks of a data folder hold, and what its relay says of its
+/// outputs. Where there are no journals and no sinks, that is said on standard error; so it is
+/// where ages are asked for and the host has no time, with the status `Usage`.
 pub fn print_status<W: Write>(rt: &HostRuntime, asked: StatusWords<'_>, out: &mut W) -> Status {
     let Ok(limits) = limits_now(rt, asked) else {
         let _ = eprintln!(rt; "fault clock");

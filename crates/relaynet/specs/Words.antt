@@ -13,5 +13,7 @@ Says Version words = words ≡ codes "--version" ∷ []
 
 -- what the command line says, or that it says nothing
 abbrev pub IsRead : List (List ℕ) → Option Word → Type 0
-IsRead words (Some word) = (name : List ℕ) × (rest : List (List ℕ)) × (words ≡ name ∷ rest) × Says word rest
-IsRead words None = (name : List ℕ) (rest : List (List ℕ)) (word : Word) → words ≡ name ∷ rest → Says word rest → ⊥
+IsRead words (Some word) = (name : List ℕ) × (rest : List (List ℕ)) × (words ≡ name ∷ rest)
+    × Says word rest
+IsRead words None = (name : List ℕ) (rest : List (List ℕ)) (word : Word) → words ≡ name ∷ rest
+    → Says word rest → ⊥

@@ -10,7 +10,8 @@ use Rattle.retry_waits.specs.Waits.{wait_after}
 -- stays, and the count stays at the greatest u64
 abbrev pub noted : ℕ → Option Failed → Failed
 noted now None = record { count = 1; first = now; last = now }
-noted now (Some failed) = record { count = min (failed.count + 1) (2 ^ 64 - 1); first = failed.first; last = now }
+noted now (Some failed) =
+    record { count = min (failed.count + 1) (2 ^ 64 - 1); first = failed.first; last = now }
 
 -- so many seconds have passed since then
 abbrev pub HasPassed : ℕ → ℕ → ℕ → Type 0
@@ -34,7 +35,8 @@ is_past_times (Some most) count = nat_lt most count
 -- from when on the retries of the chunk are over, where they don't go on for ever: at any time
 -- where it is past `retry_max_times`, else once `retry_timeout` has passed
 abbrev pub over_moment : RetrySettings → Failed → ℕ
-over_moment settings failed = cond (is_past_times settings.max_times failed.count) 0 (moment_of settings.timeout failed.first)
+over_moment settings failed =
+    cond (is_past_times settings.max_times failed.count) 0 (moment_of settings.timeout failed.first)
 
 -- from when on the chunk is to be looked at again: its wait has passed, or its retries are over
 abbrev pub look_moment : RetrySettings → Failed → ℕ
@@ -51,7 +53,8 @@ IsPastTimes (Some most) count = most < count
 -- has passed since its first failure or its failures are past `retry_max_times`
 abbrev pub IsOver : RetrySettings → Option Failed → ℕ → Type 0
 IsOver settings None now = ⊥
-IsOver settings (Some failed) now = (settings.forever ≡ false) × (HasPassed settings.timeout failed.first now ⊎ IsPastTimes settings.max_times failed.count)
+IsOver settings (Some failed) now = (settings.forever ≡ false)
+    × (HasPassed settings.timeout failed.first now ⊎ IsPastTimes settings.max_times failed.count)
 
 -- each of these chunks has failed at least once
 abbrev pub AreCounted : List Failed → Type 0
@@ -59,4 +62,6 @@ AreCounted chunks = All (λ failed. 1 ≤ failed.count) chunks
 
 -- the failures of a chunk are stored as the triple of their fields
 abbrev pub failed_code : Coded Failed
-failed_code = code_by (ℕ × (ℕ × ℕ)) (coded× coded_ℕ (coded× coded_ℕ coded_ℕ)) (λ f. (f.count, (f.first, f.last))) (λ t. record { count = t.0; first = t.1.0; last = t.1.1 }) (λ _. refl)
+failed_code = code_by (ℕ × (ℕ × ℕ)) (coded× coded_ℕ (coded× coded_ℕ coded_ℕ))
+    (λ f. (f.count, (f.first, f.last))) (λ t. record { count = t.0; first = t.1.0; last = t.1.1 })
+    (λ _. refl)

@@ -11,4 +11,6 @@ within (Some longest) seconds = min seconds longest
 -- to the power of the failures before the last, at most `retry_max_interval`, and at most the
 -- greatest u64
 abbrev pub wait_after : RetrySettings → ℕ → ℕ
-wait_after settings failures = min (within settings.max_interval (settings.wait * settings.exponential_backoff_base ^ (failures - 1))) (2 ^ 64 - 1)
+wait_after settings failures =
+    min (within settings.max_interval
+    (settings.wait * settings.exponential_backoff_base ^ (failures - 1))) (2 ^ 64 - 1)

@@ -4,4 +4,5 @@
 -- chain leads on to the last.
 pub data Chain {A : Type 0} (IsFollowed : A → A → Type 0) : A → A → Type 0 where
   here : {last : A} → Chain IsFollowed last last
-  onward : {start next last : A} → IsFollowed start next → Chain IsFollowed next last → Chain IsFollowed start last
+  onward : {start next last : A} → IsFollowed start next → Chain IsFollowed next last
+      → Chain IsFollowed start last

@@ -28,7 +28,10 @@ hop_of (output.File settings line) = Some (Buffer settings.number)
 
 -- a match as one of the table
 abbrev pub rule_of : {A : Type 0} → MatchRule A → Rule
-rule_of rule = record { patterns = rule.patterns.items; hops = filter_map hop_of rule.outputs.items }
+rule_of rule = record {
+  patterns = rule.patterns.items;
+  hops = filter_map hop_of rule.outputs.items;
+}
 
 -- the matches of a scope
 abbrev pub rules_of : {A : Type 0} → RelayScope A → List Rule

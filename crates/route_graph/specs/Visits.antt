@@ -19,8 +19,10 @@ mark_at marks scope = slice_index_or marks scope Done
 
 -- The one list of numbers with another: at the end, if it wasn't there.
 abbrev pub IsWith : List ℕ → ℕ → List ℕ → Type 0
-IsWith found number more = (Contains found number × (more ≡ found)) ⊎ ((¬ Contains found number) × (more ≡ found ++ number ∷ []))
+IsWith found number more = (Contains found number × (more ≡ found))
+    ⊎ ((¬ Contains found number) × (more ≡ found ++ number ∷ []))
 
 -- The set has the numbers of the list, and no others.
 abbrev pub HasNumbers : BTreeSet ℕ → List ℕ → Type 0
-HasNumbers set numbers = (number : ℕ) → contains nat_cmp set number ≡ list_any (λ other. other == number) numbers
+HasNumbers set numbers = (number : ℕ) → contains nat_cmp set number
+    ≡ list_any (λ other. other == number) numbers

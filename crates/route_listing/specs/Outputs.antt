@@ -18,7 +18,8 @@ server_text server = codes " " ++ string_bytes server.host ++ codes ":" ++ decim
 abbrev pub output_text : {A : Type 0} → Output A → List ℕ
 output_text (output.Null line) = []
 output_text (output.Relabel target line) = []
-output_text (output.Forward settings line) = codes " forward" ++ flat_map server_text settings.servers.items
+output_text (output.Forward settings line) = codes " forward"
+    ++ flat_map server_text settings.servers.items
 output_text (output.File settings line) = codes " file " ++ string_bytes settings.path
 
 -- the output that has this buffer

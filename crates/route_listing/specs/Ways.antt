@@ -39,10 +39,12 @@ pub record IsWayText {A : Type 0} (relay : Relay A) (scope : ℕ) (tag text : Li
 -- long for one
 abbrev pub IsBehindTag : {A : Type 0} → Relay A → Source A → List ℕ → List ℕ → Type 0
 IsBehindTag relay source tag text =
-    ((most_tag_bytes < length (entered_tag source.prefix tag)) × (text ≡ codes " is no tag")) ⊎ IsWayText relay source.label.0 (entered_tag source.prefix tag) text
+    ((most_tag_bytes < length (entered_tag source.prefix tag)) × (text ≡ codes " is no tag"))
+    ⊎ IsWayText relay source.label.0 (entered_tag source.prefix tag) text
 
 -- the line of a tag at a source: the source's port, the tag, and what stands behind it
-pub record IsWayLine {A : Type 0} (relay : Relay A) (source : Source A) (tag text : List ℕ) : Type 0 where
+pub record IsWayLine {A : Type 0} (relay : Relay A) (source : Source A)
+    (tag text : List ℕ) : Type 0 where
   pub behind : List ℕ
   pub is_behind : IsBehindTag relay source tag behind
   pub text_is : text ≡ line (decimal source.port ++ codes " " ++ tag ++ behind)
@@ -56,7 +58,8 @@ abbrev pub AreWays : {A : Type 0} → Relay A → List (List ℕ) → List ℕ �
 AreWays relay tags text = AreListed (AreWaysFrom relay tags) relay.sources.items text
 
 -- The relay is read, and the ways of the tags are printed.
-pub record PrintsListing (A : Type 0) (conf : Option (List ℕ)) (tags : List (List ℕ)) (old new : Option (List ℕ)) (status : Status) : Type 0 where
+pub record PrintsListing (A : Type 0) (conf : Option (List ℕ)) (tags : List (List ℕ))
+    (old new : Option (List ℕ)) (status : Status) : Type 0 where
   pub relay : Relay A
   pub is_read : IsRelayRead conf relay
   pub lines : List ℕ
@@ -65,5 +68,7 @@ pub record PrintsListing (A : Type 0) (conf : Option (List ℕ)) (tags : List (L
 
 -- all that `ways` does to a writer, and its status: the ways, or why no relay is read, or that
 -- memory ran out
-abbrev pub PrintsWays : (A : Type 0) → Option (List ℕ) → List (List ℕ) → Option (List ℕ) → Option (List ℕ) → Status → Type 0
-PrintsWays A conf tags old new status = PrintsListing A conf tags old new status ⊎ (PrintsNoRelay conf old new status ⊎ IsPrinted old new memory_line Usage status)
+abbrev pub PrintsWays : (A : Type 0) → Option (List ℕ) → List (List ℕ) → Option (List ℕ)
+    → Option (List ℕ) → Status → Type 0
+PrintsWays A conf tags old new status = PrintsListing A conf tags old new status
+    ⊎ (PrintsNoRelay conf old new status ⊎ IsPrinted old new memory_line Usage status)

@@ -7,19 +7,22 @@ use Rattle.routed_tags.specs.declared.arrival.Arrival.{Arrival}
 
 -- A message with this tag, sent to this address, comes in there, and its events then bear what is
 -- left of the tag that is looked for.
-pub record IsArrival {A : Type 0} (net : Network A) (wanted : List ℕ) (address : Address) (tag : List ℕ) (arrival : Arrival) : Type 0 where
+pub record IsArrival {A : Type 0} (net : Network A) (wanted : List ℕ) (address : Address)
+    (tag : List ℕ) (arrival : Arrival) : Type 0 where
   pub enters : entrance net address ≡ Some arrival.at
   pub within : arrival.offset ≤ length wanted
   pub borne : drop arrival.offset wanted ≡ tag_at net address tag
 
 -- A buffer of the relay forwards there under this tag.
-pub record IsSentOn {A : Type 0} (net : Network A) (wanted : List ℕ) (place buffer : ℕ) (tag : List ℕ) (next : Arrival) : Type 0 where
+pub record IsSentOn {A : Type 0} (net : Network A) (wanted : List ℕ) (place buffer : ℕ)
+    (tag : List ℕ) (next : Arrival) : Type 0 where
   pub address : Address
   pub sends : SendsTo net place buffer address
   pub arrives : IsArrival net wanted address tag next
 
 -- From the one arrival an event goes on to the other: through a buffer that it comes to.
-pub record IsNext {A : Type 0} (net : Network A) (wanted : List ℕ) (here next : Arrival) : Type 0 where
+pub record IsNext {A : Type 0} (net : Network A) (wanted : List ℕ)
+    (here next : Arrival) : Type 0 where
   pub buffer : ℕ
   pub comes : ComesTo net here.at (drop here.offset wanted) buffer
   pub onward : IsSentOn net wanted here.at.relay buffer (drop here.offset wanted) next

@@ -13,12 +13,14 @@ use Rattle.tag_pattern.specs.Parts.{most_tag_bytes}
 
 -- An event that bears this tag where it comes in has a way that ends, and the buffer is a leaf of
 -- it.
-pub record ComesTo {A : Type 0} (net : Network A) (at : Entrance) (tag : List ℕ) (buffer : ℕ) : Type 0 where
+pub record ComesTo {A : Type 0} (net : Network A) (at : Entrance) (tag : List ℕ)
+    (buffer : ℕ) : Type 0 where
   pub ends : ¬ IsLoop (table_at net at.relay) tag at.scope
   pub leaf : IsLeaf (table_at net at.relay) tag at.scope buffer
 
 -- The output of this buffer sends to a server with this address.
-pub record SendsTo {A : Type 0} (net : Network A) (place buffer : ℕ) (address : Address) : Type 0 where
+pub record SendsTo {A : Type 0} (net : Network A) (place buffer : ℕ)
+    (address : Address) : Type 0 where
   pub output : Output A
   pub there : output_at net place buffer ≡ Some output
   pub server : Server A
@@ -28,7 +30,8 @@ pub record SendsTo {A : Type 0} (net : Network A) (place buffer : ℕ) (address 
 -- The events of a message with this tag, sent to this address, may go on in a message with that
 -- tag, sent to that address: a buffer that they come to forwards them, under the tag that they bear
 -- there.
-pub record LeadsOn {A : Type 0} (net : Network A) (address : Address) (tag : List ℕ) (next : Address) (borne : List ℕ) : Type 0 where
+pub record LeadsOn {A : Type 0} (net : Network A) (address : Address) (tag : List ℕ)
+    (next : Address) (borne : List ℕ) : Type 0 where
   pub at : Entrance
   pub buffer : ℕ
   pub enters : entrance net address ≡ Some at
@@ -37,13 +40,16 @@ pub record LeadsOn {A : Type 0} (net : Network A) (address : Address) (tag : Lis
   pub borne_is : borne ≡ tag_at net address tag
 
 -- So they may in so many steps, or in none.
-pub data Follows {A : Type 0} (net : Network A) (address : Address) (tag : List ℕ) : Address → List ℕ → Type 0 where
+pub data Follows {A : Type 0} (net : Network A) (address : Address) (tag : List ℕ) : Address
+    → List ℕ → Type 0 where
   sent : Follows net address tag address tag
-  onward : {last next : Address} {before borne : List ℕ} → Follows net address tag last before → LeadsOn net last before next borne → Follows net address tag next borne
+  onward : {last next : Address} {before borne : List ℕ} → Follows net address tag last before
+      → LeadsOn net last before next borne → Follows net address tag next borne
 
 -- The tag, of at most 1,024 bytes, is one that the events of a message with this tag, sent to this
 -- address, may bear where they come in.
-pub record IsRoutedTag {A : Type 0} (net : Network A) (address : Address) (tag routed : List ℕ) : Type 0 where
+pub record IsRoutedTag {A : Type 0} (net : Network A) (address : Address)
+    (tag routed : List ℕ) : Type 0 where
   pub last : Address
   pub before : List ℕ
   pub follows : Follows net address tag last before

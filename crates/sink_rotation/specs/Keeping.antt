@@ -25,20 +25,25 @@ dir_of (Shut dir) = dir
 pub record Lasts (old new : History) : Type 0 where
   pub later : old.moment ≤ new.moment
   pub past : (t : ℕ) → t ≤ old.moment → SameDisk (new.disk_at t) (old.disk_at t)
-  pub older : (name : List ℕ) (events : List Event) → IsSafe (now old) name events → StaysSafe old new name events
+  pub older : (name : List ℕ) (events : List Event) → IsSafe (now old) name events
+      → StaysSafe old new name events
 
 -- What a sink knows whose folder was honest when it was opened, whatever was called since, also
 -- after failures and in all its files since: its folder is honest, each answer's entries are
 -- certainly in its file at each moment from the answer on, and what was safe at the opening has
 -- been safe since. The open file keeps what a sink keeps.
-pub record KeepsAll {D : Type 0} (is_honest : D → Type 0) (history : D → History) (sink : RotationView D) : Type 0 where
+pub record KeepsAll {D : Type 0} (is_honest : D → Type 0) (history : D → History)
+    (sink : RotationView D) : Type 0 where
   pub dir : is_honest sink.dir
-  pub answers : AllByRecursion (λ (file : FileView). AnsweredStay (history sink.dir) file.name file.stored) (files_of sink)
+  pub answers : AllByRecursion
+      (λ (file : FileView). AnsweredStay (history sink.dir) file.name file.stored) (files_of sink)
   pub lasts : Lasts (history sink.opening) (history sink.dir)
-  pub newest : IfSome sink.open_one (λ (series : SeriesView D). is_honest series.opening × Keeps is_honest history series)
+  pub newest : IfSome sink.open_one (λ (series : SeriesView D). is_honest series.opening
+      × Keeps is_honest history series)
 
 -- a sink that stays open: its files have its path, and it keeps what it answered
-pub record IsRotating {D : Type 0} (is_honest : D → Type 0) (history : D → History) (sink : RotationView D) : Type 0 where
+pub record IsRotating {D : Type 0} (is_honest : D → Type 0) (history : D → History)
+    (sink : RotationView D) : Type 0 where
   pub path : IfSome sink.open_one (λ (series : SeriesView D). series.path ≡ sink.path)
   pub kept : is_honest sink.opening → KeepsAll is_honest history sink
 
@@ -60,9 +65,11 @@ pub record Stays {D : Type 0} (old new : RotationView D) : Type 0 where
 
 -- An answer more, with these entries; or after a refusal those that were there. None is forgotten.
 abbrev pub Added : (old new : List Kept) → StoredView → Result StoredView SeriesFault → Type 0
-Added old new wanted (Ok stored) = (stored ≡ wanted) × ((last : Kept) × (last.answer.stored ≡ wanted) × (new ≡ last ∷ old))
+Added old new wanted (Ok stored) = (stored ≡ wanted)
+    × ((last : Kept) × (last.answer.stored ≡ wanted) × (new ≡ last ∷ old))
 Added old new wanted (Err why) = new ≡ old
 
 -- the same of a sink's answers since it was opened
-abbrev pub Answers : {D : Type 0} → (old new : RotationView D) → StoredView → Result StoredView SeriesFault → Type 0
+abbrev pub Answers : {D : Type 0} → (old new : RotationView D) → StoredView
+    → Result StoredView SeriesFault → Type 0
 Answers old new wanted result = Added (answers_of old) (answers_of new) wanted result

@@ -53,5 +53,6 @@ answers_of sink = flat_map kept_in (files_of sink)
 -- The next file is begun: the newest one has entries, and is large or old enough; or it can't be
 -- written, and the time to try again has come.
 abbrev pub IsDue : FileLimits → ℕ → ℕ → Option ℕ → ℕ → Type 0
-IsDue limits size since None time = (1 ≤ size) × ((limits.bytes ≤ size) ⊎ (limits.millis ≤ time - since))
+IsDue limits size since None time = (1 ≤ size)
+    × ((limits.bytes ≤ size) ⊎ (limits.millis ≤ time - since))
 IsDue limits size since (Some from) time = from ≤ time

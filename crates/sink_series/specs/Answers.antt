@@ -8,4 +8,5 @@ use Rattle.sink_series.specs.declared.answers.Link.TheVariants.{Start, Then}
 -- the last answer first
 abbrev pub answers_in : {D A : Type 0} → (D → History) → Link D A → List Answer
 answers_in history Start = []
-answers_in history (Then stored dir before) = record { stored = stored.value; since = (history dir.value).moment } ∷ before.value
+answers_in history (Then stored dir before) =
+    record { stored = stored.value; since = (history dir.value).moment } ∷ before.value

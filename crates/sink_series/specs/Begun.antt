@@ -7,4 +7,5 @@ use Rattle.sink_series.specs.declared.begun.Link.TheVariants.{Start, Then}
 -- the last write first
 abbrev pub writes_in : {A : Type 0} → Link A → List (List Event)
 writes_in Start = []
-writes_in (Then write before) = under write.value.stored.tag write.value.stored.entries ∷ before.value
+writes_in (Then write before) =
+    under write.value.stored.tag write.value.stored.entries ∷ before.value

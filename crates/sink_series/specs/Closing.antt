@@ -3,7 +3,8 @@ use Rattle.std.specs.Prelude.{◌≡◌, ◌≢◌, ℕ, List, Option, Some, Non
 use Rattle.disk_files.specs.declared.dir.FileNo.{FileNo}
 
 -- The file that was open under this name is closed, and of the others those are open that were.
-pub record Closes {D : Type 0} (opened : D → FileNo → Option (List ℕ)) (name : List ℕ) (old new : D) : Type 0 where
+pub record Closes {D : Type 0} (opened : D → FileNo → Option (List ℕ)) (name : List ℕ)
+    (old new : D) : Type 0 where
   pub file : FileNo
   pub was : opened old file ≡ Some name
   pub closed : opened new file ≡ None

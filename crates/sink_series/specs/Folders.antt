@@ -13,7 +13,8 @@ FileHolds (Some bytes) events = Holds bytes events
 unfoldable pub HoldsTo : List ℕ → Folder → ℕ → List Event → Type 0
 HoldsTo path folder zero events = events ≡ []
 HoldsTo path folder (suc n) events =
-    (before : List Event) × (last : List Event) × HoldsTo path folder n before × FileHolds (folder (sink_name path (suc n))) last × (events ≡ before ++ last)
+    (before : List Event) × (last : List Event) × HoldsTo path folder n before
+    × FileHolds (folder (sink_name path (suc n))) last × (events ≡ before ++ last)
 
 -- the content of a sink in a folder: that of its files by rising number
 abbrev pub SinkHolds : List ℕ → Folder → List Event → Type 0

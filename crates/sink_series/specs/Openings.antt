@@ -16,7 +16,8 @@ folder_left (Ok series) = series.dir
 folder_left (Err refused) = refused.1
 
 -- the answer, without the folder that a refusal hands back
-abbrev pub answer_of : {D : Type 0} → Result (SeriesView D) (SeriesFault × D) → Result (SeriesView D) SeriesFault
+abbrev pub answer_of : {D : Type 0} → Result (SeriesView D) (SeriesFault × D)
+    → Result (SeriesView D) SeriesFault
 answer_of (Ok series) = Ok series
 answer_of (Err refused) = Err refused.0
 
@@ -32,7 +33,8 @@ pub record IsFresh {D : Type 0} (dir : D) (path : List ℕ) (series : SeriesView
 
 -- Opening makes the sink's next file and nothing else, and from then on the sink keeps what it
 -- answers.
-pub record OpensNext {D : Type 0} (is_honest : D → Type 0) (history : D → History) (dir : D) (path : List ℕ) (series : SeriesView D) : Type 0 where
+pub record OpensNext {D : Type 0} (is_honest : D → Type 0) (history : D → History) (dir : D)
+    (path : List ℕ) (series : SeriesView D) : Type 0 where
   pub next : IsNext path (reads (now (history dir))) series.number
   pub made : Makes (newest series) (now (history dir)) (now (history series.dir))
   pub kept : Keeps is_honest history series
@@ -40,13 +42,16 @@ pub record OpensNext {D : Type 0} (is_honest : D → Type 0) (history : D → Hi
 -- What opening leaves of an honest folder, whatever it answers: an honest one. A stop at any moment
 -- leaves what a stop before the call could leave, but for an empty file of the sink besides, and
 -- what was safe stays so.
-pub record LeavesSafe {D : Type 0} (is_honest : D → Type 0) (history : D → History) (path : List ℕ) (dir left : D) : Type 0 where
+pub record LeavesSafe {D : Type 0} (is_honest : D → Type 0) (history : D → History) (path : List ℕ)
+    (dir left : D) : Type 0 where
   pub honest : is_honest left
   pub moments : LeavesOnly (history dir) (history left) (HasMade (now (history dir)) path)
-  pub safe : (name : List ℕ) (events : List Event) → IsSafe (now (history dir)) name events → StaysSafe (history dir) (history left) name events
+  pub safe : (name : List ℕ) (events : List Event) → IsSafe (now (history dir)) name events
+      → StaysSafe (history dir) (history left) name events
 
 -- A refused opening changed nothing, but that where the device failed the sink's next file may be
 -- there. `LastNumber`: that of the last number is.
 pub record IsRefused (path : List ℕ) (old new : Disk) (fault : SeriesFault) : Type 0 where
-  pub disk : SameDisk new old ⊎ ((fault ≡ Fault) × (n : ℕ) × IsNext path (reads old) n × Makes (sink_name path n) old new)
+  pub disk : SameDisk new old
+      ⊎ ((fault ≡ Fault) × (n : ℕ) × IsNext path (reads old) n × Makes (sink_name path n) old new)
   pub last : fault ≡ LastNumber → IsSome (reads old (sink_name path last_number))

@@ -85,7 +85,8 @@ fn behind_item<'a, A: Allocator>(
     requires tag { length tag.now ≤ longest_tag }
     requires entry { 1 ≤ length entry.now }
     ensures { let item = item_of (record { tag = tag.now; entry = entry.now }) in
-        IfOk result (λ found. MatchOption found ((rest : List ℕ) → bytes.now ≡ item ++ rest → ⊥) (λ rest. bytes.now ≡ item ++ rest.now)) }
+        IfOk result (λ found. MatchOption found ((rest : List ℕ) → bytes.now ≡ item ++ rest → ⊥)
+        (λ rest. bytes.now ≡ item ++ rest.now)) }
 {
     let mut front = Vec::new(alloc);
     put_front(&mut front, tag)?;

@@ -24,9 +24,16 @@ numbers_of name = name.relay ∷ name.buffer ∷ name.serial ∷ []
 
 -- what the step holds: its word, its numbers in the order of its fields, its tag and its entries
 abbrev pub content : {A : Type 0} → Step A → Content
-content (step.Send client tag entries) = record { word = codes "send"; numbers = client ∷ []; tag = tag; entries = texts_of entries.items }
+content (step.Send client tag entries) =
+    record {
+      word = codes "send";
+      numbers = client ∷ [];
+      tag = tag;
+      entries = texts_of entries.items;
+    }
 content (step.Begin message) = numbered (codes "begin") (message ∷ [])
-content (step.Append delivery buffer serial) = numbered (codes "append") (delivery ∷ buffer ∷ serial ∷ [])
+content (step.Append delivery buffer serial) = numbered (codes "append")
+    (delivery ∷ buffer ∷ serial ∷ [])
 content (step.Ack delivery) = numbered (codes "ack") (delivery ∷ [])
 content (step.Abandon delivery) = numbered (codes "abandon") (delivery ∷ [])
 content (step.Foreign message) = numbered (codes "foreign") (message ∷ [])
@@ -45,7 +52,8 @@ content (step.Restart relay) = numbered (codes "restart") (relay ∷ [])
 
 -- Two steps of one line hold the same.
 abbrev pub SaysOneStep : Type 0 → Type 0
-SaysOneStep A = (line : List ℕ) (a b : Step A) → Says line (Some a) → Says line (Some b) → content a ≡ content b
+SaysOneStep A = (line : List ℕ) (a b : Step A) → Says line (Some a) → Says line (Some b)
+    → content a ≡ content b
 
 -- A line that says nothing says no step.
 abbrev pub SaysNoStepToo : Type 0 → Type 0
@@ -53,12 +61,15 @@ SaysNoStepToo A = (line : List ℕ) (a : Step A) → Says {A = A} line None → 
 
 -- Two lists of steps that a text says hold the same, step by step.
 abbrev pub HasOneReading : Type 0 → Type 0
-HasOneReading A = (text : List ℕ) (one two : List (Step A)) → SayAll (text_lines text) one → SayAll (text_lines text) two → map content one ≡ map content two
+HasOneReading A = (text : List ℕ) (one two : List (Step A)) → SayAll (text_lines text) one
+    → SayAll (text_lines text) two → map content one ≡ map content two
 
 -- A text is refused for one line alone.
 abbrev pub HasOneFault : Type 0 → Type 0
-HasOneFault A = (text : List ℕ) (one two : ℕ) → IsRefusedLine A text one → IsRefusedLine A text two → one ≡ two
+HasOneFault A = (text : List ℕ) (one two : ℕ) → IsRefusedLine A text one → IsRefusedLine A text two
+    → one ≡ two
 
 -- A text that says steps is refused for no line.
 abbrev pub IsFaultless : Type 0 → Type 0
-IsFaultless A = (text : List ℕ) (steps : List (Step A)) (line : ℕ) → SayAll (text_lines text) steps → ¬ IsRefusedLine A text line
+IsFaultless A = (text : List ℕ) (steps : List (Step A)) (line : ℕ) → SayAll (text_lines text) steps
+    → ¬ IsRefusedLine A text line

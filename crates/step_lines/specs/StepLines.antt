@@ -57,15 +57,18 @@ IsOneChunk name words chunk = (word : List ℕ) × (words ≡ name ∷ word ∷ 
 -- The fields are this word, one that names a chunk, and one that is a number.
 abbrev pub IsChunkAndNumber : List ℕ → List (List ℕ) → ChunkName → ℕ → Type 0
 IsChunkAndNumber name words chunk n =
-    (word : List ℕ) × (number : List ℕ) × (words ≡ name ∷ word ∷ number ∷ []) × IsChunkName word chunk × IsNumber number n
+    (word : List ℕ) × (number : List ℕ) × (words ≡ name ∷ word ∷ number ∷ [])
+    × IsChunkName word chunk × IsNumber number n
 
 -- The fields are those of the step.
 abbrev pub IsStepOf : {A : Type 0} → List (List ℕ) → Step A → Type 0
 IsStepOf words (step.Send client tag entries) = (number : List ℕ) × (texts : List (List ℕ))
-    × (words ≡ codes "send" ∷ number ∷ tag ∷ texts) × IsNumber number client × (length tag ≤ most_tag_bytes) × AllZip IsHexOf texts (texts_of entries.items)
+    × (words ≡ codes "send" ∷ number ∷ tag ∷ texts) × IsNumber number client
+    × (length tag ≤ most_tag_bytes) × AllZip IsHexOf texts (texts_of entries.items)
 IsStepOf words (step.Begin message) = IsOneNumber (codes "begin") words message
 IsStepOf words (step.Append delivery buffer serial) = (d : List ℕ) × (b : List ℕ) × (s : List ℕ)
-    × (words ≡ codes "append" ∷ d ∷ b ∷ s ∷ []) × IsNumber d delivery × IsNumber b buffer × IsNumber s serial
+    × (words ≡ codes "append" ∷ d ∷ b ∷ s ∷ []) × IsNumber d delivery × IsNumber b buffer
+    × IsNumber s serial
 IsStepOf words (step.Ack delivery) = IsOneNumber (codes "ack") words delivery
 IsStepOf words (step.Abandon delivery) = IsOneNumber (codes "abandon") words delivery
 IsStepOf words (step.Foreign message) = IsOneNumber (codes "foreign") words message
@@ -79,7 +82,8 @@ IsStepOf words (step.Part chunk count) = IsChunkAndNumber (codes "part") words c
 IsStepOf words (step.Purge chunk) = IsOneChunk (codes "purge") words chunk
 IsStepOf words (step.Done chunk) = IsOneChunk (codes "done") words chunk
 IsStepOf words (step.Discard chunk) = IsOneChunk (codes "discard") words chunk
-IsStepOf words (step.Oldest relay buffer) = (r : List ℕ) × (b : List ℕ) × (words ≡ codes "oldest" ∷ r ∷ b ∷ []) × IsNumber r relay × IsNumber b buffer
+IsStepOf words (step.Oldest relay buffer) = (r : List ℕ) × (b : List ℕ)
+    × (words ≡ codes "oldest" ∷ r ∷ b ∷ []) × IsNumber r relay × IsNumber b buffer
 IsStepOf words (step.Restart relay) = IsOneNumber (codes "restart") words relay
 
 -- The fields are those of no step.
@@ -88,11 +92,13 @@ NoStep A words = (s : Step A) → ¬ (IsStepOf words s)
 
 -- the words that one number follows
 abbrev pub number_words : List (List ℕ)
-number_words = codes "begin" ∷ codes "ack" ∷ codes "abandon" ∷ codes "foreign" ∷ codes "restart" ∷ []
+number_words = codes "begin" ∷ codes "ack" ∷ codes "abandon" ∷ codes "foreign" ∷ codes "restart"
+    ∷ []
 
 -- the words that a chunk's name follows
 abbrev pub chunk_words : List (List ℕ)
-chunk_words = codes "enqueue" ∷ codes "claim" ∷ codes "back" ∷ codes "seen" ∷ codes "write" ∷ codes "purge" ∷ codes "done" ∷ codes "discard" ∷ []
+chunk_words = codes "enqueue" ∷ codes "claim" ∷ codes "back" ∷ codes "seen" ∷ codes "write"
+    ∷ codes "purge" ∷ codes "done" ∷ codes "discard" ∷ []
 
 -- the words that a chunk's name and a number follow
 abbrev pub counted_words : List (List ℕ)

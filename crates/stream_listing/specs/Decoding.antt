@@ -27,7 +27,8 @@ StopsAt Memory left held = Unit {0}
 StopsAt Read left held = Unit {0}
 
 -- a piece of the text made these lines
-pub record Lists (hex : List ℕ) (feed : Feeding) (piece lines : List ℕ) (result : Result (Unit {0}) Stop) (hex' : List ℕ) (feed' : Feeding) : Type 0 where
+pub record Lists (hex : List ℕ) (feed : Feeding) (piece lines : List ℕ)
+    (result : Result (Unit {0}) Stop) (hex' : List ℕ) (feed' : Feeding) : Type 0 where
   pub arrivals : List Arrival
   pub left : List ℕ
   pub held : List ℕ
@@ -39,17 +40,21 @@ pub record Lists (hex : List ℕ) (feed : Feeding) (piece lines : List ℕ) (res
 -- line, that is said
 abbrev pub IsLast : Stop → List ℕ → Status → Type 0
 IsLast Hex last meant = (last ≡ ending_lines BadHex) × (meant ≡ Usage)
-IsLast (Stream fault) last meant = ((last ≡ ending_lines (Fault fault)) × (meant ≡ No)) ⊎ ((last ≡ memory_line) × (meant ≡ Usage))
+IsLast (Stream fault) last meant = ((last ≡ ending_lines (Fault fault)) × (meant ≡ No))
+    ⊎ ((last ≡ memory_line) × (meant ≡ Usage))
 IsLast Memory last meant = (last ≡ memory_line) × (meant ≡ Usage)
 IsLast Read last meant = (last ≡ read_line) × (meant ≡ Usage)
 
 -- the last line at the end of the text, and the status that it means
 abbrev pub IsLastAtEnd : List ℕ → List ℕ → List ℕ → Status → Type 0
-IsLastAtEnd hex held last meant = ((hex ≡ []) × (last ≡ ending_lines (Rest (length held))) × (meant ≡ Done))
-    ⊎ ((IsBroken hex × (last ≡ ending_lines BadHex) × (meant ≡ Usage)) ⊎ ((last ≡ memory_line) × (meant ≡ Usage)))
+IsLastAtEnd hex held last meant =
+    ((hex ≡ []) × (last ≡ ending_lines (Rest (length held))) × (meant ≡ Done))
+    ⊎ ((IsBroken hex × (last ≡ ending_lines BadHex) × (meant ≡ Usage))
+    ⊎ ((last ≡ memory_line) × (meant ≡ Usage)))
 
 -- a last line of this kind is printed
-pub record PrintsLast (Says : List ℕ → Status → Type 0) (old new : Option (List ℕ)) (status : Status) : Type 0 where
+pub record PrintsLast (Says : List ℕ → Status → Type 0) (old new : Option (List ℕ))
+    (status : Status) : Type 0 where
   pub last : List ℕ
   pub meant : Status
   pub is_last : Says last meant

@@ -13,7 +13,8 @@ AreDigitsOf [] [] = Unit {0}
 AreDigitsOf [] (byte ∷ bytes) = ⊥
 AreDigitsOf (digit ∷ []) bytes = ⊥
 AreDigitsOf (high ∷ low ∷ digits) [] = ⊥
-AreDigitsOf (high ∷ low ∷ digits) (byte ∷ bytes) = (decode_of (high ∷ low ∷ []) ≡ Ok (byte ∷ [])) × AreDigitsOf digits bytes
+AreDigitsOf (high ∷ low ∷ digits) (byte ∷ bytes) = (decode_of (high ∷ low ∷ []) ≡ Ok (byte ∷ []))
+    × AreDigitsOf digits bytes
 
 -- the digits spell the bytes, as far as what is left over
 pub record AreDigitsUpTo (digits bytes left : List ℕ) : Type 0 where

@@ -9,7 +9,8 @@ use Rattle.stream_listing.specs.Listing.{IsListing, IsPending}
 -- a hex text has one listing, and one status
 abbrev pub HasOneListing : Type 0
 HasOneListing = (text : List ℕ) (status other : Status) (written lines : List ℕ)
-    → IsListing text status written → IsListing text other lines → (status ≡ other) × (written ≡ lines)
+    → IsListing text status written → IsListing text other lines → (status ≡ other)
+    × (written ≡ lines)
 
 -- Bytes with this fault are where the messages end, and are neither none nor the beginning of an
 -- item; they have no other fault, and the same one whatever follows.
@@ -21,9 +22,11 @@ pub record IsFaultForGood (bytes : List ℕ) (fault : ModeFault) : Type 0 where
 
 -- so it is with each fault of a stream
 abbrev pub StandsForGood : Type 0
-StandsForGood = (bytes : List ℕ) (fault : ModeFault) → StreamFault bytes fault → IsFaultForGood bytes fault
+StandsForGood = (bytes : List ℕ) (fault : ModeFault) → StreamFault bytes fault
+    → IsFaultForGood bytes fault
 
 -- Bytes where the messages of a stream end, which are neither none nor the beginning of an item,
 -- have a fault: it can't be that they have none.
 abbrev pub EndsWithFault : Type 0
-EndsWithFault = (bytes : List ℕ) → IsRest bytes → ¬ (IsPending bytes) → ¬ ((fault : ModeFault) → ¬ (StreamFault bytes fault))
+EndsWithFault = (bytes : List ℕ) → IsRest bytes → ¬ (IsPending bytes)
+    → ¬ ((fault : ModeFault) → ¬ (StreamFault bytes fault))

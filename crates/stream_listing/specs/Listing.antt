@@ -36,7 +36,8 @@ answer_lines (Some item) = line (codes "answer " ++ encode_lower (acknowledgemen
 -- the lines of what came
 abbrev pub arrival_lines : Arrival → List ℕ
 arrival_lines (Sent parts) =
-    message_line parts.tag (length parts.entries) ++ flat_map entry_line parts.entries ++ answer_lines parts.ack
+    message_line parts.tag (length parts.entries) ++ flat_map entry_line parts.entries
+    ++ answer_lines parts.ack
 arrival_lines Heartbeat = line (codes "heartbeat")
 
 -- the lines of all that came, in its order
@@ -64,7 +65,8 @@ status_of BadHex = Usage
 
 -- from a digit and bytes that were held back, reading on over these digits gives these arrivals,
 -- and holds back the new ones
-pub record ReadsOn (left held digits : List ℕ) (arrivals : List Arrival) (left' held' : List ℕ) : Type 0 where
+pub record ReadsOn (left held digits : List ℕ) (arrivals : List Arrival)
+    (left' held' : List ℕ) : Type 0 where
   pub bytes : List ℕ
   pub read : AreDigitsUpTo (left ++ digits) bytes left'
   pub splits : Splits (held ++ bytes) arrivals held'

@@ -36,7 +36,8 @@ is_nil (x ∷ xs) = false
 
 -- the test of `IsPartialWildcard`
 abbrev pub is_partial : List ℕ → Bool
-is_partial part = list_any (λ b. b == star) part && (not (bytes_eq part (star ∷ [])) && not (bytes_eq part (star ∷ star ∷ [])))
+is_partial part = list_any (λ b. b == star) part
+    && (not (bytes_eq part (star ∷ [])) && not (bytes_eq part (star ∷ star ∷ [])))
 
 -- the most parts of a choice
 abbrev pub most_parts : List (List (List ℕ)) → ℕ
@@ -52,7 +53,8 @@ SpellsRest slots (Some rest) = IsPatternText slots rest
 pub record BeginsWithSlot (text body : List ℕ) (rest : Option (List ℕ)) : Type 0 where
   pub slot : Slot
   pub slot_choices : choices slot ≡ choices_in body
-  pub only : (slots : List Slot) → IsPatternText slots text → (behind : List Slot) × (slots ≡ slot ∷ behind) × SpellsRest behind rest
+  pub only : (slots : List Slot) → IsPatternText slots text → (behind : List Slot)
+      × (slots ≡ slot ∷ behind) × SpellsRest behind rest
   pub each : (behind : List Slot) → SpellsRest behind rest → IsPatternText (slot ∷ behind) text
   pub shorter : IfSome rest (λ r. length r < length text)
 
@@ -72,7 +74,8 @@ pub record IsBody (text body after : List ℕ) : Type 0 where
   pub slot_choices : choices slot ≡ choices_in body
   pub is_slot : IsSlot slot
   pub whole : text ≡ slot_text slot ++ after
-  pub only : (other : Slot) (rest : List ℕ) → HasSlotFirst text other rest → (other ≡ slot) × (rest ≡ after)
+  pub only : (other : Slot) (rest : List ℕ) → HasSlotFirst text other rest → (other ≡ slot)
+      × (rest ≡ after)
 
 -- What stands behind an opening brace: alternatives that aren't empty, without braces, a closing
 -- brace, and the rest.

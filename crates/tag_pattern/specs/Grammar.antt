@@ -27,7 +27,8 @@ close_brace = 125
 
 -- a part's text has no dot, comma or brace
 abbrev pub IsPartText : List ℕ → Type 0
-IsPartText part = AllByRecursion (λ b. (b ≢ dot) × (b ≢ comma) × (b ≢ open_brace) × (b ≢ close_brace)) part
+IsPartText part = AllByRecursion (λ b. (b ≢ dot) × (b ≢ comma) × (b ≢ open_brace)
+    × (b ≢ close_brace)) part
 
 -- What stands between the dots of a pattern: a part, or a group of alternatives, each of one or
 -- more parts.
@@ -48,13 +49,15 @@ IsSlot (Group alternatives) = (alternatives ≢ []) × AllByRecursion IsAlternat
 -- round them
 abbrev pub slot_text : Slot → List ℕ
 slot_text (Part text) = text
-slot_text (Group alternatives) = open_brace ∷ join_with_byte comma (map (join_with_byte dot) alternatives) ++ close_brace ∷ []
+slot_text (Group alternatives) =
+    open_brace ∷ join_with_byte comma (map (join_with_byte dot) alternatives) ++ close_brace ∷ []
 
 -- A pattern's text is that of a slot, or of a slot, a dot and the text of the slots behind it.
 abbrev pub IsPatternText : List Slot → List ℕ → Type 0
 IsPatternText [] text = ⊥
 IsPatternText (slot ∷ []) text = IsSlot slot × (text ≡ slot_text slot)
-IsPatternText (slot ∷ next ∷ slots) text = IsSlot slot × ((rest : List ℕ) × (text ≡ slot_text slot ++ dot ∷ rest) × IsPatternText (next ∷ slots) rest)
+IsPatternText (slot ∷ next ∷ slots) text = IsSlot slot
+    × ((rest : List ℕ) × (text ≡ slot_text slot ++ dot ∷ rest) × IsPatternText (next ∷ slots) rest)
 
 -- what may stand in a slot's place: a list of parts
 abbrev pub choices : Slot → List (List (List ℕ))
@@ -65,11 +68,13 @@ choices (Group alternatives) = alternatives
 -- list for the slots behind it, in order. So the leftmost group varies slowest.
 abbrev pub expansions : List Slot → List (List (List ℕ))
 expansions [] = [] ∷ []
-expansions (slot ∷ slots) = flat_map (λ front. map (λ back. front ++ back) (expansions slots)) (choices slot)
+expansions (slot ∷ slots) = flat_map (λ front. map (λ back. front ++ back) (expansions slots))
+    (choices slot)
 
 -- the item that a part's text spells
 abbrev pub part_item : List ℕ → Item
-part_item text = if bytes_eq text (star ∷ []) then AnyPart else (if bytes_eq text (star ∷ star ∷ []) then AnyParts else Literal text)
+part_item text = if bytes_eq text (star ∷ []) then AnyPart
+    else (if bytes_eq text (star ∷ star ∷ []) then AnyParts else Literal text)
 
 -- the plain patterns for which the slots stand
 abbrev pub plain_patterns : List Slot → List (List Item)
@@ -82,15 +87,18 @@ AnyByRecursion P (x ∷ xs) = P x ⊎ AnyByRecursion P xs
 
 -- a part with a `*` in it that is neither `*` nor `**`
 abbrev pub IsPartialWildcard : List ℕ → Type 0
-IsPartialWildcard part = AnyByRecursion (λ b. b ≡ star) part × (part ≢ star ∷ []) × (part ≢ star ∷ star ∷ [])
+IsPartialWildcard part = AnyByRecursion (λ b. b ≡ star) part × (part ≢ star ∷ [])
+    × (part ≢ star ∷ star ∷ [])
 
 -- such a part stands in some choice of some slot
 abbrev pub HasPartialWildcard : List Slot → Type 0
-HasPartialWildcard slots = AnyByRecursion (λ slot. AnyByRecursion (AnyByRecursion IsPartialWildcard) (choices slot)) slots
+HasPartialWildcard slots =
+    AnyByRecursion (λ slot. AnyByRecursion (AnyByRecursion IsPartialWildcard) (choices slot)) slots
 
 -- more than 64 plain patterns, or one of more than 32 items
 abbrev pub AreTooMany : List Slot → Type 0
-AreTooMany slots = (64 < length (expansions slots)) ⊎ AnyByRecursion (λ parts. 32 < length parts) (expansions slots)
+AreTooMany slots = (64 < length (expansions slots)) ⊎ AnyByRecursion (λ parts. 32 < length parts)
+    (expansions slots)
 
 -- The slots spell the text, no part of them has a partial wildcard, and they are not too many.
 pub record IsPattern (slots : List Slot) (text : List ℕ) : Type 0 where
@@ -100,4 +108,5 @@ pub record IsPattern (slots : List Slot) (text : List ℕ) : Type 0 where
 
 -- A text is spelled by one list of slots at most.
 abbrev pub SlotsAreUnique : Type 0
-SlotsAreUnique = (slots others : List Slot) (text : List ℕ) → IsPatternText slots text → IsPatternText others text → slots ≡ others
+SlotsAreUnique = (slots others : List Slot) (text : List ℕ) → IsPatternText slots text
+    → IsPatternText others text → slots ≡ others

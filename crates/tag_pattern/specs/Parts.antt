@@ -28,4 +28,5 @@ pub record ArePartsOf (tag : List ℕ) (parts : List (List ℕ)) : Type 0 where
 -- Each tag has these parts and no others. So tags and non-empty lists of texts without dots are one
 -- to one: each such list is the parts of the tag to which dots join it.
 abbrev pub PartsAreUnique : Type 0
-PartsAreUnique = (tag : List ℕ) → ArePartsOf tag (parts_of tag) × ((parts : List (List ℕ)) → ArePartsOf tag parts → parts ≡ parts_of tag)
+PartsAreUnique = (tag : List ℕ) → ArePartsOf tag (parts_of tag)
+    × ((parts : List (List ℕ)) → ArePartsOf tag parts → parts ≡ parts_of tag)

@@ -37,8 +37,10 @@ entered_items (Some prefix) pattern = prefixed_items prefix pattern
 
 -- A tag is one of the pattern's exactly where the prefixed tag is one of the prefixed pattern's.
 abbrev pub IsSameBehind : List ℕ → List Item → List Item → Type 0
-IsSameBehind prefix pattern prefixed = (tag : List ℕ) → IsTagOf pattern tag ↔ IsTagOf prefixed (prefixed_tag prefix tag)
+IsSameBehind prefix pattern prefixed = (tag : List ℕ) → IsTagOf pattern tag
+    ↔ IsTagOf prefixed (prefixed_tag prefix tag)
 
 -- This is so of every prefix and every pattern.
 abbrev pub PrefixedTagsAreOfPrefixed : Type 0
-PrefixedTagsAreOfPrefixed = (prefix : List ℕ) (pattern : List Item) → IsSameBehind prefix pattern (prefixed_items prefix pattern)
+PrefixedTagsAreOfPrefixed = (prefix : List ℕ) (pattern : List Item)
+    → IsSameBehind prefix pattern (prefixed_items prefix pattern)

@@ -27,17 +27,20 @@ Answers r p q answer = IsTrue answer ↔ Holds r p q
 -- where below answers for p and other ∷ q, right for item ∷ p and q, and diagonal for p and q.
 abbrev pub IsCell : Relation → Item → Item → Bool → Bool → Bool → Bool → Type 0
 IsCell r item other below right diagonal result =
-    (p q : List Item) → Answers r p (other ∷ q) below → Answers r (item ∷ p) q right → Answers r p q diagonal
+    (p q : List Item) → Answers r p (other ∷ q) below → Answers r (item ∷ p) q right
+    → Answers r p q diagonal
     → Answers r (item ∷ p) (other ∷ q) result
 
 -- Whatever stands behind the item, the result is right for the empty pattern where below is.
 abbrev pub IsEndOfRow : Relation → Item → Bool → Bool → Type 0
-IsEndOfRow r item below result = (p : List Item) → Answers r p [] below → Answers r (item ∷ p) [] result
+IsEndOfRow r item below result = (p : List Item) → Answers r p [] below
+    → Answers r (item ∷ p) [] result
 
 -- Whatever stands behind the item, the result is right for the empty pattern before it where right
 -- is.
 abbrev pub IsEndOfColumn : Relation → Item → Bool → Bool → Type 0
-IsEndOfColumn r other right result = (q : List Item) → Answers r [] q right → Answers r [] (other ∷ q) result
+IsEndOfColumn r other right result = (q : List Item) → Answers r [] q right
+    → Answers r [] (other ∷ q) result
 
 -- Place k of the row answers for p and what stands in q from place k on.
 abbrev pub IsRow : Relation → List Item → List Item → List Bool → Type 0
@@ -51,4 +54,5 @@ IsNextRow r item q below result = (p : List Item) → IsRow r p q below → IsRo
 -- Whatever stands behind these parts, the result is the row of the parts, as literals, and of it,
 -- where below is its row.
 abbrev pub IsRowOfParts : List (List ℕ) → List Item → List Bool → List Bool → Type 0
-IsRowOfParts parts q below result = (p : List Item) → IsRow relation.Fits p q below → IsRow relation.Fits (map Literal parts ++ p) q result
+IsRowOfParts parts q below result = (p : List Item) → IsRow relation.Fits p q below
+    → IsRow relation.Fits (map Literal parts ++ p) q result

@@ -26,10 +26,12 @@ Grows size body grown =
 abbrev pub IsSizeBefore : List Slot → List Slot → Option Size → Type 0
 IsSizeBefore slots behind size =
     MatchOption size (AreTooMany slots)
-    (λ s. (length (expansions slots) ≡ s.plains * length (expansions behind)) × (longest slots ≡ s.items + longest behind))
+    (λ s. (length (expansions slots) ≡ s.plains * length (expansions behind))
+    × (longest slots ≡ s.items + longest behind))
 
 -- what is known of the slots, where those behind are still to be looked at
-pub record IsSurveyed (slots behind : List Slot) (has_partial : Bool) (size : Option Size) : Type 0 where
+pub record IsSurveyed (slots behind : List Slot) (has_partial : Bool)
+    (size : Option Size) : Type 0 where
   pub partial : HasPartialWildcard slots ↔ (IsTrue has_partial ⊎ HasPartialWildcard behind)
   pub sized : IsSizeBefore slots behind size
 
@@ -38,4 +40,5 @@ pub record Surveys (text : List ℕ) (survey : Survey) : Type 0 where
   pub slots : List Slot
   pub spelled : IsPatternText slots text
   pub partial : IsTrue survey.has_partial ↔ HasPartialWildcard slots
-  pub plains : MatchOption survey.plains (AreTooMany slots) (λ n. (n ≡ length (expansions slots)) × (AreTooMany slots → ⊥))
+  pub plains : MatchOption survey.plains (AreTooMany slots)
+      (λ n. (n ≡ length (expansions slots)) × (AreTooMany slots → ⊥))

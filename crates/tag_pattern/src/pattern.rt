@@ -71,7 +71,8 @@ impl Pattern {
         ensures partial_wildcard { (result ≡ Err PatternError.PartialWildcard)
             ↔ ((slots : List Slot) × IsPatternText slots text.now × HasPartialWildcard slots) }
         ensures too_many { (result ≡ Err PatternError.TooMany)
-            ↔ ((slots : List Slot) × IsPatternText slots text.now × (¬ HasPartialWildcard slots) × AreTooMany slots) }
+            ↔ ((slots : List Slot) × IsPatternText slots text.now × (¬ HasPartialWildcard slots)
+            × AreTooMany slots) }
     {
         let bytes = text.as_bytes();
         let survey = match take_survey(bytes) {

@@ -55,7 +55,8 @@ NamesChunk false claim shown = shown ≡ Written (id_of claim)
 -- A connection that was new conveyed a chunk, and nothing else: by a session with the courier's own
 -- credentials, under a salt that was drawn, with the courier's own wish for an acknowledgement, and
 -- as many entries as the chunk has.
-pub record Delivers {N : Type 0} (sender : Sender N) (chunk : Claimed) (traffic : Traffic) : Type 0 where
+pub record Delivers {N : Type 0} (sender : Sender N) (chunk : Claimed)
+    (traffic : Traffic) : Type 0 where
   pub new : Traffic
   pub fresh : IsFresh new
   pub salt : List ℕ

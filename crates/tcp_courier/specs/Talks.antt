@@ -43,16 +43,20 @@ AreItems items = AllByRecursion IsItemWithin items
 -- to come first, its PING to the nonce of that, and then a PONG that lets it in and shows the key;
 -- where a PONG has to come, nothing more; and else nothing, whatever comes.
 abbrev pub IsGreeting : ClientPhase → (said : List ℕ) → (items : List (List ℕ)) → Type 0
-IsGreeting (AwaitsHelo client) said items = (nonce : List ℕ) × (helo : List ℕ) × (pong : List ℕ) × (more : List (List ℕ))
+IsGreeting (AwaitsHelo client) said items = (nonce : List ℕ) × (helo : List ℕ) × (pong : List ℕ)
+    × (more : List (List ℕ))
     × IsHelo helo nonce × IsJudged (record client { nonce = Some nonce }) pong (Ok tt)
-    × (said ≡ ping_bytes client.host client.salt (client_digest client nonce)) × (items ≡ helo ∷ pong ∷ more)
-IsGreeting (AwaitsPong client) said items = (pong : List ℕ) × (more : List (List ℕ)) × IsJudged client pong (Ok tt) × (said ≡ []) × (items ≡ pong ∷ more)
+    × (said ≡ ping_bytes client.host client.salt (client_digest client nonce))
+    × (items ≡ helo ∷ pong ∷ more)
+IsGreeting (AwaitsPong client) said items = (pong : List ℕ) × (more : List (List ℕ))
+    × IsJudged client pong (Ok tt) × (said ≡ []) × (items ≡ pong ∷ more)
 IsGreeting _ said items = said ≡ []
 
 -- A session and its connection go on. What was outgoing and what is added to it was sent, but for
 -- what is outgoing now; and these items were read off what was held and what came, but for what is
 -- held now.
-pub record TalksOn (old new : Traffic) (was is : ClientState) (added : List ℕ) (items : List (List ℕ)) : Type 0 where
+pub record TalksOn (old new : Traffic) (was is : ClientState) (added : List ℕ)
+    (items : List (List ℕ)) : Type 0 where
   pub sent : List ℕ
   pub came : List ℕ
   pub conveys : Conveys old new sent came
@@ -73,7 +77,8 @@ pub record Acknowledges (id : ChunkId) (bytes : List ℕ) : Type 0 where
 -- chunk's tag, and nothing else. What it gave begins with the items by which the greeting is
 -- answered; where an acknowledgement is asked for, the message has the chunk's name, and one of the
 -- chunk is an item of what came.
-pub record ConveysChunk (old new : Traffic) (begins : ClientPhase) (chunk : Claimed) (entries : List (List ℕ)) (asks : Bool) : Type 0 where
+pub record ConveysChunk (old new : Traffic) (begins : ClientPhase) (chunk : Claimed)
+    (entries : List (List ℕ)) (asks : Bool) : Type 0 where
   pub greeting : List ℕ
   pub items : List (List ℕ)
   pub came : List ℕ
@@ -81,5 +86,6 @@ pub record ConveysChunk (old new : Traffic) (begins : ClientPhase) (chunk : Clai
   pub greets : IsGreeting begins greeting items
   pub framed : AreItems items
   pub whole : came ≡ concat items ++ rest
-  pub conveys : Conveys old new (greeting ++ packed_message chunk.tag entries (option_map chunk_text (named asks (id_of chunk)))) came
+  pub conveys : Conveys old new (greeting
+      ++ packed_message chunk.tag entries (option_map chunk_text (named asks (id_of chunk)))) came
   pub answered : asks ≡ true → Acknowledges (id_of chunk) came

@@ -12,7 +12,8 @@ in_turn turn servers = drop turn servers ++ take turn servers
 
 -- the place in the list of the first of them that takes a connection
 abbrev pub place_in_turn : (takes : Endpoint → Bool) → List Endpoint → (turn : ℕ) → Option ℕ
-place_in_turn takes servers turn = option_or (position_from takes turn (drop turn servers)) (position_from takes 0 (take turn servers))
+place_in_turn takes servers turn = option_or (position_from takes turn (drop turn servers))
+    (position_from takes 0 (take turn servers))
 
 -- a carry that fails so behind the connecting fails by its server: the connection was lost, no
 -- answer came, or another one than it should be

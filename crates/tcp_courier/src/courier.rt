@@ -153,7 +153,8 @@ impl<N: Dialer + Drop, A: Allocator + Copy> TcpCourier<N, A> {
             (in_turn turn.place self.now.servers)
             (option_map (λ r. N.Stream.origin r.stream) found)) }
         ensures place { N.is_known self.now.dialer → IfOk result (λ found.
-            option_map (λ r. r.place) found ≡ place_in_turn (N.takes self.now.dialer) self.now.servers turn.place) }
+            option_map (λ r. r.place) found
+            ≡ place_in_turn (N.takes self.now.dialer) self.now.servers turn.place) }
     {
         let at = turn.place.min(self.servers.len());
         let (before, behind) = self.servers.split_at(at);

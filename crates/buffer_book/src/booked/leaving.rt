@@ -75,7 +75,9 @@ impl<D: Dir, A: Allocator + Copy> Booked<D, A> {
         ensures failed { (result ≡ Err BufferFault.Failed)
             ↔ ((claim.now.leaf ≡ leaf) × (self.old.buffer.failed ≡ true)) }
         ensures gone { (result ≡ Err BufferFault.Gone)
-            ↔ ((claim.now.leaf ≢ leaf) ⊎ ((self.old.buffer.failed ≡ false) × (IsCopied claim.now self.old.buffer.chunks → ⊥))) }
+            ↔ ((claim.now.leaf ≢ leaf)
+            ⊎ ((self.old.buffer.failed ≡ false)
+            × (IsCopied claim.now self.old.buffer.chunks → ⊥))) }
         ensures undamaged { BeganWell D.is_honest D.history self.old.buffer
             → result ≢ Err BufferFault.Damaged }
         ensures only { OnErr result
