@@ -1,11 +1,14 @@
 //! The bytes of a message reach a relay piece by piece, and what the relay makes of it is told.
 
+use crate::chunks::{Appended, Stage};
+use crate::disk::Disk;
 use crate::judge::Judge;
+use crate::link::Link;
 use crate::run::Run;
+use crate::site::{OpenSite, Site};
 use event_modes::{Message, Read, read};
 use loop_core::Peer;
 use relay_ports::Branches;
-use simulated_relays::{Appended, Disk, Link, OpenSite, Site, Stage};
 use std::alloc::{AllocError, Global};
 use std::sync::Wait;
 

@@ -2,10 +2,10 @@
 
 ghost use Rattle.std.specs.Prelude.{◌≤◌};
 
+use crate::disk::{Device, Devices, Stop};
 use disk_files::Keep;
 use rand_chacha::ChaCha20Rng;
 use rand_core::{Rng, SeedableRng};
-use simulated_relays::{Device, Devices, Stop};
 
 // An odd number, so that no two seeds have the same acts.
 const ACT_STRIDE: u64 = 0x9e37_79b9_7f4a_7c15;

@@ -1,9 +1,11 @@
 //! Answers come back to who sent a message, and some to who didn't.
 
+use crate::disk::Disk;
+use crate::held::Name;
+use crate::link::Link;
 use crate::run::Run;
 use ack_receipt::Evidence;
 use forward_core::Heard;
-use simulated_relays::{Disk, Link, Name};
 use std::alloc::{AllocError, Global};
 use std::sync::Wait;
 

@@ -1,13 +1,16 @@
 //! A run of a network: what happens is drawn, and at the end each relay is stopped and looked at.
 
 use crate::dice::Dice;
+use crate::disk::{Devices, Disk};
 use crate::judge::Judge;
+use crate::lent::Lent;
+use crate::link::Link;
 use crate::run::{Run, name_at};
+use crate::site::Site;
 use crate::stock::give_all_back;
 use buffer_lanes::Lanes;
 use custody_core::is_kept_as;
 use loss_checker::{Answer, Plan};
-use simulated_relays::{Devices, Disk, Lent, Link, Site};
 use std::alloc::{AllocError, Global};
 use std::sync::Wait;
 use std::time::Clock;

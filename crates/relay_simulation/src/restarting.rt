@@ -1,14 +1,19 @@
 //! A relay stops and opens again, and what is there then is held against what was told.
 
+use crate::chunks::{Chunk, Stage};
+use crate::closing::SinkContent;
 use crate::dice::Dice;
+use crate::disk::{Devices, Disk, Stop};
+use crate::held::{Held, Name};
 use crate::judge::Judge;
+use crate::link::Link;
 use crate::run::{Run, give_back};
 use crate::sending::ENTRY_LEN;
+use crate::site::Site;
 use crate::stock::take_stock;
 use crate::storing::tell_queued;
 use buffer_lanes::Lanes;
 use disk_files::Dir;
-use simulated_relays::{Chunk, Devices, Disk, Held, Link, Name, SinkContent, Site, Stage, Stop};
 use std::alloc::{AllocError, Global};
 use std::sync::Wait;
 

@@ -4,11 +4,16 @@
 //! What needs a part of it alone is a function of that part, which takes less to prove than one of
 //! all that runs.
 
+use crate::chunks::Stage;
 use crate::dice::Dice;
+use crate::disk::Disk;
+use crate::held::{Held, Name};
 use crate::judge::Judge;
+use crate::lent::Lent;
+use crate::link::Link;
+use crate::site::Site;
 use ack_receipt::{Evidence, SharedBuffer};
 use buffer_lanes::Lanes;
-use simulated_relays::{Disk, Held, Lent, Link, Name, Site, Stage};
 use std::alloc::{AllocError, Global};
 use std::sync::{Arc, Wait};
 

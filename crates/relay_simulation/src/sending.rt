@@ -1,9 +1,10 @@
 //! Messages: a client sends one, and a connection opens on which one is sent.
 
+use crate::disk::Disk;
+use crate::link::{Link, Sender};
 use crate::run::Run;
 use event_modes::{ChunkId, Entries, LONGEST_TAG};
 use forward_core::ClientSession;
-use simulated_relays::{Disk, Link, Sender};
 use std::alloc::{AllocError, Global};
 
 /// How many bytes an entry of the run has.

@@ -1,8 +1,12 @@
 //! The chunks of a relay that was opened again are held against what was told.
 
+use crate::chunks::{Chunk, Found, Stage};
+use crate::disk::Disk;
+use crate::held::Held;
 use crate::judge::Judge;
+use crate::lent::Lent;
+use crate::site::Site;
 use ack_receipt::SharedBuffer;
-use simulated_relays::{Chunk, Disk, Found, Held, Lent, Site, Stage};
 use std::alloc::{AllocError, Global};
 use std::mem;
 use std::sync::{Arc, Wait};

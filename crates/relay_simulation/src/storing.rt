@@ -1,10 +1,13 @@
 //! A relay queues what is staged, makes receipts, and answers.
 
+use crate::chunks::{Chunks, Stage};
+use crate::disk::{Devices, Disk};
 use crate::judge::Judge;
+use crate::link::Link;
 use crate::run::Run;
+use crate::site::Site;
 use buffer_lanes::Lanes;
 use disk_files::Dir;
-use simulated_relays::{Chunks, Devices, Disk, Link, Site, Stage};
 use std::alloc::{AllocError, Global};
 use std::sync::Wait;
 

@@ -1,15 +1,19 @@
 //! The workers of a relay deliver chunks.
 
+use crate::chunks::Stage;
+use crate::disk::Disk;
+use crate::held::{Held, Name};
 use crate::judge::Judge;
+use crate::link::Sender;
 use crate::playing::FIRST_PORT;
 use crate::run::{
     Run, buffer_of, give_back, held_of, hold, misuse, number_of, refuse, tell_gone, tell_of,
 };
 use crate::sending::{Letter, put_link};
+use crate::site::Site;
 use ack_receipt::Evidence;
 use event_modes::{ChunkId, Entries};
 use relay_ports::BufferedOutput;
-use simulated_relays::{Disk, Held, Name, Sender, Site, Stage};
 use std::alloc::{AllocError, Global};
 use std::sync::Wait;
 use std::time::Clock;
