@@ -7,6 +7,7 @@ ghost use Rattle.mio_relay.specs.Connections.{IsServed};
 ghost use Rattle.mio_relay.specs.Loops.{Stays, TakesIn};
 
 use crate::connection::{Connection, ConnectionParts};
+use crate::connections::VacantKey;
 use crate::in_loop::InLoop;
 use crate::listener::{Listener, peer_at};
 use disk_files::Dir;
@@ -78,7 +79,7 @@ impl<N: Network + Drop, D: Dir + Drop, A: Allocator + Copy> InLoop<N, D, A> {
             return Ok(());
         };
         let mut stream = stream;
-        if self.network.watch(&mut stream, key).is_err() {
+        if key.watch(&mut self.network, &mut stream).is_err() {
             return Ok(());
         }
         self.begin(rt, key, place, stream)
@@ -88,7 +89,7 @@ impl<N: Network + Drop, D: Dir + Drop, A: Allocator + Copy> InLoop<N, D, A> {
     fn begin<R: Wait>(
         &mut self,
         rt: &R,
-        key: usize,
+        key: VacantKey,
         place: usize,
         stream: N::Stream,
     ) -> Result<(), AllocError>
@@ -106,7 +107,7 @@ impl<N: Network + Drop, D: Dir + Drop, A: Allocator + Copy> InLoop<N, D, A> {
     }
 
     // Puts a connection that comes at this time at its key, where none is.
-    fn put<R: Wait>(&mut self, rt: &R, key: usize, connection: Connection<N::Stream, A>)
+    fn put<R: Wait>(&mut self, rt: &R, key: VacantKey, connection: Connection<N::Stream, A>)
         requires served { IsServed self.old.sources connection }
         requires now { connection.came ≡ self.old.time }
         ensures stays { Stays self.old self.new }

@@ -11,7 +11,7 @@ use crate::holding::{heaviest_of, held_in};
 use ack_receipt::Numbers;
 use buffer_lanes::Lanes;
 use disk_files::Dir;
-use relay_sockets::Wire;
+use relay_sockets::{NetFault, Network, Wire};
 use slab::Slab;
 use std::alloc::{AllocError, Allocator};
 use std::marker::Model;
@@ -31,6 +31,23 @@ impl<S: Wire, A: Allocator> Model for Connections<S, A> {
     ghost Value = { List (Option ConnectionState) };
 
     ghost view = { λ c. c.slots.items };
+}
+
+/// A key that no connection has: `make_room` finds it, and nobody else makes one. So a connection
+/// is put at the key under which it is watched.
+#[derive(Drop)]
+pub struct VacantKey(usize);
+
+impl VacantKey {
+    /// Has a connection noted under this key from now on. See `Network::watch`.
+    pub fn watch<N: Network>(&self, network: &mut N, stream: &mut N::Stream) -> Result<(), NetFault>
+        ensures bound { N.bound network.new ≡ N.bound network.old }
+        ensures time { N.time network.new ≡ N.time network.old }
+        ensures origin { N.Stream.origin stream.new ≡ N.Stream.origin stream.old }
+        ensures bytes { N.Stream.traffic stream.new ≡ N.Stream.traffic stream.old }
+    {
+        network.watch(stream, self.0)
+    }
 }
 
 impl<S: Wire + Drop, A: Allocator + Copy> Connections<S, A> {
@@ -58,7 +75,7 @@ impl<S: Wire + Drop, A: Allocator + Copy> Connections<S, A> {
 
     /// Makes room for one more, and gives the key that it is to have; `None` where there is none.
     /// The error is want of memory.
-    pub fn make_room(&mut self) -> Result<Option<usize>, AllocError>
+    pub fn make_room(&mut self) -> Result<Option<VacantKey>, AllocError>
         ensures goes { GoOn self.old self.new }
         ensures stands { StandOn self.old self.new }
     {
@@ -69,19 +86,20 @@ impl<S: Wire + Drop, A: Allocator + Copy> Connections<S, A> {
             self.slots.push_reserved(None);
         }
         if key < self.slots.len() {
-            Ok(Some(key))
+            Ok(Some(VacantKey(key)))
         } else {
             Ok(None)
         }
     }
 
-    /// Puts a connection at this key, which `make_room` gave, and gives it back where it can't
-    /// stay: there is no room, or one is there.
-    pub fn put(&mut self, key: usize, connection: Connection<S, A>) -> Option<Connection<S, A>>
+    /// Puts a connection at this key, and gives it back where it can't stay: there is no room, or
+    /// one is there.
+    pub fn put(&mut self, key: VacantKey, connection: Connection<S, A>) -> Option<Connection<S, A>>
         ensures served { (sources : List Served) → AreServed sources self.old
             → IsServed sources connection → AreServed sources self.new }
         ensures gets { EachKey (MayGet connection) self.old self.new }
     {
+        let VacantKey(key) = key;
         match self.keys.insert(()) {
             Ok(given) if given == key => {}
             _ => return Some(connection),

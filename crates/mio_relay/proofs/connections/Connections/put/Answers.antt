@@ -19,10 +19,10 @@ returns-in_default-get_mut-clause-gets g c = get_none c.args.connection c.self.i
 pub returns-clause-served : goal.returns-clause-served
 returns-clause-served g c =
     λ sources all one.
-    put_at c.self.inside.slots.items c.args.key c.in-Some.slot.now c.put_in.new.slot c.args.connection (omega (arith, c.in-Some.ensures.variant.0 refl, c.self.inside.slots.ok.0))
+    put_at c.self.inside.slots.items c.args.key.0 c.in-Some.slot.now c.put_in.new.slot c.args.connection (omega (arith, c.in-Some.ensures.variant.0 refl, c.self.inside.slots.ok.0))
     c.in-Some.ensures.value c.put_in.ensures sources (subst (AreServed sources) (sym c.self.view_is) all) one
 
 pub returns-clause-gets : goal.returns-clause-gets
 returns-clause-gets g c =
-    get_at c.args.connection c.self.inside.slots.items c.args.self.now c.args.key c.in-Some.slot.now c.put_in.new.slot c.self.view_is
+    get_at c.args.connection c.self.inside.slots.items c.args.self.now c.args.key.0 c.in-Some.slot.now c.put_in.new.slot c.self.view_is
     (omega (arith, c.in-Some.ensures.variant.0 refl, c.self.inside.slots.ok.0)) c.in-Some.ensures.value c.put_in.ensures
