@@ -1,11 +1,11 @@
 -- The ports of sources that are bound.
-use Rattle.std.proofs.Common.{ℕ, ◌≡◌, ◌∙◌, ◌<◌, ◌+◌, List, [], ◌∷◌, ◌++◌, length, take, get_or, map, ap, sym, add-one, subst, Option, Some}
+use Rattle.std.proofs.Common.{ℕ, ◌≡◌, ◌∙◌, ◌<◌, ◌+◌, List, [], ◌∷◌, ◌++◌, length, take, get_or, ap, sym, add-one, subst, Option, Some}
 use Rattle.std.specs.Prelude.{IfSome, option_map, slice_get}
 use Rattle.std.specs.List.{AllZip}
 use Rattle.std.proofs.Math.Seq.{take-suc}
 use Rattle.std.proofs.lemmas.Option.{slice_get_read, slice_get-map}
 use Rattle.relay_sockets.specs.Endpoints.{Endpoint, IsPortOf}
-use Rattle.mio_relay.specs.Connections.{AreListening, ArePortsOf, Hosted, Served, sources_in}
+use Rattle.mio_relay.specs.Connections.{AreListening, ArePortsOf, Hosted, sources_in}
 
 -- the port of a source that is hosted
 abbrev pub IsPortAt : Hosted → ℕ → Type 0

@@ -7,7 +7,7 @@ use Rattle.std.proofs.lemmas.List.Elements.{All-nil, All-set}
 use Rattle.std.proofs.lemmas.Option.{slice_get-map}
 use Rattle.buffer_lanes.specs.Waits.{Waits}
 use Rattle.relay_sockets.specs.Endpoints.{CameAt, Origin}
-use Rattle.mio_relay.specs.Connections.{AllBelow, AreFlushed, AreFlushedBelow, AreInTime, AreInTimeBelow, AreListening, AreServed, AreSettled, AreSettledBelow, BeginsAt, ConnectionState, HoldsFlushed, HoldsInTime, HoldsNone, GoesOn, GoOn, Hosted, IsSameConnection, IsServed, Served, sources_in}
+use Rattle.mio_relay.specs.Connections.{AllBelow, AreFlushed, AreFlushedBelow, AreInTime, AreInTimeBelow, AreListening, AreServed, AreSettled, AreSettledBelow, BeginsAt, ConnectionState, HoldsFlushed, HoldsNone, GoesOn, GoOn, Hosted, IsSameConnection, IsServed, Served, sources_in}
 use Rattle.mio_relay.specs.Turning.{MayGet}
 use Rattle.relay_sockets.specs.Endpoints.{Endpoint}
 use Rattle.relay_sockets.specs.declared.network.Accepted.{Accepted}

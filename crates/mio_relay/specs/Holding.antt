@@ -1,5 +1,5 @@
 -- How many bytes of messages that aren't whole the connections of a relay's loop hold.
-use Rattle.std.specs.Prelude.{ℕ, ◌≡◌, ◌≤◌, ◌<◌, ◌+◌, Bool, true, false, List, [], ◌∷◌, length, Option, None, Some, slice_index_or}
+use Rattle.std.specs.Prelude.{ℕ, ◌≡◌, ◌≤◌, ◌+◌, Bool, true, false, List, [], ◌∷◌, length, Option, None, Some, slice_index_or}
 use Rattle.mio_relay.specs.Connections.{AllBelow, ConnectionState}
 
 -- how many bytes they hold together at most, behind a turn

@@ -98,6 +98,8 @@ impl<S: Wire + Drop, A: Allocator + Copy> Connections<S, A> {
         ensures served { (sources : List Served) → AreServed sources self.old
             → IsServed sources connection → AreServed sources self.new }
         ensures gets { EachKey (MayGet connection) self.old self.new }
+        ensures others { (k : ℕ) (none : Option ConnectionState) → (k ≡ key.0 → ⊥)
+            → slice_index_or self.new k none ≡ slice_index_or self.old k none }
     {
         let VacantKey(key) = key;
         match self.keys.insert(()) {

@@ -1,5 +1,7 @@
-use Rattle.std.proofs.Common.{arith, refl, sym, subst}
-use Rattle.mio_relay.specs.Connections.{AreServed}
+use Rattle.std.proofs.Common.{◌∙◌, List, Option, ap, arith, refl, sym, subst}
+use Rattle.std.specs.Prelude.{slice_index_or}
+use Rattle.std.proofs.lemmas.List.{get_or-set_other}
+use Rattle.mio_relay.specs.Connections.{AreServed, ConnectionState}
 use Rattle.mio_relay.proofs.Slots.{put_at}
 use Rattle.mio_relay.proofs.Turning.{get_at, get_none}
 use Rattle.mio_relay.proofs.connections.Connections.put.Goals as goal
@@ -26,3 +28,9 @@ pub returns-clause-gets : goal.returns-clause-gets
 returns-clause-gets g c =
     get_at c.args.connection c.self.inside.slots.items c.args.self.now c.args.key.0 c.in-Some.slot.now c.put_in.new.slot c.self.view_is
     (omega (arith, c.in-Some.ensures.variant.0 refl, c.self.inside.slots.ok.0)) c.in-Some.ensures.value c.put_in.ensures
+
+pub returns-clause-others : goal.returns-clause-others
+returns-clause-others g c =
+    λ k none other.
+    get_or-set_other c.self.inside.slots.items c.args.key.0 k c.put_in.new.slot none other
+    ∙ ap (λ (l : List (Option ConnectionState)). slice_index_or l k none) c.self.view_is
