@@ -113,8 +113,8 @@ impl Model for Pool {
 }
 
 impl Pool {
-    /// Makes what carries the chunks of this output, whose buffer has this number: a courier to its
-    /// servers, or its sink, which is opened in this folder.
+    /// Makes what carries the chunks of this output: a courier to its servers, or its sink, which is
+    /// opened in this folder. What is told of them is told at the places of the buffer's own number.
     ///
     /// `Buffer`: the sink's files can't be made. `Poll`: the system gives no random bytes.
     /// `Memory`.
@@ -124,11 +124,11 @@ impl Pool {
         job: &DeliveryJob<Folder, Global>,
         stop: &Arc<AtomicBool>,
         voice: &Voice,
-        number: usize,
     ) -> Result<Pool, LoopFault>
         ensures job { IfOk result (λ pool. pool.job ≡ job.now) }
         ensures carrier { IfOk result (IsPoolOf home.entry.path.now) }
     {
+        let number = job.output().number();
         let settings = job.output().buffer();
         let buffer = Arc::try_clone(job.buffer())?;
         let theirs = Arc::try_clone(stop)?;

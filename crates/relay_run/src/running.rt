@@ -10,6 +10,7 @@ use crate::voice::Voice;
 use loop_core::LoopFault;
 use mio_relay::{BoundRelay, Ended, InLoop, OpenRelay, ReadyPorts};
 use relay_buffers::{DeliveryJob, SystemFolders};
+use relay_conf::BufferNo;
 use relay_sockets::SocketNetwork;
 use std::alloc::{AllocError, Allocator, Global};
 use std::marker::Model;
@@ -207,7 +208,7 @@ where
         }
         let mut turning = turning;
         turning.tell_by(voice.of_clients());
-        turning.tell_of_buffers(&voice.of_chunks(0));
+        turning.tell_of_buffers(&voice.of_chunks(BufferNo(0)));
         let turned = Snapshot::of(&turning);
         let left = turning.run(rt, &stop);
         stop.store(true, Ordering::SeqCst);
@@ -259,8 +260,7 @@ fn open_pools<R: AllocGlobal + RandomSource + Wait>(
     let mut pools = Vec::new(rt.alloc());
     let mut left = jobs.into_iter();
     while let Some(job) = left.next() {
-        let number = pools.len();
-        pools.push(Pool::open(rt, home, &job, stop, voice, number)?)?;
+        pools.push(Pool::open(rt, home, &job, stop, voice)?)?;
     }
     Ok(pools)
 }

@@ -3,7 +3,7 @@
 use crate::flush::{Home, copy_of};
 use crate::state::StateFile;
 use loop_core::LoopFault;
-use relay_conf::Relay;
+use relay_conf::{BufferNo, Relay};
 use relay_notices::{Due, Ending, Notice, Notices, Teller, line_of};
 use relay_places::{Places, places_of};
 use relay_sockets::now_after;
@@ -115,13 +115,13 @@ impl Voice {
     }
 
     /// Tells of the chunks of the buffer with this number.
-    pub(crate) fn of_chunks(&self, buffer: usize) -> Teller<Global> {
-        self.teller(self.places.chunks(buffer))
+    pub(crate) fn of_chunks(&self, buffer: BufferNo) -> Teller<Global> {
+        self.teller(self.places.chunks(buffer.0))
     }
 
     /// Tells of what carries the chunks of the buffer with this number: its servers, or its sink.
-    pub(crate) fn of_carrier(&self, buffer: usize) -> Teller<Global> {
-        match self.places.carriers(buffer) {
+    pub(crate) fn of_carrier(&self, buffer: BufferNo) -> Teller<Global> {
+        match self.places.carriers(buffer.0) {
             Some(places) => self.teller(places.first),
             None => Teller::silent(),
         }
