@@ -43,14 +43,60 @@ pub fn broken_rules<A: Allocator + Copy>(
     let labels = Labels::new(alloc, plan.labels())?;
     let reaches = Reaches::new(alloc, plan.reaches())?;
     let mut found = Vec::new(alloc);
-    ask_all_but_the_last(alloc, plan, &labels, &reaches, &mut found)?;
+    ask_ends(alloc, plan, &labels, &mut found)?;
+    ask_matches(alloc, plan, &reaches, &mut found)?;
+    ask_outputs(alloc, plan, &labels, &reaches, &mut found)?;
     let cycle = no_relabel_cycle(alloc, plan.net(), &reaches)?;
     note(plan, Rule::NoRelabelCycle, cycle, &mut found)?;
     Ok(found)
 }
 
-// Adds the rules before the last one that are broken.
-fn ask_all_but_the_last<'a, 'b, A: Allocator + Copy>(
+// Adds the rules of addresses, servers and clients that are broken.
+fn ask_ends<A: Allocator + Copy>(
+    alloc: A,
+    plan: &Plan<A>,
+    labels: &Labels<'_, A>,
+    found: &mut Vec<BrokenRule<A>, A>,
+) -> Result<(), AllocError>
+    requires labels { labels.now ≡ plan.now.labels }
+    requires before { AreBrokenBefore plan.now 1 found.old.items }
+    ensures { OnOk result
+        (AreBrokenBefore plan.now (rule_number Rule.LabelsAreMatched) found.new.items) }
+{
+    let net = plan.net();
+    let addresses = addresses_are_distinct(alloc, net, plan.relay_lines())?;
+    note(plan, Rule::AddressesAreDistinct, addresses, found)?;
+    let servers = servers_are_sources(alloc, net)?;
+    note(plan, Rule::ServersAreSources, servers, found)?;
+    let clients = clients_are_labelled(alloc, net, plan.client_lines(), labels)?;
+    note(plan, Rule::ClientsAreLabelled, clients, found)
+}
+
+// Adds the rules of labelled and reached matches that are broken.
+fn ask_matches<A: Allocator + Copy>(
+    alloc: A,
+    plan: &Plan<A>,
+    reaches: &Reaches<'_, A>,
+    found: &mut Vec<BrokenRule<A>, A>,
+) -> Result<(), AllocError>
+    requires reaches { reaches.now ≡ plan.now.reaches }
+    requires before { AreBrokenBefore plan.now (rule_number Rule.LabelsAreMatched)
+        found.old.items }
+    ensures { OnOk result
+        (AreBrokenBefore plan.now (rule_number Rule.RelabelsAreLabelled) found.new.items) }
+{
+    let net = plan.net();
+    let list = plan.labels();
+    let matched = labels_are_matched(alloc, net, list)?;
+    note(plan, Rule::LabelsAreMatched, matched, found)?;
+    let covered = reaches_cover(alloc, net, list, reaches)?;
+    note(plan, Rule::ReachesCover, covered, found)?;
+    let kept = reached_matches_keep(alloc, net, plan.duty(), reaches)?;
+    note(plan, Rule::ReachedMatchesKeep, kept, found)
+}
+
+// Adds the rules of outputs that are broken.
+fn ask_outputs<'a, 'b, A: Allocator + Copy>(
     alloc: A,
     plan: &'a Plan<A>,
     labels: &'a Labels<'b, A>,
@@ -59,24 +105,12 @@ fn ask_all_but_the_last<'a, 'b, A: Allocator + Copy>(
 ) -> Result<(), AllocError>
     requires labels { labels.now ≡ plan.now.labels }
     requires reaches { reaches.now ≡ plan.now.reaches }
-    requires before { AreBrokenBefore plan.now 1 found.old.items }
+    requires before { AreBrokenBefore plan.now (rule_number Rule.RelabelsAreLabelled)
+        found.old.items }
     ensures { OnOk result
         (AreBrokenBefore plan.now (rule_number Rule.NoRelabelCycle) found.new.items) }
 {
     let net = plan.net();
-    let list = plan.labels();
-    let addresses = addresses_are_distinct(alloc, net, plan.relay_lines())?;
-    note(plan, Rule::AddressesAreDistinct, addresses, found)?;
-    let servers = servers_are_sources(alloc, net)?;
-    note(plan, Rule::ServersAreSources, servers, found)?;
-    let clients = clients_are_labelled(alloc, net, plan.client_lines(), labels)?;
-    note(plan, Rule::ClientsAreLabelled, clients, found)?;
-    let matched = labels_are_matched(alloc, net, list)?;
-    note(plan, Rule::LabelsAreMatched, matched, found)?;
-    let covered = reaches_cover(alloc, net, list, reaches)?;
-    note(plan, Rule::ReachesCover, covered, found)?;
-    let kept = reached_matches_keep(alloc, net, plan.duty(), reaches)?;
-    note(plan, Rule::ReachedMatchesKeep, kept, found)?;
     let relabels = relabels_are_labelled(alloc, net, labels, reaches)?;
     note(plan, Rule::RelabelsAreLabelled, relabels, found)?;
     let forwards = forwards_are_labelled(alloc, net, labels, reaches)?;

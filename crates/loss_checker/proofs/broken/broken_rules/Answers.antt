@@ -9,8 +9,8 @@ use Rattle.loss_checker.proofs.Listing.{none_broken, all_asked}
 use Rattle.loss_checker.proofs.RuleNumbers.{in_plan}
 use Rattle.loss_checker.proofs.broken.broken_rules.Goals as goal
 
-pub ask_all_but_the_last-requires-clause-before : goal.ask_all_but_the_last-requires-clause-before
-ask_all_but_the_last-requires-clause-before g c =
+pub ask_ends-requires-clause-before : goal.ask_ends-requires-clause-before
+ask_ends-requires-clause-before g c =
     subst (λ (found : List (BrokenRule g.row.A.Denot)). AreBrokenBefore c.args.plan.now 1 found) (sym c.new-found.ensures.items) (none_broken c.args.plan.now)
 
 pub note-requires-clause-holds : goal.note-requires-clause-holds
