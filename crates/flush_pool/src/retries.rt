@@ -65,11 +65,6 @@ impl<A: Allocator + Copy> Retries<A> {
         self.teller.tell(rt, 0, Notice::GivenUp);
     }
 
-    /// Of how many chunks failures are known.
-    pub fn chunk_count<R: Wait>(&self, rt: &R) -> usize {
-        self.known.lock(rt).chunk_count()
-    }
-
     /// Lets what is known of a chunk go.
     pub(crate) fn forget<R: Wait>(&self, rt: &R, serial: u64) -> Forgotten
         ensures { result.serial ≡ serial }

@@ -74,13 +74,6 @@ impl<A: Allocator + Copy> Known<A> {
         }
     }
 
-    /// Of how many chunks failures are known.
-    pub(super) fn chunk_count(&self) -> usize
-        ensures { result ≡ map.len self.now.failures }
-    {
-        self.failures.chunk_count()
-    }
-
     /// What is to become of the chunk of this serial, at the time that was read, where its buffer
     /// lets chunks expire or doesn't.
     pub(super) fn judge(
