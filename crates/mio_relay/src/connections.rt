@@ -1,6 +1,6 @@
 //! The connections of a loop, by their keys.
 
-ghost use Rattle.std.specs.Prelude.{ℕ, ◌≡◌, ◌≤◌, ◌+◌, [], List, Option, false, true, length, slice_index_or, IfSome, IsSomeAnd, OnOk};
+ghost use Rattle.std.specs.Prelude.{ℕ, ◌≡◌, ◌≤◌, ◌+◌, [], List, Option, None, Some, false, true, length, slice_get, slice_index_or, IfOk, IfSome, IsSomeAnd, OnOk};
 ghost use Rattle.buffer_lanes.specs.Lanes.{KeepsLanes, NoneLater};
 ghost use Rattle.mio_relay.specs.Holding.{HoldsMost, held_in, most_held};
 ghost use Rattle.mio_relay.specs.Connections.{AreFlushed, AreFlushedBelow, AreInTime, AreInTimeBelow, AreServed, AreSettled, AreSettledBelow, GoOn, GoesOn, ConnectionState, HoldsFlushed, HoldsInTime, HoldsNone, IsServed, MayClose, Served};
@@ -78,18 +78,13 @@ impl<S: Wire + Drop, A: Allocator + Copy> Connections<S, A> {
     pub fn make_room(&mut self) -> Result<Option<VacantKey>, AllocError>
         ensures goes { GoOn self.old self.new }
         ensures stands { StandOn self.old self.new }
+        ensures vacant { IfOk result (λ found. IfSome found (λ key.
+            slice_get self.new key.0 ≡ Some None)) }
     {
         self.keys.reserve(1)?;
         let key = self.keys.vacant_key();
-        if self.slots.len() == key {
-            self.slots.reserve(1)?;
-            self.slots.push_reserved(None);
-        }
-        if key < self.slots.len() {
-            Ok(Some(VacantKey(key)))
-        } else {
-            Ok(None)
-        }
+        grow_to(&mut self.slots, key)?;
+        Ok(vacant_at(&self.slots, key))
     }
 
     /// Puts a connection at this key, and gives it back where it can't stay: there is no room, or
@@ -257,6 +252,34 @@ impl<S: Wire + Drop, A: Allocator + Copy> Connections<S, A> {
             }
         }
         rest.destroy_empty();
+    }
+}
+
+// One more place, where the key is that of the next one. The error is want of memory.
+fn grow_to<S: Wire, A: Allocator + Copy>(
+    slots: &mut Vec<Option<Connection<S, A>>, A>,
+    key: usize,
+) -> Result<(), AllocError>
+    ensures goes { GoOn slots.old.items slots.new.items }
+    ensures stands { StandOn slots.old.items slots.new.items }
+{
+    if slots.len() == key {
+        slots.reserve(1)?;
+        slots.push_reserved(None);
+    }
+    Ok(())
+}
+
+// The key, if its place is there and has no connection.
+fn vacant_at<S: Wire, A: Allocator + Copy>(
+    slots: &[Option<Connection<S, A>>],
+    key: usize,
+) -> Option<VacantKey>
+    ensures { IfSome result (λ key. slice_get slots.now key.0 ≡ Some None) }
+{
+    match slots.get(key) {
+        Some(None) => Some(VacantKey(key)),
+        _ => None,
     }
 }
 
