@@ -1,16 +1,16 @@
 -- What is kept behind the lock, step by step.
 use Rattle.std.proofs.Common.{◌==◌, ◌≡◌, ◌≢◌, ◌⊎◌, inl, inr, ℕ, ◌+◌, ◌<◌, ◌≤◌, Bool, true, false, cond, List, [], ◌∷◌, ◌++◌, length, Option, Some, None, refl, sym, ap, subst, ◌∙◌, arith}
-use Rattle.std.specs.Prelude.{IfSome, IsSomeAnd, All, slice_get}
+use Rattle.std.specs.Prelude.{IfSome, IsSomeAnd, All, OnErr, OnOk, Result, Ok, Err, slice_get}
 use Rattle.std.specs.Ordering.{nat_cmp}
 use Rattle.std.specs.BTreeMap.{is_at}
 use Rattle.std.proofs.lemmas.Bool.{true≢false, cases_eq}
 use Rattle.std.proofs.lemmas.List.{length_push, get_or_append_left, get_or_push}
-use Rattle.std.proofs.lemmas.List.Elements.{All-push, All-weaker, All-nil, All-get_or}
+use Rattle.std.proofs.lemmas.List.Elements.{All-contains, All-push, All-weaker, All-nil, All-get_or}
 use Rattle.std.proofs.lemmas.List.Quantifiers.{all_pairs_push}
-use Rattle.std.proofs.lemmas.Option.{slice_get-get_or, slice_get_within, get_or_from_slice_get}
+use Rattle.std.proofs.lemmas.Option.{none-some, slice_get-get_or, slice_get_within, get_or_from_slice_get}
 use Rattle.buffer_state.proofs.Serials.{at_same, at_itself}
 use Rattle.book_audit.specs.declared.line.Line.{Line}
-use Rattle.book_audit.specs.Audits.{Pages, SameLines, Writes, open_at}
+use Rattle.book_audit.specs.Audits.{Closes, Pages, SameLines, Writes, open_at}
 use Rattle.buffer_store.specs.Buffers.{Held}
 use Rattle.std.specs.Map.{lookup}
 use Rattle.buffer_book.specs.declared.past.Written.{Written}
@@ -65,6 +65,19 @@ pages_same p q l same h = record {
   each = λ n. subst (λ (o : Option Line). IfSome o (λ line. IsSomeAnd (slice_get l n) (λ written. written.line ≡ line))) (sym (same.each n)) (h.each n);
 }
 
+-- some of them are closed
+pub pages_closed : (p q : Pages) (named : List ℕ) (l : List Written) → Closes named p q → AreOnPages p l → AreOnPages q l
+pages_closed p q named l closes h = record {
+  count = closes.count ∙ h.count;
+  each = λ n. by n (open_at q n) refl;
+}
+  where
+    by : (n : ℕ) (o : Option Line) → open_at q n ≡ o → IfSome o (λ line. IsSomeAnd (slice_get l n) (λ written. written.line ≡ line))
+    by n None e = tt
+    by n (Some x) e =
+        let still : open_at q n ≡ open_at p n = closes.kept n (λ has. none-some x (sym (All-contains (λ (k : ℕ). open_at q k ≡ None) named n closes.gone has) ∙ e)) in
+        subst (λ (o : Option Line). IfSome o (λ line. IsSomeAnd (slice_get l n) (λ written. written.line ≡ line))) (sym still ∙ e) (h.each n)
+
 -- one line more
 pub pages_line : (p q : Pages) (l : List Written) (place : ℕ) (x : Line) → Writes x p q → AreOnPages p l → AreOnPages q (l ++ record { place = place; line = x } ∷ [])
 pages_line p q l place x wrote h = record {
@@ -110,6 +123,16 @@ module _ {D : Type 0} (b : Held D) (f : List (ℕ × ℕ)) (a : List Line) (l : 
   -- a chunk goes, and is noted
   pub sound_removed : (c : Held D) (n : List ℕ) → IsAccounted c.chunks f a n → IsSound (book_of c f a l p w s n)
   sound_removed c n account = record { accounted = account; receipted = h.receipted; on_pages = h.on_pages; waits = h.waits }
+
+  -- lines are closed, where the call answers so
+  pub sound_settled : {T E : Type 0} (done : Result T E) (named : List ℕ) (q : Pages) → OnOk done (Closes named p q) → OnErr done (q ≡ p) → p.room ≤ q.room → IsSound (book_of b f a l q w s r)
+  sound_settled (Ok x) named q closes same roomy = record {
+    accounted = h.accounted;
+    receipted = h.receipted;
+    on_pages = pages_closed p q named l closes h.on_pages;
+    waits = record { each = h.waits.each; room = omega (arith, h.waits.room, roomy); few = h.waits.few };
+  }
+  sound_settled (Err e) named q closes same roomy = subst (λ (v : Pages). IsSound (book_of b f a l v w s r)) (sym same) h
 
   -- an append is synced and gets its line at once
   pub sound_append : (c : Held D) (x : Line) (q v : Pages) → IsAccounted c.chunks f (a ++ x ∷ []) r → SameLines p q → Writes x q v → length w + 1 ≤ q.room → q.room ≤ v.room + 1

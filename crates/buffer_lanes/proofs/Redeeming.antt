@@ -1,14 +1,15 @@
 -- What became of the appends that waited, at each buffer.
-use Rattle.std.proofs.Common.{ℕ, ◌≡◌, ◌∙◌, ◌+◌, ◌<◌, ◌≤◌, ◌⊎◌, inl, inr, arith, Bool, false, List, [], length, map, ap, refl, sym, subst, Option, Result, Ok, Err}
+use Rattle.std.proofs.Common.{ℕ, ◌==◌, ◌≡◌, ◌∙◌, ◌+◌, ◌<◌, ◌≤◌, ◌⊎◌, inl, inr, arith, Bool, true, false, List, [], ◌∷◌, length, map, ap, refl, sym, subst, Option, Result, Ok, Err}
 use Rattle.std.specs.Prelude.{◌≢◌, OnErr, OnOk, slice_index_or, slice_set, unwrap_or}
 use Rattle.std.proofs.Math.Nat.{eq-or-lt_of_le}
-use Rattle.std.proofs.lemmas.Bool.{cases_lt}
+use Rattle.std.proofs.lemmas.Bool.{cases_lt, eqb-true}
 use Rattle.std.proofs.lemmas.List.{get_or-map, get_or-set_same, get_or-set_other, length-map, length-set, map-set}
 use Rattle.std.proofs.lemmas.Option.{slice_get_past, unwrap_or-slice_get}
+use Rattle.ack_receipt.specs.Terms.{Terms}
 use Rattle.buffer_store.specs.declared.fault.BufferFault.{BufferFault}
 use Rattle.relay_conf.specs.declared.output.BufferNo.{BufferNo}
-use Rattle.ack_receipt.specs.Deliveries.{Pended}
-use Rattle.ack_receipt.specs.Redeeming.{origin_of, origin_of_pending}
+use Rattle.ack_receipt.specs.Deliveries.{Appended, Pended}
+use Rattle.ack_receipt.specs.Redeeming.{AreReceiptsOf, origin_of, origin_of_pending}
 use Rattle.buffer_lanes.specs.Lanes.{AreRedeemed, AreRedeemedAt, GetNone, HaveReceipts, IsUntouched, LaneState, LanesState, WaitOn, later_at, listed_at}
 use Rattle.buffer_lanes.proofs.Keeping.{lanes_of}
 use Rattle.buffer_lanes.proofs.Appending.{listed_is, listed_past, listed_there}
@@ -24,6 +25,47 @@ none_wait old new later none now receipts = record {
   };
 }
 
+-- receipts that nobody took are gone, and none is to come later
+abbrev pub fresh : {A : Type 0} → LaneState A → LaneState A
+fresh old = record old { receipts = []; later = false }
+
+pub begins_fresh : {A : Type 0} (old kept inside noted now : LaneState A) (none : List Appended) → kept ≡ record old { receipts = none } → none ≡ [] → inside ≡ kept
+    → noted ≡ record inside { later = false } → now ≡ noted → now ≡ fresh old
+begins_fresh old kept inside noted now none keeps is view notes view' =
+    view' ∙ notes ∙ ap (λ (l : LaneState _). record l { later = false }) (view ∙ keeps ∙ ap (λ (l : List Appended). record old { receipts = l }) is)
+
+nothing : {X : Type 0} (xs : List X) (empty : Bool) (count : ℕ) → count ≡ length xs → empty ≡ (count == 0) → empty ≡ true → xs ≡ []
+nothing [] empty count counted says e = refl
+nothing (x ∷ xs) empty count counted says e = absurd (let none = eqb-true count 0 (sym says ∙ e) in omega arith)
+
+-- nothing waits
+pub empty_waits : {A : Type 0} (old kept inside : LaneState A) (none : List Appended) (empty : Bool) (count : ℕ) → kept ≡ record old { receipts = none } → none ≡ [] → inside ≡ kept
+    → empty ≡ (count == 0) → empty ≡ true → count ≡ length inside.waiting → (old.waiting ≡ []) × (inside.waiting ≡ []) × (inside.receipts ≡ [])
+empty_waits old kept inside none empty count keeps is view says t counted =
+    let waits : inside.waiting ≡ [] = nothing inside.waiting empty count counted says t in
+    let same : inside ≡ record old { receipts = none } = view ∙ keeps in
+    (sym (ap (λ (l : LaneState _). l.waiting) same) ∙ waits, waits, ap (λ (l : LaneState _). l.receipts) same ∙ is)
+
+-- the receipts are made of all that waited
+pub have_receipts : {A V : Type 0} (items : V → List Pended) (old now new : LaneState A) (list held left made : V) (receipts : List Appended) → now ≡ fresh old
+    → new ≡ record now { waiting = items left; receipts = receipts } → left ≡ made → items made ≡ [] → list ≡ held → items held ≡ now.waiting
+    → (terms : Terms A) → terms ≡ now.terms → AreReceiptsOf terms.leaf (items list) receipts → HaveReceipts old new
+have_receipts items old now new list held left made receipts begins is put none took all terms own done = record {
+  later = ap (λ (l : LaneState _). l.later) is ∙ ap (λ (l : LaneState _). l.later) begins;
+  waiting = ap (λ (l : LaneState _). l.waiting) is ∙ ap items put ∙ none;
+  receipts =
+      subst (λ (r : List Appended). AreReceiptsOf old.terms.leaf old.waiting r) (sym (ap (λ (l : LaneState _). l.receipts) is))
+      (subst (λ (l : LaneState _). AreReceiptsOf l.terms.leaf l.waiting receipts) begins
+      (subst (λ (t : Terms _). AreReceiptsOf t.leaf now.waiting receipts) own
+      (subst (λ (w : List Pended). AreReceiptsOf terms.leaf w receipts) (ap items took ∙ all) done)));
+}
+
+-- they wait on, and there are no receipts
+pub wait_on : {A V : Type 0} (items : V → List Pended) (old now : LaneState A) (put back list held : V) → now ≡ fresh old → put ≡ back → back ≡ list → list ≡ held → items held ≡ now.waiting
+    → (items put ≡ old.waiting) × (now.receipts ≡ [])
+wait_on items old now put back list held begins again same took all =
+    (ap items (again ∙ same ∙ took) ∙ all ∙ ap (λ (l : LaneState _). l.waiting) begins, ap (λ (l : LaneState _). l.receipts) begins)
+
 -- a lane's answer, as all buffers see it
 lane_redeemed : {A T : Type 0} (old new : LaneState A) (answer : Result T BufferFault) → OnOk answer (HaveReceipts old new ⊎ WaitOn old new) → OnErr answer (GetNone new)
     → AreRedeemed old.waiting new.later new.waiting
@@ -35,11 +77,11 @@ lane_redeemed old new (Err _) ok none =
     subst (λ (b : Bool). AreRedeemed old.waiting b new.waiting) (sym none.later) none.waiting
 
 -- whether receipts come later of a buffer that is there
-later_is : {L : Type 0} (f : L → Bool) (lanes : List L) (buffer : BufferNo) (one : L) → buffer.0 < length lanes → one ≡ slice_index_or lanes buffer.0 one
+pub later_is : {L : Type 0} (f : L → Bool) (lanes : List L) (buffer : BufferNo) (one : L) → buffer.0 < length lanes → one ≡ slice_index_or lanes buffer.0 one
     → later_at (map f lanes) buffer ≡ f one
 later_is f lanes buffer one within is = unwrap_or-slice_get (map f lanes) buffer.0 false ∙ get_or-map f lanes buffer.0 one false within ∙ ap f (sym is)
 
-later_past : (later : List Bool) (buffer : BufferNo) → length later ≤ buffer.0 → later_at later buffer ≡ false
+pub later_past : (later : List Bool) (buffer : BufferNo) → length later ≤ buffer.0 → later_at later buffer ≡ false
 later_past later buffer past = ap (λ (o : Option Bool). unwrap_or o false) (slice_get_past later buffer.0 past)
 
 -- the lane that was put at a place is what is there

@@ -1,3 +1,4 @@
+pub mod Apart
 pub mod Claims
 pub mod ShortTags
 pub mod Logs

@@ -1,0 +1,23 @@
+use Rattle.std.proofs.Common.{Vec, inl, inr, refl}
+use Rattle.ack_receipt.specs.Deliveries.{Pended}
+use Rattle.buffer_lanes.proofs.Redeeming.{begins_fresh, empty_waits, have_receipts, none_wait, wait_on}
+use Rattle.buffer_lanes.proofs.lane.Lane.redeem.Goals as goal
+
+pub returns-then-is_empty-clause-ok : goal.returns-then-is_empty-clause-ok
+returns-then-is_empty-clause-ok g c =
+    let none = empty_waits c.args.self.now c.keep.new.self _ c.new.result.items c.is_empty.result c.self-2.inside.pendings.len c.keep.ensures c.new.ensures.items c.self-2.view_is
+    c.is_empty.ensures c.if-is_empty.true c.self-2.inside.pendings.ok.0 in
+    inl (none_wait c.args.self.now _ refl none.0 none.1 none.2)
+
+pub returns-in-Ok-clause-ok : goal.returns-in-Ok-clause-ok
+returns-in-Ok-clause-ok g c =
+    inl (have_receipts (λ (v : Vec Pended g.row.A.Denot). v.items) c.args.self.now _ c.keep-in-Ok.new.self c.replace-list.result c.self-3.inside.pendings c.replace-list.new.dest c.new-2.result c.in-Ok.receipts.items
+    (begins_fresh c.args.self.now c.keep.new.self _ c.note_room.new.self _ c.new.result.items c.keep.ensures c.new.ensures.items c.self-2.view_is c.note_room.ensures c.self-3.view_is)
+    c.keep-in-Ok.ensures c.replace-list.ensures.after c.new-2.ensures.items c.replace-list.ensures.value refl c.deref.result.now c.deref.ensures c.in-Ok.ensures.ok)
+
+pub returns-in-Err-Buffer-Memory-default-clause-ok : goal.returns-in-Err-Buffer-Memory-default-clause-ok
+returns-in-Err-Buffer-Memory-default-clause-ok g c =
+    let wait = wait_on (λ (v : Vec Pended g.row.A.Denot). v.items) c.args.self.now _ c.replace.new.dest c.in-Err-Buffer-Memory-default.list c.replace-list.result c.self-3.inside.pendings
+    (begins_fresh c.args.self.now c.keep.new.self _ c.note_room.new.self _ c.new.result.items c.keep.ensures c.new.ensures.items c.self-2.view_is c.note_room.ensures c.self-3.view_is)
+    c.replace.ensures.after c.in-Err-Buffer-Memory-default.ensures.back c.replace-list.ensures.value refl in
+    inr (record { later = refl; waiting = wait.0; receipts = wait.1 })
