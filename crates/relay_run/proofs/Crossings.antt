@@ -28,6 +28,7 @@ use Rattle.relay_places.proofs.Sharing as said
 use Rattle.relay_places.specs.contracts.rows.OutputRows as OutputRows
 use Rattle.relay_run.specs.contracts.flush.Carrier as Carrier
 use Rattle.relay_run.specs.contracts.flush.Pool as Pool
+use Rattle.relay_run.specs.contracts.flush_threads.FlushThreads as FlushThreads
 use Rattle.relay_run.specs.contracts.state.StateFile as StateFile
 use Rattle.relay_run.specs.contracts.voice.Flags as Flags
 
@@ -122,5 +123,12 @@ Carrier-send =
       ),
     )
 
+module _ (D A : RattleType) (d : dir.Ghosts D.Denot) (a : alloc.Ghosts A.Denot) where
+  FlushThreads-send : IsSend D → IsSend A → IsSync A → Frees a a.dealloc_token → IsSend (FlushThreads.the_field D A d a).row
+  FlushThreads-send sd sa ya f =
+      let s = Shared-send D A d a sd sa f in
+      let y = Shared-sync D A d a sd sa ya f in
+      search (crosses, over.crosses, sendable) depth 60 fits 20000
+
 pub Pool-send : IsSend Pool.the_field.row
-Pool-send = let c = Carrier-send in let ts = Teller-here-send in let ty = Teller-here-sync in search (Shared-send, Shared-sync, either.the_field_send, real.the_field_send, opened_file.the_field_send, maps.crosses, crosses, past.crosses, sendable) depth 60 fits 20000
+Pool-send = let c = Carrier-send in let ts = Teller-here-send in let ty = Teller-here-sync in search (FlushThreads-send, either.the_field_send, real.the_field_send, opened_file.the_field_send, maps.crosses, crosses, past.crosses, sendable) depth 60 fits 20000

@@ -3,16 +3,14 @@
 ghost use Rattle.std.specs.Prelude.{◌≡◌, IfErr, IfOk};
 ghost use Rattle.relay_run.specs.Running.{IsCarrierOf, IsPoolOf, IsSinkAt, fault_of as fault_of_done};
 
+use crate::flush_threads::FlushThreads;
 use crate::voice::Voice;
-use ack_receipt::{Evidence, SharedBuffer};
+use ack_receipt::Evidence;
 use buffer_store::BufferFault;
 use disk_files::{Dir, RealDir};
-use flush_pool::{
-    CarryFault, ClaimView, Courier, OpenGate, Retries, SinkCourier, Worked, run_pool,
-};
+use flush_pool::{CarryFault, ClaimView, Courier, SinkCourier, Worked};
 use loop_core::LoopFault;
 use relay_buffers::{DeliveryJob, PlacedDir, SystemDir, real_dir};
-use relay_conf::RetrySettings;
 use relay_notices::{Notice, Teller};
 use relay_ports::BufferedOutput;
 use relay_sockets::{Dialer, Nonces, SystemDialer, Wire, now_after};
@@ -23,7 +21,7 @@ use std::marker::Model;
 use std::net::{Net, TcpListener, TcpStream};
 use std::random::RandomSource;
 use std::snapshot::Snapshot;
-use std::sync::atomic::{AtomicBool, Ordering};
+use std::sync::atomic::AtomicBool;
 use std::sync::{Arc, Wait};
 use std::thread::Threads;
 use std::time::Clock;
@@ -82,34 +80,23 @@ impl<R: Wait + Net + Clock, D: Dir> Courier<R, D, Global> for Carrier {
     }
 }
 
-/// What one thread has that starts an output's flush threads: its buffer, and what carries its
-/// chunks. Contracts see the job that it is made of, which says whose buffer it is.
+/// What one thread has that starts an output's flush threads, and what carries its chunks.
+/// Contracts see the job that it is made of, which says whose buffer it is.
 #[derive(Drop)]
 pub struct Pool {
-    buffer: Arc<SharedBuffer<Folder, Global>>,
+    threads: FlushThreads<Folder, Global>,
     carrier: Carrier,
-    threads: usize,
-    retry: RetrySettings,
     stop: Arc<AtomicBool>,
     // Tells of the buffer's chunks.
     teller: Teller<Global>,
-    of: Snapshot<DeliveryJob<Folder, Global>>,
 }
 
 impl Model for Pool {
-    ghost use Rattle.std.specs.Prelude.{◌≡◌};
-    ghost use Rattle.std.specs.Arc.{arc_value};
-    ghost use Rattle.relay_ports.specs.Outputs.{settings_of};
     ghost use Rattle.relay_run.specs.Running.{PoolState};
 
     ghost Value = { PoolState };
 
-    ghost view = { λ p. record { job = p.of.value; carrier = p.carrier } };
-
-    // It has the job's buffer, and as many threads and such retries as the job's output says.
-    ghost invariant = { λ p. (arc_value p.buffer ≡ p.of.value.terms)
-        × (p.threads ≡ (settings_of p.of.value.output).flush_thread_count)
-        × (p.retry ≡ (settings_of p.of.value.output).retry) };
+    ghost view = { λ p. record { job = p.threads; carrier = p.carrier } };
 }
 
 impl Pool {
@@ -129,17 +116,11 @@ impl Pool {
         ensures carrier { IfOk result (IsPoolOf home.entry.path.now) }
     {
         let number = job.output().number();
-        let settings = job.output().buffer();
-        let buffer = Arc::try_clone(job.buffer())?;
-        let theirs = Arc::try_clone(stop)?;
         Ok(Pool {
-            buffer,
+            threads: FlushThreads::of(job)?,
             carrier: carrier_of(rt, home, job.output(), stop, voice.of_carrier(number))?,
-            threads: settings.flush_thread_count,
-            retry: settings.retry,
-            stop: theirs,
+            stop: Arc::try_clone(stop)?,
             teller: voice.of_chunks(number),
-            of: Snapshot::of(job),
         })
     }
 
@@ -156,20 +137,13 @@ impl Pool {
         ensures { result.pool ≡ self }
     {
         let of = Snapshot::of(&self);
-        let retries = Retries::new(rt.alloc(), self.retry).telling(self.teller.another());
-        let done = run_pool(
-            rt,
-            self.threads,
-            &self.buffer,
-            &self.carrier,
-            &OpenGate,
-            &retries,
-            &self.stop,
-        );
-        self.stop.store(true, Ordering::SeqCst);
+        let (carrier, teller) = (&self.carrier, &self.teller);
+        let (done, has_failed) = self
+            .threads
+            .deliver(rt, rt.alloc(), carrier, teller, &self.stop);
         PoolEnd {
             done,
-            has_failed: self.buffer.has_failed(rt),
+            has_failed,
             of,
         }
     }

@@ -2,6 +2,7 @@
 #![tactic(auto)]
 
 mod flush;
+mod flush_threads;
 mod held;
 mod relay;
 mod running;
