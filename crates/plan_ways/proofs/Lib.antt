@@ -1,3 +1,4 @@
 pub mod Adding
 pub mod Searching
 pub mod Sending
+pub mod Among

@@ -1,10 +1,10 @@
 -- What a buffer of a relay sends, and to which servers.
-use Rattle.std.proofs.Common.{◌≡◌, ℕ, List, length, ◌<◌, ◌≤◌, arith, Option, Some, None, refl, sym, ap, subst, ◌∙◌, ◌↔◌, Contains}
+use Rattle.std.proofs.Common.{Bor, option_copied, ◌≡◌, ℕ, List, length, ◌<◌, ◌≤◌, arith, Option, Some, None, refl, sym, ap, subst, ◌∙◌, ◌↔◌, Contains}
 use Rattle.std.proofs.lemmas.Option.{same_Some}
 use Rattle.relay_conf.specs.declared.output.BufferNo.{BufferNo}
 use Rattle.relay_conf.specs.declared.output.Output.{Output}
 use Rattle.relay_conf.specs.declared.output.Server.{Server}
-use Rattle.relay_net.specs.Network.{Network, entrance, output_at, address_of_server, tag_at}
+use Rattle.relay_net.specs.Network.{Network, entrance, output_at, address_of_server, prefix_at, tag_at}
 use Rattle.relay_net.specs.Outputs.{servers_of}
 use Rattle.relay_net.specs.Ways.{table_at}
 use Rattle.relay_net.specs.declared.address.Entrance.{Entrance}
@@ -12,7 +12,9 @@ use Rattle.route_graph.specs.Listing.{numbers_of}
 use Rattle.route_graph.specs.Ways.{IsLeaf, IsLoop}
 use Rattle.routed_tags.specs.Routed.{ComesTo, LeadsOn, SendsTo}
 use Rattle.routed_tags.proofs.Sending.{number_in, leaf_of}
+use Rattle.relay_net.specs.Addresses.{Address}
 use Rattle.tag_pattern.specs.Parts.{most_tag_bytes}
+use Rattle.tag_pattern.specs.Prefixes.{entered_tag}
 use Rattle.plan_ways.specs.Sendings.{Sending, Through, GoesOn, sending}
 
 module _ {A : Type 0} (net : Network A) (place buffer : ℕ) (tag : List ℕ) (output : Output A) (there : output_at net place buffer ≡ Some output) (next : Sending) where
@@ -50,6 +52,10 @@ module _ {A : Type 0} (net : Network A) (here : Sending) (at : Entrance) (enters
       let sends = subst (λ (e : Entrance). SendsTo net e.relay n.leads.buffer next.address) same n.leads.sends in
       let l = leaf_of leaves n.leads.buffer ((are n.leads.buffer).1 comes.leaf) in
       (l.0, l.1, (subst (λ b. SendsTo net at.relay b next.address) (sym l.2) sends, n.leads.borne_is ∙ sym is))
+
+-- the tag that an event bears where it comes in, by what the prefix there is
+pub same_tag : {A : Type 0} (net : Network A) (address : Address) (found : Option (Bor (List ℕ))) (tag given : List ℕ) → option_copied found ≡ prefix_at net address → given ≡ tag → entered_tag (option_copied found) given ≡ tag_at net address tag
+same_tag net address found tag given prefix is = ap (λ p. entered_tag p given) prefix ∙ ap (entered_tag (prefix_at net address)) is
 
 -- The events of a message go on in none where it doesn't come in, where they bear too long a tag,
 -- and where their way is a loop.

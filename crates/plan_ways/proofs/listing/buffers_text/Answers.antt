@@ -1,6 +1,6 @@
 use Rattle.std.proofs.Common.{◌≡◌, ◌+◌, ◌<◌, ◌++◌, ℕ, List, [], ap, get_or, length, sym, take, ◌∙◌, arith}
 use Rattle.std.specs.List.{flat_map}
-use Rattle.std.proofs.lemmas.List.{flat_map_more, map_more}
+use Rattle.std.proofs.lemmas.List.{flat_map_more, map_more, take_all}
 use Rattle.relay_conf.specs.declared.output.BufferNo.{BufferNo}
 use Rattle.route_graph.specs.Listing.{numbers_of}
 use Rattle.plan_ways.specs.Lines.{buffer_text}
@@ -15,3 +15,6 @@ texts_more F buffers i d before after less is more =
 pub loop-buffer-preserved : goal.loop-buffer-preserved
 loop-buffer-preserved g c =
     texts_more (buffer_text c.args.net.now c.args.place) c.args.buffers.now c.loop-buffer.buffer-index _ c.loop-buffer.text.items c.put_buffer.new.text.items (omega arith) c.loop-buffer.invariant c.in_ok-put_buffer.ensures
+
+pub returns : goal.returns
+returns g c = rw (take_all c.loop-buffer.buffer-index c.args.buffers.now c.loop-buffer-test.false) at c.loop-buffer.invariant

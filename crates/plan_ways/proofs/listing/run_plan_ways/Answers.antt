@@ -1,4 +1,4 @@
-use Rattle.std.proofs.Common.{List, ℕ, subst, inl}
+use Rattle.std.proofs.Common.{List, ℕ, subst, inl, inr}
 use Rattle.program_text.specs.Output.{IsPrinted}
 use Rattle.program_text.specs.declared.status.Status.TheVariants.{Done}
 use Rattle.plan_ways.proofs.listing.run_plan_ways.Goals as goal
@@ -11,3 +11,9 @@ returns-in-Ok-list_ways g c = inl (record {
   ways = c.in-Ok-list_ways.ensures;
   printed = subst (λ (l : List ℕ). IsPrinted (g.W.Write.contents c.args.out.now) (g.W.Write.contents c.put_last.new.out) l Done c.put_last.result) c.deref.ensures.value c.put_last.ensures;
 })
+
+pub returns-in-Err : goal.returns-in-Err
+returns-in-Err g c = inr (inl (record { stopped = c.in-Err.stop; is_stop = c.in-Err.ensures.stop; printed = c.print_stop.ensures }))
+
+pub returns : goal.returns
+returns g c = inr (inr c.put_last-in-Err-list_ways.ensures)

@@ -1,5 +1,5 @@
-use Rattle.std.proofs.Common.{◌≤◌, ◌++◌, ◌∷◌, [], length, true, refl, sym, ap, ◌∙◌, inl, inr}
-use Rattle.std.proofs.lemmas.Bool.{cases_lt}
+use Rattle.std.proofs.Common.{◌≡◌, ◌≤◌, ◌++◌, Ok, Err, ◌∷◌, [], length, true, refl, sym, ap, ◌∙◌, inl, inr}
+use Rattle.std.proofs.lemmas.Bool.{cases_lt, false≢true}
 use Rattle.std.proofs.lemmas.Option.{slice_get_within}
 use Rattle.std.proofs.lemmas.Result.{err_from_is_err_and}
 use Rattle.message_book.specs.Book.{Delivery}
@@ -11,12 +11,15 @@ use Rattle.custody_steps.proofs.Sendings.{none_begins, nowhere, no_room, too_lon
 use Rattle.custody_steps.proofs.world.World.begin.Goals as goal
 use Rattle.tag_pattern.specs.Parts.{most_tag_bytes}
 
+ok_no_err : {T E : Type 0} (x : T) (y : E) → Ok x ≡ Err y → ⊥
+ok_no_err x y e = absurd cc
+
 pub invariant_of-self : goal.invariant_of-self
 invariant_of-self g c =
     let w = c.args.self.now in
     let m = c.in-Some.found.now in
     let at = sym c.in-Some.ensures in
-    let no : ¬ HasLoop w.net.now c.in-Some-entrance.at c.in-Ok.tag m.entries = λ h. let yes = c.in_ok-has_loop.ensures.1 h in cc in
+    let no : ¬ HasLoop w.net.now c.in-Some-entrance.at c.in-Ok.tag m.entries = λ h. false≢true (sym c.if-branch.false ∙ c.in_ok-has_loop.ensures.1 h) in
     let d : Delivery = record { message = c.args.message; entrance = c.in-Some-entrance.at; tag = c.in-Ok.tag; appended = []; is_open = true } in
     let known = keeping.known_of w in
     let k = keeping.either c.begin.result c.begin.ensures.ok c.begin.ensures.err
@@ -43,10 +46,10 @@ returns-clause-answer g c =
     let at = sym c.in-Some.ensures in
     let tag_is = c.in-Ok.ensures.tag in
     let short : length (tag_of w.net.now m) ≤ most_tag_bytes = elim (cases_lt most_tag_bytes (length (tag_of w.net.now m))) [
-      | inl long ↦ absurd (let e = c.in-Ok.ensures.too_long.1 long in cc)
+      | inl long ↦ absurd (ok_no_err c.in-Ok.tag _ (c.in-Ok.ensures.too_long.1 long))
       | inr le ↦ le
     ] in
-    let no : ¬ HasLoop w.net.now c.in-Some-entrance.at c.in-Ok.tag m.entries = λ h. let yes = c.in_ok-has_loop.ensures.1 h in cc in
+    let no : ¬ HasLoop w.net.now c.in-Some-entrance.at c.in-Ok.tag m.entries = λ h. false≢true (sym c.if-branch.false ∙ c.in_ok-has_loop.ensures.1 h) in
     let d : Delivery = record { message = c.args.message; entrance = c.in-Some-entrance.at; tag = c.in-Ok.tag; appended = []; is_open = true } in (
       slice_get_within w.book.messages c.args.message m at,
       rw (at, ← c.in-Some-entrance.ensures) (short, rw tag_is at no),

@@ -1,0 +1,17 @@
+-- Going over things until one fails a test.
+use Rattle.std.proofs.Common.{◌≡◌, ◌+◌, ◌<◌, ◌≤◌, ◌&&◌, ℕ, Bool, true, false, List, ap, drop, get_or, length, sym, ◌∙◌}
+use Rattle.std.specs.List.{list_all}
+use Rattle.std.proofs.lemmas.List.{at_drop_all, at_drop_more}
+use Rattle.std.proofs.lemmas.List.Folds.{list_all_at}
+
+-- one fails it
+pub one_fails : {X : Type 0} (p : X → Bool) (xs : List X) (i : ℕ) (x : X) → i < length xs → x ≡ get_or xs i x → p x ≡ false → false ≡ list_all p xs
+one_fails p xs i x less at fails = sym (list_all_at p xs i x less (ap p (sym at) ∙ fails))
+
+-- one more passes it
+pub one_more : {X : Type 0} (p : X → Bool) (xs : List X) (i : ℕ) (x : X) → i < length xs → x ≡ get_or xs i x → p x ≡ true → list_all p (drop i xs) ≡ list_all p xs → list_all p (drop (i + 1) xs) ≡ list_all p xs
+one_more p xs i x less at passes so_far = sym (at_drop_more (list_all p) xs i x less ∙ ap (λ b. b && list_all p (drop (i + 1) xs)) (ap p (sym at) ∙ passes)) ∙ so_far
+
+-- all pass it
+pub all_pass : {X : Type 0} (p : X → Bool) (xs : List X) (i : ℕ) → length xs ≤ i → list_all p (drop i xs) ≡ list_all p xs → true ≡ list_all p xs
+all_pass p xs i past so_far = sym (at_drop_all (list_all p) xs i past) ∙ so_far
