@@ -261,13 +261,13 @@ class Report:
 
 
 class Room:
-    """A folder for one trial, and the relays in it, which end with it."""
+    """A folder for one trial, in this one or where temporary files are, and the relays in it, which end with it."""
 
     open = set()
 
-    def __init__(self, program, name="trial", is_kept=False):
+    def __init__(self, program, name="trial", is_kept=False, folder=None):
         self.program, self.is_kept = os.path.abspath(program), is_kept
-        self.path = tempfile.mkdtemp(prefix=name + "_")
+        self.path = tempfile.mkdtemp(prefix=name + "_", dir=folder)
         self.relays = []
 
     def relay(self, name, number, conf):

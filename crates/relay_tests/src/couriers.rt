@@ -8,6 +8,7 @@ use buffer_store::{Buffer, Settings};
 use disk_files::{Dir, MemoryDir};
 use event_modes::{Entries, Message};
 use flush_pool::{CarryFault, ClaimView, Courier};
+use forward_core::SessionFault;
 use relay_conf::ForwardSettings;
 use relay_ports::{BufferedOutput, RelaySetup};
 use relay_sockets::{Dialer, Nonces, SystemDialer};
@@ -218,7 +219,7 @@ fn carried_from<R: Wait + AllocGlobal, D: Dir + Drop, C: Dialer + Drop>(
 }
 
 // The same, by a courier to this port, of the only output of the relay of this text.
-pub fn carried_to<R, D, C>(
+fn carried_to<R, D, C>(
     rt: &R,
     dir: D,
     text: &str,
@@ -302,5 +303,20 @@ where
 fn no_listener_is_no_server(rt: HostRuntime) -> Result<(), Fail> {
     let came = unheard(&rt, MemoryDir::new(rt.alloc()))?;
     assert!(rt; came == (Some(CarryFault::NoServer), true));
+    Ok(())
+}
+
+static CODES: [(CarryFault, &str); 4] = [
+    (CarryFault::NoServer, "X1"),
+    (CarryFault::Timeout, "X2"),
+    (CarryFault::Session(SessionFault::BadAck), "X3 Q3"),
+    (CarryFault::Device, "X4"),
+];
+
+#[test]
+fn prints_faults_by_their_codes(rt: HostRuntime) -> Result<(), Fail> {
+    for (fault, code) in &CODES {
+        assert_eq!(rt; format!(in rt.alloc(); "{fault}")?.as_str(), *code);
+    }
     Ok(())
 }

@@ -1,11 +1,10 @@
-//! Tests of the relay: flush threads at work side by side, a loop with clients on sockets, couriers
-//! to servers that misbehave, and couriers to a relay that is turned while they wait for its answer.
+//! Tests of the relay whose values no clause and no trial sees: flush threads at work side by side
+//! and behind a gate, a loop with what is left of its deliveries, couriers to servers that
+//! misbehave, and an edge and a hub whose books are audited.
 #![tactic(auto)]
 
 #[cfg(test)]
 mod couriers;
-#[cfg(test)]
-mod faults;
 #[cfg(test)]
 mod loops;
 #[cfg(test)]
@@ -16,8 +15,6 @@ mod network;
 mod relays;
 #[cfg(test)]
 mod shelves;
-#[cfg(test)]
-mod sources;
 #[cfg(test)]
 mod threads;
 #[cfg(test)]

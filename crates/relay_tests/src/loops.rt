@@ -1,12 +1,10 @@
 //! A loop with clients on sockets, turned by hand.
 
-use crate::relays::{LOOPING, SHARED, SINK, SMALL, relay_of};
+use crate::relays::{SINK, SMALL, relay_of};
 use crate::turned::{ended, goes_on};
 use disk_files::Dir;
-use loop_core::LoopFault;
 use mio_relay::{Ended, InLoop};
 use relay_buffers::{Folders, MemoryFolders};
-use relay_conf::Relay;
 use relay_sockets::{Network, SocketNetwork};
 use std::alloc::Global;
 use std::io::{ErrorKind, Read, Write};
@@ -253,114 +251,5 @@ where
 fn a_full_buffer_refuses(rt: HostRuntime) -> Result<(), Fail> {
     let folders = MemoryFolders { alloc: rt.alloc() };
     assert!(rt; is_heard_in_turn(&rt, &folders)?);
-    Ok(())
-}
-
-// Whether a client hears the answer to the second of its messages alone.
-fn talk_round<R: Wait + Net, N: Network + Drop, D: Dir + Drop>(
-    rt: &R,
-    turning: &mut InLoop<N, D, Global>,
-) -> Result<bool, Fail> {
-    let mut one = client(rt, turning)?;
-    one.write_all(MESSAGE)?;
-    say(rt, turning, &mut one, OTHER)?;
-    hears(&mut one, OTHER_ANSWER)
-}
-
-// Whether the message is answered that no match takes, and one delivery is left of this loop then,
-// of no part.
-fn ends_round<R, N, D>(rt: &R, turning: InLoop<N, D, Global>) -> Result<bool, Fail>
-where
-    R: Wait + Net,
-    N: Network + Drop,
-    D: Dir + Drop,
-{
-    let mut turning = turning;
-    let heard = talk_round(rt, &mut turning);
-    let left = left_of(rt, turning, 0);
-    Ok(heard? && left == (1, true))
-}
-
-// The same of a loop that is opened for it.
-fn is_heard_round<R, D, F>(rt: &R, folders: &F) -> Result<bool, Fail>
-where
-    R: Wait + Clock + Net + RandomSource + AllocGlobal + Clone + Drop,
-    D: Dir + Drop,
-    F: Folders<D, Global>,
-{
-    ends_round(rt, open(rt, LOOPING, folders)?)
-}
-
-// A message whose way is a loop is no delivery, and isn't answered; one that no match takes is.
-#[test]
-fn what_goes_round_is_no_delivery(rt: HostRuntime) -> Result<(), Fail> {
-    let folders = MemoryFolders { alloc: rt.alloc() };
-    assert!(rt; is_heard_round(&rt, &folders)?);
-    Ok(())
-}
-
-// Why a relay isn't opened.
-fn fault_of<R, D, F>(rt: &R, relay: Relay<Global>, folders: &F) -> Option<LoopFault>
-where
-    R: Wait + Clock + Net + RandomSource + AllocGlobal + Clone + Drop,
-    D: Dir + Drop,
-    F: Folders<D, Global>,
-{
-    match InLoop::open_in(rt, rt.alloc(), relay, 2, folders) {
-        Ok(other) => {
-            left_of(rt, other, 0);
-            None
-        }
-        Err(fault) => Some(fault),
-    }
-}
-
-// The relay of this text with all its sources at this port.
-fn relay_at(alloc: Global, text: &str, port: u16) -> Result<Relay<Global>, Fail> {
-    let mut relay = relay_of(alloc, text)?;
-    for source in relay.sources.iter_mut() {
-        source.port = port;
-    }
-    Ok(relay)
-}
-
-// Why a relay isn't opened at this port.
-fn fault_at<R, D, F>(rt: &R, folders: &F, port: u16) -> Result<Option<LoopFault>, Fail>
-where
-    R: Wait + Clock + Net + RandomSource + AllocGlobal + Clone + Drop,
-    D: Dir + Drop,
-    F: Folders<D, Global>,
-{
-    let relay = relay_at(rt.alloc(), SINK, port)?;
-    Ok(fault_of(rt, relay, folders))
-}
-
-// The same at the port of one that is open.
-fn fault_of_another<R, D, F>(rt: &R, folders: &F) -> Result<Option<LoopFault>, Fail>
-where
-    R: Wait + Clock + Net + RandomSource + AllocGlobal + Clone + Drop,
-    D: Dir + Drop,
-    F: Folders<D, Global>,
-{
-    let turning = open(rt, SINK, folders)?;
-    let fault = fault_at(rt, folders, turning.port(0).unwrap_or(1));
-    left_of(rt, turning, 0);
-    fault
-}
-
-// A relay whose source is taken isn't opened.
-#[test]
-fn a_taken_source_is_bind(rt: HostRuntime) -> Result<(), Fail> {
-    let folders = MemoryFolders { alloc: rt.alloc() };
-    assert!(rt; fault_of_another(&rt, &folders)? == Some(LoopFault::Bind));
-    Ok(())
-}
-
-// A relay two of whose buffers have one path isn't opened.
-#[test]
-fn a_shared_path_is_path(rt: HostRuntime) -> Result<(), Fail> {
-    let folders = MemoryFolders { alloc: rt.alloc() };
-    let relay = relay_of(rt.alloc(), SHARED)?;
-    assert!(rt; fault_of(&rt, relay, &folders) == Some(LoopFault::Path));
     Ok(())
 }

@@ -1,6 +1,6 @@
 //! Couriers and gates that the tests need.
 
-use ack_receipt::{Evidence, SharedBuffer};
+use ack_receipt::Evidence;
 use auth_handshake::digest_hex;
 use disk_files::Dir;
 use flush_pool::{CarryFault, ClaimView, Courier, Gate, SinkCourier};
@@ -80,54 +80,20 @@ impl<'a, R: Wait + Clock, D: Dir, S: Dir + Drop> Courier<R, D, Global> for Third
     }
 }
 
-// What a courier answers of a chunk, beside raising the flag.
-#[derive(Clone, Copy)]
-pub enum Answer {
-    Written,
-    Expired,
-    Fault(CarryFault),
-}
-
-// Answers one thing of the chunk with serial 0 and another of all others, and stops the workers
-// after so many carries.
+// Says that a chunk is written, and stops the workers then.
 #[derive(Drop)]
-pub struct Scripted<'a> {
-    pub first: Answer,
-    pub others: Answer,
-    pub carried: AtomicU64,
-    pub last: u64,
+pub struct Plain<'a> {
     pub stop: &'a AtomicBool,
 }
 
-impl<'a> Scripted<'a> {
-    pub fn new(first: Answer, others: Answer, last: u64, stop: &'a AtomicBool) -> Self {
-        Scripted {
-            first,
-            others,
-            carried: AtomicU64::new(0),
-            last,
-            stop,
-        }
-    }
-}
-
-impl<'a, R: Wait, D: Dir> Courier<R, D, Global> for Scripted<'a> {
+impl<'a, R: Wait, D: Dir> Courier<R, D, Global> for Plain<'a> {
     fn carry(
         &self,
         _rt: &R,
         chunk: &ClaimView<'_, D, Global>,
     ) -> Result<Evidence<Global>, CarryFault> {
-        raise_at(&self.carried, self.last, self.stop);
-        let answer = if chunk.id().serial == 0 {
-            self.first
-        } else {
-            self.others
-        };
-        match answer {
-            Answer::Written => Ok(Evidence::written(chunk.claim())),
-            Answer::Expired => Ok(Evidence::expired(chunk.claim())),
-            Answer::Fault(fault) => Err(fault),
-        }
+        self.stop.store(true, Ordering::SeqCst);
+        Ok(Evidence::written(chunk.claim()))
     }
 }
 
@@ -137,17 +103,5 @@ pub struct NotFirst;
 impl Gate for NotFirst {
     fn pass(&self, serial: u64) -> bool {
         serial != 0
-    }
-}
-
-// Whether the buffer has nothing to claim. What it claims it gives back.
-pub fn is_empty<R: Wait, D: Dir>(rt: &R, buffer: &SharedBuffer<D, Global>) -> bool {
-    match buffer.claim(rt) {
-        Ok(Some(claim)) => {
-            buffer.give_back(rt, claim);
-            false
-        }
-        Ok(None) => true,
-        Err(_) => false,
     }
 }

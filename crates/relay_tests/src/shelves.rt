@@ -37,13 +37,6 @@ pub const PATIENT: RetrySettings = RetrySettings {
     forever: true,
 };
 
-// One failure is too many.
-pub const HASTY: RetrySettings = RetrySettings {
-    max_times: Some(0),
-    forever: false,
-    ..PATIENT
-};
-
 // One entry of three bytes.
 fn entries(alloc: Global) -> Result<Entries<Global>, AllocError> {
     let mut entries = Entries::new(alloc);

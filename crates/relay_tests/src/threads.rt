@@ -1,6 +1,6 @@
 //! Several workers at one buffer, side by side.
 
-use crate::meetings::{Answer, Meeting, NotFirst, Scripted, Third};
+use crate::meetings::{Meeting, NotFirst, Plain, Third};
 use crate::shelves::{PATIENT, Shelf, by, by_sink, filled, queued, sink};
 use ack_receipt::Basis;
 use buffer_store::BufferFault;
@@ -88,7 +88,7 @@ fn kept_by_a_gate<R: Wait + Clock + Threads + Sync, D: Dir + Drop + Send>(
 ) -> Result<(u64, u8), BufferFault> {
     let shelf = filled(alloc, dir, 2, by(Basis::Written))?;
     let stop = AtomicBool::new(false);
-    let courier = Scripted::new(Answer::Written, Answer::Written, 1, &stop);
+    let courier = Plain { stop: &stop };
     let retries = Retries::new(alloc, PATIENT);
     let worked = run_two(rt, &shelf, &courier, &NotFirst, &retries, &stop)?;
     Ok((worked.purged, queued(shelf)))
