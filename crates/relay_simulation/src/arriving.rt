@@ -1,8 +1,8 @@
 //! The bytes of a message reach a relay piece by piece, and what the relay makes of it is told.
 
 use crate::chunks::{Appended, Stage};
-use crate::disk::Disk;
 use crate::judge::Judge;
+use crate::lent::Lendable;
 use crate::link::Link;
 use crate::run::Run;
 use crate::site::{OpenSite, Site};
@@ -12,7 +12,7 @@ use relay_ports::Branches;
 use std::alloc::{AllocError, Global};
 use std::sync::Wait;
 
-impl<'n, D: Disk + Drop> Run<'n, D> {
+impl<'n, D: Lendable + Drop> Run<'n, D> {
     /// Some bytes of a connection reach the relay.
     pub fn reach<R: Wait>(&mut self, rt: &R, at: usize) -> Result<(), AllocError> {
         let len = count_outgoing(&self.links, self.sites.len(), at);
@@ -38,7 +38,7 @@ fn count_outgoing(links: &[Link], sites: usize, at: usize) -> usize {
 }
 
 // So many bytes of a connection reach the relay: whether the whole message is there then.
-fn bring<R: Wait, D: Disk + Drop>(
+fn bring<R: Wait, D: Lendable + Drop>(
     rt: &R,
     alloc: Global,
     sites: &mut [Site<D>],
@@ -62,7 +62,7 @@ fn bring<R: Wait, D: Disk + Drop>(
 }
 
 // Some bytes reach the relay, if it is open; then it has to take them.
-fn take_bytes<R: Wait, D: Disk + Drop>(
+fn take_bytes<R: Wait, D: Lendable + Drop>(
     rt: &R,
     alloc: Global,
     site: &mut Site<D>,
@@ -80,7 +80,7 @@ fn take_bytes<R: Wait, D: Disk + Drop>(
 }
 
 // Some bytes reach the relay; `false` where it can't take them.
-fn take_in<R: Wait, D: Disk + Drop>(
+fn take_in<R: Wait, D: Lendable + Drop>(
     rt: &R,
     alloc: Global,
     open: &mut OpenSite<D>,
@@ -109,7 +109,7 @@ fn piece_of(alloc: Global, link: &Link, count: usize) -> Result<Vec<u8>, AllocEr
 
 // The relay's end of the connection, which opens where it isn't there; `None` where the relay has
 // no such source.
-fn take_peer<D: Disk + Drop>(
+fn take_peer<D: Lendable + Drop>(
     alloc: Global,
     open: &OpenSite<D>,
     link: &mut Link,
@@ -125,7 +125,7 @@ fn take_peer<D: Disk + Drop>(
 
 // The whole message is there: what the relay makes of it is told. Where a buffer has no room for
 // it, that is nothing. Where a device failed, each append of it may be there or not.
-fn note_delivery<R: Wait, D: Disk + Drop>(
+fn note_delivery<R: Wait, D: Lendable + Drop>(
     rt: &R,
     alloc: Global,
     site: &mut Site<D>,
@@ -138,7 +138,7 @@ fn note_delivery<R: Wait, D: Disk + Drop>(
     }
 }
 
-fn note_message<R: Wait, D: Disk + Drop>(
+fn note_message<R: Wait, D: Lendable + Drop>(
     rt: &R,
     alloc: Global,
     site: &mut Site<D>,
@@ -153,7 +153,7 @@ fn note_message<R: Wait, D: Disk + Drop>(
 }
 
 // The same of a message that goes to these buffers.
-fn note_branches<R: Wait, D: Disk + Drop>(
+fn note_branches<R: Wait, D: Lendable + Drop>(
     rt: &R,
     alloc: Global,
     site: &mut Site<D>,
@@ -172,7 +172,7 @@ fn note_branches<R: Wait, D: Disk + Drop>(
 }
 
 // A delivery of the message begins, which is then waiting for its answer.
-fn note_begin<D: Disk + Drop>(
+fn note_begin<D: Lendable + Drop>(
     alloc: Global,
     site: &mut Site<D>,
     link: &mut Link,
@@ -188,7 +188,7 @@ fn note_begin<D: Disk + Drop>(
 }
 
 // The delivery was appended to each of its buffers.
-fn note_appends<R: Wait, D: Disk + Drop>(
+fn note_appends<R: Wait, D: Lendable + Drop>(
     rt: &R,
     alloc: Global,
     site: &mut Site<D>,
@@ -206,7 +206,7 @@ fn note_appends<R: Wait, D: Disk + Drop>(
 }
 
 // Where the relay's matches send the message.
-fn branches<D: Disk + Drop>(
+fn branches<D: Lendable + Drop>(
     alloc: Global,
     site: &Site<D>,
     source: usize,
@@ -222,7 +222,7 @@ fn branches<D: Disk + Drop>(
 }
 
 // Whether each of the message's buffers takes so many bytes.
-fn has_room<D: Disk + Drop>(site: &Site<D>, branches: &Branches<Global>, len: usize) -> bool {
+fn has_room<D: Lendable + Drop>(site: &Site<D>, branches: &Branches<Global>, len: usize) -> bool {
     for buffer in &branches.buffers {
         if !site.has_room(buffer.0, len) {
             return false;
@@ -232,7 +232,7 @@ fn has_room<D: Disk + Drop>(site: &Site<D>, branches: &Branches<Global>, len: us
 }
 
 // The oldest chunks went from this buffer so that it takes so many bytes.
-fn note_drops<D: Disk + Drop>(
+fn note_drops<D: Lendable + Drop>(
     alloc: Global,
     site: &mut Site<D>,
     judge: &mut Judge<'_>,
@@ -251,7 +251,7 @@ fn note_drops<D: Disk + Drop>(
 
 // The delivery was appended to this buffer: to its next chunk where that is there now, and else to
 // the one that grows.
-fn note_append<R: Wait, D: Disk + Drop>(
+fn note_append<R: Wait, D: Lendable + Drop>(
     rt: &R,
     alloc: Global,
     site: &mut Site<D>,
@@ -273,7 +273,7 @@ fn note_append<R: Wait, D: Disk + Drop>(
 }
 
 // The chunk of this tag to which a buffer appended.
-fn growing_chunk<R: Wait, D: Disk + Drop>(
+fn growing_chunk<R: Wait, D: Lendable + Drop>(
     rt: &R,
     site: &Site<D>,
     buffer: usize,

@@ -1,7 +1,7 @@
 //! The folders of a relay as a stop leaves them.
 
-use crate::disk::{Disk, Stop};
-use crate::lent::Lent;
+use crate::disk::Stop;
+use crate::lent::Lendable;
 use crate::site::OpenSite;
 use ack_receipt::SharedBuffer;
 use buffer_lanes::Lanes;
@@ -23,7 +23,7 @@ pub struct ClosedSite {
 }
 
 /// Stops a relay that is open.
-pub fn close_site<R: Wait, D: Disk + Drop>(
+pub fn close_site<R: Wait, D: Lendable + Drop>(
     rt: &R,
     alloc: Global,
     open: OpenSite<D>,
@@ -56,9 +56,9 @@ fn end_lanes<R: Wait, D: Dir + Drop>(rt: &R, lanes: Lanes<D, Global>) -> bool {
 }
 
 // The paths of the sinks of these buffers, which nobody has any more.
-fn last_paths<D: Disk + Drop>(
+fn last_paths<D: Lendable + Drop>(
     alloc: Global,
-    jobs: Vec<DeliveryJob<Lent<D>, Global>>,
+    jobs: Vec<DeliveryJob<D, Global>>,
 ) -> Result<Vec<Option<Vec<u8>>>, AllocError> {
     paths_of(alloc, &jobs)
 }
@@ -71,9 +71,9 @@ pub struct SinkContent {
 }
 
 // The paths of the sinks of these buffers; none where chunks go to a further relay.
-fn paths_of<D: Disk + Drop>(
+fn paths_of<D: Lendable + Drop>(
     alloc: Global,
-    jobs: &[DeliveryJob<Lent<D>, Global>],
+    jobs: &[DeliveryJob<D, Global>],
 ) -> Result<Vec<Option<Vec<u8>>>, AllocError> {
     let mut all = Vec::new(alloc);
     for job in jobs {
@@ -93,8 +93,8 @@ fn path_of(alloc: Global, output: &BufferedOutput<Global>) -> Result<Option<Vec<
 }
 
 // Lets the folders of these buffers go, as the stop leaves them, and says whether a device failed.
-fn close_buffers<D: Disk + Drop>(
-    buffers: Vec<Arc<SharedBuffer<Lent<D>, Global>>>,
+fn close_buffers<D: Lendable + Drop>(
+    buffers: Vec<Arc<SharedBuffer<D, Global>>>,
     stop: Stop,
 ) -> bool {
     let mut have_failed = false;
@@ -105,7 +105,7 @@ fn close_buffers<D: Disk + Drop>(
 }
 
 // Lets the folder of a buffer go, if nobody else shares it.
-fn close_buffer<D: Disk + Drop>(buffer: Arc<SharedBuffer<Lent<D>, Global>>, stop: Stop) -> bool {
+fn close_buffer<D: Lendable + Drop>(buffer: Arc<SharedBuffer<D, Global>>, stop: Stop) -> bool {
     let Some(buffer) = Arc::into_inner(buffer) else {
         return false;
     };
@@ -140,9 +140,9 @@ impl ClosedSinks {
 
 // The same of these sinks; besides, what they hold. Behind one that can't be read, none is looked
 // at.
-fn close_sinks<D: Disk + Drop>(
+fn close_sinks<D: Lendable + Drop>(
     alloc: Global,
-    sinks: Vec<Option<SinkCourier<Lent<D>, Global>>>,
+    sinks: Vec<Option<SinkCourier<D, Global>>>,
     paths: &[Option<Vec<u8>>],
     stop: Stop,
 ) -> Result<ClosedSinks, AllocError> {
@@ -163,9 +163,9 @@ fn close_sinks<D: Disk + Drop>(
 }
 
 // Closes this sink, if there is one, and it has a path.
-fn close_next<D: Disk + Drop>(
+fn close_next<D: Lendable + Drop>(
     alloc: Global,
-    sink: Option<Option<SinkCourier<Lent<D>, Global>>>,
+    sink: Option<Option<SinkCourier<D, Global>>>,
     path: &Option<Vec<u8>>,
     stop: Stop,
 ) -> Option<ClosedSink> {
@@ -185,9 +185,9 @@ struct ClosedSink {
     events: Option<Vec<SinkEvent<Global>>>,
 }
 
-fn close_sink<D: Disk + Drop>(
+fn close_sink<D: Lendable + Drop>(
     alloc: Global,
-    sink: SinkCourier<Lent<D>, Global>,
+    sink: SinkCourier<D, Global>,
     path: &[u8],
     stop: Stop,
 ) -> ClosedSink {
@@ -204,9 +204,9 @@ fn close_sink<D: Disk + Drop>(
 }
 
 // What a sink holds in its folder; `None` where it can't be read.
-fn content_of<D: Disk + Drop>(
+fn content_of<D: Lendable + Drop>(
     alloc: Global,
-    dir: Lent<D>,
+    dir: D,
     path: &[u8],
 ) -> Option<Vec<SinkEvent<Global>>> {
     let mut series = Series::open(alloc, dir, path).ok()?;

@@ -55,6 +55,25 @@ impl Stop {
     }
 }
 
+/// A folder of a machine that can stop.
+pub trait Stoppable: Dir {
+    /// An empty one.
+    fn fresh(alloc: Global) -> Self;
+
+    /// What is there when its machine stopped, which keeps so much of what wasn't synced.
+    fn kept(self, keep: Keep) -> Self;
+}
+
+impl Stoppable for MemoryDir<Global> {
+    fn fresh(alloc: Global) -> Self {
+        MemoryDir::new(alloc)
+    }
+
+    fn kept(self, keep: Keep) -> Self {
+        self.stop(keep)
+    }
+}
+
 /// A folder that can be stopped, and whose device can fail.
 pub trait Disk: Dir {
     /// An empty one, whose device doesn't fail.
@@ -67,16 +86,16 @@ pub trait Disk: Dir {
     fn over(self, device: Device) -> Self;
 }
 
-impl Disk for Fuse<MemoryDir<Global>> {
+impl<D: Stoppable + Drop> Disk for Fuse<D> {
     fn fresh(alloc: Global) -> Self {
-        Fuse::after(MemoryDir::new(alloc), u64::MAX)
+        Fuse::after(D::fresh(alloc), u64::MAX)
     }
 
     fn stopped(self, stop: Stop) -> Self {
         let dir = self.into_inner();
         let left = match stop {
             Stop::Relay => dir,
-            Stop::Machine(keep) => dir.stop(keep),
+            Stop::Machine(keep) => dir.kept(keep),
         };
         Fuse::after(left, u64::MAX)
     }

@@ -1,7 +1,7 @@
 //! Answers come back to who sent a message, and some to who didn't.
 
-use crate::disk::Disk;
 use crate::held::Name;
+use crate::lent::Lendable;
 use crate::link::Link;
 use crate::run::Run;
 use ack_receipt::Evidence;
@@ -9,7 +9,7 @@ use forward_core::Heard;
 use std::alloc::{AllocError, Global};
 use std::sync::Wait;
 
-impl<'n, D: Disk + Drop> Run<'n, D> {
+impl<'n, D: Lendable + Drop> Run<'n, D> {
     /// Some bytes of an answer come back; or, at times, those of another connection's.
     pub fn hear<R: Wait>(&mut self, rt: &R, at: usize) -> Result<(), AllocError> {
         let most = self.dice.below(64).saturating_add(1);

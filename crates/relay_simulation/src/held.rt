@@ -3,8 +3,7 @@
 ghost use Rattle.std.specs.Prelude.{◌≡◌};
 ghost use Rattle.std.specs.Arc.{arc_value};
 
-use crate::disk::Disk;
-use crate::lent::Lent;
+use crate::lent::Lendable;
 use ack_receipt::{Claim, Evidence, SharedBuffer};
 use event_modes::Entries;
 use flush_pool::{ClaimView, Courier, SinkCourier};
@@ -21,22 +20,22 @@ pub struct Name {
 }
 
 /// A chunk that a worker has claimed, and the buffer that it is of.
-pub struct Held<D: Disk + Drop> {
+pub struct Held<D: Lendable + Drop> {
     site: usize,
     buffer: usize,
-    shared: Arc<SharedBuffer<Lent<D>, Global>>,
+    shared: Arc<SharedBuffer<D, Global>>,
     claim: Claim<Global>,
     ghost same: { claim.leaf ≡ (arc_value shared).leaf },
 }
 
-impl<D: Disk + Drop> Held<D> {
+impl<D: Lendable + Drop> Held<D> {
     /// Claims the first chunk that is queued in this buffer of the relay at this place; nothing
     /// where there is none, or no memory.
     pub fn claim<R: Wait>(
         rt: &R,
         site: usize,
         buffer: usize,
-        shared: &Arc<SharedBuffer<Lent<D>, Global>>,
+        shared: &Arc<SharedBuffer<D, Global>>,
     ) -> Option<Held<D>> {
         let shared = Arc::try_clone(shared).ok()?;
         match shared.claim(rt) {
@@ -78,7 +77,7 @@ impl<D: Disk + Drop> Held<D> {
     pub fn carried<R: Wait + Clock>(
         &self,
         rt: &R,
-        sink: &SinkCourier<Lent<D>, Global>,
+        sink: &SinkCourier<D, Global>,
     ) -> Option<Evidence<Global>> {
         sink.carry(rt, &ClaimView::new(&self.shared, &self.claim))
             .ok()

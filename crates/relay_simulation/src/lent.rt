@@ -1,10 +1,31 @@
 //! A folder that comes back to its shelf when it is let go.
 
-use crate::disk::{Disk, Stop};
+use crate::disk::{Device, Disk, Stop};
 use disk_files::{Dir, DirError, FileName, FileNo, Writing};
 use std::alloc::{AllocError, Allocator, Global};
 use std::cell::Cell;
 use std::rc::Rc;
+
+/// A folder that comes home when it is let go, in whatever way, and is as it was left there.
+pub trait Lendable: Dir {
+    /// Where a folder is while nobody has it.
+    type Home: Drop;
+
+    /// One with no folder.
+    fn new_home(alloc: Global) -> Result<Self::Home, AllocError>;
+
+    /// The same one.
+    fn share(home: &Self::Home) -> Result<Self::Home, AllocError>;
+
+    /// The folder that is there is what this stop leaves of it, over a device that doesn't fail.
+    fn stop_at(home: &Self::Home, stop: Stop);
+
+    /// The folder that is there, or an empty one, over this device. It comes home there.
+    fn lend(alloc: Global, home: Self::Home, device: Device) -> Self;
+
+    /// What a stop leaves of it, over a device that doesn't fail.
+    fn stopped(self, stop: Stop) -> Self;
+}
 
 /// Where a folder is while nobody has it.
 #[derive(Drop)]
@@ -13,32 +34,18 @@ pub struct Home<D> {
 }
 
 impl<D: Drop> Home<D> {
-    /// One with no folder.
-    pub fn new(alloc: Global) -> Result<Home<D>, AllocError> {
-        Ok(Home {
-            place: Rc::new(alloc, Cell::new(None))?,
-        })
-    }
-
-    /// The same one.
-    pub fn share(&self) -> Result<Home<D>, AllocError> {
-        Ok(Home {
-            place: self.place.clone()?,
-        })
-    }
-
-    /// Takes the folder, if it is there.
-    pub fn take(&self) -> Option<D> {
+    // Takes the folder, if it is there.
+    fn take(&self) -> Option<D> {
         self.place.replace(None)
     }
 
-    /// The folder is there.
-    pub fn put(&self, dir: D) {
+    // The folder is there.
+    fn put(&self, dir: D) {
         self.place.set(Some(dir));
     }
 }
 
-/// A folder that somebody has. When it is let go, in whatever way, it comes home as it is then.
+/// A folder that somebody has, with where it comes home.
 pub struct Lent<D> {
     dir: D,
     home: Home<D>,
@@ -51,14 +58,39 @@ impl<D: Drop> Drop for Lent<D> {
     }
 }
 
-impl<D: Disk + Drop> Lent<D> {
-    /// This folder, which comes home there.
-    pub fn new(dir: D, home: Home<D>) -> Lent<D> {
-        Lent { dir, home }
+impl<D: Disk + Drop> Lendable for Lent<D> {
+    type Home = Home<D>;
+
+    fn new_home(alloc: Global) -> Result<Home<D>, AllocError> {
+        Ok(Home {
+            place: Rc::new(alloc, Cell::new(None))?,
+        })
     }
 
-    /// What a stop leaves of it.
-    pub fn stopped(self, stop: Stop) -> Lent<D> {
+    fn share(home: &Home<D>) -> Result<Home<D>, AllocError> {
+        Ok(Home {
+            place: home.place.clone()?,
+        })
+    }
+
+    fn stop_at(home: &Home<D>, stop: Stop) {
+        if let Some(dir) = home.take() {
+            home.put(dir.stopped(stop));
+        }
+    }
+
+    fn lend(alloc: Global, home: Home<D>, device: Device) -> Lent<D> {
+        let dir = match home.take() {
+            Some(dir) => dir,
+            None => D::fresh(alloc),
+        };
+        Lent {
+            dir: dir.over(device),
+            home,
+        }
+    }
+
+    fn stopped(self, stop: Stop) -> Lent<D> {
         let Lent { dir, home } = self;
         Lent {
             dir: dir.stopped(stop),

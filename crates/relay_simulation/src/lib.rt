@@ -25,4 +25,5 @@ mod storing;
 mod working;
 
 pub use dice::Dice;
+pub use lent::Lent;
 pub use playing::{Acts, FIRST_PORT, Network, play};

@@ -1,7 +1,6 @@
 //! The parts of a relay, made of its configuration and over its folders.
 
-use crate::disk::Disk;
-use crate::lent::Lent;
+use crate::lent::Lendable;
 use crate::shelf::Shelf;
 use crate::site::OpenSite;
 use ack_receipt::Numbers;
@@ -23,7 +22,7 @@ const LIMITS: FileLimits = FileLimits {
 
 /// The relay with this number and configuration over these folders of buffers and of sinks; `None`
 /// where it doesn't open.
-pub fn open_site<D: Disk + Drop>(
+pub fn open_site<D: Lendable + Drop>(
     alloc: Global,
     number: u32,
     conf: &[u8],
@@ -44,7 +43,7 @@ pub fn open_site<D: Disk + Drop>(
 }
 
 // The same of these outputs, behind these inlets.
-fn open_outputs<D: Disk + Drop>(
+fn open_outputs<D: Lendable + Drop>(
     alloc: Global,
     number: u32,
     inlets: Vec<Arc<Inlet<Global>>>,
@@ -62,12 +61,12 @@ fn open_outputs<D: Disk + Drop>(
 }
 
 // The buffers of these outputs; `None` where one doesn't open.
-fn open_buffers<D: Disk + Drop>(
+fn open_buffers<D: Lendable + Drop>(
     alloc: Global,
     number: u32,
     outputs: Vec<BufferedOutput<Global>>,
     shelf: &Shelf<D>,
-) -> Result<Option<RelayParts<Lent<D>, Global>>, AllocError> {
+) -> Result<Option<RelayParts<D, Global>>, AllocError> {
     match open_all(alloc, number, outputs, shelf, 0) {
         Ok(opened) => Ok(Some(parts_of(alloc, opened)?)),
         Err(_) => Ok(None),
@@ -75,10 +74,10 @@ fn open_buffers<D: Disk + Drop>(
 }
 
 // A relay of these parts.
-fn put_together<D: Disk + Drop>(
-    parts: RelayParts<Lent<D>, Global>,
+fn put_together<D: Lendable + Drop>(
+    parts: RelayParts<D, Global>,
     inlets: Vec<Arc<Inlet<Global>>>,
-    sinks: Vec<Option<SinkCourier<Lent<D>, Global>>>,
+    sinks: Vec<Option<SinkCourier<D, Global>>>,
 ) -> OpenSite<D> {
     let RelayParts {
         lanes,
@@ -130,11 +129,11 @@ fn inlet(
 }
 
 // The sinks of these outputs, by their numbers; `None` where one doesn't open.
-fn open_sinks<D: Disk + Drop>(
+fn open_sinks<D: Lendable + Drop>(
     alloc: Global,
     shelf: &Shelf<D>,
     outputs: &[BufferedOutput<Global>],
-) -> Result<Option<Vec<Option<SinkCourier<Lent<D>, Global>>>>, AllocError> {
+) -> Result<Option<Vec<Option<SinkCourier<D, Global>>>>, AllocError> {
     let mut all = Vec::new(alloc);
     for output in outputs {
         let sink = match output {
@@ -151,11 +150,11 @@ fn open_sinks<D: Disk + Drop>(
     Ok(Some(all))
 }
 
-fn open_sink<D: Disk + Drop>(
+fn open_sink<D: Lendable + Drop>(
     alloc: Global,
     shelf: &Shelf<D>,
     path: &[u8],
-) -> Result<Option<SinkCourier<Lent<D>, Global>>, AllocError> {
+) -> Result<Option<SinkCourier<D, Global>>, AllocError> {
     match Rotation::open(alloc, shelf.take(path)?, path, LIMITS, 0) {
         Ok(sink) => Ok(Some(SinkCourier::new(sink))),
         Err(_) => Ok(None),

@@ -1,9 +1,9 @@
 //! A run of a network: what happens is drawn, and at the end each relay is stopped and looked at.
 
 use crate::dice::Dice;
-use crate::disk::{Devices, Disk};
+use crate::disk::Devices;
 use crate::judge::Judge;
-use crate::lent::Lent;
+use crate::lent::Lendable;
 use crate::link::Link;
 use crate::run::{Run, name_at};
 use crate::site::Site;
@@ -37,7 +37,7 @@ pub struct Acts<'a> {
 
 /// Runs the network with these acts, and says what is wrong, with the steps so far; `None` where
 /// nothing is.
-pub fn play<R: Wait + Clock, D: Disk + Drop>(
+pub fn play<R: Wait + Clock, D: Lendable + Drop>(
     rt: &R,
     alloc: Global,
     network: &Network<'_>,
@@ -61,7 +61,7 @@ pub fn play<R: Wait + Clock, D: Disk + Drop>(
     said
 }
 
-impl<'n, D: Disk + Drop> Run<'n, D> {
+impl<'n, D: Lendable + Drop> Run<'n, D> {
     fn play<R: Wait + Clock>(
         &mut self,
         rt: &R,
@@ -197,7 +197,7 @@ impl<'n, D: Disk + Drop> Run<'n, D> {
 }
 
 // Whether the relay at this place has to be opened again.
-fn is_refusing<D: Disk + Drop>(sites: &[Site<D>], at: usize) -> bool {
+fn is_refusing<D: Lendable + Drop>(sites: &[Site<D>], at: usize) -> bool {
     match sites.get(at) {
         Some(site) => site.is_refusing(),
         None => false,
@@ -205,7 +205,7 @@ fn is_refusing<D: Disk + Drop>(sites: &[Site<D>], at: usize) -> bool {
 }
 
 // How many buffers the relay at this place has.
-fn count_buffers<D: Disk + Drop>(sites: &[Site<D>], at: usize) -> usize {
+fn count_buffers<D: Lendable + Drop>(sites: &[Site<D>], at: usize) -> usize {
     match sites.get(at) {
         Some(site) => site.count_buffers(),
         None => 0,
@@ -213,7 +213,7 @@ fn count_buffers<D: Disk + Drop>(sites: &[Site<D>], at: usize) -> usize {
 }
 
 // The relay's end of a connection goes, if the relay is open.
-fn hang_up<R: Wait, D: Disk + Drop>(rt: &R, sites: &mut [Site<D>], link: &mut Link) {
+fn hang_up<R: Wait, D: Lendable + Drop>(rt: &R, sites: &mut [Site<D>], link: &mut Link) {
     if let Some(site) = sites.get_mut(link.to)
         && let Some(open) = &mut site.open
     {
@@ -222,7 +222,7 @@ fn hang_up<R: Wait, D: Disk + Drop>(rt: &R, sites: &mut [Site<D>], link: &mut Li
 }
 
 // Puts a relay that was never open behind the others.
-fn put_site<D: Disk + Drop>(
+fn put_site<D: Lendable + Drop>(
     alloc: Global,
     sites: &mut Vec<Site<D>>,
     number: u32,
@@ -234,7 +234,7 @@ fn put_site<D: Disk + Drop>(
 }
 
 // Opens the relay at this place over sound devices, if there is one: whether it opens.
-fn open_site<R: Wait, D: Disk + Drop>(
+fn open_site<R: Wait, D: Lendable + Drop>(
     rt: &R,
     alloc: Global,
     sites: &mut [Site<D>],
@@ -261,11 +261,7 @@ fn said(alloc: Global, judge: &Judge<'_>) -> Result<Option<String>, AllocError> 
     Ok(Some(text))
 }
 
-fn end_links<R: Wait, D: Disk + Drop>(
-    rt: &R,
-    links: Vec<Link>,
-    spare: &mut Lanes<Lent<D>, Global>,
-) {
+fn end_links<R: Wait, D: Lendable + Drop>(rt: &R, links: Vec<Link>, spare: &mut Lanes<D, Global>) {
     let mut rest = links.into_iter();
     while let Some(link) = rest.next() {
         link.end(rt, spare);
@@ -273,7 +269,7 @@ fn end_links<R: Wait, D: Disk + Drop>(
     rest.destroy_empty();
 }
 
-fn end_sites<R: Wait, D: Disk + Drop>(rt: &R, sites: Vec<Site<D>>) {
+fn end_sites<R: Wait, D: Lendable + Drop>(rt: &R, sites: Vec<Site<D>>) {
     let mut rest = sites.into_iter();
     while let Some(site) = rest.next() {
         site.end(rt);

@@ -3,9 +3,10 @@
 use crate::chunks::{Chunk, Stage};
 use crate::closing::SinkContent;
 use crate::dice::Dice;
-use crate::disk::{Devices, Disk, Stop};
+use crate::disk::{Devices, Stop};
 use crate::held::{Held, Name};
 use crate::judge::Judge;
+use crate::lent::Lendable;
 use crate::link::Link;
 use crate::run::{Run, give_back};
 use crate::sending::ENTRY_LEN;
@@ -17,7 +18,7 @@ use disk_files::Dir;
 use std::alloc::{AllocError, Global};
 use std::sync::Wait;
 
-impl<'n, D: Disk + Drop> Run<'n, D> {
+impl<'n, D: Lendable + Drop> Run<'n, D> {
     /// A relay stops, and opens again over such devices. Before it opens, openings may fail: what
     /// they leave stays.
     pub fn restart<R: Wait>(
@@ -47,7 +48,7 @@ impl<'n, D: Disk + Drop> Run<'n, D> {
 }
 
 // A relay that doesn't run opens over devices that fail early, and stops at once.
-fn try_to_open<R: Wait, D: Disk + Drop>(
+fn try_to_open<R: Wait, D: Lendable + Drop>(
     rt: &R,
     alloc: Global,
     dice: &mut Dice,
@@ -68,7 +69,7 @@ fn try_to_open<R: Wait, D: Disk + Drop>(
 }
 
 // Nothing that the relay's connections and workers had goes on.
-fn cut_off<R: Wait, D: Disk + Drop>(
+fn cut_off<R: Wait, D: Lendable + Drop>(
     rt: &R,
     sites: &mut [Site<D>],
     links: &mut [Link],
@@ -88,7 +89,7 @@ fn cut_off<R: Wait, D: Disk + Drop>(
 }
 
 // A chunk that the relay's workers have claimed.
-fn first_of<D: Disk + Drop>(all: &[Held<D>], at: usize) -> Option<Name> {
+fn first_of<D: Lendable + Drop>(all: &[Held<D>], at: usize) -> Option<Name> {
     for held in all {
         if held.site() == at {
             return Some(held.name());
@@ -115,7 +116,7 @@ fn cut_links<R: Wait, D: Dir + Drop>(
 }
 
 // Stops the relay, and holds what its sinks have against what was told.
-fn close<R: Wait, D: Disk + Drop>(
+fn close<R: Wait, D: Lendable + Drop>(
     rt: &R,
     alloc: Global,
     site: &mut Site<D>,
@@ -131,7 +132,7 @@ fn close<R: Wait, D: Disk + Drop>(
 
 // Opens a relay that is open over such devices instead. Where it doesn't open so, this stop comes,
 // and it opens over sound ones.
-fn open_over<R: Wait, D: Disk + Drop>(
+fn open_over<R: Wait, D: Lendable + Drop>(
     rt: &R,
     alloc: Global,
     site: &mut Site<D>,
@@ -148,7 +149,7 @@ fn open_over<R: Wait, D: Disk + Drop>(
 }
 
 // Opens the relay behind a stop, and holds what is there against what was told.
-fn open_again<R: Wait, D: Disk + Drop>(
+fn open_again<R: Wait, D: Lendable + Drop>(
     rt: &R,
     alloc: Global,
     site: &mut Site<D>,
@@ -168,7 +169,7 @@ fn open_again<R: Wait, D: Disk + Drop>(
 
 // What the sinks hold is what the machine's hold. Of a write that failed, the first entries may be
 // there, which is told then.
-fn compare_sinks<D: Disk + Drop>(
+fn compare_sinks<D: Lendable + Drop>(
     alloc: Global,
     site: &mut Site<D>,
     sinks: Option<Vec<SinkContent>>,
@@ -236,7 +237,10 @@ fn is_same(sink: &SinkContent, told: &[custody_steps::Event<Global>]) -> bool {
 }
 
 // The machine holds what the relay's chunks hold, under the same tags.
-fn compare_held<D: Disk + Drop>(site: &Site<D>, judge: &mut Judge<'_>) -> Result<(), AllocError> {
+fn compare_held<D: Lendable + Drop>(
+    site: &Site<D>,
+    judge: &mut Judge<'_>,
+) -> Result<(), AllocError> {
     for chunk in &site.chunks.all {
         if chunk.stage != Stage::Gone && !is_held(chunk, judge) {
             judge.fail_chunk(site.number, chunk.buffer, chunk.serial, "isn't held")?;

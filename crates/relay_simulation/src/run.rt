@@ -6,10 +6,9 @@
 
 use crate::chunks::Stage;
 use crate::dice::Dice;
-use crate::disk::Disk;
 use crate::held::{Held, Name};
 use crate::judge::Judge;
-use crate::lent::Lent;
+use crate::lent::Lendable;
 use crate::link::Link;
 use crate::site::Site;
 use ack_receipt::{Evidence, SharedBuffer};
@@ -18,7 +17,7 @@ use std::alloc::{AllocError, Global};
 use std::sync::{Arc, Wait};
 
 /// All that runs.
-pub struct Run<'n, D: Disk + Drop> {
+pub struct Run<'n, D: Lendable + Drop> {
     pub alloc: Global,
     pub sites: Vec<Site<D>>,
     pub links: Vec<Link>,
@@ -30,10 +29,10 @@ pub struct Run<'n, D: Disk + Drop> {
     pub dice: Dice,
     pub judge: Judge<'n>,
     /// No buffers: what is left of connections at the end ends there.
-    pub spare: Lanes<Lent<D>, Global>,
+    pub spare: Lanes<D, Global>,
 }
 
-impl<'n, D: Disk + Drop> Run<'n, D> {
+impl<'n, D: Lendable + Drop> Run<'n, D> {
     /// Lets the chunk of a claim go on this evidence, if the claim is there; `None` where it isn't,
     /// and else whether the buffer did so. Another chunk that is claimed has to stay on it.
     pub fn let_go<R: Wait>(
@@ -53,11 +52,11 @@ impl<'n, D: Disk + Drop> Run<'n, D> {
 }
 
 /// The buffer with this number of the relay at this place, if that is open.
-pub fn buffer_of<D: Disk + Drop>(
+pub fn buffer_of<D: Lendable + Drop>(
     sites: &[Site<D>],
     site: usize,
     buffer: usize,
-) -> Option<&Arc<SharedBuffer<Lent<D>, Global>>> {
+) -> Option<&Arc<SharedBuffer<D, Global>>> {
     match sites.get(site) {
         Some(site) => site.buffer(buffer),
         None => None,
@@ -65,7 +64,7 @@ pub fn buffer_of<D: Disk + Drop>(
 }
 
 /// The number of the relay at this place.
-pub fn number_of<D: Disk + Drop>(sites: &[Site<D>], site: usize) -> u32 {
+pub fn number_of<D: Lendable + Drop>(sites: &[Site<D>], site: usize) -> u32 {
     match sites.get(site) {
         Some(site) => site.number,
         None => 0,
@@ -73,7 +72,7 @@ pub fn number_of<D: Disk + Drop>(sites: &[Site<D>], site: usize) -> u32 {
 }
 
 /// Tells a step of a chunk, by which it comes to a stage.
-pub fn tell_of<D: Disk + Drop>(
+pub fn tell_of<D: Lendable + Drop>(
     sites: &mut [Site<D>],
     judge: &mut Judge<'_>,
     word: &str,
@@ -89,7 +88,7 @@ pub fn tell_of<D: Disk + Drop>(
 }
 
 /// The relay at this place refused a call, which is wrong where none of its devices failed.
-pub fn refuse<D: Disk + Drop>(
+pub fn refuse<D: Lendable + Drop>(
     sites: &mut [Site<D>],
     judge: &mut Judge<'_>,
     site: usize,
@@ -102,7 +101,7 @@ pub fn refuse<D: Disk + Drop>(
 }
 
 // The place of the claim of this chunk.
-fn place_of<D: Disk + Drop>(all: &[Held<D>], name: Name) -> Option<usize> {
+fn place_of<D: Lendable + Drop>(all: &[Held<D>], name: Name) -> Option<usize> {
     for (at, held) in all.iter().enumerate() {
         if held.name() == name {
             return Some(at);
@@ -112,7 +111,7 @@ fn place_of<D: Disk + Drop>(all: &[Held<D>], name: Name) -> Option<usize> {
 }
 
 /// The claim of this chunk.
-pub fn held_of<D: Disk + Drop>(all: &[Held<D>], name: Name) -> Option<&Held<D>> {
+pub fn held_of<D: Lendable + Drop>(all: &[Held<D>], name: Name) -> Option<&Held<D>> {
     match place_of(all, name) {
         Some(at) => all.get(at),
         None => None,
@@ -120,7 +119,7 @@ pub fn held_of<D: Disk + Drop>(all: &[Held<D>], name: Name) -> Option<&Held<D>> 
 }
 
 /// The chunk of the claim at this place.
-pub fn name_at<D: Disk + Drop>(all: &[Held<D>], at: usize) -> Option<Name> {
+pub fn name_at<D: Lendable + Drop>(all: &[Held<D>], at: usize) -> Option<Name> {
     match all.get(at) {
         Some(held) => Some(held.name()),
         None => None,
@@ -128,7 +127,7 @@ pub fn name_at<D: Disk + Drop>(all: &[Held<D>], at: usize) -> Option<Name> {
 }
 
 // Takes the claim of this chunk.
-fn take_held<D: Disk + Drop>(all: &mut Vec<Held<D>>, name: Name) -> Option<Held<D>> {
+fn take_held<D: Lendable + Drop>(all: &mut Vec<Held<D>>, name: Name) -> Option<Held<D>> {
     let Some(at) = place_of(all, name) else {
         return None;
     };
@@ -139,14 +138,14 @@ fn take_held<D: Disk + Drop>(all: &mut Vec<Held<D>>, name: Name) -> Option<Held<
 }
 
 /// Holds this claim; where there is no memory for it, it is given back.
-pub fn hold<R: Wait, D: Disk + Drop>(rt: &R, all: &mut Vec<Held<D>>, held: Held<D>) {
+pub fn hold<R: Wait, D: Lendable + Drop>(rt: &R, all: &mut Vec<Held<D>>, held: Held<D>) {
     if let Err(failed) = all.push(held) {
         failed.value.give_back(rt);
     }
 }
 
 /// Gives a claim back, if it is there.
-pub fn give_back<R: Wait, D: Disk + Drop>(rt: &R, all: &mut Vec<Held<D>>, name: Name) -> bool {
+pub fn give_back<R: Wait, D: Lendable + Drop>(rt: &R, all: &mut Vec<Held<D>>, name: Name) -> bool {
     match take_held(all, name) {
         Some(held) => {
             held.give_back(rt);
@@ -158,7 +157,7 @@ pub fn give_back<R: Wait, D: Disk + Drop>(rt: &R, all: &mut Vec<Held<D>>, name: 
 
 // Lets the chunk of a claim go on this evidence; `None` where the claim isn't there, and else
 // whether the buffer did so.
-fn purge<R: Wait, D: Disk + Drop>(
+fn purge<R: Wait, D: Lendable + Drop>(
     rt: &R,
     all: &mut Vec<Held<D>>,
     name: Name,
@@ -175,7 +174,7 @@ fn purge<R: Wait, D: Disk + Drop>(
 
 // Offers the evidence to the chunk that is claimed at this place, if that is another one; `None`
 // where that goes on it.
-fn misdirect<R: Wait, D: Disk + Drop>(
+fn misdirect<R: Wait, D: Lendable + Drop>(
     rt: &R,
     all: &mut Vec<Held<D>>,
     sites: &[Site<D>],
@@ -191,7 +190,7 @@ fn misdirect<R: Wait, D: Disk + Drop>(
 }
 
 /// Offers a claimed chunk an evidence that it may not go on; `None` where it does, which is wrong.
-pub fn misuse<R: Wait, D: Disk + Drop>(
+pub fn misuse<R: Wait, D: Lendable + Drop>(
     rt: &R,
     all: &mut Vec<Held<D>>,
     sites: &[Site<D>],
@@ -218,7 +217,7 @@ pub fn misuse<R: Wait, D: Disk + Drop>(
 
 /// Tells that a chunk went, where it did: by these two steps. Where its buffer refused, the chunk
 /// may have gone or not.
-pub fn tell_gone<D: Disk + Drop>(
+pub fn tell_gone<D: Lendable + Drop>(
     alloc: Global,
     sites: &mut [Site<D>],
     judge: &mut Judge<'_>,

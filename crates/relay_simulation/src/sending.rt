@@ -1,6 +1,6 @@
 //! Messages: a client sends one, and a connection opens on which one is sent.
 
-use crate::disk::Disk;
+use crate::lent::Lendable;
 use crate::link::{Link, Sender};
 use crate::run::Run;
 use event_modes::{ChunkId, Entries, LONGEST_TAG};
@@ -83,7 +83,7 @@ fn session(
     Ok(Some(client))
 }
 
-impl<'n, D: Disk + Drop> Run<'n, D> {
+impl<'n, D: Lendable + Drop> Run<'n, D> {
     /// A client sends a message of up to three events.
     pub fn send(&mut self) -> Result<(), AllocError> {
         let client = self.dice.below(2);

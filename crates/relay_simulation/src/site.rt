@@ -3,8 +3,8 @@
 
 use crate::chunks::{Chunks, Stage};
 use crate::closing::{SinkContent, close_site};
-use crate::disk::{Devices, Disk, Stop};
-use crate::lent::Lent;
+use crate::disk::{Devices, Stop};
+use crate::lent::Lendable;
 use crate::opening::open_site;
 use crate::shelf::Shelf;
 use ack_receipt::{Numbers, SharedBuffer};
@@ -17,7 +17,7 @@ use std::alloc::{AllocError, Global};
 use std::sync::{Arc, Wait};
 
 /// A relay. Its file buffers are on one shelf, its sinks on another.
-pub struct Site<D: Disk + Drop> {
+pub struct Site<D: Lendable + Drop> {
     pub number: u32,
     conf: Vec<u8>,
     shelf: Shelf<D>,
@@ -33,16 +33,16 @@ pub struct Site<D: Disk + Drop> {
 }
 
 /// The parts of a relay that is open.
-pub struct OpenSite<D: Disk + Drop> {
-    pub lanes: Lanes<Lent<D>, Global>,
-    pub buffers: Vec<Arc<SharedBuffer<Lent<D>, Global>>>,
-    pub jobs: Vec<DeliveryJob<Lent<D>, Global>>,
+pub struct OpenSite<D: Lendable + Drop> {
+    pub lanes: Lanes<D, Global>,
+    pub buffers: Vec<Arc<SharedBuffer<D, Global>>>,
+    pub jobs: Vec<DeliveryJob<D, Global>>,
     pub inlets: Vec<Arc<Inlet<Global>>>,
-    pub sinks: Vec<Option<SinkCourier<Lent<D>, Global>>>,
+    pub sinks: Vec<Option<SinkCourier<D, Global>>>,
     pub numbers: Numbers,
 }
 
-impl<D: Disk + Drop> OpenSite<D> {
+impl<D: Lendable + Drop> OpenSite<D> {
     // Ends it.
     fn end<R: Wait>(self, rt: &R) {
         let OpenSite {
@@ -57,7 +57,7 @@ impl<D: Disk + Drop> OpenSite<D> {
     }
 }
 
-impl<D: Disk + Drop> Site<D> {
+impl<D: Lendable + Drop> Site<D> {
     /// A relay with this configuration that was never open.
     pub fn new(alloc: Global, number: u32, conf: &[u8]) -> Result<Self, AllocError> {
         Ok(Site {
@@ -74,7 +74,7 @@ impl<D: Disk + Drop> Site<D> {
     }
 
     /// The buffer with this number, if the relay is open.
-    pub fn buffer(&self, buffer: usize) -> Option<&Arc<SharedBuffer<Lent<D>, Global>>> {
+    pub fn buffer(&self, buffer: usize) -> Option<&Arc<SharedBuffer<D, Global>>> {
         self.open.as_ref()?.buffers.get(buffer)
     }
 
@@ -228,7 +228,11 @@ impl<D: Disk + Drop> Site<D> {
 }
 
 // These are the parts of a relay from now on; others that it had end.
-fn put_open<R: Wait, D: Disk + Drop>(rt: &R, parts: &mut Option<OpenSite<D>>, open: OpenSite<D>) {
+fn put_open<R: Wait, D: Lendable + Drop>(
+    rt: &R,
+    parts: &mut Option<OpenSite<D>>,
+    open: OpenSite<D>,
+) {
     if let Some(other) = parts.replace(open) {
         other.end(rt);
     }

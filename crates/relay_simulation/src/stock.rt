@@ -1,10 +1,9 @@
 //! The chunks of a relay that was opened again are held against what was told.
 
 use crate::chunks::{Chunk, Found, Stage};
-use crate::disk::Disk;
 use crate::held::Held;
 use crate::judge::Judge;
-use crate::lent::Lent;
+use crate::lent::Lendable;
 use crate::site::Site;
 use ack_receipt::SharedBuffer;
 use std::alloc::{AllocError, Global};
@@ -13,7 +12,7 @@ use std::sync::{Arc, Wait};
 
 /// Goes through the chunks of a relay that was opened, and takes steps out that the stop lost:
 /// whether there were any.
-pub fn take_stock<R: Wait, D: Disk + Drop>(
+pub fn take_stock<R: Wait, D: Lendable + Drop>(
     rt: &R,
     alloc: Global,
     site: &mut Site<D>,
@@ -34,14 +33,14 @@ pub fn take_stock<R: Wait, D: Disk + Drop>(
 }
 
 // All that is staged is queued.
-fn queue_all<R: Wait, D: Disk + Drop>(rt: &R, site: &mut Site<D>) {
+fn queue_all<R: Wait, D: Lendable + Drop>(rt: &R, site: &mut Site<D>) {
     if let Some(open) = &mut site.open {
         open.lanes.queue_due(rt);
     }
 }
 
 // What is known of a chunk behind the stop is kept, if it isn't lost.
-fn keep<R: Wait, D: Disk + Drop>(
+fn keep<R: Wait, D: Lendable + Drop>(
     rt: &R,
     site: &mut Site<D>,
     judge: &mut Judge<'_>,
@@ -55,7 +54,7 @@ fn keep<R: Wait, D: Disk + Drop>(
 }
 
 // What is known of a chunk behind the stop; nothing where it is lost as it may be.
-fn kept<R: Wait, D: Disk + Drop>(
+fn kept<R: Wait, D: Lendable + Drop>(
     rt: &R,
     site: &mut Site<D>,
     judge: &mut Judge<'_>,
@@ -118,7 +117,7 @@ fn take_out_from(judge: &mut Judge<'_>, chunk: &Chunk, from: usize) {
 }
 
 // Reads each chunk of a buffer, and gives it back: whether some of its appends are lost.
-fn look_into<R: Wait, D: Disk + Drop>(
+fn look_into<R: Wait, D: Lendable + Drop>(
     rt: &R,
     alloc: Global,
     site: &mut Site<D>,
@@ -138,11 +137,11 @@ fn look_into<R: Wait, D: Disk + Drop>(
 }
 
 // Claims all that is queued.
-fn claim_all<R: Wait, D: Disk + Drop>(
+fn claim_all<R: Wait, D: Lendable + Drop>(
     rt: &R,
     alloc: Global,
     buffer: usize,
-    shared: &Arc<SharedBuffer<Lent<D>, Global>>,
+    shared: &Arc<SharedBuffer<D, Global>>,
 ) -> Vec<Held<D>> {
     let mut all = Vec::new(alloc);
     for _ in 0..10_000u32 {
@@ -158,7 +157,7 @@ fn claim_all<R: Wait, D: Disk + Drop>(
 }
 
 /// Gives these claims back.
-pub fn give_all_back<R: Wait, D: Disk + Drop>(rt: &R, all: Vec<Held<D>>) {
+pub fn give_all_back<R: Wait, D: Lendable + Drop>(rt: &R, all: Vec<Held<D>>) {
     let mut rest = all.into_iter();
     while let Some(held) = rest.next() {
         held.give_back(rt);
@@ -166,7 +165,7 @@ pub fn give_all_back<R: Wait, D: Disk + Drop>(rt: &R, all: Vec<Held<D>>) {
     rest.destroy_empty();
 }
 
-fn look_at_all<R: Wait, D: Disk + Drop>(
+fn look_at_all<R: Wait, D: Lendable + Drop>(
     rt: &R,
     alloc: Global,
     site: &mut Site<D>,
@@ -185,7 +184,7 @@ fn look_at_all<R: Wait, D: Disk + Drop>(
 }
 
 // Looks at the chunk of a claim: whether a stop lost some of it.
-fn look_at_claim<R: Wait, D: Disk + Drop>(
+fn look_at_claim<R: Wait, D: Lendable + Drop>(
     rt: &R,
     alloc: Global,
     site: &mut Site<D>,
@@ -208,7 +207,7 @@ fn look_at_claim<R: Wait, D: Disk + Drop>(
 }
 
 // The bytes of a claimed chunk's entries; none where they can't be read.
-fn body<R: Wait, D: Disk + Drop>(
+fn body<R: Wait, D: Lendable + Drop>(
     rt: &R,
     alloc: Global,
     held: &Held<D>,

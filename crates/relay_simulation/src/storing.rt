@@ -1,8 +1,9 @@
 //! A relay queues what is staged, makes receipts, and answers.
 
 use crate::chunks::{Chunks, Stage};
-use crate::disk::{Devices, Disk};
+use crate::disk::Devices;
 use crate::judge::Judge;
+use crate::lent::Lendable;
 use crate::link::Link;
 use crate::run::Run;
 use crate::site::Site;
@@ -11,7 +12,7 @@ use disk_files::Dir;
 use std::alloc::{AllocError, Global};
 use std::sync::Wait;
 
-impl<'n, D: Disk + Drop> Run<'n, D> {
+impl<'n, D: Lendable + Drop> Run<'n, D> {
     /// A relay queues what is staged, where that is due, and makes its receipts and answers; or it
     /// stops in between. Receipts may be wanting, as where there is no memory for them.
     pub fn store<R: Wait>(&mut self, rt: &R, at: usize) -> Result<(), AllocError> {
@@ -46,7 +47,7 @@ impl<'n, D: Disk + Drop> Run<'n, D> {
 
 // Deliveries that have their receipts are answered, in their order: all that ask for it, where
 // receipts were made for all.
-fn answer<R: Wait, D: Disk + Drop>(
+fn answer<R: Wait, D: Lendable + Drop>(
     rt: &R,
     alloc: Global,
     site: &mut Site<D>,
@@ -67,14 +68,14 @@ fn answer<R: Wait, D: Disk + Drop>(
 }
 
 // Journals are written anew.
-fn renew<R: Wait, D: Disk + Drop>(rt: &R, site: &mut Site<D>) {
+fn renew<R: Wait, D: Lendable + Drop>(rt: &R, site: &mut Site<D>) {
     if let Some(open) = &mut site.open {
         open.lanes.renew(rt);
     }
 }
 
 // What is staged is queued, which syncs its journal.
-fn queue<R: Wait, D: Disk + Drop>(
+fn queue<R: Wait, D: Lendable + Drop>(
     rt: &R,
     site: &mut Site<D>,
     judge: &mut Judge<'_>,
@@ -95,7 +96,7 @@ fn queue_due<R: Wait, D: Dir + Drop>(rt: &R, lanes: &mut Lanes<D, Global>) -> bo
 }
 
 // Receipts are made, for which each journal with an append that isn't synced is synced.
-fn redeem<R: Wait, D: Disk + Drop>(rt: &R, site: &mut Site<D>) {
+fn redeem<R: Wait, D: Lendable + Drop>(rt: &R, site: &mut Site<D>) {
     let Some(open) = &mut site.open else {
         return;
     };
@@ -111,7 +112,7 @@ fn make_receipts<R: Wait, D: Dir + Drop>(rt: &R, lanes: &mut Lanes<D, Global>) -
 }
 
 // The delivery of a connection is answered if its receipts are there.
-fn settle<R: Wait, D: Disk + Drop>(
+fn settle<R: Wait, D: Lendable + Drop>(
     rt: &R,
     alloc: Global,
     site: &mut Site<D>,

@@ -1,9 +1,9 @@
 //! The workers of a relay deliver chunks.
 
 use crate::chunks::Stage;
-use crate::disk::Disk;
 use crate::held::{Held, Name};
 use crate::judge::Judge;
+use crate::lent::Lendable;
 use crate::link::Sender;
 use crate::playing::FIRST_PORT;
 use crate::run::{
@@ -30,7 +30,7 @@ enum Aim {
     },
 }
 
-impl<'n, D: Disk + Drop> Run<'n, D> {
+impl<'n, D: Lendable + Drop> Run<'n, D> {
     /// A worker of a relay claims a chunk.
     pub fn claim<R: Wait>(&mut self, rt: &R, site: usize, buffer: usize) -> Result<(), AllocError> {
         self.held.reserve(1)?;
@@ -178,7 +178,7 @@ impl<'n, D: Disk + Drop> Run<'n, D> {
 }
 
 // Nothing was claimed of a buffer, which is wrong where a chunk of it is queued.
-fn miss_queued<D: Disk + Drop>(
+fn miss_queued<D: Lendable + Drop>(
     sites: &[Site<D>],
     judge: &mut Judge<'_>,
     site: usize,
@@ -194,21 +194,21 @@ fn miss_queued<D: Disk + Drop>(
 }
 
 // What the output of a chunk says.
-fn output_of<D: Disk + Drop>(sites: &[Site<D>], name: Name) -> Option<&BufferedOutput<Global>> {
+fn output_of<D: Lendable + Drop>(sites: &[Site<D>], name: Name) -> Option<&BufferedOutput<Global>> {
     match sites.get(name.site) {
         Some(site) => site.output(name.buffer),
         None => None,
     }
 }
 
-fn gives_up<D: Disk + Drop>(sites: &[Site<D>], name: Name) -> bool {
+fn gives_up<D: Lendable + Drop>(sites: &[Site<D>], name: Name) -> bool {
     match output_of(sites, name) {
         Some(output) => !output.buffer().retry.forever,
         None => false,
     }
 }
 
-fn aim_of<D: Disk + Drop>(sites: &[Site<D>], name: Name) -> Option<Aim> {
+fn aim_of<D: Lendable + Drop>(sites: &[Site<D>], name: Name) -> Option<Aim> {
     match output_of(sites, name)? {
         BufferedOutput::File(_) => Some(Aim::Sink),
         BufferedOutput::Forward(settings) => {
@@ -224,12 +224,12 @@ fn aim_of<D: Disk + Drop>(sites: &[Site<D>], name: Name) -> Option<Aim> {
 }
 
 // Whether the chunk is to go as soon as it is sent.
-fn goes_unasked<D: Disk + Drop>(sites: &[Site<D>], name: Name) -> bool {
+fn goes_unasked<D: Lendable + Drop>(sites: &[Site<D>], name: Name) -> bool {
     matches!(aim_of(sites, name), Some(Aim::Relay { asks: false, .. }))
 }
 
 // The evidence that a claimed chunk was sent, or else that it is given up.
-fn evidence_of<D: Disk + Drop>(
+fn evidence_of<D: Lendable + Drop>(
     all: &[Held<D>],
     name: Name,
     is_sent: bool,
@@ -244,7 +244,7 @@ fn evidence_of<D: Disk + Drop>(
 }
 
 // What a claimed chunk is called where it is sent.
-fn id_of<D: Disk + Drop>(all: &[Held<D>], name: Name) -> Option<ChunkId> {
+fn id_of<D: Lendable + Drop>(all: &[Held<D>], name: Name) -> Option<ChunkId> {
     match held_of(all, name) {
         Some(held) => Some(held.as_claim().id()),
         None => None,
@@ -258,7 +258,7 @@ fn forward_line(alloc: Global, number: u32, name: Name) -> Result<String, AllocE
 }
 
 // The write of a chunk to its sink was refused.
-fn tear<D: Disk + Drop>(
+fn tear<D: Lendable + Drop>(
     alloc: Global,
     sites: &mut [Site<D>],
     judge: &mut Judge<'_>,
@@ -273,7 +273,7 @@ fn tear<D: Disk + Drop>(
 }
 
 // The evidence that a sink has the chunk.
-fn stored<R: Wait + Clock, D: Disk + Drop>(
+fn stored<R: Wait + Clock, D: Lendable + Drop>(
     rt: &R,
     sites: &[Site<D>],
     all: &[Held<D>],
@@ -286,7 +286,7 @@ fn stored<R: Wait + Clock, D: Disk + Drop>(
 }
 
 // The tag and the entries of a claimed chunk.
-fn body_of<R: Wait, D: Disk + Drop>(
+fn body_of<R: Wait, D: Lendable + Drop>(
     rt: &R,
     alloc: Global,
     all: &[Held<D>],
@@ -303,7 +303,7 @@ fn body_of<R: Wait, D: Disk + Drop>(
 }
 
 // The oldest queued chunk of a buffer goes.
-fn drop_oldest_of<R: Wait, D: Disk + Drop>(
+fn drop_oldest_of<R: Wait, D: Lendable + Drop>(
     rt: &R,
     alloc: Global,
     site: &mut Site<D>,
@@ -321,7 +321,7 @@ fn drop_oldest_of<R: Wait, D: Disk + Drop>(
     Ok(())
 }
 
-fn take_oldest<R: Wait, D: Disk + Drop>(rt: &R, site: &Site<D>, buffer: usize) -> Option<u64> {
+fn take_oldest<R: Wait, D: Lendable + Drop>(rt: &R, site: &Site<D>, buffer: usize) -> Option<u64> {
     let Some(shared) = site.buffer(buffer) else {
         return None;
     };

@@ -4,7 +4,7 @@ use crate::drawing::{Drawing, draw};
 use disk_files::{Fuse, MemoryDir};
 use label_plan::labelled_text;
 use loss_checker::{Plan, check, conf_names};
-use relay_simulation::{Acts, Dice, Network, play};
+use relay_simulation::{Acts, Dice, Lent, Network, play};
 use std::alloc::{AllocError, Global};
 use std::sync::Wait;
 use std::time::Clock;
@@ -60,7 +60,7 @@ impl Drawn {
             seed: self.seed,
             numbers: acts,
         };
-        play::<R, Fuse<MemoryDir<Global>>>(rt, alloc, &network, &acts)
+        play::<R, Lent<Fuse<MemoryDir<Global>>>>(rt, alloc, &network, &acts)
     }
 }
 
