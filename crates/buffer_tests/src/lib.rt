@@ -21,6 +21,8 @@ mod pendings;
 #[cfg(test)]
 mod records;
 #[cfg(test)]
+mod refusals;
+#[cfg(test)]
 mod rotations;
 #[cfg(test)]
 mod script;

@@ -273,7 +273,7 @@ pub enum Failing {
 }
 
 /// The folder on a device that fails so.
-pub fn on_device(dir: MemoryDir<Global>, calls: Failing) -> Fuse<MemoryDir<Global>> {
+fn on_device<D: Dir>(dir: D, calls: Failing) -> Fuse<D> {
     match calls {
         Failing::Never => Fuse::after(dir, u64::MAX),
         Failing::Past(passes) => Fuse::after(dir, passes),
@@ -289,6 +289,12 @@ pub struct Sitting {
     pub keep: Keep,
 }
 
+// How the buffer in the folder goes, and the folder, which isn't stopped yet.
+fn sit_on<D: Dir>(alloc: Global, dir: D, limits: Limits, sitting: &Sitting) -> (Went, D) {
+    let (went, dir) = play(alloc, on_device(dir, sitting.calls), limits, sitting.rows);
+    (went, dir.into_inner())
+}
+
 /// How the buffer in the folder goes, and the folder after the stop.
 pub fn sit(
     alloc: Global,
@@ -296,8 +302,8 @@ pub fn sit(
     limits: Limits,
     sitting: &Sitting,
 ) -> (Went, MemoryDir<Global>) {
-    let (went, dir) = play(alloc, on_device(dir, sitting.calls), limits, sitting.rows);
-    (went, dir.into_inner().stop(sitting.keep))
+    let (went, dir) = sit_on(alloc, dir, limits, sitting);
+    (went, dir.stop(sitting.keep))
 }
 
 /// How many sittings go through, and how the last went, in a new folder that each leaves to the

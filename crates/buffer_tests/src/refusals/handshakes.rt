@@ -1,8 +1,8 @@
 //! HELO, PING and PONG are taken and written.
 
-use crate::putting::xs;
-use crate::told::Told;
-use crate::trial::{Heap, Trial, requests_of};
+use crate::refusals::putting::xs;
+use crate::refusals::told::Told;
+use crate::refusals::trial::{Heap, Trial, requests_of};
 use auth_handshake::{Client, HeloError, Ping, Server};
 use refusing_alloc::Refusing;
 use std::alloc::{AllocError, Allocator, Global};

@@ -1,7 +1,7 @@
 //! Bytes are written behind others, of which there are so many that each growth comes once.
 
-use crate::told::Told;
-use crate::trial::{Heap, Trial, requests_of};
+use crate::refusals::told::Told;
+use crate::refusals::trial::{Heap, Trial, requests_of};
 use event_modes::{ChunkId, Entries, put_ack, put_packed};
 use msgpack_bytes::{put_array, put_bin, put_bool, put_map, put_str, put_uint};
 use refusing_alloc::Refusing;

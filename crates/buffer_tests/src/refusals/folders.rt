@@ -1,8 +1,8 @@
 //! Files are made, opened, given room and listed in a folder in memory, and read whole.
 
-use crate::files::{NewDir, tell_left};
-use crate::told::Told;
-use crate::trial::{Heap, Trial, requests_of};
+use crate::refusals::files::{NewDir, tell_left};
+use crate::refusals::told::Told;
+use crate::refusals::trial::{Heap, Trial, requests_of};
 use disk_files::{Dir, DirError, FileName, MemoryDir, Writing};
 use numbered_files::{Family, numbers, read_file};
 use refusing_alloc::Refusing;

@@ -1,6 +1,6 @@
 //! A call is made with one of its requests for memory refused, and then again.
 
-use crate::told::Told;
+use crate::refusals::told::Told;
 use refusing_alloc::Refusing;
 use std::alloc::{AllocError, Allocator, Global};
 use std::process::Abort;

@@ -1,6 +1,6 @@
 //! Folders, and what they have.
 
-use crate::told::Told;
+use crate::refusals::told::Told;
 use disk_files::{Dir, DirError, FileName, MemoryDir};
 use numbered_files::read_file;
 use std::alloc::Allocator;

@@ -1,9 +1,9 @@
 //! Each call of a script of a shared buffer; and what makes deliveries and room for answers.
 
-use crate::files::NewDir;
-use crate::shop::{Books, Shop};
-use crate::told::Told;
-use crate::trial::{Heap, Trial, requests_of};
+use crate::refusals::files::NewDir;
+use crate::refusals::shop::{Books, Shop};
+use crate::refusals::told::Told;
+use crate::refusals::trial::{Heap, Trial, requests_of};
 use buffer_store::BufferFault;
 use disk_files::{Dir, MemoryDir};
 use refusing_alloc::Refusing;

@@ -1,6 +1,6 @@
 //! Calls of a buffer, and what it shows.
 
-use crate::told::Told;
+use crate::refusals::told::Told;
 use buffer_state::{ChunkFacts, Limits, Stage};
 use buffer_store::{Appended, Buffer, BufferFault, Settings};
 use disk_files::Dir;

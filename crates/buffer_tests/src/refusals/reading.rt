@@ -1,7 +1,7 @@
 //! Messages are read.
 
-use crate::told::Told;
-use crate::trial::{Heap, Trial, requests_of};
+use crate::refusals::told::Told;
+use crate::refusals::trial::{Heap, Trial, requests_of};
 use event_modes::{Entries, Feed, FeedError, Message, Next, Read, read};
 use refusing_alloc::Refusing;
 use std::alloc::{AllocError, Allocator};

@@ -1,8 +1,8 @@
 //! A sink is opened, written to and read.
 
-use crate::files::{NewDir, tell_left};
-use crate::told::Told;
-use crate::trial::{Heap, Trial, requests_of};
+use crate::refusals::files::{NewDir, tell_left};
+use crate::refusals::told::Told;
+use crate::refusals::trial::{Heap, Trial, requests_of};
 use disk_files::{Dir, MemoryDir};
 use event_modes::Entries;
 use refusing_alloc::Refusing;

@@ -1,9 +1,9 @@
 //! Journals are written and replayed, whole and by pieces, and the items of a sink's file are
 //! counted.
 
-use crate::putting::{entry, xs};
-use crate::told::Told;
-use crate::trial::{Heap, Trial, requests_of};
+use crate::refusals::putting::{entry, xs};
+use crate::refusals::told::Told;
+use crate::refusals::trial::{Heap, Trial, requests_of};
 use buffer_state::{Chunks, Stage};
 use chunk_journal::{Outline, Outlined, Record, ReplayError, put_record, replay};
 use event_modes::Entries;

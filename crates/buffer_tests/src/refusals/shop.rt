@@ -1,8 +1,8 @@
 //! A shared buffer, what was appended to it, and what was claimed from it.
 
-use crate::acts::{entry, open};
-use crate::files::{NewDir, tell_left};
-use crate::told::Told;
+use crate::refusals::acts::{entry, open};
+use crate::refusals::files::{NewDir, tell_left};
+use crate::refusals::told::Told;
 use ack_receipt::{
     AuditError, Basis, Claim, Closed, Delivery, Evidence, Leaf, Numbers, Pending, PurgeFault,
     Receipt, RedeemFault, SharedBuffer, Stub, Takes,

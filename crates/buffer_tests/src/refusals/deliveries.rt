@@ -1,8 +1,8 @@
 //! Deliveries are begun, room is made for answers, and books are audited.
 
-use crate::shop::{LEAF, message};
-use crate::told::Told;
-use crate::trial::{Heap, Trial, requests_of};
+use crate::refusals::shop::{LEAF, message};
+use crate::refusals::told::Told;
+use crate::refusals::trial::{Heap, Trial, requests_of};
 use ack_receipt::{Delivery, Numbers, Reserved, Unbegun};
 use event_modes::Message;
 use refusing_alloc::Refusing;

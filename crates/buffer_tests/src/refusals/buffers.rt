@@ -1,9 +1,9 @@
 //! Each call of a script of a buffer, and an opening behind each.
 
-use crate::acts::{Act, entry, number_of, open, take, take_all, tell_buffer};
-use crate::files::{NewDir, tell_left};
-use crate::told::Told;
-use crate::trial::{Heap, Trial, requests_of};
+use crate::refusals::acts::{Act, entry, number_of, open, take, take_all, tell_buffer};
+use crate::refusals::files::{NewDir, tell_left};
+use crate::refusals::told::Told;
+use crate::refusals::trial::{Heap, Trial, requests_of};
 use buffer_store::{Buffer, BufferFault, RENEWED_PAST_IN_MEMORY};
 use disk_files::{Dir, MemoryDir};
 use event_modes::Entries;
